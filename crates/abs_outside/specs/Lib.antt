@@ -1,0 +1,10 @@
+pub mod Calls
+pub mod Counts
+pub mod FileSource
+pub mod Files
+pub mod MemorySink
+pub mod MemorySource
+pub mod Names
+pub mod PureSink
+pub mod PureSource
+pub mod StreamSink

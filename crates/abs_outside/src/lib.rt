@@ -1,0 +1,26 @@
+//! The edge of the program: where its bytes come from and where they go.
+//!
+//! [`Source`] and [`Sink`] are all that the command knows of files and streams. Each has meanings, which contracts
+//! cite: the bytes that it tells, and counts of what failed. Four fakes keep their bytes in memory, for tests and for
+//! callers that have the bytes already; two adapters stand over a real file and a real stream.
+#![tactic(auto)]
+
+mod file_source;
+mod memory_sink;
+mod memory_source;
+mod pure_sink;
+mod pure_source;
+mod sink;
+mod source;
+mod stream_sink;
+#[cfg(test)]
+mod tests;
+
+pub use file_source::FileSource;
+pub use memory_sink::MemorySink;
+pub use memory_source::{MemorySource, NamedBytes};
+pub use pure_sink::PureSink;
+pub use pure_source::PureSource;
+pub use sink::Sink;
+pub use source::{Failed, Source};
+pub use stream_sink::StreamSink;
