@@ -1,0 +1,22 @@
+-- Looking for a name in a list of pieces, and in the list of what they hold, gives the same.
+use Rattle.std.proofs.Common.{◌≡◌, ◌+◌, Bool, true, false, List, [], ◌∷◌, ◌++◌, refl, ap, map, cond, ◌||◌, not}
+use Rattle.std.proofs.lemmas.List.{map-append}
+use Rattle.std.specs.List.{list_any, position_or_len}
+
+pub list_any-map : {A B : Type 0} (f : A → B) (p : B → Bool) (xs : List A) → list_any p (map f xs) ≡ list_any (λ x. p (f x)) xs
+list_any-map f p [] = refl
+list_any-map f p (x ∷ xs) = ap (λ b. p (f x) || b) (list_any-map f p xs)
+
+pub position_or_len-map : {A B : Type 0} (f : A → B) (p : B → Bool) (xs : List A) → position_or_len p (map f xs) ≡ position_or_len (λ x. p (f x)) xs
+position_or_len-map f p [] = refl
+position_or_len-map f p (x ∷ xs) = ap (λ n. cond (not (p (f x))) (1 + n) 0) (position_or_len-map f p xs)
+
+-- what is put last stays last
+added-map : {A B : Type 0} (f : A → B) (found : Bool) (xs : List A) (x : A) → map f (cond found xs (xs ++ x ∷ [])) ≡ cond found (map f xs) (map f xs ++ f x ∷ [])
+added-map f true xs x = refl
+added-map f false xs x = map-append f xs (x ∷ [])
+
+-- the names after one is put into the table
+pub inserted-map : {A B : Type 0} (f : A → B) (p : B → Bool) (xs : List A) (x : A)
+    → map f (cond (list_any (λ y. p (f y)) xs) xs (xs ++ x ∷ [])) ≡ cond (list_any p (map f xs)) (map f xs) (map f xs ++ f x ∷ [])
+inserted-map f p xs x = rw list_any-map (added-map f (list_any (λ y. p (f y)) xs) xs x)

@@ -1,0 +1,24 @@
+-- The tree of an expression that stands in memory.
+use Rattle.std.proofs.Common.{◌≡◌, refl, ap, ◌∙◌}
+use Rattle.std.specs.declared.alloc.Global.{Global}
+use Rattle.std.specs.declared.vec.Vec.{Vec}
+use Rattle.abs_tree.specs.declared.place.Place.{Place}
+use Rattle.abs_tree.specs.declared.symbol.Symbol.{Symbol}
+use Rattle.abs_tree.specs.declared.program.Expr as code
+use Rattle.abs_tree.specs.declared.program.Expr.{Expr, Apply', Row_of-Expr, end_of-Expr, more_of-Expr, items-the_row-Expr, items_hidden-the_row-Expr-0}
+use Rattle.abs_tree.specs.Trees.{Apply, More, expr_tree, expr_trees, trees_of}
+use mathlib.Core.Former.{Count}
+
+abbrev row_of : Expr → (n : Count) × Row_of-Expr n
+row_of (Apply' _ _ _ row) = (_, row)
+row_of _ = (_, end_of-Expr)
+
+row_trees : (n : _) (row : Row_of-Expr n) → expr_trees row ≡ trees_of (items-the_row-Expr n row)
+row_trees n end_of-Expr = refl
+row_trees n (more_of-Expr argument rest) = ap (More (expr_tree argument)) (row_trees _ rest)
+
+-- the arguments of an application are those of its vector
+pub expr_tree-apply : (place : Place) (function : Symbol) (arguments : Vec Expr Global) → expr_tree (code.Apply place function arguments) ≡ Apply place function (trees_of arguments.items)
+expr_tree-apply place function arguments =
+    let row = row_of (code.Apply place function arguments) in
+    ap (Apply place function) (row_trees row.0 row.1 ∙ ap trees_of (items_hidden-the_row-Expr-0 arguments))

@@ -1,0 +1,16 @@
+-- The table of a program's names.
+use Rattle.std.specs.Prelude.{ℕ, List, [], ◌∷◌, ◌++◌, fold, if◌then◌else◌}
+use Rattle.std.specs.List.{list_any, position_or_len}
+use Rattle.std.specs.Str.{bytes_eq}
+
+-- the names after another one appears: a name that is there already stays where it is
+abbrev pub with_name : List (List ℕ) → List ℕ → List (List ℕ)
+with_name names name = if list_any (bytes_eq name) names then names else names ++ name ∷ []
+
+-- the number of a name: where it stands, or would stand as the next one
+abbrev pub number_of_name : List (List ℕ) → List ℕ → ℕ
+number_of_name names name = position_or_len (bytes_eq name) names
+
+-- each name once, in the order of first appearance
+abbrev pub by_first_appearance : List (List ℕ) → List (List ℕ)
+by_first_appearance names = fold with_name [] names

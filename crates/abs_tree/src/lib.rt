@@ -1,0 +1,20 @@
+//! What every other crate speaks of: places, symbols, refusals, values, and the tree of a program with the definition
+//! of evaluation over it.
+#![tactic(auto)]
+
+pub mod place;
+pub mod program;
+pub mod refusal;
+pub mod symbol;
+pub mod text;
+pub mod value;
+
+pub use place::Place;
+pub use program::{Expr, Program, Stmt};
+pub use refusal::{Code, Refusal};
+pub use symbol::{Symbol, Symbols};
+pub use text::Text;
+pub use value::{Evaluated, Fault, Output, Value, Values, value_text};
+
+#[cfg(test)]
+mod tests;

@@ -1,0 +1,123 @@
+//! Why and where a source is refused.
+ghost use Rattle.std.specs.Prelude.{◌≡◌, Some};
+ghost use Rattle.abs_tree.specs.Refusals.{code_name, code_words};
+
+use std::fmt;
+
+/// The offence for which a source is refused. The letters are those of the tokens (L), the grammar (S), the names (N),
+/// the types (T) and the profile of the language (P), and a source is refused in this order.
+#[derive(Clone, Copy, Debug, PartialEq, Eq)]
+pub enum Code {
+    /// A byte outside of the alphabet.
+    L1,
+    /// A comment without an end.
+    L2,
+    /// A text without an end.
+    L3,
+    /// A number past 128 bits.
+    L4,
+    /// A token that can't stand where it does.
+    S1,
+    /// More than 100 nested symbols.
+    S2,
+    /// A word that the language has and this profile has not.
+    S3,
+    /// A name that is declared twice.
+    N1,
+    /// A name without a declaration.
+    N2,
+    /// Another number of arguments than declared.
+    N3,
+    /// An interface that extends itself.
+    N4,
+    /// A type that does not fit.
+    T1,
+    /// No method of this name and number of parameters.
+    T2,
+    /// A declaration that needs a value and has none.
+    T3,
+    /// A class that lacks what its interfaces ask for.
+    T4,
+    /// A `return` that is missing or stands where none may.
+    T5,
+    /// A guard that is no future.
+    P1,
+    /// A future in a field or in data.
+    P2,
+    /// `destiny`.
+    P3,
+    /// A synchronous call on another object.
+    P4,
+    /// `new local`.
+    P5,
+}
+
+impl Code {
+    /// What the offence is, in words.
+    pub fn words(self) -> &'static str
+        ensures { result.now ≡ code_words self }
+    {
+        match self {
+            Code::L1 => "byte outside the alphabet",
+            Code::L2 => "comment without end",
+            Code::L3 => "text without end",
+            Code::L4 => "number past 128 bits",
+            Code::S1 => "unexpected token",
+            Code::S2 => "nesting above 100",
+            Code::S3 => "word outside the profile",
+            Code::N1 => "declared twice",
+            Code::N2 => "unknown name",
+            Code::N3 => "wrong number of arguments",
+            Code::N4 => "interface extends itself",
+            Code::T1 => "wrong type",
+            Code::T2 => "no such method",
+            Code::T3 => "value missing",
+            Code::T4 => "interface not met",
+            Code::T5 => "return missing or misplaced",
+            Code::P1 => "Boolean guard",
+            Code::P2 => "future in a field or data",
+            Code::P3 => "destiny",
+            Code::P4 => "call on another object",
+            Code::P5 => "new local",
+        }
+    }
+}
+
+/// A code is shown by its name.
+impl fmt::Display for Code {
+    ghost output = { λ code. Some (code_name code) };
+
+    fn fmt<W: fmt::Write>(&self, f: &mut fmt::Formatter<W>) -> fmt::Result {
+        f.write_str(match self {
+            Code::L1 => "L1",
+            Code::L2 => "L2",
+            Code::L3 => "L3",
+            Code::L4 => "L4",
+            Code::S1 => "S1",
+            Code::S2 => "S2",
+            Code::S3 => "S3",
+            Code::N1 => "N1",
+            Code::N2 => "N2",
+            Code::N3 => "N3",
+            Code::N4 => "N4",
+            Code::T1 => "T1",
+            Code::T2 => "T2",
+            Code::T3 => "T3",
+            Code::T4 => "T4",
+            Code::T5 => "T5",
+            Code::P1 => "P1",
+            Code::P2 => "P2",
+            Code::P3 => "P3",
+            Code::P4 => "P4",
+            Code::P5 => "P5",
+        })
+    }
+}
+
+/// The refusal of a source: the code of its first offence, and where that stands.
+#[derive(Clone, Copy, Debug, PartialEq, Eq)]
+pub struct Refusal {
+    pub code: Code,
+    pub line: u32,
+    pub column: u32,
+}

@@ -1,0 +1,69 @@
+//! Symbols: the names of a source as numbers.
+ghost use Rattle.std.specs.Prelude.{◌≡◌, ◌^◌, ◌<◌, [], length, IfOk, OnOk, OnErr};
+ghost use Rattle.abs_tree.specs.Names.{with_name, number_of_name};
+ghost use Rattle.abs_tree.specs.Trees.{name_of};
+
+use indexmap::IndexSet;
+use std::alloc::{AllocError, Global};
+use std::marker::Model;
+
+/// A name of a program, by its number in the program's table.
+#[derive(Clone, Copy, Debug, PartialEq, Eq)]
+pub struct Symbol(pub u32);
+
+/// The table of a program's symbols: each name once, as a piece of the source, numbered by first appearance. Contracts
+/// see the list of the names.
+#[derive(Drop)]
+pub struct Symbols<'a> {
+    names: IndexSet<&'a [u8]>,
+}
+
+impl<'a> Model for Symbols<'a> {
+    ghost use Rattle.std.specs.Prelude.{ℕ, List, map};
+
+    ghost Value = { List (List ℕ) };
+
+    ghost view = { λ s. map (λ name. name.now) s.names.keys };
+}
+
+impl<'a> Symbols<'a> {
+    /// A table without names.
+    pub fn new(alloc: Global) -> Symbols<'a>
+        ensures { result ≡ [] }
+    {
+        Symbols {
+            names: IndexSet::new(alloc),
+        }
+    }
+
+    /// How many names there are.
+    pub fn len(&self) -> usize
+        ensures { result ≡ length self.now }
+    {
+        self.names.len()
+    }
+
+    /// The name of a symbol; a symbol that is not of this table has the empty name.
+    pub fn name(&self, symbol: Symbol) -> &'a [u8]
+        ensures { result.now ≡ name_of self.now symbol }
+    {
+        match self.names.get_index(symbol.0 as usize) {
+            Some(name) => *name,
+            None => &[],
+        }
+    }
+
+    /// The symbol of a name, which is put behind the others where it is new.
+    ///
+    /// # Errors
+    /// [`AllocError`] where memory runs out; the table is as before.
+    pub fn intern(&mut self, name: &'a [u8]) -> Result<Symbol, AllocError>
+        requires { length self.old < 2 ^ 32 }
+        ensures symbol { IfOk result (λ symbol. symbol.0 ≡ number_of_name self.old name.now) }
+        ensures names { OnOk result (self.new ≡ with_name self.old name.now) }
+        ensures err { OnErr result (self.new ≡ self.old) }
+    {
+        let (index, _) = self.names.insert_full(name)?;
+        Ok(Symbol(index as u32))
+    }
+}

@@ -1,0 +1,74 @@
+//! Texts that share their bytes.
+ghost use Rattle.std.specs.Prelude.{◌≡◌, ◌<◌, ◌==◌, length, slice_get, Some, IfOk};
+
+use std::alloc::{AllocError, Global};
+use std::marker::Model;
+use std::sync::Arc;
+
+/// Bytes that all copies of the text share, so that a copy costs the same whatever its length. Contracts see the list
+/// of the bytes.
+#[derive(Drop)]
+pub struct Text {
+    bytes: Arc<Vec<u8>>,
+}
+
+impl Model for Text {
+    ghost use Rattle.std.specs.Prelude.{ℕ, List};
+
+    ghost Value = { List ℕ };
+
+    ghost view = { λ t. t.bytes.value.items };
+}
+
+impl Text {
+    /// The text of these bytes.
+    ///
+    /// # Errors
+    /// [`AllocError`] where memory runs out.
+    pub fn new(alloc: Global, bytes: Vec<u8>) -> Result<Text, AllocError>
+        ensures { IfOk result (λ text. text ≡ bytes.items) }
+    {
+        let bytes = Arc::new(alloc, bytes)?;
+        Ok(Text { bytes })
+    }
+
+    /// The bytes of the text.
+    pub fn as_bytes(&self) -> &[u8]
+        ensures { result.now ≡ self.now }
+    {
+        self.bytes.as_slice()
+    }
+
+    /// How many bytes the text has.
+    pub fn len(&self) -> usize
+        ensures { result ≡ length self.now }
+    {
+        self.bytes.len()
+    }
+
+    /// Whether the text has no byte.
+    pub fn is_empty(&self) -> bool
+        ensures { result ≡ (length self.now == 0) }
+    {
+        self.bytes.is_empty()
+    }
+
+    /// The byte at an index.
+    pub fn at(&self, index: usize) -> &u8
+        requires { index < length self.now }
+        ensures { slice_get self.now index ≡ Some result.now }
+    {
+        &self.bytes[index]
+    }
+
+    /// The same text, which shares its bytes with this one.
+    ///
+    /// # Errors
+    /// [`AllocError`] where there are as many copies as can be counted.
+    pub fn share(&self) -> Result<Text, AllocError>
+        ensures { IfOk result (λ text. text ≡ self.now) }
+    {
+        let bytes = self.bytes.clone()?;
+        Ok(Text { bytes })
+    }
+}
