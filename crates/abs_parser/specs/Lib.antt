@@ -1,0 +1,4 @@
+pub mod Tokens
+pub mod Grammar
+pub mod Answers
+pub mod Views

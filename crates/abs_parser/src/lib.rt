@@ -1,0 +1,10 @@
+//! From the text of a source to the tree of its program.
+#![tactic(auto)]
+
+mod cursor;
+pub mod parser;
+
+pub use parser::{ParseError, one_tree, parse_text};
+
+#[cfg(test)]
+mod tests;
