@@ -1,0 +1,26 @@
+-- Bytes that are taken or written one piece after another.
+use Rattle.std.proofs.Common.{◌≡◌, ℕ, List, ◌++◌, Option, Some, None, sym, ap, ◌∙◌, length, take, drop, append_assoc, take-append-drop}
+use Rattle.std.specs.Io.KnownBytes.{Appends, Consumes}
+use Rattle.std.specs.List.{between}
+use Rattle.std.proofs.lemmas.List.{take_rest}
+
+-- a piece that is taken after another is taken with it
+pub Consumes-then : (u v w : Option (List ℕ)) (a b : List ℕ) → Consumes u v a → Consumes v w b → Consumes u w (a ++ b)
+Consumes-then None v w a b x y = tt
+Consumes-then (Some xs) None w a b x y = absurd x
+Consumes-then (Some xs) (Some ys) None a b x y = y
+Consumes-then (Some xs) (Some ys) (Some zs) a b x y = x ∙ ap (λ (t : List ℕ). a ++ t) y ∙ sym (append_assoc a b zs)
+
+-- a piece that is written after another is written with it
+pub Appends-then : (u v w : Option (List ℕ)) (a b : List ℕ) → Appends u v a → Appends v w b → Appends u w (a ++ b)
+Appends-then None v w a b x y = tt
+Appends-then (Some xs) None w a b x y = absurd x
+Appends-then (Some xs) (Some ys) None a b x y = y
+Appends-then (Some xs) (Some ys) (Some zs) a b x y = y ∙ ap (λ (t : List ℕ). t ++ b) x ∙ append_assoc xs a b
+
+-- the front of the rest goes over to what stands before it
+pub front-moves : (all front rest : List ℕ) (n : ℕ) → all ≡ front ++ rest → all ≡ (front ++ take n rest) ++ between n (length rest) rest
+front-moves all front rest n e =
+    let apart : front ++ rest ≡ (front ++ take n rest) ++ drop n rest =
+    ap (λ (t : List ℕ). front ++ t) (sym (take-append-drop n rest)) ∙ sym (append_assoc front (take n rest) (drop n rest)) in
+    e ∙ apart ∙ ap (λ (t : List ℕ). (front ++ take n rest) ++ t) (sym (take_rest rest n))

@@ -1,0 +1,5 @@
+pub mod EvaluationLemmas
+pub mod ByteLemmas
+pub mod ProgressLemmas
+pub mod AnswerLemmas
+pub mod PromiseLemmas

@@ -1,0 +1,10 @@
+pub mod Answer
+pub mod Bytes
+pub mod Events
+pub mod Machine
+pub mod Owed
+pub mod Promises
+pub mod Recorded
+pub mod Runs
+pub mod Texts
+pub mod Words

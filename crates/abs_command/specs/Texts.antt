@@ -1,0 +1,60 @@
+-- The bytes of all that the command prints. Each line ends with a line feed.
+use Rattle.std.specs.Prelude.{ℕ, ◌+◌, List, [], ◌∷◌, ◌++◌, length, Option, Some, None, codes, decimal, count_by, is_none}
+use Rattle.std.specs.List.{flat_map}
+use Rattle.abs_tree.specs.declared.refusal.Refusal.{Refusal}
+use Rattle.abs_tree.specs.declared.value.Evaluated.{Evaluated}
+use Rattle.abs_tree.specs.declared.value.Evaluated.TheVariants.{Good, Bad}
+use Rattle.abs_tree.specs.Faults.{fault_name}
+use Rattle.abs_tree.specs.Refusals.{code_name, code_words}
+use Rattle.abs_command.specs.declared.analysis.report.Chain.{Chain}
+use Rattle.abs_command.specs.declared.runtime.config.TaskCell.{TaskCell}
+use Rattle.abs_command.specs.declared.runtime.machine.End.{End}
+use Rattle.abs_command.specs.declared.runtime.machine.End.TheVariants.{Done, Stalled, Spent}
+
+-- the line for words that are not of the command
+abbrev pub usage_line : List ℕ
+usage_line = codes "usage: abs [--check] [--trace] [--workers N] [--depth N] [--steps N] [--facts N] (FILE | --make N)\n"
+
+-- the line for a source that is too large
+abbrev pub too_large_line : List ℕ
+too_large_line = codes "too large: source\n"
+
+-- `refused: CODE at LINE:COLUMN: WORDS`
+abbrev pub refusal_line : Refusal → List ℕ
+refusal_line refusal =
+    codes "refused: " ++ (code_name refusal.code ++ (codes " at " ++ (decimal refusal.line ++ (codes ":" ++ (decimal refusal.column ++ (codes ": " ++ (code_words refusal.code ++ codes "\n")))))))
+
+-- the report of no chain; there is no chain yet that another report could name
+abbrev pub report_lines : List Chain → List ℕ
+report_lines [] = codes "no circular chain\n"
+report_lines (chain ∷ chains) = elim chain [ ]
+
+-- each printed text, a line each
+abbrev pub lines_text : List (List ℕ) → List ℕ
+lines_text lines = flat_map (λ line. line ++ codes "\n") lines
+
+-- the tasks that have no result
+abbrev pub unfinished_of : List TaskCell → ℕ
+unfinished_of tasks = count_by (λ task. is_none task.outcome) tasks
+
+-- how the run ended, by the number of its events and its tasks
+abbrev pub end_line : End → ℕ → List TaskCell → List ℕ
+end_line Done events tasks = codes "done: " ++ (decimal (length tasks) ++ codes " tasks\n")
+end_line Stalled events tasks = codes "stalled: " ++ (decimal (length tasks) ++ (codes " tasks, " ++ (decimal (unfinished_of tasks) ++ codes " unfinished\n")))
+end_line Spent events tasks =
+    codes "spent: " ++ (decimal events ++ (codes " events, " ++ (decimal (length tasks) ++ (codes " tasks, " ++ (decimal (unfinished_of tasks) ++ codes " unfinished\n")))))
+
+-- the line of a task that ended by a fault
+abbrev pub fault_line : ℕ → Option Evaluated → List ℕ
+fault_line number None = []
+fault_line number (Some (Good value)) = []
+fault_line number (Some (Bad cause)) = codes "fault: task " ++ (decimal number ++ (codes ": " ++ (fault_name cause ++ codes "\n")))
+
+-- those lines in the order of the tasks, of which the first has this number
+abbrev pub fault_lines : ℕ → List TaskCell → List ℕ
+fault_lines number [] = []
+fault_lines number (task ∷ tasks) = fault_line number task.outcome ++ fault_lines (number + 1) tasks
+
+-- what a run printed, how it ended, and the faults of its tasks
+abbrev pub end_text : List (List ℕ) → End → ℕ → List TaskCell → List ℕ
+end_text lines end events tasks = lines_text lines ++ (end_line end events tasks ++ fault_lines 0 tasks)

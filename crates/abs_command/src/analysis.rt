@@ -1,0 +1,3 @@
+//! What is known of a program before any run.
+
+pub mod report;

@@ -1,0 +1,114 @@
+//! Evaluates expressions by recursion, as the definition goes.
+ghost use Rattle.std.specs.Prelude.{◌≡◌, IfOk};
+ghost use Rattle.abs_tree.specs.Trees.{expr_tree, trees_of};
+ghost use Rattle.abs_tree.specs.Evaluation.{evaluate as evaluated, each, applied, called, built as built_of, result_of};
+
+use abs_tree::{Evaluated, Expr, Fault, Output, Symbols, Text, Value, Values, value_text};
+use std::alloc::{AllocError, Global};
+
+/// The levels of evaluation, of which a statement's own expressions have the first.
+const LEVELS: u32 = 2_000;
+
+/// The function applications that a statement may make.
+const APPLICATIONS: u32 = 1_000_000;
+
+/// The bytes that a text may have.
+const TEXT_BYTES: usize = 65_536;
+
+/// What a statement's own expression gives, in a program with these names.
+///
+/// # Errors
+/// [`AllocError`] where memory runs out.
+pub fn eval(alloc: Global, names: &Symbols<'_>, expr: &Expr) -> Result<Evaluated, AllocError>
+    ensures { IfOk result (λ found. found ≡ result_of names.now (expr_tree expr.now)) }
+{
+    let mut made = 0;
+    evaluate(alloc, names, LEVELS, expr, &mut made)
+}
+
+/// What an expression gives with so many levels left. The applications that its statement has made are counted along.
+#[cycle(evaluation)]
+#[tactic(auto, unfolding(abs_tree::specs::Evaluation::evaluate))]
+fn evaluate(
+    alloc: Global,
+    names: &Symbols<'_>,
+    left: u32,
+    expr: &Expr,
+    made: &mut u32,
+) -> Result<Evaluated, AllocError>
+    ensures { IfOk result (λ found. evaluated names.now left (expr_tree expr.now) made.old ≡ record { result = found; applications = made.new }) }
+{
+    if left == 0 {
+        return Ok(Evaluated::Bad(Fault::Levels));
+    }
+    match expr {
+        Expr::Number(_, number) => Ok(Evaluated::Good(Value::Int(*number))),
+        Expr::Apply(_, function, arguments) => {
+            let output = evaluate_all(alloc, names, left - 1, arguments, made)?;
+            apply(alloc, names.name(*function), output, made)
+        }
+    }
+}
+
+/// What expressions give, from the left, up to the first fault.
+#[cycle(evaluation)]
+fn evaluate_all(
+    alloc: Global,
+    names: &Symbols<'_>,
+    left: u32,
+    exprs: &[Expr],
+    made: &mut u32,
+) -> Result<Output, AllocError>
+    ensures { IfOk result (λ found. each (evaluated names.now left) (trees_of exprs.now) made.old ≡ record { output = found; applications = made.new }) }
+{
+    let mut values = Vec::new(alloc);
+    for expr in exprs {
+        match evaluate(alloc, names, left, expr, made)? {
+            Evaluated::Good(value) => values.push(value)?,
+            Evaluated::Bad(fault) => return Ok(Output::Bad(fault)),
+        }
+    }
+    Ok(Output::Values(Values::new(alloc, values)?))
+}
+
+/// What the application of a function gives, once its arguments were evaluated.
+fn apply(
+    alloc: Global,
+    name: &[u8],
+    arguments: Output,
+    made: &mut u32,
+) -> Result<Evaluated, AllocError>
+    ensures { IfOk result (λ found. applied name.now arguments made.old ≡ record { result = found; applications = made.new }) }
+{
+    match arguments {
+        Output::Bad(fault) => Ok(Evaluated::Bad(fault)),
+        Output::Values(values) => {
+            if *made >= APPLICATIONS {
+                return Ok(Evaluated::Bad(Fault::Calls));
+            }
+            *made += 1;
+            call(alloc, name, values.as_slice())
+        }
+    }
+}
+
+/// What a function gives for its arguments.
+fn call(alloc: Global, name: &[u8], arguments: &[Value]) -> Result<Evaluated, AllocError>
+    ensures { IfOk result (λ found. found ≡ called name.now arguments.now) }
+{
+    match arguments {
+        [value] if name == b"toString".as_slice() => Ok(built(value_text(alloc, value)?)),
+        _ => Ok(Evaluated::Bad(Fault::Mistyped)),
+    }
+}
+
+/// A text, where it is not too large.
+fn built(text: Text) -> Evaluated
+    ensures { result ≡ built_of text }
+{
+    if text.as_bytes().len() <= TEXT_BYTES {
+        Evaluated::Good(Value::Text(text))
+    } else {
+        Evaluated::Bad(Fault::Large)
+    }
+}

@@ -1,0 +1,177 @@
+//! The events of tasks: whether a task has one, and what it changes.
+ghost use Rattle.std.specs.Prelude.{◌≡◌, ◌<◌, ◌∷◌, [], ◌++◌, ℕ, List, length, Option, slice_get, Some, None, IsTrue, IsSome, ◌↔◌, IfOk, OnOk, OnErr};
+ghost use Rattle.abs_tree.specs.Trees.{ProgramTree, program_tree};
+ghost use Rattle.abs_command.specs.Events.{Change, takes, ends_with, goes_on, prints, runs, runs_body, by_state, event_of, held, following as following_of, Steps, Makes};
+ghost use Rattle.abs_command.specs.declared.runtime.config.TaskCell.{TaskCell};
+
+use crate::runtime::config::{Cog, Config, Lines, State, TaskCell};
+use crate::runtime::evaluator;
+use abs_tree::{Evaluated, Fault, Program, Stmt, Text, Value};
+use std::alloc::{AllocError, Global};
+
+/// Whether a task has an event.
+pub fn has_step(program: &Program<'_>, config: &Config, task: u32) -> bool
+    ensures { IsTrue result ↔ IsSome (event_of (program_tree program.now) config.now task) }
+{
+    let Some(cell) = config.tasks.items.get(task as usize) else {
+        return false;
+    };
+    if cell.outcome.is_some() {
+        return false;
+    }
+    match cell.state {
+        State::Ready => is_free(&config.cogs.items, cell.cog),
+        State::Running => body_has_step(program, cell),
+    }
+}
+
+/// Whether a cog is there and has no holder.
+fn is_free(cogs: &[Cog], cog: u32) -> bool
+    ensures { (number : ℕ) (task : TaskCell) → IsTrue result ↔ IsSome (takes number task (slice_get cogs.now cog)) }
+{
+    match cogs.get(cog as usize) {
+        Some(cog) => cog.holder.is_none(),
+        None => false,
+    }
+}
+
+/// Whether a task that holds its cog is at a statement or at the end of its body.
+fn body_has_step(program: &Program<'_>, cell: &TaskCell) -> bool
+    ensures { (number : ℕ) → IsTrue result ↔ IsSome (runs_body (program_tree program.now) number cell.now cell.now.frames) }
+{
+    match cell.frames.items.as_slice() {
+        [frame] => match frame.next {
+            Some(statement) => (statement as usize) < program.main.len(),
+            None => true,
+        },
+        _ => false,
+    }
+}
+
+/// Makes the event of a task, and adds the lines that it prints.
+///
+/// # Errors
+/// [`AllocError`] where memory runs out; configuration and lines are as before.
+pub fn step(
+    alloc: Global,
+    program: &Program<'_>,
+    config: &mut Config,
+    task: u32,
+    lines: &mut Lines,
+) -> Result<(), AllocError>
+    requires { IsSome (event_of (program_tree program.now) config.old task) }
+    ensures ok { OnOk result (Steps (program_tree program.now) config.old task config.new lines.old lines.new) }
+    ensures config_err { OnErr result (config.new ≡ config.old) }
+    ensures lines_err { OnErr result (lines.new ≡ lines.old) }
+{
+    let tasks = &mut config.tasks;
+    let cell = &mut tasks.items[task as usize];
+    let cog = cell.cog;
+    let holder = advance(alloc, program, &config.cogs.items, task, cell, lines)?;
+    hold(&mut config.cogs.items, cog, holder);
+    Ok(())
+}
+
+/// Makes of a task and of the lines what its event makes of them, and answers who holds its cog then.
+fn advance(
+    alloc: Global,
+    program: &Program<'_>,
+    cogs: &[Cog],
+    task: u32,
+    cell: &mut TaskCell,
+    lines: &mut Lines,
+) -> Result<Option<u32>, AllocError>
+    requires { IsSome (by_state (program_tree program.now) cogs.now task cell.old cell.old.state) }
+    ensures ok { IfOk result (λ holder. Makes (by_state (program_tree program.now) cogs.now task cell.old cell.old.state) cell.new holder lines.old lines.new) }
+    ensures cell_err { OnErr result (cell.new ≡ cell.old) }
+    ensures lines_err { OnErr result (lines.new ≡ lines.old) }
+{
+    match cell.state {
+        State::Ready => {
+            cell.state = State::Running;
+            Ok(Some(task))
+        }
+        State::Running => run_body(alloc, program, task, cell, lines),
+    }
+}
+
+/// The same of a task that holds its cog.
+fn run_body(
+    alloc: Global,
+    program: &Program<'_>,
+    task: u32,
+    cell: &mut TaskCell,
+    lines: &mut Lines,
+) -> Result<Option<u32>, AllocError>
+    requires { IsSome (runs_body (program_tree program.now) task cell.old cell.old.frames) }
+    ensures ok { IfOk result (λ holder. Makes (runs_body (program_tree program.now) task cell.old cell.old.frames) cell.new holder lines.old lines.new) }
+    ensures cell_err { OnErr result (cell.new ≡ cell.old) }
+    ensures lines_err { OnErr result (lines.new ≡ lines.old) }
+{
+    let Some(statement) = cell.frames.items[0].next else {
+        finish(cell, Evaluated::Good(Value::Null));
+        return Ok(None);
+    };
+    let Stmt::Print(_, text) = &program.main[statement as usize];
+    let found = evaluator::eval(alloc, &program.symbols, text)?;
+    print(program, task, cell, statement, found, lines)
+}
+
+/// The same of a task that prints what was found, at this statement.
+fn print(
+    program: &Program<'_>,
+    task: u32,
+    cell: &mut TaskCell,
+    statement: u32,
+    found: Evaluated,
+    lines: &mut Lines,
+) -> Result<Option<u32>, AllocError>
+    requires body { length cell.old.frames ≡ 1 }
+    requires statement { statement < length program.now.main.items }
+    ensures ok { IfOk result (λ holder. Makes (Some (prints (program_tree program.now) task cell.old statement found)) cell.new holder lines.old lines.new) }
+    ensures cell_err { OnErr result (cell.new ≡ cell.old) }
+    ensures lines_err { OnErr result (lines.new ≡ lines.old) }
+{
+    match found {
+        Evaluated::Good(Value::Text(line)) => {
+            lines.items.push(line)?;
+            cell.frames.items[0].next = following(program, statement);
+            Ok(Some(task))
+        }
+        Evaluated::Good(Value::Int(_) | Value::Null) => {
+            finish(cell, Evaluated::Bad(Fault::Mistyped));
+            Ok(None)
+        }
+        Evaluated::Bad(fault) => {
+            finish(cell, Evaluated::Bad(fault));
+            Ok(None)
+        }
+    }
+}
+
+/// The statement behind one of the main block.
+fn following(program: &Program<'_>, statement: u32) -> Option<u32>
+    requires { statement < length program.now.main.items }
+    ensures { result ≡ following_of (program_tree program.now) statement }
+{
+    let next = statement + 1;
+    ((next as usize) < program.main.len()).then_some(next)
+}
+
+/// Ends a task with this result.
+fn finish(cell: &mut TaskCell, outcome: Evaluated)
+    ensures { cell.new ≡ (ends_with cell.old outcome).task }
+{
+    cell.frames.items.clear();
+    cell.state = State::Ready;
+    cell.outcome = Some(outcome);
+}
+
+/// Gives a cog this holder.
+fn hold(cogs: &mut Vec<Cog>, cog: u32, holder: Option<u32>)
+    ensures { cogs.new.items ≡ held cogs.old.items cog holder }
+{
+    if let Some(cog) = cogs.get_mut(cog as usize) {
+        cog.holder = holder;
+    }
+}

@@ -1,0 +1,4 @@
+//! The texts that the command prints.
+
+pub mod outcome;
+pub mod refusal;

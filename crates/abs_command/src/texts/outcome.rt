@@ -1,0 +1,96 @@
+//! The texts of a report and of a run.
+ghost use Rattle.std.specs.Prelude.{◌≡◌, ◌++◌, ℕ, List, length, IfOk, OnOk, codes, string_bytes};
+ghost use Rattle.abs_command.specs.Texts.{report_lines, lines_text, end_line, fault_line as line_of, fault_lines, end_text as text_of, unfinished_of};
+
+use crate::analysis::report::Report;
+use crate::runtime::config::{Config, Lines, TaskCell};
+use crate::runtime::machine::End;
+use abs_tree::{Evaluated, Text};
+use std::alloc::{AllocError, Global};
+
+/// The text of a report.
+///
+/// # Errors
+/// [`AllocError`] where memory runs out.
+pub fn report_text(alloc: Global, report: &Report) -> Result<Text, AllocError>
+    ensures { IfOk result (λ text. text ≡ report_lines report.now) }
+{
+    let text = format!(in alloc; "no circular chain\n")?;
+    Text::new(alloc, text.into_bytes())
+}
+
+/// What a run of so many events printed, how it ended, and the faults of its tasks.
+///
+/// # Errors
+/// [`AllocError`] where memory runs out.
+pub fn end_text(
+    alloc: Global,
+    lines: &Lines,
+    end: End,
+    events: u64,
+    config: &Config,
+) -> Result<Text, AllocError>
+    ensures { IfOk result (λ text. text ≡ text_of lines.now end events config.now.tasks) }
+{
+    let tasks = config.tasks.items.as_slice();
+    let mut out = Vec::new(alloc);
+    push_lines(&mut out, lines)?;
+    out.extend_from_slice(ending(alloc, end, events, tasks)?.as_bytes())?;
+    push_faults(alloc, &mut out, tasks)?;
+    Text::new(alloc, out)
+}
+
+/// Adds each printed text as a line.
+fn push_lines(out: &mut Vec<u8>, lines: &Lines) -> Result<(), AllocError>
+    ensures { OnOk result (out.new.items ≡ out.old.items ++ lines_text lines.now) }
+{
+    for line in &lines.items {
+        out.extend_from_slice(line.as_bytes())?;
+        out.push(b'\n')?;
+    }
+    Ok(())
+}
+
+/// The line that says how a run of so many events ended.
+fn ending(alloc: Global, end: End, events: u64, tasks: &[TaskCell]) -> Result<String, AllocError>
+    ensures { IfOk result (λ line. string_bytes line ≡ end_line end events tasks.now) }
+{
+    let count = tasks.len();
+    let unfinished = tasks.iter().filter(|task| task.outcome.is_none()).count();
+    match end {
+        End::Done => format!(in alloc; "done: {count} tasks\n"),
+        End::Stalled => format!(in alloc; "stalled: {count} tasks, {unfinished} unfinished\n"),
+        End::Spent => {
+            format!(in alloc; "spent: {events} events, {count} tasks, {unfinished} unfinished\n")
+        }
+    }
+}
+
+/// Adds a line for each task that ended by a fault.
+fn push_faults(alloc: Global, out: &mut Vec<u8>, tasks: &[TaskCell]) -> Result<(), AllocError>
+    ensures { OnOk result (out.new.items ≡ out.old.items ++ fault_lines 0 tasks.now) }
+{
+    for (number, task) in tasks.iter().enumerate() {
+        push_fault(alloc, out, number, task)?;
+    }
+    Ok(())
+}
+
+/// Adds the line of a task of this number, where it ended by a fault.
+fn push_fault(
+    alloc: Global,
+    out: &mut Vec<u8>,
+    number: usize,
+    task: &TaskCell,
+) -> Result<(), AllocError>
+    ensures { OnOk result (out.new.items ≡ out.old.items ++ line_of number task.now.outcome) }
+{
+    match &task.outcome {
+        Some(Evaluated::Bad(fault)) => {
+            let line = format!(in alloc; "fault: task {number}: {fault}\n")?;
+            out.extend_from_slice(line.as_bytes())?;
+            Ok(())
+        }
+        Some(Evaluated::Good(_)) | None => Ok(()),
+    }
+}
