@@ -3,8 +3,10 @@
 --
 -- It goes by recursion on the levels that are left, since each part of an expression has one level more than the
 -- expression itself: it has one equation for each form of expression, and so it gives each expression just one result.
-use Rattle.std.specs.Prelude.{ℕ, zero, suc, ◌+◌, nat_lt, nat_le, List, [], ◌∷◌, length, if◌then◌else◌, codes}
+use Rattle.std.specs.Prelude.{ℕ, zero, suc, ◌+◌, nat_lt, nat_le, List, [], ◌∷◌, length, slice_get, Option, Some, None, if◌then◌else◌, codes}
 use Rattle.std.specs.Str.{bytes_eq}
+use Rattle.abs_tree.specs.declared.program.Variable.{Variable}
+use Rattle.abs_tree.specs.declared.program.Variable.TheVariants.{Named, Slot}
 use Rattle.abs_tree.specs.declared.value.Value.{Value}
 use Rattle.abs_tree.specs.declared.value.Value.TheVariants.{Int, Text}
 use Rattle.abs_tree.specs.declared.value.Fault.TheVariants as fault
@@ -12,7 +14,7 @@ use Rattle.abs_tree.specs.declared.value.Evaluated.{Evaluated}
 use Rattle.abs_tree.specs.declared.value.Evaluated.TheVariants.{Good, Bad}
 use Rattle.abs_tree.specs.declared.value.Output.{Output}
 use Rattle.abs_tree.specs.declared.value.Output.TheVariants.{Values, Bad as FirstFault}
-use Rattle.abs_tree.specs.Trees.{ExprTree, ExprTrees, Number, Apply, NoMore, More, name_of}
+use Rattle.abs_tree.specs.Trees.{ExprTree, ExprTrees, Number, Local, Apply, NoMore, More, name_of}
 use Rattle.abs_tree.specs.Values.{text_of}
 
 -- the function applications that a statement may make
@@ -70,14 +72,26 @@ applied name (Values values) made =
     then record { result = called name values; applications = made + 1 }
     else record { result = Bad fault.Calls; applications = made }
 
--- what an expression gives with so many levels left, in a program with these names, after so many applications
-unfoldable pub evaluate : List (List ℕ) → ℕ → ExprTree → ℕ → Outcome
-evaluate names zero expr made = record { result = Bad fault.Levels; applications = made }
-evaluate names (suc left) (Number place number) made = record { result = Good (Int number); applications = made }
-evaluate names (suc left) (Apply place function arguments) made =
-    let found = each (evaluate names left) arguments made in
+-- the value that stands at a slot; there is none past the last slot
+abbrev pub read : Option Value → Evaluated
+read (Some value) = Good value
+read None = Bad fault.Mistyped
+
+-- what a local gives: the value of its slot; a name that was not looked up gives none
+abbrev pub local_gives : List Value → Variable → Evaluated
+local_gives slots (Slot number) = read (slice_get slots number)
+local_gives slots (Named symbol) = Bad fault.Mistyped
+
+-- what an expression gives with so many levels left, in a program with these names, where the slots have these values,
+-- after so many applications
+unfoldable pub evaluate : List (List ℕ) → List Value → ℕ → ExprTree → ℕ → Outcome
+evaluate names slots zero expr made = record { result = Bad fault.Levels; applications = made }
+evaluate names slots (suc left) (Number place number) made = record { result = Good (Int number); applications = made }
+evaluate names slots (suc left) (Local place variable) made = record { result = local_gives slots variable; applications = made }
+evaluate names slots (suc left) (Apply place function arguments) made =
+    let found = each (evaluate names slots left) arguments made in
     applied (name_of names function) found.output found.applications
 
 -- what a statement's own expression gives
-abbrev pub result_of : List (List ℕ) → ExprTree → Evaluated
-result_of names expr = (evaluate names level_limit expr 0).result
+abbrev pub result_of : List (List ℕ) → List Value → ExprTree → Evaluated
+result_of names slots expr = (evaluate names slots level_limit expr 0).result

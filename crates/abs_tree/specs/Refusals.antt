@@ -1,7 +1,18 @@
--- The names of the codes of refusals, and what they say in words.
-use Rattle.std.specs.Prelude.{ℕ, List, codes}
+-- Offences and refusals: which offence of a source is its first, the names of the codes, and what they say in words.
+use Rattle.std.specs.Prelude.{ℕ, ◌≤◌, List, codes, All, Contains}
 use Rattle.abs_tree.specs.declared.refusal.Code.{Code}
 use Rattle.abs_tree.specs.declared.refusal.Code.TheVariants as code
+use Rattle.abs_tree.specs.declared.refusal.Offence.{Offence}
+use Rattle.abs_tree.specs.declared.refusal.Refusal.{Refusal}
+
+-- the refusal for an offence: its code, with the line and column of its place
+abbrev pub refusal_of : Offence → Refusal
+refusal_of offence = record { code = offence.code; line = offence.place.line; column = offence.place.column }
+
+-- One of some offences, and none of them stands before it.
+pub record IsFirst (offences : List Offence) (offence : Offence) : Type 0 where
+  pub among : Contains offences offence
+  pub least : All (λ (other : Offence). offence.place.offset ≤ other.place.offset) offences
 
 -- the name of a code
 abbrev pub code_name : Code → List ℕ

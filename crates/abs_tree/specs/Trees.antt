@@ -1,5 +1,6 @@
 -- The tree of a program without its memory: what the grammar relates to a text, and what the rules of a run speak of.
--- It has a constructor for each alternative of the grammar that is read so far.
+-- It has a constructor for each alternative of the grammar that is read so far. In the tree of a text each local is its
+-- name; in that of a program that runs, its slot.
 use Rattle.std.specs.Prelude.{ℕ, ℤ, List, [], ◌∷◌, map, slice_get, unwrap_or}
 use Rattle.abs_tree.specs.declared.place.Place.{Place}
 use Rattle.abs_tree.specs.declared.symbol.Symbol.{Symbol}
@@ -7,25 +8,37 @@ use Rattle.abs_tree.specs.declared.program.Expr as code
 use Rattle.abs_tree.specs.declared.program.Stmt as code_stmt
 use Rattle.abs_tree.specs.declared.program.Stmt.TheVariants as stmt_variant
 use Rattle.abs_tree.specs.declared.program.Program as code_program
+use Rattle.abs_tree.specs.declared.program.Named as code_named
+use Rattle.abs_tree.specs.declared.program.Variable.{Variable}
 
 mutual
-  -- a number; or the name of a function with its arguments
+  -- a number; a local; or the name of a function with its arguments
   pub data ExprTree : Type 0 where
     Number : Place → ℤ → ExprTree
+    Local : Place → Variable → ExprTree
     Apply : Place → Symbol → ExprTrees → ExprTree
 
   pub data ExprTrees : Type 0 where
     NoMore : ExprTrees
     More : ExprTree → ExprTrees → ExprTrees
 
--- a statement that prints the text that an expression gives
+-- a declaration, with the place of its name, or an assignment of what an expression gives; or a statement that prints the
+-- text that one gives
 pub data StmtTree : Type 0 where
+  Declare : Place → Place → Variable → ExprTree → StmtTree
+  Assign : Place → Variable → ExprTree → StmtTree
   Print : Place → ExprTree → StmtTree
 
 -- the names, by the numbers of their symbols, and the statements of the main block, which are numbered from 0
 pub record ProgramTree : Type 0 where
   pub names : List (List ℕ)
   pub main : List StmtTree
+
+-- the same of a program that runs, and how many slots its main block has
+pub record NamedTree : Type 0 where
+  pub names : List (List ℕ)
+  pub main : List StmtTree
+  pub slots : ℕ
 
 -- the name of a symbol; a symbol that the program does not have has the empty name
 abbrev pub name_of : List (List ℕ) → Symbol → List ℕ
@@ -35,6 +48,7 @@ abbrev mutual
   -- the tree of an expression
   pub expr_tree : code.Expr → ExprTree
   expr_tree (code.Number place number) = Number place number
+  expr_tree (code.Local place variable) = Local place variable
   expr_tree (code.Apply' place function shape arguments) = Apply place function (expr_trees arguments)
 
   pub expr_trees : {n : _} → code.Row_of-Expr n → ExprTrees
@@ -48,8 +62,14 @@ trees_of (argument ∷ rest) = More (expr_tree argument) (trees_of rest)
 
 -- the tree of a statement
 abbrev pub stmt_tree : code_stmt.Stmt → StmtTree
+stmt_tree (stmt_variant.Declare place name variable value) = Declare place name variable (expr_tree value.value)
+stmt_tree (stmt_variant.Assign place variable value) = Assign place variable (expr_tree value.value)
 stmt_tree (stmt_variant.Print place text) = Print place (expr_tree text.value)
 
 -- the tree of a program
 abbrev pub program_tree : code_program.Program → ProgramTree
 program_tree program = record { names = program.symbols; main = map stmt_tree program.main.items }
+
+-- the tree of a program that runs
+abbrev pub named_tree : code_named.Named → NamedTree
+named_tree named = record { names = named.symbols; main = map stmt_tree named.main.items; slots = named.slots }

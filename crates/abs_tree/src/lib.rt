@@ -10,8 +10,8 @@ pub mod text;
 pub mod value;
 
 pub use place::Place;
-pub use program::{Expr, Program, Stmt};
-pub use refusal::{Code, Refusal};
+pub use program::{Expr, Named, Program, Stmt, Variable};
+pub use refusal::{Code, Offence, Refusal};
 pub use symbol::{Symbol, Symbols};
 pub use text::Text;
 pub use value::{Evaluated, Fault, Output, Value, Values, value_text};

@@ -1,14 +1,25 @@
-//! The tree of a program, as the parser makes it.
+//! The tree of a program, as the parser makes it, and as it is run once its names were looked up.
 ghost use Rattle.std.specs.Prelude.{◌≤◌, length};
 
 use crate::{Place, Symbol, Symbols};
 use std::sync::Arc;
+
+/// What stands for a local: its name, as it is written, until that was looked up; and then its slot.
+#[derive(Clone, Copy, Debug, PartialEq, Eq)]
+pub enum Variable {
+    /// The name.
+    Named(Symbol),
+    /// The slot of a declaration. The declarations of a body are numbered from 0 in the order of the source.
+    Slot(u32),
+}
 
 /// An expression, with the place of its first token.
 #[derive(Drop)]
 pub enum Expr {
     /// A number.
     Number(Place, i128),
+    /// A local.
+    Local(Place, Variable),
     /// The name of a function, and its arguments.
     Apply(Place, Symbol, Vec<Expr>),
 }
@@ -17,6 +28,10 @@ pub enum Expr {
 /// along costs the same whatever their size.
 #[derive(Drop)]
 pub enum Stmt {
+    /// `Int x = e;`, with the place of the name that it declares.
+    Declare(Place, Place, Variable, Arc<Expr>),
+    /// `x = e;`
+    Assign(Place, Variable, Arc<Expr>),
     /// `println(e);`
     Print(Place, Arc<Expr>),
 }
@@ -28,4 +43,16 @@ pub struct Program<'a> {
     pub main: Vec<Stmt>,
     ghost few_names: { length symbols ≤ 268435456 },
     ghost few_statements: { length main.items ≤ 268435456 },
+}
+
+/// A program whose names were looked up: each local is a slot of the main block.
+#[derive(Drop)]
+pub struct Named<'a> {
+    pub symbols: Symbols<'a>,
+    pub main: Vec<Stmt>,
+    /// How many slots the main block has.
+    pub slots: u32,
+    ghost few_names: { length symbols ≤ 268435456 },
+    ghost few_statements: { length main.items ≤ 268435456 },
+    ghost few_slots: { slots ≤ 268435456 },
 }

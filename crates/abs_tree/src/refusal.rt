@@ -1,7 +1,8 @@
 //! Why and where a source is refused.
 ghost use Rattle.std.specs.Prelude.{◌≡◌, Some};
-ghost use Rattle.abs_tree.specs.Refusals.{code_name, code_words};
+ghost use Rattle.abs_tree.specs.Refusals.{code_name, code_words, refusal_of};
 
+use crate::Place;
 use std::fmt;
 
 /// The offence for which a source is refused. The letters are those of the tokens (L), the grammar (S), the names (N),
@@ -111,6 +112,26 @@ impl fmt::Display for Code {
             Code::P4 => "P4",
             Code::P5 => "P5",
         })
+    }
+}
+
+/// An offence of a source, at its place.
+#[derive(Clone, Copy, Debug, PartialEq, Eq)]
+pub struct Offence {
+    pub code: Code,
+    pub place: Place,
+}
+
+impl Offence {
+    /// The refusal of a source for this offence.
+    pub fn refusal(self) -> Refusal
+        ensures { result ≡ refusal_of self }
+    {
+        Refusal {
+            code: self.code,
+            line: self.place.line,
+            column: self.place.column,
+        }
     }
 }
 

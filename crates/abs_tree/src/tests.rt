@@ -94,3 +94,30 @@ fn values_in_order(rt: HostRuntime) -> Result<(), Fail> {
     assert!(rt; matches!(values.at(2), Value::Int(3)));
     Ok(())
 }
+
+// Whether a value is this number.
+fn is_number(value: &Value, wanted: i128) -> bool {
+    match value {
+        Value::Int(number) => *number == wanted,
+        Value::Text(_) | Value::Null => false,
+    }
+}
+
+/// A value that is put at an index stands there alone, and a copy that was made before keeps what it had.
+#[test]
+fn values_are_set(rt: HostRuntime) -> Result<(), Fail> {
+    let mut values = Values::nulls(rt.alloc(), 3)?;
+    assert_eq!(rt; values.len(), 3);
+    values.set(rt.alloc(), 1, Value::Int(7))?;
+    let copy = values.share()?;
+    assert_eq!(rt; copy.len(), 3);
+    assert_eq!(rt; values.len(), 3);
+    values.set(rt.alloc(), 2, Value::Int(8))?;
+    assert!(rt; matches!(values.at(0), Value::Null));
+    assert!(rt; is_number(values.at(1), 7));
+    assert!(rt; is_number(values.at(2), 8));
+    assert!(rt; is_number(copy.at(1), 7));
+    assert!(rt; matches!(copy.at(2), Value::Null));
+    assert!(rt; is_number(&values.at(2).share()?, 8));
+    Ok(())
+}

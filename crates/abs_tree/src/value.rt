@@ -1,5 +1,5 @@
 //! Values, what evaluation gives, and the printed text of a value.
-ghost use Rattle.std.specs.Prelude.{◌≡◌, ◌<◌, ◌==◌, length, slice_get, Some, IfOk};
+ghost use Rattle.std.specs.Prelude.{◌≡◌, ◌<◌, ◌==◌, length, slice_get, slice_set, replicate, Some, IfOk, OnOk, OnErr};
 ghost use Rattle.abs_tree.specs.Faults.{fault_name};
 ghost use Rattle.abs_tree.specs.Values.{text_of};
 
@@ -59,6 +59,22 @@ pub enum Value {
     Null,
 }
 
+impl Value {
+    /// The same value, which shares its parts with this one.
+    ///
+    /// # Errors
+    /// [`AllocError`] where there are as many copies of a part as can be counted.
+    pub fn share(&self) -> Result<Value, AllocError>
+        ensures { IfOk result (λ value. value ≡ self.now) }
+    {
+        match self {
+            Value::Int(number) => Ok(Value::Int(*number)),
+            Value::Text(text) => Ok(Value::Text(text.share()?)),
+            Value::Null => Ok(Value::Null),
+        }
+    }
+}
+
 /// What an evaluation gives.
 #[derive(Drop)]
 pub enum Evaluated {
@@ -96,6 +112,20 @@ impl Values {
         Ok(Values { items })
     }
 
+    /// So many values, none of which is an object or a future.
+    ///
+    /// # Errors
+    /// [`AllocError`] where memory runs out.
+    pub fn nulls(alloc: Global, count: usize) -> Result<Values, AllocError>
+        ensures { IfOk result (λ values. values ≡ replicate count Value.Null) }
+    {
+        let mut items = Vec::with_capacity(alloc, count)?;
+        for _ in 0..count {
+            items.push(Value::Null)?;
+        }
+        Values::new(alloc, items)
+    }
+
     /// How many values there are.
     pub fn len(&self) -> usize
         ensures { result ≡ length self.now }
@@ -124,6 +154,47 @@ impl Values {
     {
         self.items.as_slice()
     }
+
+    /// The same values, which this copy shares with these.
+    ///
+    /// # Errors
+    /// [`AllocError`] where there are as many copies as can be counted.
+    pub fn share(&self) -> Result<Values, AllocError>
+        ensures { IfOk result (λ values. values ≡ self.now) }
+    {
+        let items = self.items.clone()?;
+        Ok(Values { items })
+    }
+
+    /// Puts a value at an index: in its place where no copy shares these values, and otherwise into a copy of them.
+    ///
+    /// # Errors
+    /// [`AllocError`] where memory runs out; the values are as before.
+    pub fn set(&mut self, alloc: Global, index: usize, value: Value) -> Result<(), AllocError>
+        requires { index < length self.old }
+        ensures ok { OnOk result (self.new ≡ slice_set self.old index value) }
+        ensures err { OnErr result (self.new ≡ self.old) }
+    {
+        if let Some(items) = Arc::get_mut(&mut self.items) {
+            items[index] = value;
+            return Ok(());
+        }
+        let mut items = copies(alloc, self.items.as_slice())?;
+        items[index] = value;
+        self.items = Arc::new(alloc, items)?;
+        Ok(())
+    }
+}
+
+/// A copy of each value.
+fn copies(alloc: Global, values: &[Value]) -> Result<Vec<Value>, AllocError>
+    ensures { IfOk result (λ copies. copies.items ≡ values.now) }
+{
+    let mut copies = Vec::with_capacity(alloc, values.len())?;
+    for value in values {
+        copies.push(value.share()?)?;
+    }
+    Ok(copies)
 }
 
 /// What the evaluation of a list of expressions gives.
