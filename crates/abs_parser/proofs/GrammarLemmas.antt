@@ -1,181 +1,197 @@
--- Each part of the grammar reads a spot in one way only, and why a part that is not there refuses the whole.
-use Rattle.std.proofs.Common.{◌≡◌, ℕ, ◌+◌, ◌<◌, ◌≤◌, ℤ, List, [], ◌∷◌, ◌++◌, refl, sym, ap, subst, ◌∙◌, length, fold, arith, length-append, length-drop, get_or, drop}
+-- Each part of the grammar reads a spot in one way only. Two readings may be of programs with different tables of names: they
+-- still read the same words and end at the same spot, and where the tables are one, so are the trees.
+use Rattle.std.proofs.Common.{◌≡◌, ℕ, List, [], ◌∷◌, ◌++◌, refl, sym, ap, subst, ◌∙◌, append_assoc, pos}
+use Rattle.std.proofs.lemmas.List.{append-nil}
 use Rattle.std.specs.Prelude.{codes}
-use Rattle.std.proofs.lemmas.List.{map-append}
-use Rattle.std.proofs.lemmas.List.Sums.{fold-append}
-use Rattle.abs_tree.specs.declared.place.Place.{Place}
-use Rattle.abs_tree.specs.declared.refusal.Refusal.{Refusal}
 use Rattle.abs_tree.specs.declared.symbol.Symbol.{Symbol}
-use Rattle.abs_tree.specs.Names.{number_of_name, with_name, by_first_appearance}
-use Rattle.abs_tree.specs.Trees.{StmtTree, ProgramTree, Number, Apply, NoMore, More, Print}
-use Rattle.abs_parser.specs.declared.cursor.Class.TheVariants.{White, Sign}
-use Rattle.abs_parser.specs.Tokens.{Spot, run_of, Takes, TakesNumber}
-use Rattle.abs_parser.specs.Grammar.{Opens, Closes, ReadsStmt, ReadsStmts, ReadsBlock, ReadsProgram, printing, names_in}
-use Rattle.abs_parser.specs.Answers.{RefusesAt, IsRefusal, RefusesFor}
-use Rattle.abs_parser.specs.declared.parser.ParseError.{ParseError}
-use Rattle.abs_parser.specs.declared.parser.ParseError.TheVariants.{Refused, Memory}
-use Rattle.abs_parser.proofs.SpotLemmas.{takes_once}
+use Rattle.abs_tree.specs.declared.program.Variable.TheVariants.{Named}
+use Rattle.abs_tree.specs.Names.{by_first_appearance}
+use Rattle.abs_tree.specs.Trees.{ExprTree, StmtTree, ProgramTree, Number, Local, Apply, NoMore, More, Declare, Assign, Print}
+use Rattle.abs_parser.specs.declared.cursor.Class.TheVariants.{Word, Sign}
+use Rattle.abs_parser.specs.Tokens.{Spot, Takes, TakesNumber, TakesName}
+use Rattle.abs_parser.specs.Grammar.{symbol_of, ReadsOperand, number, local, ReadsBinding, Opens, Closes, ReadsPrinted, ReadsStmt, declare, assign, print, ReadsStmts, none, some, ReadsBlock, ReadsProgram}
+use Rattle.abs_parser.proofs.SpotLemmas.{takes_at}
+use Rattle.abs_parser.proofs.WordLemmas.{name_once, number_is_no_name, int_is_no_name, println_is_no_name, int_is_no_println, closed_is_no_int, closed_is_no_println, closed_is_no_name}
 
--- what refuses a token refuses what it stands in
-pub refused_by_token : {place : Place} {refusal : Refusal} {A B : Type 0} → RefusesAt place refusal A → (A → B) → IsRefusal refusal B
-refused_by_token h f = record { code = ap (λ (r : Refusal). r.code) h.is; why = f h.why }
-
--- what refuses a part refuses the whole
-pub refused_by_part : {refusal : Refusal} {A B : Type 0} → IsRefusal refusal A → (A → B) → IsRefusal refusal B
-refused_by_part h f = record { code = h.code; why = f h.why }
-
--- a weaker cause refuses too
-pub refuses_weaker : (e : ParseError) {A B : Type 0} → (A → B) → RefusesFor e A → RefusesFor e B
-refuses_weaker (Refused refusal) f h = refused_by_part h f
-refuses_weaker Memory f h = tt
-
-pub opens_once : {name : List ℕ} {from a b : Spot} → Opens name from a → Opens name from b → a ≡ b
-opens_once {name} {from} {a} {b} x y =
-    takes_once (subst (λ (s : Spot). Takes Sign (codes "(") s a) (takes_once x.word y.word) x.open_sign) y.open_sign
-
-pub closes_once : {from a b : Spot} → Closes from a → Closes from b → a ≡ b
-closes_once {from} {a} {b} x y =
-    let first : x.behind_first ≡ y.behind_first = takes_once x.first y.first in
-    let second : x.behind_second ≡ y.behind_second = takes_once (subst (λ (s : Spot). Takes Sign (codes ")") s x.behind_second) first x.second) y.second in
-    takes_once (subst (λ (s : Spot). Takes Sign (codes ";") s a) second x.semicolon) y.semicolon
-
-pub record SameNumber (m n : ℕ) (a b : Spot) : Type 0 where
-  pub number : m ≡ n
+-- two readings, of the tables `first` and `second`, agree
+pub record Agree {T : Type 0} (first second : List (List ℕ)) (s t : T) (v w : List (List ℕ)) (a b : Spot) : Type 0 where
+  pub words : v ≡ w
   pub behind : a ≡ b
+  pub tree : first ≡ second → s ≡ t
 
-pub number_once : {m n : ℕ} {from a b : Spot} → TakesNumber m from a → TakesNumber n from b → SameNumber m n a b
-number_once x y = record { number = x.is ∙ sym y.is; behind = takes_once x.token y.token }
+-- a name and "(" in one way
+pub opens_once : {name : List ℕ} {from from' a b : Spot} → from ≡ from' → Opens name from a → Opens name from' b → a ≡ b
+opens_once same x y = takes_at (takes_at same x.word y.word) x.open_sign y.open_sign
 
-pub record SameStmt (s t : StmtTree) (a b : Spot) : Type 0 where
-  pub stmt : s ≡ t
-  pub behind : a ≡ b
+-- the end of a printed text in one way
+closes_once : {from from' a b : Spot} → from ≡ from' → Closes from a → Closes from' b → a ≡ b
+closes_once same x y = takes_at (takes_at (takes_at same x.first y.first) x.second y.second) x.semicolon y.semicolon
 
--- a statement stands at a spot in one way
-pub stmt_once : {names : List (List ℕ)} {from a b : Spot} {s t : StmtTree} → ReadsStmt names from s a → ReadsStmt names from t b → SameStmt s t a b
-stmt_once {names} {from} {a} {b} {s} {t} x y =
-    let name : x.name ≡ y.name = opens_once x.print y.print in
-    let literal : x.literal ≡ y.literal = opens_once (subst (λ (p : Spot). Opens (codes "toString") p x.literal) name x.function) y.function in
-    let number = number_once (subst (λ (p : Spot). TakesNumber x.number p x.close) literal x.argument) y.argument in
-    let function : Symbol = record { 0 = number_of_name names (codes "toString") } in
+-- two numbers at one spot are one
+record SameNumber (m n : ℕ) (a b : Spot) : Type 0 where
+  number : m ≡ n
+  behind : a ≡ b
+
+-- a number in one way
+number_once : {m n : ℕ} {from from' a b : Spot} → from ≡ from' → TakesNumber m from a → TakesNumber n from' b → SameNumber m n a b
+number_once {m} {n} {from} {from'} {a} {b} same x y =
+    let x : TakesNumber m from' a = subst (λ (s : Spot). TakesNumber m s a) same x in
+    record { number = x.is ∙ sym y.is; behind = takes_at refl x.token y.token }
+
+-- Trees, symbols and lists whose parts are the same are the same.
+same_number : (p q : Spot) (m n : ℕ) → p ≡ q → m ≡ n → Number p.place (pos m) ≡ Number q.place (pos n)
+same_number p q m n e f = rw (e, f)
+
+same_local : (p q : Spot) (k l : List (List ℕ)) (m n : List ℕ) → p ≡ q → k ≡ l → m ≡ n
+    → Local p.place (Named (symbol_of k m)) ≡ Local q.place (Named (symbol_of l n))
+same_local p q k l m n e f g = rw (e, f, g)
+
+same_symbol : (k l : List (List ℕ)) (m n : List ℕ) → k ≡ l → m ≡ n → symbol_of k m ≡ symbol_of l n
+same_symbol k l m n f g = rw (f, g)
+
+same_apply : (p q : Spot) (k l : List (List ℕ)) (m : List ℕ) (s t : ExprTree) → p ≡ q → k ≡ l → s ≡ t
+    → Apply p.place (symbol_of k m) (More s NoMore) ≡ Apply q.place (symbol_of l m) (More t NoMore)
+same_apply p q k l m s t e f g = rw (e, f, g)
+
+same_declare : (p q a b : Spot) (m n : Symbol) (s t : ExprTree) → p ≡ q → a ≡ b → m ≡ n → s ≡ t
+    → Declare p.place a.place (Named m) s ≡ Declare q.place b.place (Named n) t
+same_declare p q a b m n s t e f g h = rw (e, f, g, h)
+
+same_assign : (p q : Spot) (m n : Symbol) (s t : ExprTree) → p ≡ q → m ≡ n → s ≡ t → Assign p.place (Named m) s ≡ Assign q.place (Named n) t
+same_assign p q m n s t e f g = rw (e, f, g)
+
+same_print : (p q : Spot) (s t : ExprTree) → p ≡ q → s ≡ t → Print p.place s ≡ Print q.place t
+same_print p q s t e f = rw (e, f)
+
+same_cons : {T : Type 0} (x y : T) (xs ys : List T) → x ≡ y → xs ≡ ys → x ∷ xs ≡ y ∷ ys
+same_cons x y xs ys e f = rw (e, f)
+
+same_append : (a b c d : List (List ℕ)) → a ≡ b → c ≡ d → a ++ c ≡ b ++ d
+same_append a b c d e f = rw (e, f)
+
+same_program : (p q : ProgramTree) → p.names ≡ q.names → p.main ≡ q.main → p ≡ q
+same_program p q e f = rw (e, f)
+
+-- a number or a local in one way
+pub operand_once : {m n : List (List ℕ)} {from from' a b : Spot} {s t : ExprTree} {v w : List (List ℕ)} → from ≡ from'
+    → ReadsOperand m from s v a → ReadsOperand n from' t w b → Agree m n s t v w a b
+operand_once {m} {n} {from} {from'} same (number value to x) (number value' to' y) =
+    let once = number_once same x y in
+    record { words = refl; behind = once.behind; tree = λ names. same_number from from' value value' same once.number }
+operand_once {m} {n} {from} {from'} same (number value to x) (local name to' y) =
+    absurd (number_is_no_name (subst (λ (s : Spot). TakesNumber value s to) same x) y)
+operand_once {m} {n} {from} {from'} same (local name to x) (number value to' y) =
+    absurd (number_is_no_name y (subst (λ (s : Spot). TakesName name s to) same x))
+operand_once {m} {n} {from} {from'} same (local name to x) (local name' to' y) =
+    let once = name_once same x y in
+    record { words = ap (λ (word : List ℕ). word ∷ []) once.name; behind = once.behind; tree = λ names. same_local from from' m n name name' same names once.name }
+
+-- a binding in one way: its symbol and its value
+binding_once : {m n : List (List ℕ)} {from from' a b : Spot} {f g : Symbol} {s t : ExprTree} {v w : List (List ℕ)} → from ≡ from'
+    → ReadsBinding m from f s v a → ReadsBinding n from' g t w b → (m ≡ n → f ≡ g) × Agree m n s t v w a b
+binding_once {m} {n} same x y =
+    let name = name_once same x.name_word y.name_word in
+    let value = operand_once (takes_at name.behind x.equal_sign y.equal_sign) x.reads y.reads in (
+      λ names. x.symbol_is ∙ (same_symbol m n x.name y.name names name.name ∙ sym y.symbol_is),
+      record {
+        words = x.words_are ∙ (same_cons x.name y.name x.behind y.behind name.name value.words ∙ sym y.words_are);
+        behind = takes_at value.behind x.semicolon y.semicolon;
+        tree = value.tree;
+      },
+    )
+
+-- what stands behind "println" in one way
+printed_once : {m n : List (List ℕ)} {from from' a b : Spot} {s t : ExprTree} {v w : List (List ℕ)} → from ≡ from'
+    → ReadsPrinted m from s v a → ReadsPrinted n from' t w b → Agree m n s t v w a b
+printed_once {m} {n} same x y =
+    let function = takes_at same x.open_sign y.open_sign in
+    let value = operand_once (opens_once function x.opens y.opens) x.reads y.reads in
     record {
-      stmt = x.tree
-          ∙ (ap (λ (p : Spot). printing from p x.literal function x.number) name
-          ∙ (ap (λ (p : Spot). printing from y.name p function x.number) literal
-          ∙ (ap (printing from y.name y.literal function) number.number ∙ sym y.tree)));
-      behind = closes_once (subst (λ (p : Spot). Closes p a) number.behind x.end) y.end;
+      words = x.words_are ∙ (ap (λ (words : List (List ℕ)). codes "toString" ∷ words) value.words ∙ sym y.words_are);
+      behind = closes_once value.behind x.end y.end;
+      tree = λ names. x.text_is ∙ (same_apply x.function y.function m n (codes "toString") x.value y.value function names (value.tree names) ∙ sym y.text_is);
     }
 
--- statements that differ in nothing are one
-pub same_print : (place name literal : Place) {f g : Symbol} {m n : ℤ} → f ≡ g → m ≡ n
-    → Print place (Apply name f (More (Number literal m) NoMore)) ≡ Print place (Apply name g (More (Number literal n) NoMore))
-same_print place name literal f-is m-is = rw (f-is, m-is)
-
--- a token takes its bytes off what is left
-pub takes_shorter : {class : _} {token : List ℕ} {from to : Spot} → Takes class token from to → length to.rest + length token ≤ length from.rest
-takes_shorter {class} {token} {from} {to} h =
-    let left : length to.rest ≡ length (drop (run_of White h.behind) h.behind) = ap (λ (s : Spot). length s.rest) h.to_is in
-    omega (arith, left, length-drop (run_of White h.behind) h.behind, ap length h.text, length-append token h.behind)
-
-pub opens_shorter : {name : List ℕ} {from to : Spot} → Opens name from to → length to.rest < length from.rest
-opens_shorter h = omega (arith, takes_shorter h.word, takes_shorter h.open_sign)
-
-pub closes_shorter : {from to : Spot} → Closes from to → length to.rest < length from.rest
-closes_shorter h = omega (arith, takes_shorter h.first, takes_shorter h.second, takes_shorter h.semicolon)
-
--- a statement behind others
-pub stmts_last : (names : List (List ℕ)) (from here to : Spot) (ss : List StmtTree) (s : StmtTree) → ReadsStmts names from ss here → ReadsStmt names here s to → ReadsStmts names from (ss ++ s ∷ []) to
-stmts_last names from here to [] s e h = (to, subst (λ (p : Spot). ReadsStmt names p s to) (sym e) h, refl)
-stmts_last names from here to (t ∷ ss) s read h = (read.0, read.1, stmts_last names read.0 here to ss s read.2 h)
-
--- a "}" is no "p"
-other_head : (x y : List ℕ) → (125 ∷ x) ≡ (112 ∷ y) → ⊥
-other_head x y e = let heads : get_or (125 ∷ x) 0 0 ≡ get_or (112 ∷ y) 0 0 = ap (λ (bytes : List ℕ). get_or bytes 0 0) e in omega arith
+-- a statement in one way
+stmt_once : {m n : List (List ℕ)} {from from' a b : Spot} {s t : StmtTree} {v w : List (List ℕ)} → from ≡ from'
+    → ReadsStmt m from s v a → ReadsStmt n from' t w b → Agree m n s t v w a b
+stmt_once {m} {n} {from} {from'} same (declare name f s v a int x) (declare name' g t w b int' y) =
+    let name_is = takes_at same int int' in
+    let once = binding_once name_is x y in
+    record { words = once.1.words; behind = once.1.behind; tree = λ names. same_declare from from' name name' f g s t same name_is (once.0 names) (once.1.tree names) }
+stmt_once {m} {n} {from} {from'} same (declare name f s v a int x) (assign g t w b y) =
+    absurd (int_is_no_name (subst (λ (p : Spot). Takes Word (codes "Int") p name) same int) y.name_word)
+stmt_once {m} {n} {from} {from'} same (declare name f s v a int x) (print behind t w b println y) =
+    absurd (int_is_no_println (subst (λ (p : Spot). Takes Word (codes "Int") p name) same int) println)
+stmt_once {m} {n} {from} {from'} same (assign f s v a x) (declare name g t w b int y) =
+    absurd (int_is_no_name int (subst (λ (p : Spot). TakesName x.name p x.behind_name) same x.name_word))
+stmt_once {m} {n} {from} {from'} same (assign f s v a x) (assign g t w b y) =
+    let once = binding_once same x y in
+    record { words = once.1.words; behind = once.1.behind; tree = λ names. same_assign from from' f g s t same (once.0 names) (once.1.tree names) }
+stmt_once {m} {n} {from} {from'} same (assign f s v a x) (print behind t w b println y) =
+    absurd (println_is_no_name println (subst (λ (p : Spot). TakesName x.name p x.behind_name) same x.name_word))
+stmt_once {m} {n} {from} {from'} same (print behind s v a println x) (declare name g t w b int y) =
+    absurd (int_is_no_println int (subst (λ (p : Spot). Takes Word (codes "println") p behind) same println))
+stmt_once {m} {n} {from} {from'} same (print behind s v a println x) (assign g t w b y) =
+    absurd (println_is_no_name (subst (λ (p : Spot). Takes Word (codes "println") p behind) same println) y.name_word)
+stmt_once {m} {n} {from} {from'} same (print behind s v a println x) (print behind' t w b println' y) =
+    let once = printed_once (takes_at same println println') x y in
+    record { words = once.words; behind = once.behind; tree = λ names. same_print from from' s t same (once.tree names) }
 
 -- a block that closes here has no statement here
-closed_is_no_stmt : {names : List (List ℕ)} {here end to : Spot} {s : StmtTree} → Takes Sign (codes "}") here end → ReadsStmt names here s to → ⊥
-closed_is_no_stmt closed read = other_head _ _ (sym closed.text ∙ read.print.word.text)
+closed_is_no_stmt : {names : List (List ℕ)} {here end to : Spot} {s : StmtTree} {w : List (List ℕ)} → Takes Sign (codes "}") here end → ReadsStmt names here s w to → ⊥
+closed_is_no_stmt closed (declare name f s w to int x) = closed_is_no_int closed int
+closed_is_no_stmt closed (assign f s w to x) = closed_is_no_name closed x.name_word
+closed_is_no_stmt closed (print behind s w to println x) = closed_is_no_println closed println
 
-pub record SameStmts (ss ts : List StmtTree) (a b : Spot) : Type 0 where
-  pub stmts : ss ≡ ts
-  pub behind : a ≡ b
+-- the statements up to a "}" in one way
+stmts_once : {m n : List (List ℕ)} {from from' a b end end' : Spot} {ss ts : List StmtTree} {v w : List (List ℕ)} → from ≡ from'
+    → ReadsStmts m from ss v a → ReadsStmts n from' ts w b → Takes Sign (codes "}") a end → Takes Sign (codes "}") b end' → Agree m n ss ts v w a b
+stmts_once same (none from a x) (none from' b y) closed closed' = record { words = refl; behind = sym x ∙ (same ∙ y); tree = λ names. refl }
+stmts_once {m} {n} {end = end} same (none from a x) (some from' next b t ts f g w are stmt rest) closed closed' =
+    absurd (closed_is_no_stmt (subst (λ (p : Spot). Takes Sign (codes "}") p end) (sym x ∙ same) closed) stmt)
+stmts_once {m} {n} {end' = end'} same (some from next a s ss f g v are stmt rest) (none from' b y) closed closed' =
+    absurd (closed_is_no_stmt (subst (λ (p : Spot). Takes Sign (codes "}") p end') (sym (same ∙ y)) closed') stmt)
+stmts_once same (some from next a s ss f g v are stmt rest) (some from' next' b t ts f' g' w are' stmt' rest') closed closed' =
+    let first = stmt_once same stmt stmt' in
+    let more = stmts_once first.behind rest rest' closed closed' in
+    record {
+      words = are ∙ (same_append f f' g g' first.words more.words ∙ sym are');
+      behind = more.behind;
+      tree = λ names. same_cons s t ss ts (first.tree names) (more.tree names);
+    }
 
--- the statements up to a "}" are read in one way
-pub stmts_once : (names : List (List ℕ)) (from a b : Spot) (ss ts : List StmtTree) → ReadsStmts names from ss a → ReadsStmts names from ts b
-    → (end end' : Spot) → Takes Sign (codes "}") a end → Takes Sign (codes "}") b end' → SameStmts ss ts a b
-stmts_once names from a b [] [] x y end end' closed closed' = record { stmts = refl; behind = sym x ∙ y }
-stmts_once names from a b [] (t ∷ ts) x y end end' closed closed' = absurd (closed_is_no_stmt (subst (λ (p : Spot). Takes Sign (codes "}") p end) (sym x) closed) y.1)
-stmts_once names from a b (s ∷ ss) [] x y end end' closed closed' = absurd (closed_is_no_stmt (subst (λ (p : Spot). Takes Sign (codes "}") p end') (sym y) closed') x.1)
-stmts_once names from a b (s ∷ ss) (t ∷ ts) x y end end' closed closed' =
-    let first = stmt_once x.1 y.1 in
-    let rest = stmts_once names y.0 a b ss ts (subst (λ (p : Spot). ReadsStmts names p ss a) first.behind x.2) y.2 end end' closed closed' in
-    record { stmts = rw (first.stmt, rest.stmts); behind = rest.behind }
-
--- where neither a statement nor the end of the block stands behind some statements, no block is read
-pub no_block : (names : List (List ℕ)) (from here close : Spot) (ss ts : List StmtTree) → ReadsStmts names from ss here
-    → ((s : StmtTree) (to : Spot) → ReadsStmt names here s to → ⊥) → ((end : Spot) → Takes Sign (codes "}") here end → ⊥)
-    → ReadsStmts names from ts close → (end : Spot) → Takes Sign (codes "}") close end → ⊥
-no_block names from here close [] [] x none open_still y end closed = open_still end (subst (λ (p : Spot). Takes Sign (codes "}") p end) (sym y ∙ x) closed)
-no_block names from here close [] (t ∷ ts) x none open_still y end closed = none t y.0 (subst (λ (p : Spot). ReadsStmt names p t y.0) x y.1)
-no_block names from here close (s ∷ ss) [] x none open_still y end closed = closed_is_no_stmt (subst (λ (p : Spot). Takes Sign (codes "}") p end) (sym y) closed) x.1
-no_block names from here close (s ∷ ss) (t ∷ ts) x none open_still y end closed =
-    let first = stmt_once x.1 y.1 in
-    no_block names y.0 here close ss ts (subst (λ (p : Spot). ReadsStmts names p ss here) first.behind x.2) none open_still y.2 end closed
-
--- the one name that statements hold is the first of the table
-one_name : (stmts : List StmtTree) → fold with_name (codes "toString" ∷ []) (names_in stmts) ≡ codes "toString" ∷ []
-one_name [] = refl
-one_name (s ∷ ss) = one_name ss
-
-pub first_name : (stmts : List StmtTree) → number_of_name (by_first_appearance (names_in stmts)) (codes "toString") ≡ 0
-first_name [] = refl
-first_name (s ∷ ss) = ap (λ (names : List (List ℕ)). number_of_name names (codes "toString")) (one_name ss)
-
-pub few_names : (stmts : List StmtTree) → length (by_first_appearance (names_in stmts)) ≤ 1
-few_names [] = omega arith
-few_names (s ∷ ss) = omega (arith, ap length (one_name ss))
-
--- of a table only the number of the one name counts
-renamed_stmt : (m n : List (List ℕ)) {from to : Spot} {s : StmtTree} → number_of_name m (codes "toString") ≡ number_of_name n (codes "toString") → ReadsStmt m from s to → ReadsStmt n from s to
-renamed_stmt m n {from} {to} {s} e read = record {
-  name = read.name;
-  literal = read.literal;
-  close = read.close;
-  number = read.number;
-  print = read.print;
-  function = read.function;
-  argument = read.argument;
-  end = read.end;
-  tree = read.tree ∙ ap (λ (k : ℕ). printing from read.name read.literal (record { 0 = k }) read.number) e;
-}
-
-pub renamed : (m n : List (List ℕ)) (from to : Spot) (ss : List StmtTree) → number_of_name m (codes "toString") ≡ number_of_name n (codes "toString") → ReadsStmts m from ss to → ReadsStmts n from ss to
-renamed m n from to [] e read = read
-renamed m n from to (s ∷ ss) e read = (read.0, renamed_stmt m n e read.1, renamed m n read.0 to ss e read.2)
-
--- each table of a program has the number of the one name at its front
-pub table_number : (text : List ℕ) (program : ProgramTree) → ReadsProgram text program → number_of_name program.names (codes "toString") ≡ 0
-table_number text program read = ap (λ (names : List (List ℕ)). number_of_name names (codes "toString")) read.names ∙ first_name program.main
-
--- the table with the name of one more statement
-pub table_last : (stmts : List StmtTree) (s : StmtTree) → by_first_appearance (names_in (stmts ++ s ∷ [])) ≡ with_name (by_first_appearance (names_in stmts)) (codes "toString")
-table_last stmts s =
-    ap by_first_appearance (map-append (λ (t : StmtTree). codes "toString") stmts (s ∷ [])) ∙ fold-append with_name [] (names_in stmts) (codes "toString" ∷ [])
-
--- a block is read in one way
-pub block_once : (m n : List (List ℕ)) (from a b : Spot) (ss ts : List StmtTree) → number_of_name m (codes "toString") ≡ number_of_name n (codes "toString")
-    → ReadsBlock m from ss a → ReadsBlock n from ts b → SameStmts ss ts a b
-block_once m n from a b ss ts e x y =
-    let same = stmts_once n from x.close y.close ss ts (renamed m n from x.close ss e x.inside) y.inside a b x.end_sign y.end_sign in
-    record { stmts = same.stmts; behind = takes_once (subst (λ (p : Spot). Takes Sign (codes "}") p a) same.behind x.end_sign) y.end_sign }
+-- a block in one way
+pub block_once : {m n : List (List ℕ)} {from from' a b : Spot} {ss ts : List StmtTree} {v w : List (List ℕ)} → from ≡ from'
+    → ReadsBlock m from ss v a → ReadsBlock n from' ts w b → Agree m n ss ts v w a b
+block_once same x y =
+    let inside = stmts_once same x.inside y.inside x.end_sign y.end_sign in
+    record { words = inside.words; behind = takes_at inside.behind x.end_sign y.end_sign; tree = inside.tree }
 
 -- a text has one tree
 pub one_reading : (text : List ℕ) (first second : ProgramTree) → ReadsProgram text first → ReadsProgram text second → first ≡ second
 one_reading text first second x y =
-    let begin : x.begin ≡ y.begin = takes_once x.begin_sign y.begin_sign in
-    let number = table_number text first x ∙ sym (table_number text second y) in
-    let same = block_once first.names second.names y.begin x.end y.end first.main second.main number
-    (subst (λ (p : Spot). ReadsBlock first.names p first.main x.end) begin x.block) y.block in
-    same_program first second (x.names ∙ (ap (λ (ss : List StmtTree). by_first_appearance (names_in ss)) same.stmts ∙ sym y.names)) same.stmts
-  where
-    same_program : (p q : ProgramTree) → p.names ≡ q.names → p.main ≡ q.main → p ≡ q
-    same_program p q e f = rw (e, f)
+    let main = block_once (takes_at refl x.begin_sign y.begin_sign) x.block y.block in
+    let names = x.names ∙ (ap by_first_appearance main.words ∙ sym y.names) in
+    same_program first second names (main.tree names)
+
+-- a statement behind others
+pub stmts_last : {names : List (List ℕ)} {from here to : Spot} {ss : List StmtTree} {s : StmtTree} {v w : List (List ℕ)}
+    → ReadsStmts names from ss v here → ReadsStmt names here s w to → ReadsStmts names from (ss ++ s ∷ []) (v ++ w) to
+stmts_last {names} {to = to} {s = s} {w = w} (none from here e) h =
+    some from to to s [] w [] w (sym (append-nil w)) (subst (λ (p : Spot). ReadsStmt names p s w to) (sym e) h) (none to to refl)
+stmts_last {names} {to = to} {s = s} {w = w} (some from next here t ss f g v are stmt rest) h =
+    some from next to t (ss ++ s ∷ []) f (g ++ w) (v ++ w) (ap (λ (words : List (List ℕ)). words ++ w) are ∙ append_assoc f g w) stmt (stmts_last rest h)
+
+-- where neither a statement nor the end of the block stands behind some statements, no block is read
+pub no_block : {m n : List (List ℕ)} {from from' here close end : Spot} {ss ts : List StmtTree} {v w : List (List ℕ)} → from ≡ from'
+    → ReadsStmts m from ss v here → ((s : StmtTree) (words : List (List ℕ)) (to : Spot) → ReadsStmt n here s words to → ⊥)
+    → ((end : Spot) → Takes Sign (codes "}") here end → ⊥) → ReadsStmts n from' ts w close → Takes Sign (codes "}") close end → ⊥
+no_block {end = end} same (none from here x) no_stmt open_still (none from' close y) closed =
+    open_still end (subst (λ (p : Spot). Takes Sign (codes "}") p end) (sym (sym x ∙ (same ∙ y))) closed)
+no_block {n = n} same (none from here x) no_stmt open_still (some from' next close t ts f g w are stmt rest) closed =
+    no_stmt t f next (subst (λ (p : Spot). ReadsStmt n p t f next) (sym (sym x ∙ same)) stmt)
+no_block {end = end} same (some from next here s ss f g v are stmt rest) no_stmt open_still (none from' close y) closed =
+    closed_is_no_stmt (subst (λ (p : Spot). Takes Sign (codes "}") p end) (sym (same ∙ y)) closed) stmt
+no_block same (some from next here s ss f g v are stmt rest) no_stmt open_still (some from' next' close t ts f' g' w are' stmt' rest') closed =
+    no_block (stmt_once same stmt stmt').behind rest no_stmt open_still rest' closed

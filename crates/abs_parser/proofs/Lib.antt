@@ -1,3 +1,9 @@
 pub mod SpotLemmas
 pub mod RunLemmas
+pub mod NameLemmas
+pub mod WordLemmas
 pub mod GrammarLemmas
+pub mod FindLemmas
+pub mod RefusalLemmas
+pub mod SizeLemmas
+pub mod PieceLemmas

@@ -1,5 +1,5 @@
 -- Moving along a text, and that a token stands at a spot in one way only.
-use Rattle.std.proofs.Common.{◌≡◌, ℕ, ◌+◌, List, ◌++◌, refl, sym, ap, ◌∙◌, take, drop, length}
+use Rattle.std.proofs.Common.{◌≡◌, ℕ, ◌+◌, List, ◌++◌, refl, sym, ap, subst, ◌∙◌, take, drop, length}
 use Rattle.std.proofs.Math.Seq.{take-add, take-append_seam, drop-drop}
 use Rattle.std.proofs.lemmas.List.{append_cancel_left, take-append-drop}
 use Rattle.std.proofs.lemmas.List.Sums.{fold-append}
@@ -28,6 +28,10 @@ pub takes_once : {class : Class} {token : List ℕ} {from a b : Spot} → Takes 
 takes_once {class} {token} {from} {a} {b} x y =
     let same : x.behind ≡ y.behind = append_cancel_left token _ _ (sym x.text ∙ y.text) in
     x.to_is ∙ ap (λ r. past_white (record { rest = r; place = place_after from.place token })) same ∙ sym y.to_is
+
+-- the same of a token at two spots that are one
+pub takes_at : {class : Class} {token : List ℕ} {from from' a b : Spot} → from ≡ from' → Takes class token from a → Takes class token from' b → a ≡ b
+takes_at {class} {token} {from} {from'} {a} {b} same x y = takes_once (subst (λ (s : Spot). Takes class token s a) same x) y
 
 -- a token that stands in front, and does not go on, is taken
 pub takes_front : (class : Class) (token : List ℕ) (from : Spot) → from.rest ≡ token ++ drop (length token) from.rest → run_of class (drop (length token) from.rest) ≡ 0 → Takes class token from (past_white (moved (length token) from))

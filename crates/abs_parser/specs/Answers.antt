@@ -1,14 +1,16 @@
--- What a refusal of the parser means.
-use Rattle.std.specs.Prelude.{◌≡◌, ⊤}
+-- What the readers' answers mean: what was found, and why nothing was.
+use Rattle.std.specs.Prelude.{◌≡◌, ℕ, List, ◌++◌, fold, ⊤}
+use Rattle.abs_tree.specs.Names.{with_name}
 use Rattle.abs_tree.specs.declared.place.Place.{Place}
 use Rattle.abs_tree.specs.declared.refusal.Refusal.{Refusal}
 use Rattle.abs_tree.specs.declared.refusal.Code.TheVariants.{S1}
+use Rattle.abs_tree.specs.Refusals.{refusal_of}
 use Rattle.abs_parser.specs.declared.parser.ParseError.{ParseError}
 use Rattle.abs_parser.specs.declared.parser.ParseError.TheVariants.{Refused, Memory}
 
 -- the refusal of the token at a place, which can't stand there
 abbrev pub refused_at : Place → Refusal
-refused_at place = record { code = S1; line = place.line; column = place.column }
+refused_at place = refusal_of (record { code = S1; place = place })
 
 -- the token at the place is refused, for this cause
 pub record RefusesAt (place : Place) (refusal : Refusal) (cause : Type 0) : Type 0 where
@@ -24,3 +26,20 @@ pub record IsRefusal (refusal : Refusal) (cause : Type 0) : Type 0 where
 abbrev pub RefusesFor : ParseError → Type 0 → Type 0
 RefusesFor (Refused refusal) cause = IsRefusal refusal cause
 RefusesFor Memory cause = ⊤
+
+-- a table of names goes on with others
+pub record GoesOn (now names : List (List ℕ)) : Type 0 where
+  pub more : List (List ℕ)
+  pub is : names ≡ now ++ more
+
+-- What a reader found: some names, which the table holds then; and so it reads in each program whose names go on with that table.
+pub record Finds (old new : List (List ℕ)) (reads : List (List ℕ) → List (List ℕ) → Type 0) : Type 0 where
+  pub words : List (List ℕ)
+  pub table : new ≡ fold with_name old words
+  pub read : (names : List (List ℕ)) → GoesOn new names → reads names words
+
+-- The piece stands in the text.
+pub record IsPiece (text piece : List ℕ) : Type 0 where
+  pub front : List ℕ
+  pub behind : List ℕ
+  pub is : text ≡ front ++ (piece ++ behind)

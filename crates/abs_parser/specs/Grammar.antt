@@ -1,13 +1,40 @@
--- The grammar of a program, as a relation between what is read and its tree.
+-- The grammar of a program, as a relation between what is read and its tree. Each line of it stands beside its rule.
 --   Program = "{" {Stmt} "}" End
---   Stmt    = "println" "(" "toString" "(" INT ")" ")" ";"
-use Rattle.std.specs.Prelude.{◌≡◌, ℕ, pos, List, [], ◌∷◌, map, codes}
+--   Stmt    = "Int" LName "=" Operand ";" | LName "=" Operand ";"
+--           | "println" "(" "toString" "(" Operand ")" ")" ";"
+--   Operand = INT | LName
+use Rattle.std.specs.Prelude.{◌≡◌, ℕ, pos, List, [], ◌∷◌, ◌++◌, codes}
 use Rattle.abs_tree.specs.declared.symbol.Symbol.{Symbol}
+use Rattle.abs_tree.specs.declared.program.Variable.TheVariants.{Named}
 use Rattle.abs_tree.specs.Places.{start}
 use Rattle.abs_tree.specs.Names.{number_of_name, by_first_appearance}
-use Rattle.abs_tree.specs.Trees.{StmtTree, ProgramTree, Number, Apply, NoMore, More, Print}
-use Rattle.abs_parser.specs.declared.cursor.Class.TheVariants.{Word, Sign}
-use Rattle.abs_parser.specs.Tokens.{Spot, Takes, TakesNumber, past_white}
+use Rattle.abs_tree.specs.Trees.{ExprTree, StmtTree, ProgramTree, Number, Local, Apply, NoMore, More, Declare, Assign, Print}
+use Rattle.abs_parser.specs.declared.cursor.Class.TheVariants.{Word, Equals, Sign}
+use Rattle.abs_parser.specs.Tokens.{Spot, Takes, TakesNumber, TakesName, past_white}
+
+-- the symbol of a name in a program with these names
+abbrev pub symbol_of : List (List ℕ) → List ℕ → Symbol
+symbol_of names name = record { 0 = number_of_name names name }
+
+-- INT | LName: the tree, and the names that were read
+pub data ReadsOperand (names : List (List ℕ)) (from : Spot) : ExprTree → List (List ℕ) → Spot → Type 0 where
+  number : (value : ℕ) (to : Spot) → TakesNumber value from to → ReadsOperand names from (Number from.place (pos value)) [] to
+  local : (name : List ℕ) (to : Spot) → TakesName name from to
+      → ReadsOperand names from (Local from.place (Named (symbol_of names name))) (name ∷ []) to
+
+-- LName "=" Operand ";": the symbol of the name, the tree behind "=", and the names that were read
+pub record ReadsBinding (names : List (List ℕ)) (from : Spot) (symbol : Symbol) (value : ExprTree) (words : List (List ℕ)) (to : Spot) : Type 0 where
+  pub behind_name : Spot
+  pub operand : Spot
+  pub close : Spot
+  pub name : List ℕ
+  pub behind : List (List ℕ)
+  pub name_word : TakesName name from behind_name
+  pub equal_sign : Takes Equals (codes "=") behind_name operand
+  pub reads : ReadsOperand names operand value behind close
+  pub semicolon : Takes Sign (codes ";") close to
+  pub symbol_is : symbol ≡ symbol_of names name
+  pub words_are : words ≡ name ∷ behind
 
 -- a name and "("
 pub record Opens (name : List ℕ) (from to : Spot) : Type 0 where
@@ -23,43 +50,52 @@ pub record Closes (from to : Spot) : Type 0 where
   pub second : Takes Sign (codes ")") behind_first behind_second
   pub semicolon : Takes Sign (codes ";") behind_second to
 
--- the tree of a statement that prints a number; its nodes have the places of their first tokens
-abbrev pub printing : Spot → Spot → Spot → Symbol → ℕ → StmtTree
-printing print name literal function number =
-    Print print.place (Apply name.place function (More (Number literal.place (pos number)) NoMore))
-
--- "println" "(" "toString" "(" INT ")" ")" ";", in a program with these names
-pub record ReadsStmt (names : List (List ℕ)) (from : Spot) (stmt : StmtTree) (to : Spot) : Type 0 where
-  pub name : Spot
-  pub literal : Spot
+-- "(" "toString" "(" Operand ")" ")" ";": the tree of the application, and the names that were read
+pub record ReadsPrinted (names : List (List ℕ)) (from : Spot) (text : ExprTree) (words : List (List ℕ)) (to : Spot) : Type 0 where
+  pub function : Spot
+  pub operand : Spot
   pub close : Spot
-  pub number : ℕ
-  pub print : Opens (codes "println") from name
-  pub function : Opens (codes "toString") name literal
-  pub argument : TakesNumber number literal close
+  pub value : ExprTree
+  pub behind : List (List ℕ)
+  pub open_sign : Takes Sign (codes "(") from function
+  pub opens : Opens (codes "toString") function operand
+  pub reads : ReadsOperand names operand value behind close
   pub end : Closes close to
-  pub tree : stmt ≡ printing from name literal (record { 0 = number_of_name names (codes "toString") }) number
+  pub text_is : text ≡ Apply function.place (symbol_of names (codes "toString")) (More value NoMore)
+  pub words_are : words ≡ codes "toString" ∷ behind
 
--- statements, one behind the other
-abbrev pub ReadsStmts : List (List ℕ) → Spot → List StmtTree → Spot → Type 0
-ReadsStmts names from [] to = from ≡ to
-ReadsStmts names from (stmt ∷ stmts) to = (next : Spot) × ReadsStmt names from stmt next × ReadsStmts names next stmts to
+-- a statement: its tree, in a program with these names, and the names that were read; a node has the place of its first token
+pub data ReadsStmt (names : List (List ℕ)) (from : Spot) : StmtTree → List (List ℕ) → Spot → Type 0 where
+  declare : (name : Spot) (symbol : Symbol) (value : ExprTree) (words : List (List ℕ)) (to : Spot)
+      → Takes Word (codes "Int") from name → ReadsBinding names name symbol value words to
+      → ReadsStmt names from (Declare from.place name.place (Named symbol) value) words to
+  assign : (symbol : Symbol) (value : ExprTree) (words : List (List ℕ)) (to : Spot)
+      → ReadsBinding names from symbol value words to
+      → ReadsStmt names from (Assign from.place (Named symbol) value) words to
+  print : (behind : Spot) (text : ExprTree) (words : List (List ℕ)) (to : Spot)
+      → Takes Word (codes "println") from behind → ReadsPrinted names behind text words to
+      → ReadsStmt names from (Print from.place text) words to
 
--- the names that statements hold, in the order of the text
-abbrev pub names_in : List StmtTree → List (List ℕ)
-names_in stmts = map (λ stmt. codes "toString") stmts
+-- statements, one behind the other, and their names in the order of the text
+pub data ReadsStmts (names : List (List ℕ)) : Spot → List StmtTree → List (List ℕ) → Spot → Type 0 where
+  none : (from to : Spot) → from ≡ to → ReadsStmts names from [] [] to
+  some : (from next to : Spot) (stmt : StmtTree) (stmts : List StmtTree) (front behind words : List (List ℕ))
+      → words ≡ front ++ behind → ReadsStmt names from stmt front next → ReadsStmts names next stmts behind to
+      → ReadsStmts names from (stmt ∷ stmts) words to
 
 -- the statements of a block, from behind its "{", and "}"
-pub record ReadsBlock (names : List (List ℕ)) (from : Spot) (stmts : List StmtTree) (to : Spot) : Type 0 where
+pub record ReadsBlock (names : List (List ℕ)) (from : Spot) (stmts : List StmtTree) (words : List (List ℕ)) (to : Spot) : Type 0 where
   pub close : Spot
-  pub inside : ReadsStmts names from stmts close
+  pub inside : ReadsStmts names from stmts words close
   pub end_sign : Takes Sign (codes "}") close to
 
--- the whole text is the program: its main block, with white space before, between and behind the tokens
+-- the whole text is the program: its main block, with white space before, between and behind the tokens; its names are
+-- numbered in the order of their first appearance
 pub record ReadsProgram (text : List ℕ) (program : ProgramTree) : Type 0 where
   pub begin : Spot
   pub end : Spot
+  pub words : List (List ℕ)
   pub begin_sign : Takes Sign (codes "{") (past_white (record { rest = text; place = start })) begin
-  pub block : ReadsBlock program.names begin program.main end
+  pub block : ReadsBlock program.names begin program.main words end
   pub whole : end.rest ≡ []
-  pub names : program.names ≡ by_first_appearance (names_in program.main)
+  pub names : program.names ≡ by_first_appearance words

@@ -1,11 +1,11 @@
 //! A cursor over the text of a source: what is left of it, and the place where that begins, carried along byte by byte.
-ghost use Rattle.std.specs.Prelude.{◌≡◌, ℕ, ◌+◌, ◌^◌, ◌<◌, ◌≤◌, length, IfOk, IfErr, IfSome, IfNone, pos};
+ghost use Rattle.std.specs.Prelude.{◌≡◌, ℕ, ◌+◌, ◌^◌, ◌<◌, ◌≤◌, length, IfOk, IfErr, IfSome, IfNone, pos, List};
 ghost use Rattle.std.specs.Char.{is_ascii_digit};
 ghost use Rattle.std.specs.List.{AllPass};
 ghost use Rattle.std.specs.Str.Parse.{IsNumeral, digits_value};
 
-use crate::ParseError;
-use abs_tree::{Code, Place, Refusal};
+use crate::words::is_name;
+use abs_tree::{Code, Offence, Place, Refusal};
 
 /// What the bytes of a token have in common, and the bytes with which it would go on.
 #[derive(Clone, Copy, Debug, PartialEq, Eq)]
@@ -16,7 +16,9 @@ pub(crate) enum Class {
     Digit,
     /// The letters, digits and `_` of a word.
     Word,
-    /// A sign, which goes on with no byte.
+    /// The sign `=`, which would go on to `==` or `=>`.
+    Equals,
+    /// Any other sign, which goes on with no byte.
     Sign,
 }
 
@@ -31,6 +33,7 @@ impl Class {
             Class::White => matches!(byte, b' ' | b'\t' | b'\r' | b'\n'),
             Class::Digit => byte.is_ascii_digit(),
             Class::Word => byte.is_ascii_alphanumeric() || byte == b'_',
+            Class::Equals => matches!(byte, b'=' | b'>'),
             Class::Sign => false,
         }
     }
@@ -56,7 +59,7 @@ pub(crate) struct Cursor<'a> {
 
 impl<'a> Cursor<'a> {
     ghost use Rattle.abs_tree.specs.Places.{start, behind, place_after};
-    ghost use Rattle.abs_parser.specs.Tokens.{Spot, moved, past_white, Takes, TakesNumber};
+    ghost use Rattle.abs_parser.specs.Tokens.{Spot, moved, past_white, Takes, TakesNumber, TakesName};
     ghost use Rattle.abs_parser.specs.Answers.{refused_at, RefusesAt};
     ghost use Rattle.abs_parser.specs.Views.{spot};
 
@@ -125,11 +128,11 @@ impl<'a> Cursor<'a> {
     pub fn unexpected(self) -> Refusal
         ensures { result ≡ refused_at self.entry.place }
     {
-        Refusal {
+        let offence = Offence {
             code: Code::S1,
-            line: self.place.line,
-            column: self.place.column,
-        }
+            place: self.place,
+        };
+        offence.refusal()
     }
 
     /// The cursor behind a token that is to stand here, and behind the white space that follows it.
@@ -164,6 +167,22 @@ impl<'a> Cursor<'a> {
             Some(number) => Ok((number, self.advance(count).past_white())),
             None => Err(self.unexpected()),
         }
+    }
+
+    /// The name of a local that is to stand here, and the cursor behind it and the white space that follows it.
+    ///
+    /// # Errors
+    /// The refusal of what stands here, where it is no such name.
+    pub fn name(self) -> Result<(&'a [u8], Cursor<'a>), Refusal>
+        ensures found { IfOk result (λ found. TakesName found.0.now (spot self.entry) (spot found.1)) }
+        ensures refused { IfErr result (λ refusal. RefusesAt self.entry.place refusal ((name : List ℕ) (to : Spot) → TakesName name (spot self.entry) to → ⊥)) }
+    {
+        let count = Class::Word.run(self.rest);
+        let (word, _) = self.rest.split_at(count);
+        if !is_name(word) {
+            return Err(self.unexpected());
+        }
+        Ok((word, self.advance(count).past_white()))
     }
 }
 

@@ -3,6 +3,7 @@
 
 mod cursor;
 pub mod parser;
+mod words;
 
 pub use parser::{ParseError, one_tree, parse_text};
 

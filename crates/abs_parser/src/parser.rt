@@ -1,15 +1,14 @@
 //! Reads a whole program: its main block, and nothing behind it.
-ghost use Rattle.std.specs.Prelude.{◌≡◌, ℕ, ◌+◌, ◌≤◌, List, [], ◌++◌, length, map, IfOk, IfErr, OnOk, codes, ◌<◌, ◌^◌};
-ghost use Rattle.abs_tree.specs.Names.{with_name, number_of_name, by_first_appearance};
-ghost use Rattle.abs_tree.specs.Trees.{StmtTree, ProgramTree, Apply, NoMore, More, Print, expr_tree, stmt_tree, program_tree};
-ghost use Rattle.abs_parser.specs.Tokens.{Spot, Takes};
-ghost use Rattle.abs_parser.specs.Grammar.{Opens, Closes, ReadsStmt, ReadsBlock, ReadsProgram, names_in};
-ghost use Rattle.abs_parser.specs.Answers.{IsRefusal, RefusesFor};
+ghost use Rattle.std.specs.Prelude.{◌≡◌, ℕ, ◌≤◌, List, [], length, map, All, IfOk, IfErr, ◌<◌, ◌^◌};
+ghost use Rattle.abs_tree.specs.Trees.{ExprTree, StmtTree, ProgramTree, Apply, NoMore, More, expr_tree, stmt_tree, program_tree};
+ghost use Rattle.abs_parser.specs.Tokens.{Spot};
+ghost use Rattle.abs_parser.specs.Grammar.{ReadsOperand, ReadsBinding, Opens, Closes, ReadsPrinted, ReadsStmt, ReadsBlock, ReadsProgram};
+ghost use Rattle.abs_parser.specs.Answers.{Finds, IsPiece, IsRefusal, RefusesFor};
 ghost use Rattle.abs_parser.specs.Views.{spot};
 ghost use Rattle.abs_parser.specs.declared.parser.ParseError.TheVariants.{Memory, Refused};
 
 use crate::cursor::{Class, Cursor};
-use abs_tree::{Expr, Place, Program, Refusal, Stmt, Symbol, Symbols};
+use abs_tree::{Expr, Place, Program, Refusal, Stmt, Symbol, Symbols, Variable};
 use std::alloc::{AllocError, AllocFailed, Global};
 use std::sync::Arc;
 use thiserror::Error;
@@ -67,44 +66,106 @@ fn closes(from: Cursor<'_>) -> Result<Cursor<'_>, Refusal>
         .take(Class::Sign, b";")
 }
 
+/// A number or a local, and the cursor behind it.
+fn operand<'a>(
+    symbols: &mut Symbols<'a>,
+    from: Cursor<'a>,
+) -> Result<(Expr, Cursor<'a>), ParseError>
+    requires { length symbols.old < 2 ^ 31 }
+    ensures found { IfOk result (λ found. Finds symbols.old symbols.new
+        (λ names words. ReadsOperand names (spot from.entry) (expr_tree found.0) words (spot found.1))) }
+    ensures refused { IfErr result (λ error. RefusesFor error ((names : List (List ℕ)) (value : ExprTree) (words : List (List ℕ)) (to : Spot)
+        → ReadsOperand names (spot from.entry) value words to → ⊥)) }
+{
+    if let Ok((number, behind)) = from.number() {
+        return Ok((Expr::Number(from.place, number), behind));
+    }
+    let (name, behind) = from.name()?;
+    let symbol = symbols.intern(name)?;
+    Ok((Expr::Local(from.place, Variable::Named(symbol)), behind))
+}
+
+/// A name, `=`, an operand and `;`: the symbol, the operand, and the cursor behind them.
+fn binding<'a>(
+    symbols: &mut Symbols<'a>,
+    from: Cursor<'a>,
+) -> Result<(Symbol, Expr, Cursor<'a>), ParseError>
+    requires { length symbols.old < 2 ^ 30 }
+    ensures found { IfOk result (λ found. Finds symbols.old symbols.new
+        (λ names words. ReadsBinding names (spot from.entry) found.0 (expr_tree found.1) words (spot found.2))) }
+    ensures refused { IfErr result (λ error. RefusesFor error ((names : List (List ℕ)) (symbol : Symbol) (value : ExprTree) (words : List (List ℕ)) (to : Spot)
+        → ReadsBinding names (spot from.entry) symbol value words to → ⊥)) }
+{
+    let (name, behind) = from.name()?;
+    let symbol = symbols.intern(name)?;
+    let (value, close) = operand(symbols, behind.take(Class::Equals, b"=")?)?;
+    let end = close.take(Class::Sign, b";")?;
+    Ok((symbol, value, end))
+}
+
+/// What stands behind `println`: the text that is printed, and the cursor behind the statement.
+fn printed<'a>(
+    alloc: Global,
+    symbols: &mut Symbols<'a>,
+    from: Cursor<'a>,
+) -> Result<(Expr, Cursor<'a>), ParseError>
+    requires { length symbols.old < 2 ^ 30 }
+    ensures found { IfOk result (λ found. Finds symbols.old symbols.new
+        (λ names words. ReadsPrinted names (spot from.entry) (expr_tree found.0) words (spot found.1))) }
+    ensures refused { IfErr result (λ error. RefusesFor error ((names : List (List ℕ)) (text : ExprTree) (words : List (List ℕ)) (to : Spot)
+        → ReadsPrinted names (spot from.entry) text words to → ⊥)) }
+{
+    let function = from.take(Class::Sign, b"(")?;
+    let argument = opens(function, b"toString")?;
+    let (name, _) = function.rest.split_at(b"toString".len());
+    let symbol = symbols.intern(name)?;
+    let (value, close) = operand(symbols, argument)?;
+    let end = closes(close)?;
+    let text = application(alloc, function.place, symbol, value)?;
+    Ok((text, end))
+}
+
+/// The application of a function to one argument; `place` is that of the function's name.
+fn application(
+    alloc: Global,
+    place: Place,
+    function: Symbol,
+    argument: Expr,
+) -> Result<Expr, AllocError>
+    ensures { IfOk result (λ expr. expr_tree expr ≡ Apply place function (More (expr_tree argument) NoMore)) }
+{
+    let arguments = vec![in alloc; argument]?;
+    Ok(Expr::Apply(place, function, arguments))
+}
+
 /// A statement, and the cursor behind it.
 fn statement<'a>(
     alloc: Global,
     symbols: &mut Symbols<'a>,
     from: Cursor<'a>,
 ) -> Result<(Stmt, Cursor<'a>), ParseError>
-    requires { length symbols.old < 2 ^ 32 }
-    ensures found { IfOk result (λ found. (names : List (List ℕ)) → number_of_name names (codes "toString") ≡ number_of_name symbols.old (codes "toString") → ReadsStmt names (spot from.entry) (stmt_tree found.0) (spot found.1)) }
-    ensures names { OnOk result (symbols.new ≡ with_name symbols.old (codes "toString")) }
-    ensures shorter { IfOk result (λ found. length found.1.rest.now < length from.entry.rest.now) }
-    ensures refused { IfErr result (λ error. RefusesFor error ((names : List (List ℕ)) (stmt : StmtTree) (to : Spot) → ReadsStmt names (spot from.entry) stmt to → ⊥)) }
+    requires { length symbols.old < 2 ^ 30 }
+    ensures found { IfOk result (λ found. Finds symbols.old symbols.new
+        (λ names words. ReadsStmt names (spot from.entry) (stmt_tree found.0) words (spot found.1))) }
+    ensures refused { IfErr result (λ error. RefusesFor error ((names : List (List ℕ)) (stmt : StmtTree) (words : List (List ℕ)) (to : Spot)
+        → ReadsStmt names (spot from.entry) stmt words to → ⊥)) }
 {
-    let name = opens(from, b"println")?;
-    let literal = opens(name, b"toString")?;
-    let (number, close) = literal.number()?;
-    let end = closes(close)?;
-
-    let (function, _) = name.rest.split_at(b"toString".len());
-    let function = symbols.intern(function)?;
-    let number = Expr::Number(literal.place, number);
-    let stmt = print_of(alloc, from.place, name.place, function, number)?;
-    Ok((stmt, end))
-}
-
-/// The statement that prints what a function gives for one argument; `place` is its place, and `name` that of the
-/// function's name.
-fn print_of(
-    alloc: Global,
-    place: Place,
-    name: Place,
-    function: Symbol,
-    argument: Expr,
-) -> Result<Stmt, AllocError>
-    ensures { IfOk result (λ stmt. stmt_tree stmt ≡ Print place (Apply name function (More (expr_tree argument) NoMore))) }
-{
-    let arguments = vec![in alloc; argument]?;
-    let text = Expr::Apply(name, function, arguments);
-    Ok(Stmt::Print(place, Arc::new(alloc, text)?))
+    if let Ok(name) = from.take(Class::Word, b"Int") {
+        let (symbol, value, end) = binding(symbols, name)?;
+        let value = Arc::new(alloc, value)?;
+        let variable = Variable::Named(symbol);
+        return Ok((Stmt::Declare(from.place, name.place, variable, value), end));
+    }
+    if let Ok(behind) = from.take(Class::Word, b"println") {
+        let (text, end) = printed(alloc, symbols, behind)?;
+        return Ok((Stmt::Print(from.place, Arc::new(alloc, text)?), end));
+    }
+    let (symbol, value, end) = binding(symbols, from)?;
+    let value = Arc::new(alloc, value)?;
+    Ok((
+        Stmt::Assign(from.place, Variable::Named(symbol), value),
+        end,
+    ))
 }
 
 /// The statements of a block and their names, from behind its `{`, and the cursor behind its `}`.
@@ -112,10 +173,10 @@ fn block<'a>(
     alloc: Global,
     from: Cursor<'a>,
 ) -> Result<(Symbols<'a>, Vec<Stmt>, Cursor<'a>), ParseError>
-    ensures found { IfOk result (λ found. ReadsBlock found.0 (spot from.entry) (map stmt_tree found.1.items) (spot found.2)) }
-    ensures names { IfOk result (λ found. found.0 ≡ by_first_appearance (names_in (map stmt_tree found.1.items))) }
-    ensures few { IfOk result (λ found. length found.1.items ≤ length from.entry.rest.now) }
-    ensures refused { IfErr result (λ error. RefusesFor error ((names : List (List ℕ)) (stmts : List StmtTree) (to : Spot) → number_of_name names (codes "toString") ≡ 0 → ReadsBlock names (spot from.entry) stmts to → ⊥)) }
+    ensures found { IfOk result (λ found. Finds [] found.0
+        (λ names words. ReadsBlock names (spot from.entry) (map stmt_tree found.1.items) words (spot found.2))) }
+    ensures refused { IfErr result (λ error. RefusesFor error ((names : List (List ℕ)) (stmts : List StmtTree) (words : List (List ℕ)) (to : Spot)
+        → ReadsBlock names (spot from.entry) stmts words to → ⊥)) }
 {
     let mut symbols = Symbols::new(alloc);
     let mut main = Vec::new(alloc);
@@ -140,6 +201,7 @@ fn block<'a>(
 pub fn parse_text<'a>(alloc: Global, text: &'a [u8]) -> Result<Program<'a>, ParseError>
     requires { length text.now ≤ 1048576 }
     ensures found { IfOk result (λ program. ReadsProgram text.now (program_tree program)) }
+    ensures pieces { IfOk result (λ program. All (IsPiece text.now) program.symbols) }
     ensures refused { IfErr result (λ error. RefusesFor error ((program : ProgramTree) → ReadsProgram text.now program → ⊥)) }
 {
     let begin = Cursor::new(text).past_white().take(Class::Sign, b"{")?;

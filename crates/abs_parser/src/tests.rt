@@ -1,7 +1,7 @@
-//! Where a text is refused, of which the contract of `parse_text` says nothing; that texts are read at all; and one tree,
-//! worked out by hand.
+//! Where a text is refused, of which the contract of `parse_text` says nothing; that texts are read at all; and the names
+//! of some texts and the tree of one, worked out by hand.
 use super::*;
-use abs_tree::{Code, Expr, Place, Program, Refusal, Stmt, Symbol};
+use abs_tree::{Code, Expr, Place, Refusal, Stmt, Symbol, Variable};
 use std::test::Fail;
 
 /// A text is refused at the first token that can't stand where it does; a byte that begins no token, and a number past
@@ -21,16 +21,34 @@ fn refused_texts(rt: HostRuntime) -> Result<(), Fail> {
         ("println(toString(1));", 1, 1),
         ("{ skip; }", 1, 3),
         ("{ Println(toString(1)); }", 1, 3),
-        ("{ printlnx(toString(1)); }", 1, 3),
+        ("{ printlnx(toString(1)); }", 1, 11),
         ("{ println(println(1)); }", 1, 11),
         ("{ println(toString1(1)); }", 1, 11),
+        ("{ println(x); }", 1, 11),
+        ("{ Integer x = 1; }", 1, 3),
+        ("{ int x = 1; }", 1, 7),
+        // words that are no names: those of the language, and those that begin with no lower-case letter
+        ("{ Int = 1; }", 1, 7),
+        ("{ Int X = 1; }", 1, 7),
+        ("{ Int case = 1; }", 1, 7),
+        ("{ Int x = Y; }", 1, 11),
+        ("{ try = 1; }", 1, 3),
+        ("{ println = 1; }", 1, 11),
+        ("{ println(toString(skip)); }", 1, 20),
         // signs that are missing
         ("{ println(toString 1)); }", 1, 20),
         ("{ println (toString(1); }", 1, 23),
         ("{\n println(toString(1))\n}", 3, 1),
+        ("{ x = 1 }", 1, 9),
+        ("{ Int x; }", 1, 8),
+        ("{ Int x = ; }", 1, 11),
+        // signs that go on
+        ("{ x == 1; }", 1, 5),
+        ("{ x => 1; }", 1, 5),
         // numbers: none, one with a sign, two, one with letters behind it, one past the limit
         ("{ println(toString()); }", 1, 20),
         ("{ println(toString(-1)); }", 1, 20),
+        ("{ x = -1; }", 1, 7),
         ("{ println(toString(1 2)); }", 1, 22),
         ("{ println(toString(12a)); }", 1, 22),
         (
@@ -55,24 +73,24 @@ fn refused_texts(rt: HostRuntime) -> Result<(), Fail> {
     Ok(())
 }
 
-/// Whether the statements of a program print these numbers.
-fn prints(program: &Program<'_>, numbers: &[i128]) -> bool {
-    program.main.len() == numbers.len()
-        && program
-            .main
-            .iter()
-            .zip(numbers)
-            .all(|(stmt, number)| prints_one(stmt, *number))
+/// Whether an expression is this number.
+fn is_number(expr: &Expr, wanted: i128) -> bool {
+    match expr {
+        Expr::Number(_, number) => *number == wanted,
+        _ => false,
+    }
 }
 
-fn prints_one(stmt: &Stmt, wanted: i128) -> bool {
-    let Stmt::Print(_, text) = stmt;
-    match &**text {
-        Expr::Apply(_, _, arguments) => match arguments.as_slice() {
-            [Expr::Number(_, number)] => *number == wanted,
+/// Whether a statement prints this number.
+fn prints(stmt: &Stmt, wanted: i128) -> bool {
+    match stmt {
+        Stmt::Print(_, text) => match &**text {
+            Expr::Apply(_, _, arguments) => {
+                arguments.len() == 1 && is_number(&arguments[0], wanted)
+            }
             _ => false,
         },
-        Expr::Number(..) => false,
+        _ => false,
     }
 }
 
@@ -107,54 +125,125 @@ fn accepted_texts(rt: HostRuntime) -> Result<(), Fail> {
     ] {
         assert!(rt; text.len() < 1048576);
         let program = parse_text(rt.alloc(), text.as_bytes())?;
-        assert!(rt; prints(&program, numbers), "for {text}");
+        assert_eq!(rt; program.main.len(), numbers.len(), "of {text}");
+        for (stmt, number) in program.main.iter().zip(numbers) {
+            assert!(rt; prints(stmt, *number), "{number} of {text}");
+        }
     }
     Ok(())
+}
+
+/// The names of a program are numbered as they appear, each once; `toString` is one where it is applied, and may be a
+/// local. A name may begin as a word of the language does, and end in other letters, digits and `_`.
+#[test]
+fn names_in_order(rt: HostRuntime) -> Result<(), Fail> {
+    for (text, names) in [
+        ("{}", [].as_slice()),
+        (
+            "{Int x=1;x=x;println(toString(x));}",
+            ["x", "toString"].as_slice(),
+        ),
+        (
+            "{ Int x = y; y = x; println(toString(z)); }",
+            ["x", "y", "toString", "z"].as_slice(),
+        ),
+        (
+            "{ Int toString = 2; println(toString(toString)); }",
+            ["toString"].as_slice(),
+        ),
+        (
+            "{ println(toString(1)); Int gets = intx; caseX = x_1; }",
+            ["toString", "gets", "intx", "caseX", "x_1"].as_slice(),
+        ),
+        (
+            "{ Int printlnx = 1; printlnx\t=\n2; }",
+            ["printlnx"].as_slice(),
+        ),
+    ] {
+        assert!(rt; text.len() < 1048576);
+        let program = parse_text(rt.alloc(), text.as_bytes())?;
+        assert_eq!(rt; program.symbols.len(), names.len(), "of {text}");
+        for (number, name) in (0u32..).zip(names) {
+            assert_eq!(rt;
+                program.symbols.name(Symbol(number)),
+                name.as_bytes(),
+                "at {number} of {text}"
+            );
+        }
+    }
+    Ok(())
+}
+
+fn place(offset: u32, line: u32, column: u32) -> Place {
+    Place {
+        offset,
+        line,
+        column,
+    }
+}
+
+/// The place of an expression.
+fn place_of(expr: &Expr) -> Place {
+    match expr {
+        Expr::Number(at, _) => *at,
+        Expr::Local(at, _) => *at,
+        Expr::Apply(at, _, _) => *at,
+    }
+}
+
+/// Whether an expression is this local.
+fn is_local(expr: &Expr, name: Symbol) -> bool {
+    match expr {
+        Expr::Local(_, variable) => *variable == Variable::Named(name),
+        _ => false,
+    }
+}
+
+/// Whether an expression applies this function to this local, which stands at this place.
+fn applies(expr: &Expr, function: Symbol, name: Symbol, wanted: Place) -> bool {
+    match expr {
+        Expr::Apply(_, symbol, arguments) => {
+            *symbol == function
+                && arguments.len() == 1
+                && is_local(&arguments[0], name)
+                && place_of(&arguments[0]) == wanted
+        }
+        _ => false,
+    }
 }
 
 /// The tree of a text: each node at the place of its first token.
 #[test]
 fn a_tree(rt: HostRuntime) -> Result<(), Fail> {
-    let program = parse_text(rt.alloc(), b"{\n println(\ttoString (7));\n}")?;
-    assert_eq!(rt; program.symbols.len(), 1);
-    assert_eq!(rt; program.symbols.name(Symbol(0)), b"toString".as_slice());
-    assert_eq!(rt; program.main.len(), 1);
-    let Stmt::Print(place, text) = &program.main[0];
-    assert_eq!(rt;
-        *place,
-        Place {
-            offset: 3,
-            line: 2,
-            column: 2
+    let text = b"{\n Int x = 7;\n x = y;\n println(\ttoString (x));\n}";
+    let program = parse_text(rt.alloc(), text)?;
+    assert_eq!(rt; program.main.len(), 3);
+    match &program.main[0] {
+        Stmt::Declare(at, name, variable, value) => {
+            assert_eq!(rt; *at, place(3, 2, 2));
+            assert_eq!(rt; *name, place(7, 2, 6));
+            assert_eq!(rt; *variable, Variable::Named(Symbol(0)));
+            assert_eq!(rt; place_of(value), place(11, 2, 10));
+            assert!(rt; is_number(value, 7));
         }
-    );
-    match &**text {
-        Expr::Apply(place, function, arguments) => {
-            assert_eq!(rt;
-                *place,
-                Place {
-                    offset: 12,
-                    line: 2,
-                    column: 11
-                }
-            );
-            assert_eq!(rt; *function, Symbol(0));
-            match arguments.as_slice() {
-                [Expr::Number(place, number)] => {
-                    assert_eq!(rt;
-                        *place,
-                        Place {
-                            offset: 22,
-                            line: 2,
-                            column: 21
-                        }
-                    );
-                    assert_eq!(rt; *number, 7);
-                }
-                _ => assert!(rt; false, "one number"),
-            }
+        _ => assert!(rt; false, "a declaration"),
+    }
+    match &program.main[1] {
+        Stmt::Assign(at, variable, value) => {
+            assert_eq!(rt; *at, place(15, 3, 2));
+            assert_eq!(rt; *variable, Variable::Named(Symbol(0)));
+            assert_eq!(rt; place_of(value), place(19, 3, 6));
+            assert!(rt; is_local(value, Symbol(1)));
         }
-        Expr::Number(..) => assert!(rt; false, "an application"),
+        _ => assert!(rt; false, "an assignment"),
+    }
+    match &program.main[2] {
+        Stmt::Print(at, text) => {
+            assert_eq!(rt; *at, place(23, 4, 2));
+            assert_eq!(rt; place_of(text), place(32, 4, 11));
+            assert!(rt; applies(text, Symbol(2), Symbol(0), place(42, 4, 21)));
+        }
+        _ => assert!(rt; false, "a statement that prints"),
     }
     Ok(())
 }

@@ -4,7 +4,7 @@ use Rattle.std.proofs.lemmas.Result.{err_from_is_err_and, MatchResult-weaker}
 use Rattle.abs_parser.specs.declared.cursor.Class.TheVariants.{Sign}
 use Rattle.abs_parser.specs.Tokens.{Spot, Takes}
 use Rattle.abs_parser.proofs.SpotLemmas.{takes_once}
-use Rattle.abs_parser.proofs.GrammarLemmas.{refused_by_token}
+use Rattle.abs_parser.proofs.RefusalLemmas.{refused_by_token}
 use Rattle.abs_parser.proofs.parser.closes.Goals as goal
 
 pub returns-in_err-take-clause-refused : goal.returns-in_err-take-clause-refused

@@ -1,68 +1,31 @@
-use Rattle.std.proofs.Common.{◌≡◌, ◌∙◌, ℕ, ap, sym, subst, take, arith}
-use Rattle.std.proofs.Math.Seq.{take-append_seam}
-use Rattle.abs_tree.specs.Names.{number_of_name}
-use Rattle.std.specs.Prelude.{codes}
+use Rattle.std.proofs.Common.{ap}
 use Rattle.std.proofs.lemmas.Result.{err_from_is_err_and}
-use Rattle.abs_parser.specs.Tokens.{Spot, TakesNumber}
-use Rattle.abs_parser.specs.Grammar.{Opens, Closes}
-use Rattle.abs_parser.specs.Views.{spot}
-use Rattle.abs_parser.proofs.GrammarLemmas.{refused_by_part, refused_by_token, opens_once, number_once, same_print, takes_shorter, opens_shorter, closes_shorter}
-use Rattle.abs_parser.proofs.RunLemmas.{narrowed}
+use Rattle.abs_tree.specs.Trees.{expr_tree}
+use Rattle.abs_parser.proofs.FindLemmas.{finds_whole, reads_declaration, reads_assignment, reads_print}
+use Rattle.abs_parser.proofs.RefusalLemmas.{refuses_weaker, no_declaration, no_print, no_stmt}
 use Rattle.abs_parser.proofs.parser.statement.Goals as goal
 
-pub returns-in_err-name-clause-refused : goal.returns-in_err-name-clause-refused
-returns-in_err-name-clause-refused c =
+pub returns-in_err-symbol-clause-refused : goal.returns-in_err-symbol-clause-refused
+returns-in_err-symbol-clause-refused c =
     let p = err_from_is_err_and c.from_residual.result c.from_residual.ensures.1 in
-    rw (p.1, p.2) (refused_by_part c.in_err-name.ensures.refused (λ none names stmt to read. none read.name read.print))
+    rw (p.1, p.2) (refuses_weaker c.in_err-symbol.field-0.0 (λ none names stmt words to read. no_declaration c.in-Ok.ensures.found (none names) read) c.in_err-symbol.ensures.refused)
 
-pub returns-in_err-literal-clause-refused : goal.returns-in_err-literal-clause-refused
-returns-in_err-literal-clause-refused c =
-    let p = err_from_is_err_and c.from_residual-in_err-literal.result c.from_residual-in_err-literal.ensures.1 in
-    rw (p.1, p.2) (refused_by_part c.in_err-literal.ensures.refused (λ none names stmt to read.
-    none read.literal (subst (λ (s : Spot). Opens (codes "toString") s read.literal) (opens_once read.print c.in_ok-name.ensures.found) read.function)))
+pub returns-in-Ok-clause-found : goal.returns-in-Ok-clause-found
+returns-in-Ok-clause-found c = finds_whole c.in_ok-symbol.ensures.found (reads_declaration (ap expr_tree c.in_ok-value.ensures.ok) c.in-Ok.ensures.found)
 
-pub returns-in_err-number-clause-refused : goal.returns-in_err-number-clause-refused
-returns-in_err-number-clause-refused c =
-    let p = err_from_is_err_and c.from_residual-in_err-number.result c.from_residual-in_err-number.ensures.1 in
-    rw (p.1, p.2) (refused_by_token c.in_err-number.ensures.refused (λ none names stmt to read.
-    let name = opens_once read.print c.in_ok-name.ensures.found in
-    let literal = opens_once (subst (λ (s : Spot). Opens (codes "toString") s read.literal) name read.function) c.in_ok-literal.ensures.found in
-    none read.number read.close (subst (λ (s : Spot). TakesNumber read.number s read.close) literal read.argument)))
+pub returns-in_err-text-clause-refused : goal.returns-in_err-text-clause-refused
+returns-in_err-text-clause-refused c =
+    let p = err_from_is_err_and c.from_residual-in_err-text.result c.from_residual-in_err-text.ensures.1 in
+    rw (p.1, p.2) (refuses_weaker c.in_err-text.field-0.0 (λ none names stmt words to read. no_print c.in-Ok-take.ensures.found (none names) read) c.in_err-text.ensures.refused)
 
-pub returns-in_err-end-clause-refused : goal.returns-in_err-end-clause-refused
-returns-in_err-end-clause-refused c =
-    let p = err_from_is_err_and c.from_residual-in_err-end.result c.from_residual-in_err-end.ensures.1 in
-    rw (p.1, p.2) (refused_by_part c.in_err-end.ensures.refused (λ none names stmt to read.
-    let name = opens_once read.print c.in_ok-name.ensures.found in
-    let literal = opens_once (subst (λ (s : Spot). Opens (codes "toString") s read.literal) name read.function) c.in_ok-literal.ensures.found in
-    let close = number_once (subst (λ (s : Spot). TakesNumber read.number s read.close) literal read.argument) c.in_ok-number.ensures.found.2 in
-    none to (subst (λ (s : Spot). Closes s to) close.behind read.end)))
+pub returns-in-Ok-take-clause-found : goal.returns-in-Ok-take-clause-found
+returns-in-Ok-take-clause-found c = finds_whole c.in_ok-text.ensures.found (reads_print (ap expr_tree c.in_ok-new.ensures.ok) c.in-Ok-take.ensures.found)
+
+pub returns-in_err-symbol-2-clause-refused : goal.returns-in_err-symbol-2-clause-refused
+returns-in_err-symbol-2-clause-refused c =
+    let p = err_from_is_err_and c.from_residual-in_err-symbol-2.result c.from_residual-in_err-symbol-2.ensures.1 in
+    rw (p.1, p.2) (refuses_weaker c.in_err-symbol-2.field-0.0 (λ none names stmt words to read.
+    no_stmt c.in_default.ensures.refused.why c.in_default-take.ensures.refused.why (none names) read) c.in_err-symbol-2.ensures.refused)
 
 pub returns-clause-found : goal.returns-clause-found
-returns-clause-found c = λ names same. record {
-  name = spot c.in_ok-name.name;
-  literal = spot c.in_ok-literal.literal;
-  close = spot c.in_ok-number.close;
-  number = c.in_ok-number.ensures.found.0;
-  print = c.in_ok-name.ensures.found;
-  function = c.in_ok-literal.ensures.found;
-  argument = c.in_ok-number.ensures.found.2;
-  end = c.in_ok-end.ensures.found;
-  tree =
-      let piece : c.split_at.result.0.now ≡ codes "toString" =
-      c.split_at.ensures.front ∙ (ap (take 8) c.in_ok-literal.ensures.found.word.text ∙ take-append_seam (codes "toString") c.in_ok-literal.ensures.found.word.behind) in
-      let symbol : c.in_ok-function.function.0 ≡ number_of_name names (codes "toString") =
-      c.in_ok-function.ensures.symbol ∙ (ap (number_of_name c.args.symbols.now) piece ∙ sym same) in
-      c.in_ok-stmt.ensures
-      ∙ same_print c.args.from.place c.in_ok-name.name.place c.in_ok-literal.literal.place
-      (ap (λ (n : ℕ). record { 0 = n }) symbol)
-      (narrowed c.in_ok-number.number c.in_ok-number.ensures.found.0 c.in_ok-number.ensures.found.1 c.in_ok-number.ensures.found.2.fits);
-}
-
-pub returns-clause-shorter : goal.returns-clause-shorter
-returns-clause-shorter c =
-    let name = opens_shorter c.in_ok-name.ensures.found in
-    let function = opens_shorter c.in_ok-literal.ensures.found in
-    let number = takes_shorter c.in_ok-number.ensures.found.2.token in
-    let end = closes_shorter c.in_ok-end.ensures.found in
-    omega arith
+returns-clause-found c = finds_whole c.in_ok-symbol-2.ensures.found (reads_assignment (ap expr_tree c.in_ok-value-2.ensures.ok))

@@ -1,0 +1,129 @@
+-- What a reader found, put together from what its parts found.
+use Rattle.std.proofs.Common.{◌≡◌, ℕ, ℤ, pos, List, [], ◌∷◌, ◌++◌, refl, sym, ap, subst, ◌∙◌, fold}
+use Rattle.std.proofs.lemmas.List.Sums.{fold-append}
+use Rattle.std.specs.Prelude.{codes}
+use mir.Val.{to_z, of_z}
+use mir.Syntax.{w128}
+use Rattle.abs_tree.specs.declared.symbol.Symbol.{Symbol}
+use Rattle.abs_tree.specs.declared.program.Variable.TheVariants.{Named}
+use Rattle.abs_tree.specs.Names.{number_of_name, with_name}
+use Rattle.abs_tree.specs.Places.{start}
+use Rattle.abs_tree.specs.Trees.{ExprTree, StmtTree, Number, Local, Apply, NoMore, More, Declare, Assign, Print}
+use Rattle.abs_parser.specs.declared.cursor.Class.TheVariants.{Word, Equals, Sign}
+use Rattle.abs_parser.specs.Tokens.{Spot, past_white, Takes, TakesNumber, TakesName}
+use Rattle.abs_parser.specs.Grammar.{symbol_of, ReadsOperand, number, local, ReadsBinding, Opens, Closes, ReadsPrinted, ReadsStmt, declare, assign, print, ReadsBlock, ReadsProgram}
+use Rattle.abs_parser.specs.Answers.{GoesOn, Finds}
+use Rattle.abs_parser.proofs.NameLemmas.{goes_on_all, goes_on_further, goes_on_itself, number_stays}
+use Rattle.abs_parser.proofs.RunLemmas.{narrowed}
+
+-- a name that was found has its symbol in each program whose names go on with the table
+pub record IsNamed (symbol : Symbol) (name : List ℕ) (names words : List (List ℕ)) : Type 0 where
+  pub symbol_is : symbol ≡ symbol_of names name
+  pub words_are : words ≡ name ∷ []
+
+-- the answer of a table to a name
+pub finds_name : {old new : List (List ℕ)} {name : List ℕ} (symbol : Symbol) → symbol.0 ≡ number_of_name old name → new ≡ with_name old name → Finds old new (IsNamed symbol name)
+finds_name {old} {new} {name} symbol numbered table = record {
+  words = name ∷ [];
+  table = table;
+  read = λ names more. record {
+    symbol_is = ap (λ (n : ℕ). record { 0 = n }) (numbered ∙ sym (number_stays old name names (rw (← table) more)));
+    words_are = refl;
+  };
+}
+
+-- what reads a part reads the whole
+pub finds_whole : {old new : List (List ℕ)} {A B : List (List ℕ) → List (List ℕ) → Type 0} → Finds old new A
+    → ((names words : List (List ℕ)) → A names words → B names words) → Finds old new B
+finds_whole x f = record { words = x.words; table = x.table; read = λ names more. f names x.words (x.read names more) }
+
+-- what reads two parts, one behind the other, reads the whole
+pub finds_both : {old middle new : List (List ℕ)} {A B C : List (List ℕ) → List (List ℕ) → Type 0} → Finds old middle A → Finds middle new B
+    → ((names front behind : List (List ℕ)) → A names front → B names behind → C names (front ++ behind)) → Finds old new C
+finds_both {old} {middle} {new} x y f = record {
+  words = x.words ++ y.words;
+  table = y.table ∙ (ap (λ (table : List (List ℕ)). fold with_name table y.words) x.table ∙ sym (fold-append with_name old x.words y.words));
+  read = λ names more. f names x.words y.words (x.read names (goes_on_further (goes_on_read y) more)) (y.read names more);
+}
+  where
+    goes_on_read : {old new : List (List ℕ)} {A : List (List ℕ) → List (List ℕ) → Type 0} → Finds old new A → GoesOn old new
+    goes_on_read {old} x = rw x.table (goes_on_all old x.words)
+
+-- a number that was taken is found without a name
+pub finds_number : {table : List (List ℕ)} {from to : Spot} (z : ℤ) (value : ℕ) → z ≡ pos value → TakesNumber value from to
+    → Finds table table (λ names words. ReadsOperand names from (Number from.place (to_z w128 (of_z w128 z))) words to)
+finds_number {from = from} {to} z value is x = record {
+  words = [];
+  table = refl;
+  read = λ names more. subst (λ (n : ℤ). ReadsOperand names from (Number from.place n) [] to) (sym (narrowed z value is x.fits)) (number value to x);
+}
+
+-- a name that was taken is read as a local
+pub reads_local : {symbol : Symbol} {name : List ℕ} {from to : Spot} → TakesName name from to → (names words : List (List ℕ)) → IsNamed symbol name names words
+    → ReadsOperand names from (Local from.place (Named symbol)) words to
+reads_local {symbol} {name} {from} {to} x names words named = rw (named.symbol_is, named.words_are) (local name to x)
+
+-- a name, and an operand behind "=", are read as a binding
+pub reads_binding : {symbol : Symbol} {name : List ℕ} {value : ExprTree} {from behind operand close to : Spot} → TakesName name from behind → Takes Equals (codes "=") behind operand
+    → Takes Sign (codes ";") close to → (names front behind : List (List ℕ)) → IsNamed symbol name names front → ReadsOperand names operand value behind close
+    → ReadsBinding names from symbol value (front ++ behind) to
+reads_binding {name = name} {behind = behind_name} {operand} {close} word equal semicolon names front behind named reads = record {
+  behind_name = behind_name;
+  operand = operand;
+  close = close;
+  name = name;
+  behind = behind;
+  name_word = word;
+  equal_sign = equal;
+  reads = reads;
+  semicolon = semicolon;
+  symbol_is = named.symbol_is;
+  words_are = ap (λ (words : List (List ℕ)). words ++ behind) named.words_are;
+}
+
+-- "toString" and an operand behind it are read as a text that is printed
+pub reads_printed : {symbol : Symbol} {value text : ExprTree} {from function operand close to : Spot} → Takes Sign (codes "(") from function → Opens (codes "toString") function operand
+    → Closes close to → text ≡ Apply function.place symbol (More value NoMore) → (names front behind : List (List ℕ)) → IsNamed symbol (codes "toString") names front
+    → ReadsOperand names operand value behind close → ReadsPrinted names from text (front ++ behind) to
+reads_printed {value = value} {function = function} {operand} {close} open_sign opens end text names front behind named reads = record {
+  function = function;
+  operand = operand;
+  close = close;
+  value = value;
+  behind = behind;
+  open_sign = open_sign;
+  opens = opens;
+  reads = reads;
+  end = end;
+  text_is = text ∙ ap (λ (s : Symbol). Apply function.place s (More value NoMore)) named.symbol_is;
+  words_are = ap (λ (words : List (List ℕ)). words ++ behind) named.words_are;
+}
+
+-- "Int" and a binding behind it are read as a declaration, whose value stands in memory
+pub reads_declaration : {symbol : Symbol} {value stored : ExprTree} {from name to : Spot} → stored ≡ value → Takes Word (codes "Int") from name → (names words : List (List ℕ))
+    → ReadsBinding names name symbol value words to → ReadsStmt names from (Declare from.place name.place (Named symbol) stored) words to
+reads_declaration {symbol} {value} {name = name} {to} same int names words read = rw same (declare name symbol value words to int read)
+
+-- a binding is read as an assignment
+pub reads_assignment : {symbol : Symbol} {value stored : ExprTree} {from to : Spot} → stored ≡ value → (names words : List (List ℕ)) → ReadsBinding names from symbol value words to
+    → ReadsStmt names from (Assign from.place (Named symbol) stored) words to
+reads_assignment {symbol} {value} {to = to} same names words read = rw same (assign symbol value words to read)
+
+-- "println" and a text that is printed are read as a statement that prints
+pub reads_print : {text stored : ExprTree} {from behind to : Spot} → stored ≡ text → Takes Word (codes "println") from behind → (names words : List (List ℕ))
+    → ReadsPrinted names behind text words to → ReadsStmt names from (Print from.place stored) words to
+reads_print {text} {behind = behind} {to} same println names words read = rw same (print behind text words to println read)
+
+-- "{" and a block up to the end of the text are read as a program
+pub reads_program : {text : List ℕ} {symbols : List (List ℕ)} {main : List StmtTree} {here begin end : Spot} → here ≡ past_white (record { rest = text; place = start })
+    → Takes Sign (codes "{") here begin → Finds [] symbols (λ names words. ReadsBlock names begin main words end) → end.rest ≡ []
+    → ReadsProgram text (record { names = symbols; main = main })
+reads_program {symbols = symbols} {begin = begin} {end} same open_sign found whole = record {
+  begin = begin;
+  end = end;
+  words = found.words;
+  begin_sign = subst (λ (s : Spot). Takes Sign (codes "{") s begin) same open_sign;
+  block = found.read symbols (goes_on_itself symbols);
+  whole = whole;
+  names = found.table;
+}

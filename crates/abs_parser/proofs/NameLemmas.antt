@@ -1,0 +1,95 @@
+-- The table of a program's names as it grows: a name keeps its number in each table that goes on with the one it is in, no
+-- more names are added than are read, and each name of the table is one that was read.
+use Rattle.std.proofs.Common.{◌≡◌, ℕ, ◌+◌, ◌≤◌, Bool, true, false, not, ◌||◌, cond, List, [], ◌∷◌, ◌++◌, refl, sym, ap, ◌∙◌, length, fold, arith, length-append, append_assoc}
+use Rattle.std.proofs.lemmas.List.{append-nil}
+use Rattle.std.proofs.lemmas.List.Elements.{All-head, All-tail, All-push}
+use Rattle.std.proofs.lemmas.Slice.Eq.{bytes_eq-Decides}
+use Rattle.std.specs.List.{All, list_any, position_or_len}
+use Rattle.std.specs.Str.{bytes_eq}
+use Rattle.abs_tree.specs.Names.{number_of_name, with_name}
+use Rattle.abs_parser.specs.Answers.{GoesOn}
+
+-- a table goes on with itself
+pub goes_on_itself : (table : List (List ℕ)) → GoesOn table table
+goes_on_itself table = record { more = []; is = sym (append-nil table) }
+
+-- what goes on with a table that goes on does so with the first one
+pub goes_on_further : {first second third : List (List ℕ)} → GoesOn first second → GoesOn second third → GoesOn first third
+goes_on_further {first} {second} {third} x y = record {
+  more = x.more ++ y.more;
+  is = y.is ∙ (ap (λ (table : List (List ℕ)). table ++ y.more) x.is ∙ append_assoc first x.more y.more);
+}
+
+-- the same by cases, of whether the name is there already
+added_by : (found : Bool) (table : List (List ℕ)) (name : List ℕ) → GoesOn table (cond found table (table ++ name ∷ []))
+added_by true table name = goes_on_itself table
+added_by false table name = record { more = name ∷ []; is = refl }
+
+-- a table with one more name goes on with it
+goes_on_added : (table : List (List ℕ)) (name : List ℕ) → GoesOn table (with_name table name)
+goes_on_added table name = added_by (list_any (bytes_eq name) table) table name
+
+-- a table with more names goes on with it
+pub goes_on_all : (table words : List (List ℕ)) → GoesOn table (fold with_name table words)
+goes_on_all table [] = goes_on_itself table
+goes_on_all table (word ∷ words) = goes_on_further (goes_on_added table word) (goes_on_all (with_name table word) words)
+
+-- one more element in front, where the place behind it stays
+kept_by : (here behind : Bool) (k m : ℕ) → (behind ≡ true → k ≡ m) → (here || behind) ≡ true → cond (not here) (1 + k) 0 ≡ cond (not here) (1 + m) 0
+kept_by true behind k m same found = refl
+kept_by false behind k m same found = ap (λ (n : ℕ). 1 + n) (same found)
+
+-- where an element passes, its place stays when more follow
+place_kept : (p : List ℕ → Bool) (xs ys : List (List ℕ)) → list_any p xs ≡ true → position_or_len p (xs ++ ys) ≡ position_or_len p xs
+place_kept p [] ys found = cc
+place_kept p (x ∷ xs) ys found = kept_by (p x) (list_any p xs) _ _ (place_kept p xs ys) found
+
+-- the same where none passes
+new_by : (here behind : Bool) (k m : ℕ) → (behind ≡ false → k ≡ m) → (here || behind) ≡ false → cond (not here) (1 + k) 0 ≡ cond (not here) (1 + m) 0
+new_by true behind k m same found = cc
+new_by false behind k m same found = ap (λ (n : ℕ). 1 + n) (same found)
+
+-- an element that passes is the first
+first_by : (here : Bool) (k : ℕ) → here ≡ true → cond (not here) (1 + k) 0 ≡ 0
+first_by true k passes = refl
+first_by false k passes = cc
+
+-- where none passes, the next element that does stands behind all of them
+place_new : (p : List ℕ → Bool) (xs : List (List ℕ)) (y : List ℕ) (ys : List (List ℕ)) → p y ≡ true → list_any p xs ≡ false → position_or_len p (xs ++ y ∷ ys) ≡ position_or_len p xs
+place_new p [] y ys passes none = first_by (p y) (position_or_len p ys) passes
+place_new p (x ∷ xs) y ys passes none = new_by (p x) (list_any p xs) _ _ (place_new p xs y ys passes) none
+
+-- the number by cases, of whether the name was there already
+number_by : (found : Bool) (old : List (List ℕ)) (name : List ℕ) (more : List (List ℕ)) → list_any (bytes_eq name) old ≡ found
+    → number_of_name (cond found old (old ++ name ∷ []) ++ more) name ≡ number_of_name old name
+number_by true old name more found = place_kept (bytes_eq name) old more found
+number_by false old name more found =
+    ap (λ (table : List (List ℕ)). number_of_name table name) (append_assoc old (name ∷ []) more)
+    ∙ place_new (bytes_eq name) old name more ((bytes_eq-Decides name name).1 refl) found
+
+-- a name that was put into a table has the same number in each table that goes on with that
+pub number_stays : (old : List (List ℕ)) (name : List ℕ) (names : List (List ℕ)) → GoesOn (with_name old name) names → number_of_name names name ≡ number_of_name old name
+number_stays old name names h =
+    ap (λ (table : List (List ℕ)). number_of_name table name) h.is ∙ number_by (list_any (bytes_eq name) old) old name h.more refl
+
+-- a table grows by one name at most
+few_by : (found : Bool) (table : List (List ℕ)) (name : List ℕ) → length (cond found table (table ++ name ∷ [])) ≤ length table + 1
+few_by true table name = omega arith
+few_by false table name = omega (arith, length-append table (name ∷ []))
+
+-- a table has no more new names than were read
+pub few_more : (table words : List (List ℕ)) → length (fold with_name table words) ≤ length table + length words
+few_more table [] = omega arith
+few_more table (word ∷ words) = omega (arith, few_by (list_any (bytes_eq word) table) table word, few_more (with_name table word) words)
+
+-- what holds of each name and of the one that is added
+all_by : (P : List ℕ → Type 0) (found : Bool) (table : List (List ℕ)) (name : List ℕ) → All P table → P name → All P (cond found table (table ++ name ∷ []))
+all_by P true table name each here = each
+all_by P false table name each here = All-push P table name each here
+
+-- what holds of each name of a table and of each that was read holds of each name of the table behind them
+pub all_named : (P : List ℕ → Type 0) (table words : List (List ℕ)) → All P table → All P words → All P (fold with_name table words)
+all_named P table [] each read = each
+all_named P table (word ∷ words) each read =
+    all_named P (with_name table word) words
+    (all_by P (list_any (bytes_eq word) table) table word each (All-head P word words read)) (All-tail P word words read)

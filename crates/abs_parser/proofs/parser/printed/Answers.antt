@@ -1,0 +1,42 @@
+use Rattle.std.proofs.Common.{◌≡◌, ◌∙◌, ap, take}
+use Rattle.std.proofs.Math.Seq.{take-append_seam}
+use Rattle.std.specs.Prelude.{codes}
+use Rattle.abs_tree.specs.Names.{number_of_name, with_name}
+use Rattle.std.proofs.lemmas.Result.{err_from_is_err_and}
+use Rattle.abs_parser.proofs.NameLemmas.{goes_on_itself}
+use Rattle.abs_parser.proofs.SpotLemmas.{takes_once}
+use Rattle.abs_parser.proofs.GrammarLemmas.{opens_once, operand_once}
+use Rattle.abs_parser.proofs.FindLemmas.{finds_name, finds_both, reads_printed}
+use Rattle.abs_parser.proofs.RefusalLemmas.{refused_by_token, refused_by_part, opens_from, closes_from}
+use Rattle.abs_parser.proofs.parser.printed.Goals as goal
+
+pub returns-in_err-function-clause-refused : goal.returns-in_err-function-clause-refused
+returns-in_err-function-clause-refused c =
+    let p = err_from_is_err_and c.from_residual.result c.from_residual.ensures.1 in
+    rw (p.1, p.2) (refused_by_token c.in_err-function.ensures.refused (λ none names text words to read. none read.function read.open_sign))
+
+pub returns-in_err-argument-clause-refused : goal.returns-in_err-argument-clause-refused
+returns-in_err-argument-clause-refused c =
+    let p = err_from_is_err_and c.from_residual-in_err-argument.result c.from_residual-in_err-argument.ensures.1 in
+    rw (p.1, p.2) (refused_by_part c.in_err-argument.ensures.refused (λ none names text words to read.
+    none read.operand (opens_from (takes_once read.open_sign c.in_ok-function.ensures.found) read.opens)))
+
+pub returns-in_err-end-clause-refused : goal.returns-in_err-end-clause-refused
+returns-in_err-end-clause-refused c =
+    let p = err_from_is_err_and c.from_residual-in_err-end.result c.from_residual-in_err-end.ensures.1 in
+    let found = c.in_ok-value.ensures.found in
+    let value = found.read c.operand.new.symbols (goes_on_itself c.operand.new.symbols) in
+    rw (p.1, p.2) (refused_by_part c.in_err-end.ensures.refused (λ none names text words to read.
+    let operand = opens_once (takes_once read.open_sign c.in_ok-function.ensures.found) read.opens c.in_ok-argument.ensures.found in
+    none to (closes_from (operand_once operand read.reads value).behind read.end)))
+
+pub returns-clause-found : goal.returns-clause-found
+returns-clause-found c =
+    let word = c.in_ok-argument.ensures.found.word in
+    let piece : c.split_at.result.0.now ≡ codes "toString" = c.split_at.ensures.front ∙ (ap (take 8) word.text ∙ take-append_seam (codes "toString") word.behind) in
+    finds_both (
+    finds_name c.in_ok-symbol.symbol
+    (c.in_ok-symbol.ensures.symbol ∙ ap (number_of_name c.args.symbols.now) piece)
+    (c.in_ok-symbol.ensures.names ∙ ap (with_name c.args.symbols.now) piece)
+    ) c.in_ok-value.ensures.found
+    (reads_printed c.in_ok-function.ensures.found c.in_ok-argument.ensures.found c.in_ok-end.ensures.found c.in_ok-text.ensures)
