@@ -1,0 +1,3 @@
+pub mod ScopeLemmas
+pub mod TreeLemmas
+pub mod OffenceLemmas

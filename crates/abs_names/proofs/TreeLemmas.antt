@@ -1,0 +1,76 @@
+-- Expressions of which some were looked up already, in front of those that are still to come; and that as many statements
+-- are found as there were.
+use Rattle.std.proofs.Common.{◌≡◌, ℕ, suc, ◌+◌, ◌<◌, List, [], ◌∷◌, ◌++◌, refl, sym, ap, ◌∙◌, length, get_or, drop, fold}
+use Rattle.std.specs.Prelude.{Option}
+use Rattle.std.proofs.lemmas.List.{drop_more}
+use Rattle.std.proofs.lemmas.List.Sums.{fold-append}
+use Rattle.std.specs.declared.alloc.Global.{Global}
+use Rattle.std.specs.declared.vec.Vec.{Vec}
+use Rattle.abs_tree.specs.declared.place.Place.{Place}
+use Rattle.abs_tree.specs.declared.symbol.Symbol.{Symbol}
+use Rattle.abs_tree.specs.declared.program.Expr as code
+use Rattle.abs_tree.specs.declared.program.Expr.{Expr}
+use Rattle.abs_tree.specs.declared.refusal.Offence.{Offence}
+use Rattle.abs_tree.specs.Trees.{ExprTree, ExprTrees, StmtTree, Apply, NoMore, More, expr_tree, trees_of}
+use Rattle.abs_tree.proofs.TreeLemmas.{expr_tree-apply}
+use Rattle.abs_names.specs.Answers.{earlier}
+use Rattle.abs_names.specs.NameOffences.{unknown_in, unknown_in_all}
+use Rattle.abs_names.specs.Resolution.{resolved_expr, resolved_exprs, resolved_from}
+use Rattle.abs_names.specs.Scopes.{scope_behind}
+
+-- expressions in front of trees
+abbrev pub in_front : List Expr → ExprTrees → ExprTrees
+in_front [] trees = trees
+in_front (expr ∷ exprs) trees = More (expr_tree expr) (in_front exprs trees)
+
+in_front_more : (exprs : List Expr) (expr : Expr) (trees : ExprTrees) → in_front (exprs ++ expr ∷ []) trees ≡ in_front exprs (More (expr_tree expr) trees)
+in_front_more [] expr trees = refl
+in_front_more (e ∷ es) expr trees = ap (More (expr_tree e)) (in_front_more es expr trees)
+
+pub in_front_all : (exprs : List Expr) → in_front exprs NoMore ≡ trees_of exprs
+in_front_all [] = refl
+in_front_all (e ∷ es) = ap (More (expr_tree e)) (in_front_all es)
+
+-- an entry of a list stands in front of those behind it
+drop_item : {X : Type 0} (xs : List X) (i : ℕ) (x : X) → i < length xs → x ≡ get_or xs i x → drop i xs ≡ x ∷ drop (i + 1) xs
+drop_item {X} xs i x there is = drop_more xs i x there ∙ ap (λ (y : X). y ∷ drop (i + 1) xs) (sym is)
+
+-- an application with its arguments looked up
+pub resolved_apply : (scope : List ℕ) (expr : Expr) (place : Place) (function : Symbol) (before found : Vec Expr Global) (exprs : List Expr)
+    → expr ≡ code.Apply place function before → exprs ≡ before.items → trees_of found.items ≡ resolved_exprs scope (trees_of exprs)
+    → expr_tree (code.Apply place function found) ≡ resolved_expr scope (expr_tree expr)
+resolved_apply scope expr place function before found exprs expr_is exprs_is resolved =
+    expr_tree-apply place function found
+    ∙ (ap (Apply place function) (resolved ∙ ap (λ (es : List Expr). resolved_exprs scope (trees_of es)) exprs_is)
+    ∙ sym (ap (resolved_expr scope) (ap expr_tree expr_is ∙ expr_tree-apply place function before)))
+
+-- an application offends where its arguments do
+pub unknown_apply : (scope : List ℕ) (expr : Expr) (place : Place) (function : Symbol) (before : Vec Expr Global) (exprs : List Expr)
+    → expr ≡ code.Apply place function before → exprs ≡ before.items → unknown_in_all scope (trees_of exprs) ≡ unknown_in scope (expr_tree expr)
+unknown_apply scope expr place function before exprs expr_is exprs_is =
+    ap (λ (es : List Expr). unknown_in_all scope (trees_of es)) exprs_is
+    ∙ sym (ap (unknown_in scope) (ap expr_tree expr_is ∙ expr_tree-apply place function before))
+
+-- one more expression was looked up
+pub exprs_found : (scope : List ℕ) (exprs found : List Expr) (i : ℕ) (expr one : Expr) → i < length exprs → expr ≡ get_or exprs i expr
+    → expr_tree one ≡ resolved_expr scope (expr_tree expr)
+    → in_front (found ++ one ∷ []) (resolved_exprs scope (trees_of (drop (i + 1) exprs))) ≡ in_front found (resolved_exprs scope (trees_of (drop i exprs)))
+exprs_found scope exprs found i expr one there is resolved =
+    in_front_more found one (resolved_exprs scope (trees_of (drop (i + 1) exprs)))
+    ∙ (ap (λ (t : ExprTree). in_front found (More t (resolved_exprs scope (trees_of (drop (i + 1) exprs))))) resolved
+    ∙ ap (λ (es : List Expr). in_front found (resolved_exprs scope (trees_of es))) (sym (drop_item exprs i expr there is)))
+
+-- and its offences were noted
+pub exprs_noted : (scope : List ℕ) (exprs : List Expr) (i : ℕ) (expr : Expr) (first now : Option Offence) → i < length exprs → expr ≡ get_or exprs i expr
+    → now ≡ fold earlier first (unknown_in scope (expr_tree expr))
+    → fold earlier now (unknown_in_all scope (trees_of (drop (i + 1) exprs))) ≡ fold earlier first (unknown_in_all scope (trees_of (drop i exprs)))
+exprs_noted scope exprs i expr first now there is noted =
+    let rest = unknown_in_all scope (trees_of (drop (i + 1) exprs)) in
+    ap (λ (o : Option Offence). fold earlier o rest) noted
+    ∙ (sym (fold-append earlier first (unknown_in scope (expr_tree expr)) rest)
+    ∙ ap (λ (es : List Expr). fold earlier first (unknown_in_all scope (trees_of es))) (sym (drop_item exprs i expr there is)))
+
+-- each statement is looked up to one statement
+pub resolved_length : (scope : List ℕ) (stmts : List StmtTree) → length (resolved_from scope stmts) ≡ length stmts
+resolved_length scope [] = refl
+resolved_length scope (stmt ∷ stmts) = ap (λ (n : ℕ). suc n) (resolved_length (scope_behind scope stmt) stmts)

@@ -1,0 +1,4 @@
+pub mod Scopes
+pub mod NameOffences
+pub mod Resolution
+pub mod Answers

@@ -1,0 +1,41 @@
+-- A program after its names were looked up: each local is its slot.
+use Rattle.std.specs.Prelude.{ℕ, List, [], ◌∷◌, length}
+use Rattle.abs_tree.specs.declared.program.Variable.{Variable}
+use Rattle.abs_tree.specs.declared.program.Variable.TheVariants.{Named, Slot}
+use Rattle.abs_tree.specs.Trees.{ExprTree, ExprTrees, StmtTree, ProgramTree, NamedTree, Number, Local, Apply, NoMore, More, Declare, Assign, Print}
+use Rattle.abs_names.specs.Scopes.{slot_of, with_variable, scope_behind, scope_after}
+
+-- what stands for a local where these names are declared
+abbrev pub looked_up : List ℕ → Variable → Variable
+looked_up scope (Named symbol) = Slot (slot_of scope symbol)
+looked_up scope (Slot slot) = Slot slot
+
+abbrev mutual
+  -- an expression
+  pub resolved_expr : List ℕ → ExprTree → ExprTree
+  resolved_expr scope (Number place number) = Number place number
+  resolved_expr scope (Local place variable) = Local place (looked_up scope variable)
+  resolved_expr scope (Apply place function arguments) = Apply place function (resolved_exprs scope arguments)
+
+  pub resolved_exprs : List ℕ → ExprTrees → ExprTrees
+  resolved_exprs scope NoMore = NoMore
+  resolved_exprs scope (More expr rest) = More (resolved_expr scope expr) (resolved_exprs scope rest)
+
+-- a statement, where the statements before it declare these names; the name that it declares itself stands behind its value
+abbrev pub resolved_stmt : List ℕ → StmtTree → StmtTree
+resolved_stmt scope (Declare place name variable value) = Declare place name (looked_up (with_variable scope variable) variable) (resolved_expr scope value)
+resolved_stmt scope (Assign place variable value) = Assign place (looked_up scope variable) (resolved_expr scope value)
+resolved_stmt scope (Print place text) = Print place (resolved_expr scope text)
+
+-- statements that stand one behind the other
+abbrev pub resolved_from : List ℕ → List StmtTree → List StmtTree
+resolved_from scope [] = []
+resolved_from scope (stmt ∷ stmts) = resolved_stmt scope stmt ∷ resolved_from (scope_behind scope stmt) stmts
+
+-- a program, with a slot for each name that it declares
+abbrev pub resolved : ProgramTree → NamedTree
+resolved program = record {
+  names = program.names;
+  main = resolved_from [] program.main;
+  slots = length (scope_after [] program.main);
+}

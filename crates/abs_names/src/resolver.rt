@@ -1,0 +1,160 @@
+//! Looks up the names of a program: gives each local its slot, or finds the first name offence.
+ghost use Rattle.std.specs.Prelude.{◌≡◌, ◌≤◌, ◌<◌, ◌+◌, ◌^◌, [], length, fold, map, IfOk, IfErr, OnOk};
+ghost use Rattle.abs_tree.specs.Trees.{expr_tree, trees_of, stmt_tree, program_tree, named_tree};
+ghost use Rattle.abs_names.specs.Answers.{earlier, Refuses};
+ghost use Rattle.abs_names.specs.NameOffences.{unknown_in, unknown_in_all, offences_of, offences_from, name_offences};
+ghost use Rattle.abs_names.specs.Resolution.{resolved_expr, resolved_exprs, resolved_stmt, resolved_from, resolved};
+ghost use Rattle.abs_names.specs.Scopes.{scope_behind, scope_after};
+ghost use Rattle.abs_names.specs.declared.resolver.NameError.TheVariants.{Memory, Refused};
+
+use crate::scope::Scope;
+use abs_tree::{Expr, Named, Offence, Program, Refusal, Stmt};
+use std::alloc::{AllocError, AllocFailed, Global};
+use std::sync::Arc;
+use thiserror::Error;
+
+/// Why the names of a program are not looked up.
+#[derive(Clone, Copy, Debug, PartialEq, Eq, Error)]
+pub enum NameError {
+    /// A name offends; the first offence is refused.
+    #[error("a name offends")]
+    Refused(Refusal),
+    /// Memory ran out.
+    #[error("memory ran out")]
+    Memory,
+}
+
+impl From<AllocError> for NameError {
+    ghost from_gives = { λ _ e. e ≡ Memory };
+
+    fn from(_: AllocError) -> Self {
+        NameError::Memory
+    }
+}
+
+impl<T: Drop> From<AllocFailed<T>> for NameError {
+    ghost from_gives = { λ _ e. e ≡ Memory };
+
+    fn from(_: AllocFailed<T>) -> Self {
+        NameError::Memory
+    }
+}
+
+/// The program with a slot for each local that it declares, and each local as its slot.
+///
+/// # Errors
+/// [`NameError::Refused`] where names offend, with the first offence, and [`NameError::Memory`] where memory runs out.
+pub fn resolve<'a>(alloc: Global, program: Program<'a>) -> Result<Named<'a>, NameError>
+    ensures found { IfOk result (λ named. named_tree named ≡ resolved (program_tree program.entry)) }
+    ensures accepted { OnOk result (name_offences (program_tree program.entry) ≡ []) }
+    ensures refused { IfErr result (λ error. Refuses error (name_offences (program_tree program.entry))) }
+{
+    let Program { symbols, main } = program;
+    let mut scope = Scope::new(alloc);
+    let mut first = None;
+    let main = statements(alloc, &mut scope, &mut first, main.as_slice())?;
+    match first {
+        Some(offence) => Err(NameError::Refused(offence.refusal())),
+        None => Ok(Named {
+            symbols,
+            main,
+            slots: scope.len() as u32,
+        }),
+    }
+}
+
+/// Statements that stand one behind the other; the scope is then the one behind them.
+fn statements(
+    alloc: Global,
+    scope: &mut Scope,
+    first: &mut Option<Offence>,
+    stmts: &[Stmt],
+) -> Result<Vec<Stmt>, AllocError>
+    requires { length scope.old + length stmts.now < 2 ^ 31 }
+    ensures found { IfOk result (λ found. map stmt_tree found.items ≡ resolved_from scope.old (map stmt_tree stmts.now)) }
+    ensures behind { OnOk result (scope.new ≡ scope_after scope.old (map stmt_tree stmts.now)) }
+    ensures noted { OnOk result (first.new ≡ fold earlier first.old (offences_from scope.old (map stmt_tree stmts.now))) }
+    ensures few { OnOk result (length scope.new ≤ length scope.old + length stmts.now) }
+{
+    let mut found = Vec::with_capacity(alloc, stmts.len())?;
+    for stmt in stmts {
+        found.push(statement(alloc, scope, first, stmt)?)?;
+    }
+    Ok(found)
+}
+
+/// A statement; the scope is then the one behind it.
+fn statement(
+    alloc: Global,
+    scope: &mut Scope,
+    first: &mut Option<Offence>,
+    stmt: &Stmt,
+) -> Result<Stmt, AllocError>
+    requires { length scope.old < 2 ^ 31 }
+    ensures found { IfOk result (λ found. stmt_tree found ≡ resolved_stmt scope.old (stmt_tree stmt.now)) }
+    ensures behind { OnOk result (scope.new ≡ scope_behind scope.old (stmt_tree stmt.now)) }
+    ensures noted { OnOk result (first.new ≡ fold earlier first.old (offences_of scope.old (stmt_tree stmt.now))) }
+{
+    match stmt {
+        Stmt::Declare(place, name, variable, value) => {
+            scope.expect_new(first, *name, *variable);
+            // The value doesn't see the name that is declared.
+            let value = Arc::new(alloc, expression(alloc, scope, first, value)?)?;
+            let variable = scope.declare(*variable)?;
+            Ok(Stmt::Declare(*place, *name, variable, value))
+        }
+        Stmt::Assign(place, variable, value) => {
+            let variable = scope.look_up(first, *place, *variable);
+            let value = Arc::new(alloc, expression(alloc, scope, first, value)?)?;
+            Ok(Stmt::Assign(*place, variable, value))
+        }
+        Stmt::Print(place, text) => {
+            let text = Arc::new(alloc, expression(alloc, scope, first, text)?)?;
+            Ok(Stmt::Print(*place, text))
+        }
+    }
+}
+
+/// An expression.
+#[cycle(expressions)]
+fn expression(
+    alloc: Global,
+    scope: &Scope,
+    first: &mut Option<Offence>,
+    expr: &Expr,
+) -> Result<Expr, AllocError>
+    requires { length scope.now < 2 ^ 32 }
+    ensures found { IfOk result (λ found. expr_tree found ≡ resolved_expr scope.now (expr_tree expr.now)) }
+    ensures noted { OnOk result (first.new ≡ fold earlier first.old (unknown_in scope.now (expr_tree expr.now))) }
+{
+    match expr {
+        Expr::Number(place, number) => Ok(Expr::Number(*place, *number)),
+        Expr::Local(place, variable) => {
+            let variable = scope.look_up(first, *place, *variable);
+            Ok(Expr::Local(*place, variable))
+        }
+        Expr::Apply(place, function, arguments) => {
+            let arguments = expressions(alloc, scope, first, arguments)?;
+            Ok(Expr::Apply(*place, *function, arguments))
+        }
+    }
+}
+
+/// Expressions in a row.
+#[cycle(expressions)]
+fn expressions(
+    alloc: Global,
+    scope: &Scope,
+    first: &mut Option<Offence>,
+    exprs: &[Expr],
+) -> Result<Vec<Expr>, AllocError>
+    requires { length scope.now < 2 ^ 32 }
+    ensures found { IfOk result (λ found. trees_of found.items ≡ resolved_exprs scope.now (trees_of exprs.now)) }
+    ensures noted { OnOk result (first.new ≡ fold earlier first.old (unknown_in_all scope.now (trees_of exprs.now))) }
+{
+    let mut found = Vec::with_capacity(alloc, exprs.len())?;
+    for expr in exprs {
+        found.push(expression(alloc, scope, first, expr)?)?;
+    }
+    Ok(found)
+}

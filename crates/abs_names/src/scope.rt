@@ -1,0 +1,103 @@
+//! The names that are declared so far, with their slots, and the first offence that was found so far.
+ghost use Rattle.std.specs.Prelude.{◌≡◌, ◌<◌, ◌≤◌, ◌^◌, [], length, fold, IfOk, IfSome, IfNone, OnOk, IsTrue};
+ghost use Rattle.abs_names.specs.Answers.{earlier};
+ghost use Rattle.abs_names.specs.NameOffences.{unknown, twice};
+ghost use Rattle.abs_names.specs.Resolution.{looked_up};
+ghost use Rattle.abs_names.specs.Scopes.{is_declared, slot_of, with_symbol, with_variable};
+
+use abs_tree::{Code, Offence, Place, Symbol, Variable};
+use indexmap::IndexSet;
+use std::alloc::{AllocError, Global};
+use std::marker::Model;
+
+/// The symbols that are declared so far, each once; the slot of a local is where its symbol stands. Contracts see the list
+/// of the symbols' numbers.
+#[derive(Drop)]
+pub(crate) struct Scope {
+    symbols: IndexSet<u32>,
+}
+
+impl Model for Scope {
+    ghost use Rattle.std.specs.Prelude.{ℕ, List};
+
+    ghost Value = { List ℕ };
+
+    ghost view = { λ s. s.symbols.keys };
+}
+
+impl Scope {
+    /// A scope in which nothing is declared.
+    pub fn new(alloc: Global) -> Scope
+        ensures { result ≡ [] }
+    {
+        Scope {
+            symbols: IndexSet::new(alloc),
+        }
+    }
+
+    /// How many names are declared.
+    pub fn len(&self) -> usize
+        ensures { result ≡ length self.now }
+    {
+        self.symbols.len()
+    }
+
+    /// What stands for a local at this place. A name that is not declared is noted as an offence.
+    pub fn look_up(&self, first: &mut Option<Offence>, place: Place, variable: Variable) -> Variable
+        requires { length self.now < 2 ^ 32 }
+        ensures found { result ≡ looked_up self.now variable }
+        ensures noted { first.new ≡ fold earlier first.old (unknown self.now place variable) }
+    {
+        let Variable::Named(symbol) = variable else {
+            return variable;
+        };
+        match self.symbols.get_index_of(&symbol.0) {
+            Some(slot) => Variable::Slot(slot as u32),
+            None => {
+                note(first, Code::N2, place);
+                Variable::Slot(self.symbols.len() as u32)
+            }
+        }
+    }
+
+    /// Notes an offence where a local that is to be declared at this place is declared already.
+    pub fn expect_new(&self, first: &mut Option<Offence>, place: Place, variable: Variable)
+        ensures { first.new ≡ fold earlier first.old (twice self.now place variable) }
+    {
+        let Variable::Named(symbol) = variable else {
+            return;
+        };
+        if self.symbols.contains(&symbol.0) {
+            note(first, Code::N1, place);
+        }
+    }
+
+    /// Declares a local, and answers what stands for it.
+    ///
+    /// # Errors
+    /// [`AllocError`] where memory runs out.
+    pub fn declare(&mut self, variable: Variable) -> Result<Variable, AllocError>
+        requires { length self.old < 2 ^ 31 }
+        ensures found { IfOk result (λ found. found ≡ looked_up self.new variable) }
+        ensures declared { OnOk result (self.new ≡ with_variable self.old variable) }
+    {
+        let Variable::Named(symbol) = variable else {
+            return Ok(variable);
+        };
+        let (slot, _) = self.symbols.insert_full(symbol.0)?;
+        Ok(Variable::Slot(slot as u32))
+    }
+}
+
+/// Notes an offence, where none is noted that stands before it.
+fn note(first: &mut Option<Offence>, code: Code, place: Place)
+    ensures { first.new ≡ earlier first.old (record { code = code; place = place }) }
+{
+    let comes_first = match first {
+        Some(noted) => place.offset < noted.place.offset,
+        None => true,
+    };
+    if comes_first {
+        *first = Some(Offence { code, place });
+    }
+}
