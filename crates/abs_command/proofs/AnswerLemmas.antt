@@ -5,7 +5,7 @@ use Rattle.std.specs.Io.KnownBytes.{Appends}
 use Rattle.std.proofs.lemmas.List.{append-nil}
 use Rattle.abs_outside.specs.Counts.{Rose}
 use Rattle.abs_outside.specs.Names.{Under}
-use Rattle.abs_tree.specs.Trees.{ProgramTree}
+use Rattle.abs_tree.specs.Trees.{NamedTree}
 use Rattle.abs_command.specs.declared.command.Ended.{Ended}
 use Rattle.abs_command.specs.declared.command.Status.{Status}
 use Rattle.abs_command.specs.declared.command.Status.TheVariants as status
@@ -40,15 +40,14 @@ too_large_as bytes ended text other h = record { cause = h.cause; empty = empty_
 refusal_as : (bytes : List ℕ) (ended : Ended) (text : List ℕ) (other : Status) → OwesRefusal bytes ended text → OwesRefusal bytes (as_status ended other) text
 refusal_as bytes ended text other h = record {
   small = h.small;
-  cause = h.cause;
   empty = empty_as ended other h.empty;
   first = h.first;
-  code = h.code;
+  cause = h.cause;
   refusal = h.refusal;
   text_is = h.text_is;
 }
 
-analysed_as : (bytes : List ℕ) (ended : Ended) (program : ProgramTree) (other : Status) → IsAnalysed bytes ended program → IsAnalysed bytes (as_status ended other) program
+analysed_as : (bytes : List ℕ) (ended : Ended) (program : NamedTree) (other : Status) → IsAnalysed bytes ended program → IsAnalysed bytes (as_status ended other) program
 analysed_as bytes ended program other h = record { small = h.small; read = h.read; refusal = h.refusal; facts = h.facts; pairs = h.pairs; report = h.report }
 
 report_as : (bytes : List ℕ) (ended : Ended) (text : List ℕ) (other : Status) → OwesReport bytes ended text → OwesReport bytes (as_status ended other) text

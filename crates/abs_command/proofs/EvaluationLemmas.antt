@@ -6,24 +6,34 @@ use Rattle.abs_tree.specs.declared.place.Place.{Place}
 use Rattle.abs_tree.specs.declared.symbol.Symbol.{Symbol}
 use Rattle.abs_tree.specs.declared.program.Expr as code
 use Rattle.abs_tree.specs.declared.program.Expr.{Expr}
+use Rattle.abs_tree.specs.declared.program.Variable.{Variable}
 use Rattle.abs_tree.specs.declared.value.Value.{Value}
 use Rattle.abs_tree.specs.declared.value.Output.{Output}
 use Rattle.abs_tree.specs.declared.value.Output.TheVariants.{Values, Bad as FirstFault}
 use Rattle.abs_tree.specs.Trees.{ExprTree, name_of, expr_tree, trees_of}
-use Rattle.abs_tree.specs.Evaluation.{Outcomes, evaluate, each, applied}
+use Rattle.abs_tree.specs.Evaluation.{Outcomes, evaluate, local_gives, each, applied}
 use Rattle.abs_tree.proofs.TreeLemmas.{expr_tree-apply}
 
 -- an application gives what its function gives for what its arguments give
-pub evaluate_apply : (names : List (List ℕ)) (left k : ℕ) (expr : Expr) (place : Place) (function : Symbol) (arguments : Vec Expr Global) (name : List ℕ) (made now : ℕ) (output : Output)
+pub evaluate_apply : (names : List (List ℕ)) (slots : List Value) (left k : ℕ) (expr : Expr) (place : Place) (function : Symbol) (arguments : Vec Expr Global) (name : List ℕ) (made now : ℕ) (output : Output)
     → left ≡ suc k → expr ≡ code.Apply place function arguments → name ≡ name_of names function
-    → each (evaluate names k) (trees_of arguments.items) made ≡ record { output = output; applications = now }
-    → evaluate names left (expr_tree expr) made ≡ applied name output now
+    → each (evaluate names slots k) (trees_of arguments.items) made ≡ record { output = output; applications = now }
+    → evaluate names slots left (expr_tree expr) made ≡ applied name output now
 unfolding evaluate
-evaluate_apply names left k expr place function arguments name made now output left_is expr_is name_is found =
-    ap (λ (l : ℕ). evaluate names l (expr_tree expr) made) left_is
-    ∙ (ap (λ (t : ExprTree). evaluate names (suc k) t made) (ap expr_tree expr_is ∙ expr_tree-apply place function arguments)
+evaluate_apply names slots left k expr place function arguments name made now output left_is expr_is name_is found =
+    ap (λ (l : ℕ). evaluate names slots l (expr_tree expr) made) left_is
+    ∙ (ap (λ (t : ExprTree). evaluate names slots (suc k) t made) (ap expr_tree expr_is ∙ expr_tree-apply place function arguments)
     ∙ (ap (λ (o : Outcomes). applied (name_of names function) o.output o.applications) found
     ∙ ap (λ (n : List ℕ). applied n output now) (sym name_is)))
+
+-- a local gives the value of its slot
+pub evaluate_local : (names : List (List ℕ)) (slots : List Value) (left k : ℕ) (expr : Expr) (place : Place) (variable : Variable) (made : ℕ)
+    → left ≡ suc k → expr ≡ code.Local place variable
+    → evaluate names slots left (expr_tree expr) made ≡ record { result = local_gives slots variable; applications = made }
+unfolding evaluate
+evaluate_local names slots left k expr place variable made left_is expr_is =
+    ap (λ (l : ℕ). evaluate names slots l (expr_tree expr) made) left_is
+    ∙ ap (λ (e : Expr). evaluate names slots (suc k) (expr_tree e) made) expr_is
 
 -- values in front of what the rest gives
 abbrev pub all_preceded : List Value → Output → Output

@@ -2,4 +2,5 @@ pub mod EvaluationLemmas
 pub mod ByteLemmas
 pub mod ProgressLemmas
 pub mod AnswerLemmas
+pub mod SourceLemmas
 pub mod PromiseLemmas

@@ -5,8 +5,7 @@ use Rattle.std.specs.Prelude.{Option, Some, None, ◌⊎◌, Bool, true, false}
 use Rattle.std.proofs.Math.Seq.{drop-append_seam}
 use Rattle.std.proofs.lemmas.List.{append-nil, drop_all}
 use Rattle.abs_outside.specs.Names.{Under}
-use Rattle.abs_tree.specs.Trees.{ProgramTree}
-use Rattle.abs_parser.specs.Grammar.{ReadsProgram}
+use Rattle.abs_tree.specs.Trees.{NamedTree}
 use Rattle.abs_command.specs.declared.command.Ended.{Ended}
 use Rattle.abs_command.specs.declared.command.Status.{Status}
 use Rattle.abs_command.specs.declared.command.Status.TheVariants as status
@@ -16,10 +15,11 @@ use Rattle.abs_command.specs.Answer.{Answers, AnswersFor, Took, WasRead}
 use Rattle.abs_command.specs.Bytes.{source_limit, TakesWhole}
 use Rattle.abs_command.specs.Owed.{OwesTooLarge, OwesRefusal, OwesReport, OwesRun, Owes, main_failed, status_by, status_of, step_limit}
 use Rattle.abs_command.specs.Owed.Owes.{usage, too_large, refusal, report, run}
-use Rattle.abs_command.specs.Promises.{IsGiven, GivesUp, IsTooLarge, IsRefused, RanTo, IsOfRun, IsAccepted, ReadsWhole}
+use Rattle.abs_command.specs.Promises.{IsGiven, GivesUp, IsTooLarge, IsRefused, RefusesRightly, RanTo, IsOfRun, IsAccepted, ReadsWhole}
 use Rattle.abs_command.specs.Runs.{Ran, run_of, EndsAs}
 use Rattle.abs_command.specs.Words.{AreCommandWords}
 use Rattle.abs_command.proofs.ProgressLemmas.{never_stuck}
+use Rattle.abs_command.proofs.SourceLemmas.{one_program, no_offence}
 
 -- how the bytes that were taken stand to the content
 pub record IsFront (content : List ℕ) (left : Option (List ℕ)) (bytes : List ℕ) : Type 0 where
@@ -123,7 +123,10 @@ pub large_only : (words : List (List ℕ)) (content : List ℕ) (ended : Ended) 
 large_only words content ended old new s is h = (subst (Answers words content ended old new) is h).1.1.cause
 
 pub refused_only : (words : List (List ℕ)) (content : List ℕ) (ended : Ended) (old new : Option (List ℕ)) (s : Status) → s ≡ status.Refused → Answers words content ended old new s → IsRefused content
-refused_only words content ended old new s is h = let owed = (subst (Answers words content ended old new) is h).1.1 in (owed.small, owed.cause)
+refused_only words content ended old new s is h = let owed = (subst (Answers words content ended old new) is h).1.1 in (owed.small, (owed.first, owed.cause))
+
+pub refuses_rightly : (words : List (List ℕ)) (content : List ℕ) (ended : Ended) (old new : Option (List ℕ)) → Answers words content ended old new ended.status → RefusesRightly content ended
+refuses_rightly words content ended old new h is = let owed = (subst (Answers words content ended old new) is h).1.1 in (owed.first, owed.refusal, owed.cause)
 
 pub ran_only : (words : List (List ℕ)) (content : List ℕ) (ended : Ended) (old new : Option (List ℕ)) (s due : Status) → IsOfRun due → s ≡ due → Answers words content ended old new s → RanTo content ended due
 ran_only words content ended old new s status.Clean of_run is h = let paid = (subst (Answers words content ended old new) is h).1 in (paid.0, paid.1)
@@ -148,7 +151,7 @@ pub data Kind (content : List ℕ) (ended : Ended) (s : Status) : Type 0 where
 pub kind_of : (words : List (List ℕ)) (content : List ℕ) (ended : Ended) (old new : Option (List ℕ)) (s : Status) → AreCommandWords words → Answers words content ended old new s → Kind content ended s
 kind_of words content ended old new status.Usage named h = absurd (h.1.cause named)
 kind_of words content ended old new status.TooLarge named h = is_large refl h.1.1.cause
-kind_of words content ended old new status.Refused named h = is_refused refl (h.1.1.small, h.1.1.cause)
+kind_of words content ended old new status.Refused named h = is_refused refl (h.1.1.small, (h.1.1.first, h.1.1.cause))
 kind_of words content ended old new status.Clean named h = is_run tt (h.1.0, h.1.1)
 kind_of words content ended old new status.Failed named h = is_run tt (h.1.0, h.1.1)
 kind_of words content ended old new status.Spent named h = is_run tt (h.1.0, h.1.1)
@@ -167,30 +170,30 @@ large_comes content ended s large (gives_up h) = inr h
 pub refused_comes : (content : List ℕ) (ended : Ended) (s : Status) → IsRefused content → Kind content ended s → (s ≡ status.Refused) ⊎ GivesUp s
 refused_comes content ended s refused (is_large e h) = let few = refused.0 in absurd (omega arith)
 refused_comes content ended s refused (is_refused e h) = inl e
-refused_comes content ended s refused (is_run e h) = absurd (refused.1 h.1.program h.1.analysed.read)
+refused_comes content ended s refused (is_run e h) = absurd (no_offence h.1.analysed.read refused.1.1)
 refused_comes content ended s refused (gives_up h) = inr h
 
-pub accepted_comes : (content : List ℕ) (program : ProgramTree) (ended : Ended) (s : Status) → IsAccepted content program → Kind content ended s → IsOfRun s ⊎ GivesUp s
+pub accepted_comes : (content : List ℕ) (program : NamedTree) (ended : Ended) (s : Status) → IsAccepted content program → Kind content ended s → IsOfRun s ⊎ GivesUp s
 accepted_comes content program ended s accepted (is_large e h) = let few = accepted.small in absurd (omega arith)
-accepted_comes content program ended s accepted (is_refused e h) = absurd (h.1 program accepted.read)
+accepted_comes content program ended s accepted (is_refused e h) = absurd (no_offence accepted.read h.1.1)
 accepted_comes content program ended s accepted (is_run e h) = inl e
 accepted_comes content program ended s accepted (gives_up h) = inr h
 
 -- one program, one run, one status
-same_due : (content : List ℕ) (ended : Ended) (s due : Status) → ((text : List ℕ) (p q : ProgramTree) → ReadsProgram text p → ReadsProgram text q → p ≡ q) → RanTo content ended s → RanTo content ended due → s ≡ due
-same_due content ended s due one x y =
-    let program : x.1.program ≡ y.1.program = one content x.1.program y.1.program x.1.analysed.read y.1.analysed.read in
-    let legal : Some x.1.ran ≡ Some y.1.ran = sym x.1.legal ∙ (ap (λ (p : ProgramTree). run_of p ended.history.tasks) program ∙ y.1.legal) in
+same_due : (content : List ℕ) (ended : Ended) (s due : Status) → RanTo content ended s → RanTo content ended due → s ≡ due
+same_due content ended s due x y =
+    let program : x.1.program ≡ y.1.program = one_program x.1.analysed.read y.1.analysed.read in
+    let legal : Some x.1.ran ≡ Some y.1.ran = sym x.1.legal ∙ (ap (λ (p : NamedTree). run_of p ended.history.tasks) program ∙ y.1.legal) in
     let ran : x.1.ran ≡ y.1.ran = cc in
     let ends : Some x.1.end ≡ Some y.1.end = sym x.1.end_is ∙ y.1.end_is in
     let end : x.1.end ≡ y.1.end = cc in
     x.1.due_is ∙ (ap (λ (e : End). status_of e x.1.ran.config) end ∙ (ap (λ (r : Ran). status_of y.1.end r.config) ran ∙ sym y.1.due_is))
 
-pub ran_comes : (content : List ℕ) (ended : Ended) (s due : Status) → ((text : List ℕ) (p q : ProgramTree) → ReadsProgram text p → ReadsProgram text q → p ≡ q) → RanTo content ended due → Kind content ended s → (s ≡ due) ⊎ GivesUp s
-ran_comes content ended s due one ran (is_large e h) = let few = ran.1.analysed.small in absurd (omega arith)
-ran_comes content ended s due one ran (is_refused e h) = absurd (h.1 ran.1.program ran.1.analysed.read)
-ran_comes content ended s due one ran (is_run e h) = inl (same_due content ended s due one h ran)
-ran_comes content ended s due one ran (gives_up h) = inr h
+pub ran_comes : (content : List ℕ) (ended : Ended) (s due : Status) → RanTo content ended due → Kind content ended s → (s ≡ due) ⊎ GivesUp s
+ran_comes content ended s due ran (is_large e h) = let few = ran.1.analysed.small in absurd (omega arith)
+ran_comes content ended s due ran (is_refused e h) = absurd (no_offence ran.1.analysed.read h.1.1)
+ran_comes content ended s due ran (is_run e h) = inl (same_due content ended s due h ran)
+ran_comes content ended s due ran (gives_up h) = inr h
 
 -- No run stalls.
 stalled_is : (end : End) (failed : Bool) → status.Stalled ≡ status_by end failed → end ≡ ends.Stalled

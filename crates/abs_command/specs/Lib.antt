@@ -5,6 +5,8 @@ pub mod Machine
 pub mod Owed
 pub mod Promises
 pub mod Recorded
+pub mod Refused
 pub mod Runs
+pub mod Sources
 pub mod Texts
 pub mod Words

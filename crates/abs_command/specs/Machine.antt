@@ -1,6 +1,6 @@
 -- What the machine hands back of a run.
 use Rattle.std.specs.Prelude.{◌≡◌, ◌⊎◌, ℕ, Some}
-use Rattle.abs_tree.specs.Trees.{ProgramTree}
+use Rattle.abs_tree.specs.Trees.{NamedTree}
 use Rattle.abs_command.specs.declared.runtime.config.Config.{Config}
 use Rattle.abs_command.specs.declared.runtime.machine.End.{End}
 use Rattle.abs_command.specs.declared.runtime.machine.End.TheVariants.{Done}
@@ -8,7 +8,7 @@ use Rattle.abs_command.specs.declared.runtime.machine.Ran as machine
 use Rattle.abs_command.specs.Runs.{run_of, IsDone, IsOpen, EndsAs}
 
 -- the history is legal, configuration and lines are what it leads to, and so it ended
-pub record IsRun (program : ProgramTree) (steps : ℕ) (ran : machine.Ran) : Type 0 where
+pub record IsRun (program : NamedTree) (steps : ℕ) (ran : machine.Ran) : Type 0 where
   pub legal : run_of program ran.history.tasks ≡ Some (record { config = ran.config; lines = ran.lines })
   pub ends : EndsAs program steps ran.history.tasks ran.config ran.end
 

@@ -2,11 +2,9 @@
 -- it hands back beside the status.
 use Rattle.std.specs.Prelude.{◌≡◌, ◌<◌, ◌≤◌, ℕ, List, [], ◌++◌, length, slice_get, Option, Some, None, Bool, true, false}
 use Rattle.abs_tree.specs.declared.refusal.Refusal.{Refusal}
-use Rattle.abs_tree.specs.declared.refusal.Code.TheVariants.{S1}
 use Rattle.abs_tree.specs.declared.value.Evaluated.{Evaluated}
 use Rattle.abs_tree.specs.declared.value.Evaluated.TheVariants.{Good, Bad}
-use Rattle.abs_tree.specs.Trees.{ProgramTree}
-use Rattle.abs_parser.specs.Grammar.{ReadsProgram}
+use Rattle.abs_tree.specs.Trees.{NamedTree}
 use Rattle.abs_command.specs.declared.command.Ended.{Ended}
 use Rattle.abs_command.specs.declared.command.Status.{Status}
 use Rattle.abs_command.specs.declared.command.Status.TheVariants as status
@@ -16,16 +14,13 @@ use Rattle.abs_command.specs.declared.runtime.machine.End.{End}
 use Rattle.abs_command.specs.declared.runtime.machine.End.TheVariants as ends
 use Rattle.abs_command.specs.Bytes.{source_limit}
 use Rattle.abs_command.specs.Runs.{Ran, run_of, EndsAs}
+use Rattle.abs_command.specs.Sources.{IsProgramOf, FirstOffence}
 use Rattle.abs_command.specs.Texts.{usage_line, too_large_line, refusal_line, report_lines, end_text}
 use Rattle.abs_command.specs.Words.{AreCommandWords}
 
 -- the events that a run may have
 abbrev pub step_limit : ℕ
 step_limit = 100000
-
--- the text is that of no program
-abbrev pub HasOffence : List ℕ → Type 0
-HasOffence text = (program : ProgramTree) → ReadsProgram text program → ⊥
 
 -- nothing was found, and nothing was run
 pub record IsEmpty (ended : Ended) : Type 0 where
@@ -49,21 +44,20 @@ pub record OwesTooLarge (bytes : List ℕ) (ended : Ended) (text : List ℕ) : T
   pub refusal : ended.refusal ≡ None
   pub text_is : text ≡ too_large_line
 
--- a text that is not in the grammar
+-- a text that has an offence
 pub record OwesRefusal (bytes : List ℕ) (ended : Ended) (text : List ℕ) : Type 0 where
   pub small : length bytes ≤ source_limit
-  pub cause : HasOffence bytes
   pub empty : IsEmpty ended
   pub first : Refusal
-  pub code : first.code ≡ S1
+  pub cause : FirstOffence bytes first
   pub refusal : ended.refusal ≡ Some first
   pub text_is : text ≡ refusal_line first
 
 -- the report of a program that was read: no form that is read so far waits, so one kind of task is live, no pair of
 -- dependencies is there, and no chain
-pub record IsAnalysed (bytes : List ℕ) (ended : Ended) (program : ProgramTree) : Type 0 where
+pub record IsAnalysed (bytes : List ℕ) (ended : Ended) (program : NamedTree) : Type 0 where
   pub small : length bytes ≤ source_limit
-  pub read : ReadsProgram bytes program
+  pub read : IsProgramOf bytes program
   pub refusal : ended.refusal ≡ None
   pub facts : ended.facts ≡ 1
   pub pairs : ended.pairs ≡ 0
@@ -71,7 +65,7 @@ pub record IsAnalysed (bytes : List ℕ) (ended : Ended) (program : ProgramTree)
 
 -- the report alone: it could not be written, so nothing was run
 pub record OwesReport (bytes : List ℕ) (ended : Ended) (text : List ℕ) : Type 0 where
-  pub program : ProgramTree
+  pub program : NamedTree
   pub analysed : IsAnalysed bytes ended program
   pub history : ended.history.tasks ≡ []
   pub end : ended.end ≡ None
@@ -103,7 +97,7 @@ status_of end config = status_by end (main_failed config)
 
 -- the report and the run of the recorded history, which is legal and ended so
 pub record OwesRun (bytes : List ℕ) (ended : Ended) (due : Status) (text : List ℕ) : Type 0 where
-  pub program : ProgramTree
+  pub program : NamedTree
   pub analysed : IsAnalysed bytes ended program
   pub ran : Ran
   pub legal : run_of program ended.history.tasks ≡ Some ran

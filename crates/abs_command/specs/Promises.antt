@@ -2,14 +2,15 @@
 use Rattle.std.specs.Prelude.{◌≡◌, ◌<◌, ◌≤◌, ◌+◌, ◌⊎◌, ℕ, List, [], length, drop, ⊤, Option, Some}
 use Rattle.abs_outside.specs.Counts.{Rose}
 use Rattle.abs_outside.specs.Names.{Under, Holding}
-use Rattle.abs_tree.specs.Trees.{ProgramTree}
-use Rattle.abs_parser.specs.Grammar.{ReadsProgram}
+use Rattle.abs_tree.specs.declared.refusal.Refusal.{Refusal}
+use Rattle.abs_tree.specs.Trees.{NamedTree}
 use Rattle.abs_command.specs.declared.command.Ended.{Ended}
 use Rattle.abs_command.specs.declared.command.Status.{Status}
 use Rattle.abs_command.specs.declared.command.Status.TheVariants as status
 use Rattle.abs_command.specs.Bytes.{source_limit}
-use Rattle.abs_command.specs.Owed.{HasOffence, OwesRun}
+use Rattle.abs_command.specs.Owed.{OwesRun}
 use Rattle.abs_command.specs.Runs.{NeverStuck}
+use Rattle.abs_command.specs.Sources.{IsProgramOf, FirstOffence, HasOffence}
 use Rattle.abs_command.specs.Words.{Names}
 
 -- The words name a file that the source holds, with this content.
@@ -42,9 +43,13 @@ pub record ExactlyWhere (found due : Status) (cause : Type 0) : Type 0 where
 abbrev pub IsTooLarge : List ℕ → Type 0
 IsTooLarge content = source_limit < length content
 
--- a text of a size that is read, and not in the grammar
+-- a text of a size that is read, with an offence
 abbrev pub IsRefused : List ℕ → Type 0
 IsRefused content = (length content ≤ source_limit) × HasOffence content
+
+-- What is refused is refused for its first offence.
+abbrev pub RefusesRightly : List ℕ → Ended → Type 0
+RefusesRightly content ended = ended.status ≡ status.Refused → (refusal : Refusal) × (ended.refusal ≡ Some refusal) × FirstOffence content refusal
 
 -- a program whose recorded run ended so
 abbrev pub RanTo : List ℕ → Ended → Status → Type 0
@@ -63,13 +68,13 @@ abbrev pub EndsRightly : List ℕ → Ended → Type 0
 EndsRightly content ended = (due : Status) → IsOfRun due → ExactlyWhere ended.status due (RanTo content ended due)
 
 -- the program of a source of a size that is read
-pub record IsAccepted (content : List ℕ) (program : ProgramTree) : Type 0 where
+pub record IsAccepted (content : List ℕ) (program : NamedTree) : Type 0 where
   pub small : length content ≤ source_limit
-  pub read : ReadsProgram content program
+  pub read : IsProgramOf content program
 
 -- A program that is accepted is run.
 abbrev pub RunsAccepted : List ℕ → Ended → Type 0
-RunsAccepted content ended = (program : ProgramTree) → IsAccepted content program → IsOfRun ended.status ⊎ GivesUp ended.status
+RunsAccepted content ended = (program : NamedTree) → IsAccepted content program → IsOfRun ended.status ⊎ GivesUp ended.status
 
 -- No count of the source and the sink rose.
 pub record NoneRose (faults faults' missing missing' sink sink' : ℕ) : Type 0 where
@@ -79,7 +84,7 @@ pub record NoneRose (faults faults' missing missing' sink sink' : ℕ) : Type 0 
 
 -- Where the report names no circular chain, no legal list of events leads the program to where it is stuck.
 abbrev pub DeadlockFree : List ℕ → Ended → Type 0
-DeadlockFree content ended = (program : ProgramTree) → ReadsProgram content program → ended.report ≡ [] → NeverStuck program
+DeadlockFree content ended = (program : NamedTree) → IsProgramOf content program → ended.report ≡ [] → NeverStuck program
 
 -- All that stands under the name was taken; of too many bytes, one more than a program may have.
 abbrev pub ReadsWhole : List ℕ → Option (List ℕ) → Type 0

@@ -1,6 +1,7 @@
 -- Runs: what a history leads to, when it is legal, and how a run ends.
-use Rattle.std.specs.Prelude.{◌≡◌, ◌≢◌, ℕ, List, [], ◌∷◌, ◌++◌, length, slice_get, Option, Some, None, IsSome, fold}
-use Rattle.abs_tree.specs.Trees.{ProgramTree}
+use Rattle.std.specs.Prelude.{◌≡◌, ◌≢◌, ℕ, List, [], ◌∷◌, ◌++◌, length, slice_get, replicate, Option, Some, None, IsSome, fold}
+use Rattle.abs_tree.specs.declared.value.Value.TheVariants.{Null}
+use Rattle.abs_tree.specs.Trees.{NamedTree}
 use Rattle.abs_command.specs.declared.runtime.config.Config.{Config}
 use Rattle.abs_command.specs.declared.runtime.config.TaskCell.{TaskCell}
 use Rattle.abs_command.specs.declared.runtime.config.State.TheVariants.{Ready}
@@ -13,11 +14,11 @@ abbrev pub first_statement : {A : Type 0} → List A → Option ℕ
 first_statement [] = None
 first_statement (statement ∷ statements) = Some 0
 
--- the first configuration: the task of the main block is ready, and its cog is free
-abbrev pub first : ProgramTree → Config
+-- the first configuration: the task of the main block is ready, with null in each slot, and its cog is free
+abbrev pub first : NamedTree → Config
 first program = record {
   cogs = record { holder = None } ∷ [];
-  tasks = record { cog = 0; frames = record { next = first_statement program.main } ∷ []; state = Ready; outcome = None } ∷ [];
+  tasks = record { cog = 0; frames = record { next = first_statement program.main; slots = replicate program.slots Null } ∷ []; state = Ready; outcome = None } ∷ [];
 }
 
 -- what stands after some events: the configuration, and all lines that were printed
@@ -30,16 +31,16 @@ abbrev pub goes_on_by : Ran → Option Step → Option Ran
 goes_on_by ran None = None
 goes_on_by ran (Some step) = Some (record { config = step.config; lines = ran.lines ++ step.lines })
 
-abbrev pub stepped : ProgramTree → Option Ran → ℕ → Option Ran
+abbrev pub stepped : NamedTree → Option Ran → ℕ → Option Ran
 stepped program None task = None
 stepped program (Some ran) task = goes_on_by ran (event_of program ran.config task)
 
 -- the run of a history: the events of its tasks in order, from the first configuration on
-abbrev pub run_of : ProgramTree → List ℕ → Option Ran
+abbrev pub run_of : NamedTree → List ℕ → Option Ran
 run_of program history = fold (stepped program) (Some (record { config = first program; lines = [] })) history
 
 -- each event of the history exists
-abbrev pub IsLegal : ProgramTree → List ℕ → Type 0
+abbrev pub IsLegal : NamedTree → List ℕ → Type 0
 IsLegal program history = IsSome (run_of program history)
 
 -- the task is there and has no result
@@ -57,15 +58,15 @@ abbrev pub IsOpen : Config → Type 0
 IsOpen config = (number : ℕ) × IsUnfinished config number
 
 -- some task has an event
-abbrev pub HasStep : ProgramTree → Config → Type 0
+abbrev pub HasStep : NamedTree → Config → Type 0
 HasStep program config = (number : ℕ) × IsSome (event_of program config number)
 
 -- how the run of a history of at most so many events ended; a run that is both spent and stalled is spent
-abbrev pub EndsAs : ProgramTree → ℕ → List ℕ → Config → End → Type 0
+abbrev pub EndsAs : NamedTree → ℕ → List ℕ → Config → End → Type 0
 EndsAs program steps history config Done = IsDone config
 EndsAs program steps history config Spent = (length history ≡ steps) × IsOpen config
 EndsAs program steps history config Stalled = (length history ≢ steps) × IsOpen config × (HasStep program config → ⊥)
 
 -- Whatever legal list of events comes, the configuration that it reaches has a step while a task of it is unfinished.
-abbrev pub NeverStuck : ProgramTree → Type 0
+abbrev pub NeverStuck : NamedTree → Type 0
 NeverStuck program = (history : List ℕ) (ran : Ran) → run_of program history ≡ Some ran → IsOpen ran.config → HasStep program ran.config

@@ -1,15 +1,14 @@
 //! The command: from its words and a source to what is written and to a status.
 ghost use Rattle.std.specs.Prelude.{◌≡◌, ◌≢◌, ◌≤◌, ◌⊎◌, Option, ℕ, List, [], None, Some, length, IfOk, IfSome, IfNone, OnOk, OnErr, IsErrOf};
 ghost use Rattle.std.specs.Io.KnownBytes.{Appends};
-ghost use Rattle.abs_tree.specs.Trees.{ProgramTree, program_tree};
-ghost use Rattle.abs_parser.specs.Grammar.{ReadsProgram};
+ghost use Rattle.abs_tree.specs.Trees.{NamedTree, named_tree};
 ghost use Rattle.abs_outside.specs.Counts.{Rose};
 ghost use Rattle.abs_command.specs.Answer.{Answers, AnswersFor, WasRead, Took, TookAtMost, SourceFailed, Tells};
-ghost use Rattle.abs_tree.specs.declared.refusal.Code.TheVariants.{S1};
 ghost use Rattle.abs_command.specs.Bytes.{source_limit, TakesSome};
 ghost use Rattle.abs_command.specs.Machine.{IsRun};
-ghost use Rattle.abs_command.specs.Owed.{HasOffence, IsAnalysed, step_limit, status_of as status_for, main_failed as main_failed_in};
-ghost use Rattle.abs_command.specs.Promises.{ForContent, ForFile, GivesUp, ExactlyWhere, IsTooLarge, IsRefused, EndsRightly, RunsAccepted, NoneRose, DeadlockFree, ReadsWhole};
+ghost use Rattle.abs_command.specs.Owed.{IsAnalysed, step_limit, status_of as status_for, main_failed as main_failed_in};
+ghost use Rattle.abs_command.specs.Promises.{ForContent, ForFile, GivesUp, ExactlyWhere, IsTooLarge, IsRefused, RefusesRightly, EndsRightly, RunsAccepted, NoneRose, DeadlockFree, ReadsWhole};
+ghost use Rattle.abs_command.specs.Sources.{IsProgramOf, FirstOffence};
 ghost use Rattle.abs_command.specs.Texts.{report_lines};
 ghost use Rattle.abs_command.specs.Words.{spelled, Names, AreCommandWords};
 
@@ -19,11 +18,11 @@ use crate::edge::write::write_all;
 use crate::runtime::config::Config;
 use crate::runtime::history::History;
 use crate::runtime::machine::{End, Ran, run};
+use crate::source::{SourceError, program_of};
 use crate::texts::outcome::{end_text, report_text};
 use crate::texts::refusal::refusal_text;
 use abs_outside::{Sink, Source};
-use abs_parser::{ParseError, parse_text};
-use abs_tree::{Evaluated, Program, Refusal};
+use abs_tree::{Evaluated, Named, Refusal};
 use std::alloc::Global;
 
 /// How a call of the command ended. Its number is the exit status of the process.
@@ -127,6 +126,7 @@ pub fn abs_run<S: Source, K: Sink>(
         (λ content. ExactlyWhere result.status Status.TooLarge (IsTooLarge content)) }
     ensures refused { ForContent (spelled words.now) (S.under source.old)
         (λ content. ExactlyWhere result.status Status.Refused (IsRefused content)) }
+    ensures refusal { ForContent (spelled words.now) (S.under source.old) (λ content. RefusesRightly content result) }
     ensures ran { ForContent (spelled words.now) (S.under source.old) (λ content. EndsRightly content result) }
     ensures accepted { ForContent (spelled words.now) (S.under source.old) (λ content. RunsAccepted content result) }
     ensures read_fault { result.status ≡ Status.ReadFault → ForFile (spelled words.now)
@@ -218,16 +218,16 @@ fn answer_bytes<K: Sink>(alloc: Global, bytes: &[u8], sink: &mut K) -> Ended
         let ended = Ended::new(alloc, Status::TooLarge);
         return tell(sink, TOO_LARGE.as_bytes(), ended);
     }
-    match parse_text(alloc, bytes) {
+    match program_of(alloc, bytes) {
         Ok(program) => answer_program(alloc, &program, sink),
-        Err(ParseError::Refused(refusal)) => refuse(alloc, refusal, sink),
-        Err(ParseError::Memory) => Ended::new(alloc, Status::Memory),
+        Err(SourceError::Refused(refusal)) => refuse(alloc, refusal, sink),
+        Err(SourceError::Memory) => Ended::new(alloc, Status::Memory),
     }
 }
 
 /// Answers with a refusal.
 fn refuse<K: Sink>(alloc: Global, refusal: Refusal, sink: &mut K) -> Ended
-    ensures answer { (words : List (List ℕ)) (bytes : List ℕ) → AreCommandWords words → length bytes ≤ source_limit → HasOffence bytes → refusal.code ≡ S1
+    ensures answer { (words : List (List ℕ)) (bytes : List ℕ) → AreCommandWords words → length bytes ≤ source_limit → FirstOffence bytes refusal
         → Answers words bytes result (K.written sink.old) (K.written sink.new) result.status }
     ensures counted { result.status ≡ Status.WriteFault → Rose (K.faults sink.old) (K.faults sink.new) }
     ensures never_falls { K.faults sink.old ≤ K.faults sink.new }
@@ -242,8 +242,8 @@ fn refuse<K: Sink>(alloc: Global, refusal: Refusal, sink: &mut K) -> Ended
 }
 
 /// Writes the report of a program, runs it, and writes what came of that.
-fn answer_program<K: Sink>(alloc: Global, program: &Program<'_>, sink: &mut K) -> Ended
-    ensures answer { (words : List (List ℕ)) (bytes : List ℕ) → AreCommandWords words → length bytes ≤ source_limit → ReadsProgram bytes (program_tree program.now)
+fn answer_program<K: Sink>(alloc: Global, program: &Named<'_>, sink: &mut K) -> Ended
+    ensures answer { (words : List (List ℕ)) (bytes : List ℕ) → AreCommandWords words → length bytes ≤ source_limit → IsProgramOf bytes (named_tree program.now)
         → Answers words bytes result (K.written sink.old) (K.written sink.new) result.status }
     ensures counted { result.status ≡ Status.WriteFault → Rose (K.faults sink.old) (K.faults sink.new) }
     ensures never_falls { K.faults sink.old ≤ K.faults sink.new }
@@ -266,7 +266,7 @@ fn answer_program<K: Sink>(alloc: Global, program: &Program<'_>, sink: &mut K) -
 
 /// Writes what came of a run.
 fn finish<K: Sink>(alloc: Global, mut ended: Ended, ran: Ran, sink: &mut K) -> Ended
-    ensures answer { (words : List (List ℕ)) (bytes : List ℕ) (program : ProgramTree) (before : Option (List ℕ)) → AreCommandWords words
+    ensures answer { (words : List (List ℕ)) (bytes : List ℕ) (program : NamedTree) (before : Option (List ℕ)) → AreCommandWords words
         → IsAnalysed bytes ended program → IsRun program step_limit ran → Appends before (K.written sink.old) (report_lines [])
         → Answers words bytes result before (K.written sink.new) result.status }
     ensures counted { result.status ≡ Status.WriteFault → Rose (K.faults sink.old) (K.faults sink.new) }

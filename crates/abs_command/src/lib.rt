@@ -5,6 +5,7 @@ pub mod analysis;
 pub mod command;
 pub mod edge;
 pub mod runtime;
+pub mod source;
 #[cfg(test)]
 mod tests;
 pub mod texts;

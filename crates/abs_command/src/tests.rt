@@ -1,11 +1,11 @@
-//! What no clause says of the command: that its calls succeed, the numbers of its statuses, where an offence stands, and
-//! that the texts which its definitions spell are the ones that were meant.
+//! What no clause says of the command: that its calls succeed, the numbers of its statuses, where an unexpected token stands,
+//! and that the texts which its definitions spell are the ones that were meant.
 use crate::runtime::machine::{End, run};
+use crate::source::program_of;
 use crate::texts::outcome::end_text;
 use crate::texts::refusal::refusal_text;
 use crate::{Ended, abs_run};
 use abs_outside::{MemorySink, MemorySource, NamedBytes, PureSink, PureSource, Sink, Source};
-use abs_parser::parse_text;
 use abs_tree::{Code, Refusal};
 use std::alloc::{AllocError, Global};
 use std::process::Abort;
@@ -43,13 +43,9 @@ impl<'a> Want<'a> {
         }
     }
 
-    // A refusal of the token at this place.
-    fn unexpected(written: &'a str, line: u32, column: u32) -> Want<'a> {
-        let refusal = Refusal {
-            code: Code::S1,
-            line,
-            column,
-        };
+    // A refusal for this offence.
+    fn refused(written: &'a str, code: Code, line: u32, column: u32) -> Want<'a> {
+        let refusal = Refusal { code, line, column };
         Want {
             refusal: Some(refusal),
             ..Want::before_analysis(written, 4)
@@ -163,7 +159,7 @@ fn empty_main_is_clean(rt: HostRuntime) -> Result<(), Fail> {
 #[test]
 fn empty_file_is_refused(rt: HostRuntime) -> Result<(), Fail> {
     let alloc = rt.alloc();
-    let want = Want::unexpected("refused: S1 at 1:1: unexpected token\n", 1, 1);
+    let want = Want::refused("refused: S1 at 1:1: unexpected token\n", Code::S1, 1, 1);
     call_and_read(&rt, alloc, &["abs", "f"], &mut source_of(alloc, b"")?, want)
 }
 
@@ -180,11 +176,132 @@ fn sources(rt: HostRuntime) -> Result<(), Fail> {
         ),
         (
             "{ skip; }",
-            Want::unexpected("refused: S1 at 1:3: unexpected token\n", 1, 3),
+            Want::refused("refused: S1 at 1:3: unexpected token\n", Code::S1, 1, 3),
+        ),
+        (
+            "{ Int x = 2; Int y = x; x = 7; println(toString(y)); println(toString(x)); }",
+            Want::clean("no circular chain\n2\n7\ndone: 1 tasks\n", 7),
+        ),
+        (
+            "{ Int a = 1; Int b = 2; Int c = a; a = b; b = c; println(toString(a)); println(toString(b)); }",
+            Want::clean("no circular chain\n2\n1\ndone: 1 tasks\n", 9),
+        ),
+        (
+            "{ Int toString = 5; Int toStrings = 6; println(toString(toString)); }",
+            Want::clean("no circular chain\n5\ndone: 1 tasks\n", 5),
         ),
     ];
     for (content, want) in table {
         let mut source = source_of(alloc, content.as_bytes())?;
+        call_and_read(&rt, alloc, &["abs", "f"], &mut source, want)?;
+    }
+    Ok(())
+}
+
+// The least place wins among the names, and a token that can't stand where it does wins over each name.
+#[test]
+fn offending_names(rt: HostRuntime) -> Result<(), Fail> {
+    let alloc = rt.alloc();
+    let table = [
+        (
+            "{ Int x = y; }",
+            "refused: N2 at 1:11: unknown name\n",
+            Code::N2,
+            1,
+            11,
+        ),
+        (
+            "{ Int x = 1; Int x = 2; }",
+            "refused: N1 at 1:18: declared twice\n",
+            Code::N1,
+            1,
+            18,
+        ),
+        (
+            "{ Int x = z; Int x = 1; }",
+            "refused: N2 at 1:11: unknown name\n",
+            Code::N2,
+            1,
+            11,
+        ),
+        (
+            "{ x = 1; Int x = 2; }",
+            "refused: N2 at 1:3: unknown name\n",
+            Code::N2,
+            1,
+            3,
+        ),
+        // a name is declared behind its declaration, and not in it
+        (
+            "{ Int x = x; }",
+            "refused: N2 at 1:11: unknown name\n",
+            Code::N2,
+            1,
+            11,
+        ),
+        (
+            "{ Int x = 1; Int x = z; }",
+            "refused: N1 at 1:18: declared twice\n",
+            Code::N1,
+            1,
+            18,
+        ),
+        (
+            "{ Int x = 1; x = y; y = 2; }",
+            "refused: N2 at 1:18: unknown name\n",
+            Code::N2,
+            1,
+            18,
+        ),
+        (
+            "{\n\tprintln(toString(x));\n}",
+            "refused: N2 at 2:19: unknown name\n",
+            Code::N2,
+            2,
+            19,
+        ),
+        (
+            "{ Int x = y; skip; }",
+            "refused: S1 at 1:14: unexpected token\n",
+            Code::S1,
+            1,
+            14,
+        ),
+    ];
+    for (content, written, code, line, column) in table {
+        let want = Want::refused(written, code, line, column);
+        let mut source = source_of(alloc, content.as_bytes())?;
+        call_and_read(&rt, alloc, &["abs", "f"], &mut source, want)?;
+    }
+    Ok(())
+}
+
+// A run may have 100,000 events: to take the cog, one for each statement, and to return.
+#[test]
+fn step_limit(rt: HostRuntime) -> Result<(), Fail> {
+    let alloc = rt.alloc();
+    let spent = "no circular chain\nspent: 100000 events, 1 tasks, 1 unfinished\n";
+    let table = [
+        (
+            99_997,
+            Want::clean("no circular chain\ndone: 1 tasks\n", 100_000),
+        ),
+        (
+            99_998,
+            Want {
+                status: 3,
+                end: Some(End::Spent),
+                ..Want::clean(spent, 100_000)
+            },
+        ),
+    ];
+    for (count, want) in table {
+        let mut content = Vec::from_slice(alloc, b"{Int x=1;")?;
+        for _ in 0..count {
+            content.extend_from_slice(b"x=x;")?;
+        }
+        content.push(b'}')?;
+        let mut source = source_of(alloc, content.as_slice())?;
         call_and_read(&rt, alloc, &["abs", "f"], &mut source, want)?;
     }
     Ok(())
@@ -295,11 +412,11 @@ fn refusal_texts(rt: HostRuntime) -> Result<(), Fail> {
     Ok(())
 }
 
-// The command's own limit of events is above what a test should take, so the limit is given to the run.
+// A run that is given another limit is spent at that one, and behind a print too.
 #[test]
 fn spent_run(rt: HostRuntime) -> Result<(), Fail> {
     let alloc = rt.alloc();
-    let program = parse_text(alloc, b"{ println(toString(42)); }")?;
+    let program = program_of(alloc, b"{ println(toString(42)); }")?;
     let ran = run(alloc, &program, 1)?;
     assert_eq!(rt; ran.end, End::Spent);
     assert_eq!(rt; ran.history.len(), 1);

@@ -1,6 +1,6 @@
 //! Configurations: what there is at a moment of a run.
 
-use abs_tree::{Evaluated, Text};
+use abs_tree::{Evaluated, Text, Values};
 use std::marker::Model;
 
 /// A cog (concurrent object group): of its tasks, the holder alone takes steps.
@@ -24,6 +24,8 @@ pub enum State {
 pub struct Frame {
     /// The number of the first statement that is left; none is where no statement is left.
     pub next: Option<u32>,
+    /// The values of its locals, by their slots.
+    pub slots: Values,
 }
 
 /// A task, which is known by its number in the configuration.

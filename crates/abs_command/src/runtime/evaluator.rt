@@ -1,9 +1,11 @@
 //! Evaluates expressions by recursion, as the definition goes.
 ghost use Rattle.std.specs.Prelude.{◌≡◌, IfOk};
 ghost use Rattle.abs_tree.specs.Trees.{expr_tree, trees_of};
-ghost use Rattle.abs_tree.specs.Evaluation.{evaluate as evaluated, each, applied, called, built as built_of, result_of};
+ghost use Rattle.abs_tree.specs.Evaluation.{evaluate as evaluated, local_gives, each, applied, called, built as built_of, result_of};
 
-use abs_tree::{Evaluated, Expr, Fault, Output, Symbols, Text, Value, Values, value_text};
+use abs_tree::{
+    Evaluated, Expr, Fault, Output, Symbols, Text, Value, Values, Variable, value_text,
+};
 use std::alloc::{AllocError, Global};
 
 /// The levels of evaluation, of which a statement's own expressions have the first.
@@ -15,15 +17,20 @@ const APPLICATIONS: u32 = 1_000_000;
 /// The bytes that a text may have.
 const TEXT_BYTES: usize = 65_536;
 
-/// What a statement's own expression gives, in a program with these names.
+/// What a statement's own expression gives, in a program with these names, where the slots have these values.
 ///
 /// # Errors
 /// [`AllocError`] where memory runs out.
-pub fn eval(alloc: Global, names: &Symbols<'_>, expr: &Expr) -> Result<Evaluated, AllocError>
-    ensures { IfOk result (λ found. found ≡ result_of names.now (expr_tree expr.now)) }
+pub fn eval(
+    alloc: Global,
+    names: &Symbols<'_>,
+    slots: &[Value],
+    expr: &Expr,
+) -> Result<Evaluated, AllocError>
+    ensures { IfOk result (λ found. found ≡ result_of names.now slots.now (expr_tree expr.now)) }
 {
     let mut made = 0;
-    evaluate(alloc, names, LEVELS, expr, &mut made)
+    evaluate(alloc, names, slots, LEVELS, expr, &mut made)
 }
 
 /// What an expression gives with so many levels left. The applications that its statement has made are counted along.
@@ -32,21 +39,36 @@ pub fn eval(alloc: Global, names: &Symbols<'_>, expr: &Expr) -> Result<Evaluated
 fn evaluate(
     alloc: Global,
     names: &Symbols<'_>,
+    slots: &[Value],
     left: u32,
     expr: &Expr,
     made: &mut u32,
 ) -> Result<Evaluated, AllocError>
-    ensures { IfOk result (λ found. evaluated names.now left (expr_tree expr.now) made.old ≡ record { result = found; applications = made.new }) }
+    ensures { IfOk result (λ found. evaluated names.now slots.now left (expr_tree expr.now) made.old ≡ record { result = found; applications = made.new }) }
 {
     if left == 0 {
         return Ok(Evaluated::Bad(Fault::Levels));
     }
     match expr {
         Expr::Number(_, number) => Ok(Evaluated::Good(Value::Int(*number))),
+        Expr::Local(_, variable) => local(slots, *variable),
         Expr::Apply(_, function, arguments) => {
-            let output = evaluate_all(alloc, names, left - 1, arguments, made)?;
+            let output = evaluate_all(alloc, names, slots, left - 1, arguments, made)?;
             apply(alloc, names.name(*function), output, made)
         }
+    }
+}
+
+/// What a local gives.
+fn local(slots: &[Value], variable: Variable) -> Result<Evaluated, AllocError>
+    ensures { IfOk result (λ found. found ≡ local_gives slots.now variable) }
+{
+    let Variable::Slot(slot) = variable else {
+        return Ok(Evaluated::Bad(Fault::Mistyped));
+    };
+    match slots.get(slot as usize) {
+        Some(value) => Ok(Evaluated::Good(value.share()?)),
+        None => Ok(Evaluated::Bad(Fault::Mistyped)),
     }
 }
 
@@ -55,15 +77,16 @@ fn evaluate(
 fn evaluate_all(
     alloc: Global,
     names: &Symbols<'_>,
+    slots: &[Value],
     left: u32,
     exprs: &[Expr],
     made: &mut u32,
 ) -> Result<Output, AllocError>
-    ensures { IfOk result (λ found. each (evaluated names.now left) (trees_of exprs.now) made.old ≡ record { output = found; applications = made.new }) }
+    ensures { IfOk result (λ found. each (evaluated names.now slots.now left) (trees_of exprs.now) made.old ≡ record { output = found; applications = made.new }) }
 {
     let mut values = Vec::new(alloc);
     for expr in exprs {
-        match evaluate(alloc, names, left, expr, made)? {
+        match evaluate(alloc, names, slots, left, expr, made)? {
             Evaluated::Good(value) => values.push(value)?,
             Evaluated::Bad(fault) => return Ok(Output::Bad(fault)),
         }

@@ -1,6 +1,6 @@
 //! Runs a program: one task after the other takes its steps, and each is recorded.
 ghost use Rattle.std.specs.Prelude.{◌≡◌, ◌<◌, ◌^◌, ℕ, List, IfOk, IfSome, IfNone, IsSome, MatchBool};
-ghost use Rattle.abs_tree.specs.Trees.{ProgramTree, program_tree};
+ghost use Rattle.abs_tree.specs.Trees.{NamedTree, named_tree};
 ghost use Rattle.abs_command.specs.Events.{event_of};
 ghost use Rattle.abs_command.specs.Runs.{first as first_of, IsDone, IsOpen, HasStep, NeverStuck, EndsAs};
 ghost use Rattle.abs_command.specs.Machine.{IsRun, Settles};
@@ -8,7 +8,7 @@ ghost use Rattle.abs_command.specs.Machine.{IsRun, Settles};
 use crate::runtime::config::{Cog, Cogs, Config, Frame, Frames, Lines, State, TaskCell, Tasks};
 use crate::runtime::history::History;
 use crate::runtime::step::{has_step, step};
-use abs_tree::Program;
+use abs_tree::{Named, Values};
 use std::alloc::{AllocError, Global};
 
 /// How a run ended.
@@ -35,8 +35,8 @@ pub struct Ran {
 ///
 /// # Errors
 /// [`AllocError`] where memory runs out.
-pub fn run(alloc: Global, program: &Program<'_>, steps: u64) -> Result<Ran, AllocError>
-    ensures { IfOk result (λ ran. IsRun (program_tree program.now) steps ran) }
+pub fn run(alloc: Global, program: &Named<'_>, steps: u64) -> Result<Ran, AllocError>
+    ensures { IfOk result (λ ran. IsRun (named_tree program.now) steps ran) }
 {
     let mut config = first(alloc, program)?;
     let mut history = History::new(alloc, steps)?;
@@ -67,19 +67,23 @@ pub fn run(alloc: Global, program: &Program<'_>, steps: u64) -> Result<Ran, Allo
     }
 }
 
-/// The first configuration: the main block's task is ready, and its cog is free.
-fn first(alloc: Global, program: &Program<'_>) -> Result<Config, AllocError>
-    ensures { IfOk result (λ config. config ≡ first_of (program_tree program.now)) }
+/// The first configuration: the main block's task is ready, with null in each slot, and its cog is free.
+fn first(alloc: Global, program: &Named<'_>) -> Result<Config, AllocError>
+    ensures { IfOk result (λ config. config ≡ first_of (named_tree program.now)) }
 {
     let next = if program.main.is_empty() {
         None
     } else {
         Some(0)
     };
+    let frame = Frame {
+        next,
+        slots: Values::nulls(alloc, program.slots as usize)?,
+    };
     let main = TaskCell {
         cog: 0,
         frames: Frames {
-            items: vec![in alloc; Frame { next }]?,
+            items: vec![in alloc; frame]?,
         },
         state: State::Ready,
         outcome: None,
@@ -95,9 +99,9 @@ fn first(alloc: Global, program: &Program<'_>) -> Result<Config, AllocError>
 }
 
 /// A task that has an event, the first one in the order of their numbers.
-fn next_task(program: &Program<'_>, config: &Config) -> Option<u32>
-    ensures some { IfSome result (λ task. IsSome (event_of (program_tree program.now) config.now task)) }
-    ensures none { IfNone result (HasStep (program_tree program.now) config.now → ⊥) }
+fn next_task(program: &Named<'_>, config: &Config) -> Option<u32>
+    ensures some { IfSome result (λ task. IsSome (event_of (named_tree program.now) config.now task)) }
+    ensures none { IfNone result (HasStep (named_tree program.now) config.now → ⊥) }
 {
     for number in 0..config.tasks.items.len() {
         let task = number as u32;
@@ -133,5 +137,5 @@ fn is_done(config: &Config) -> bool
 
 /// Whatever legal list of events comes, the configuration that it reaches has a step while a task of it is unfinished.
 pub fn never_stuck()
-    ensures { (program : ProgramTree) → NeverStuck program }
+    ensures { (program : NamedTree) → NeverStuck program }
 {}

@@ -1,17 +1,17 @@
 //! The events of tasks: whether a task has one, and what it changes.
 ghost use Rattle.std.specs.Prelude.{◌≡◌, ◌<◌, ◌∷◌, [], ◌++◌, ℕ, List, length, Option, slice_get, Some, None, IsTrue, IsSome, ◌↔◌, IfOk, OnOk, OnErr};
-ghost use Rattle.abs_tree.specs.Trees.{ProgramTree, program_tree};
-ghost use Rattle.abs_command.specs.Events.{Change, takes, ends_with, goes_on, prints, runs, runs_body, by_state, event_of, held, following as following_of, Steps, Makes};
+ghost use Rattle.abs_tree.specs.Trees.{NamedTree, named_tree};
+ghost use Rattle.abs_command.specs.Events.{Change, takes, ends_with, goes_on, assigns, prints, executes, slots_of, runs, runs_body, by_state, event_of, held, following as following_of, Steps, Makes};
 ghost use Rattle.abs_command.specs.declared.runtime.config.TaskCell.{TaskCell};
 
 use crate::runtime::config::{Cog, Config, Lines, State, TaskCell};
 use crate::runtime::evaluator;
-use abs_tree::{Evaluated, Fault, Program, Stmt, Text, Value};
+use abs_tree::{Evaluated, Expr, Fault, Named, Stmt, Text, Value, Variable};
 use std::alloc::{AllocError, Global};
 
 /// Whether a task has an event.
-pub fn has_step(program: &Program<'_>, config: &Config, task: u32) -> bool
-    ensures { IsTrue result ↔ IsSome (event_of (program_tree program.now) config.now task) }
+pub fn has_step(program: &Named<'_>, config: &Config, task: u32) -> bool
+    ensures { IsTrue result ↔ IsSome (event_of (named_tree program.now) config.now task) }
 {
     let Some(cell) = config.tasks.items.get(task as usize) else {
         return false;
@@ -36,8 +36,8 @@ fn is_free(cogs: &[Cog], cog: u32) -> bool
 }
 
 /// Whether a task that holds its cog is at a statement or at the end of its body.
-fn body_has_step(program: &Program<'_>, cell: &TaskCell) -> bool
-    ensures { (number : ℕ) → IsTrue result ↔ IsSome (runs_body (program_tree program.now) number cell.now cell.now.frames) }
+fn body_has_step(program: &Named<'_>, cell: &TaskCell) -> bool
+    ensures { (number : ℕ) → IsTrue result ↔ IsSome (runs_body (named_tree program.now) number cell.now cell.now.frames) }
 {
     match cell.frames.items.as_slice() {
         [frame] => match frame.next {
@@ -54,13 +54,13 @@ fn body_has_step(program: &Program<'_>, cell: &TaskCell) -> bool
 /// [`AllocError`] where memory runs out; configuration and lines are as before.
 pub fn step(
     alloc: Global,
-    program: &Program<'_>,
+    program: &Named<'_>,
     config: &mut Config,
     task: u32,
     lines: &mut Lines,
 ) -> Result<(), AllocError>
-    requires { IsSome (event_of (program_tree program.now) config.old task) }
-    ensures ok { OnOk result (Steps (program_tree program.now) config.old task config.new lines.old lines.new) }
+    requires { IsSome (event_of (named_tree program.now) config.old task) }
+    ensures ok { OnOk result (Steps (named_tree program.now) config.old task config.new lines.old lines.new) }
     ensures config_err { OnErr result (config.new ≡ config.old) }
     ensures lines_err { OnErr result (lines.new ≡ lines.old) }
 {
@@ -75,14 +75,14 @@ pub fn step(
 /// Makes of a task and of the lines what its event makes of them, and answers who holds its cog then.
 fn advance(
     alloc: Global,
-    program: &Program<'_>,
+    program: &Named<'_>,
     cogs: &[Cog],
     task: u32,
     cell: &mut TaskCell,
     lines: &mut Lines,
 ) -> Result<Option<u32>, AllocError>
-    requires { IsSome (by_state (program_tree program.now) cogs.now task cell.old cell.old.state) }
-    ensures ok { IfOk result (λ holder. Makes (by_state (program_tree program.now) cogs.now task cell.old cell.old.state) cell.new holder lines.old lines.new) }
+    requires { IsSome (by_state (named_tree program.now) cogs.now task cell.old cell.old.state) }
+    ensures ok { IfOk result (λ holder. Makes (by_state (named_tree program.now) cogs.now task cell.old cell.old.state) cell.new holder lines.old lines.new) }
     ensures cell_err { OnErr result (cell.new ≡ cell.old) }
     ensures lines_err { OnErr result (lines.new ≡ lines.old) }
 {
@@ -98,13 +98,13 @@ fn advance(
 /// The same of a task that holds its cog.
 fn run_body(
     alloc: Global,
-    program: &Program<'_>,
+    program: &Named<'_>,
     task: u32,
     cell: &mut TaskCell,
     lines: &mut Lines,
 ) -> Result<Option<u32>, AllocError>
-    requires { IsSome (runs_body (program_tree program.now) task cell.old cell.old.frames) }
-    ensures ok { IfOk result (λ holder. Makes (runs_body (program_tree program.now) task cell.old cell.old.frames) cell.new holder lines.old lines.new) }
+    requires { IsSome (runs_body (named_tree program.now) task cell.old cell.old.frames) }
+    ensures ok { IfOk result (λ holder. Makes (runs_body (named_tree program.now) task cell.old cell.old.frames) cell.new holder lines.old lines.new) }
     ensures cell_err { OnErr result (cell.new ≡ cell.old) }
     ensures lines_err { OnErr result (lines.new ≡ lines.old) }
 {
@@ -112,14 +112,76 @@ fn run_body(
         finish(cell, Evaluated::Good(Value::Null));
         return Ok(None);
     };
-    let Stmt::Print(_, text) = &program.main[statement as usize];
-    let found = evaluator::eval(alloc, &program.symbols, text)?;
-    print(program, task, cell, statement, found, lines)
+    execute(alloc, program, task, cell, statement, lines)
+}
+
+/// The same of a task that executes this statement.
+fn execute(
+    alloc: Global,
+    program: &Named<'_>,
+    task: u32,
+    cell: &mut TaskCell,
+    statement: u32,
+    lines: &mut Lines,
+) -> Result<Option<u32>, AllocError>
+    requires body { length cell.old.frames ≡ 1 }
+    requires statement { statement < length program.now.main.items }
+    ensures ok { IfOk result (λ holder. Makes (executes (named_tree program.now) task cell.old statement (slots_of cell.old.frames) (slice_get (named_tree program.now).main statement)) cell.new holder lines.old lines.new) }
+    ensures cell_err { OnErr result (cell.new ≡ cell.old) }
+    ensures lines_err { OnErr result (lines.new ≡ lines.old) }
+{
+    let slots = cell.frames.items[0].slots.as_slice();
+    match &program.main[statement as usize] {
+        Stmt::Declare(_, _, target, value) | Stmt::Assign(_, target, value) => {
+            let found = evaluator::eval(alloc, &program.symbols, slots, value)?;
+            assign(alloc, program, task, cell, statement, *target, found)
+        }
+        Stmt::Print(_, text) => {
+            let found = evaluator::eval(alloc, &program.symbols, slots, text)?;
+            print(program, task, cell, statement, found, lines)
+        }
+    }
+}
+
+/// The same of a task that puts what was found into a slot, at this statement. It prints nothing.
+fn assign(
+    alloc: Global,
+    program: &Named<'_>,
+    task: u32,
+    cell: &mut TaskCell,
+    statement: u32,
+    target: Variable,
+    found: Evaluated,
+) -> Result<Option<u32>, AllocError>
+    requires body { length cell.old.frames ≡ 1 }
+    requires statement { statement < length program.now.main.items }
+    ensures ok { IfOk result (λ holder. (lines : List (List ℕ)) → Makes (Some (assigns (named_tree program.now) task cell.old statement (slots_of cell.old.frames) target found)) cell.new holder lines lines) }
+    ensures cell_err { OnErr result (cell.new ≡ cell.old) }
+{
+    let value = match found {
+        Evaluated::Good(value) => value,
+        Evaluated::Bad(fault) => {
+            finish(cell, Evaluated::Bad(fault));
+            return Ok(None);
+        }
+    };
+    let frame = &mut cell.frames.items[0];
+    match target {
+        Variable::Slot(slot) if (slot as usize) < frame.slots.len() => {
+            frame.slots.set(alloc, slot as usize, value)?;
+            frame.next = following(program, statement);
+            Ok(Some(task))
+        }
+        Variable::Slot(_) | Variable::Named(_) => {
+            finish(cell, Evaluated::Bad(Fault::Mistyped));
+            Ok(None)
+        }
+    }
 }
 
 /// The same of a task that prints what was found, at this statement.
 fn print(
-    program: &Program<'_>,
+    program: &Named<'_>,
     task: u32,
     cell: &mut TaskCell,
     statement: u32,
@@ -128,7 +190,7 @@ fn print(
 ) -> Result<Option<u32>, AllocError>
     requires body { length cell.old.frames ≡ 1 }
     requires statement { statement < length program.now.main.items }
-    ensures ok { IfOk result (λ holder. Makes (Some (prints (program_tree program.now) task cell.old statement found)) cell.new holder lines.old lines.new) }
+    ensures ok { IfOk result (λ holder. Makes (Some (prints (named_tree program.now) task cell.old statement (slots_of cell.old.frames) found)) cell.new holder lines.old lines.new) }
     ensures cell_err { OnErr result (cell.new ≡ cell.old) }
     ensures lines_err { OnErr result (lines.new ≡ lines.old) }
 {
@@ -150,9 +212,9 @@ fn print(
 }
 
 /// The statement behind one of the main block.
-fn following(program: &Program<'_>, statement: u32) -> Option<u32>
+fn following(program: &Named<'_>, statement: u32) -> Option<u32>
     requires { statement < length program.now.main.items }
-    ensures { result ≡ following_of (program_tree program.now) statement }
+    ensures { result ≡ following_of (named_tree program.now) statement }
 {
     let next = statement + 1;
     ((next as usize) < program.main.len()).then_some(next)

@@ -1,9 +1,8 @@
 use Rattle.std.proofs.Common.{subst, ⊎_elim}
 use Rattle.abs_outside.specs.Names.{Under}
-use Rattle.abs_parser.proofs.GrammarLemmas.{one_reading}
 use Rattle.abs_command.specs.Answer.{TookAtMost}
 use Rattle.abs_command.proofs.ProgressLemmas.{never_stuck}
-use Rattle.abs_command.proofs.PromiseLemmas.{answer_given, read_given, kind_of, usage_only, usage_comes, large_only, large_comes, refused_only, refused_comes, ran_only, ran_comes, accepted_comes, not_stalled, no_chains, gave_up, fault_named}
+use Rattle.abs_command.proofs.PromiseLemmas.{answer_given, read_given, kind_of, usage_only, usage_comes, large_only, large_comes, refused_only, refused_comes, refuses_rightly, ran_only, ran_comes, accepted_comes, not_stalled, no_chains, gave_up, fault_named}
 use Rattle.abs_command.proofs.command.abs_run.Goals as goal
 
 pub returns-clause-headline : goal.returns-clause-headline
@@ -43,12 +42,15 @@ returns-clause-refused g c = λ content given.
       comes = λ refused. refused_comes content _ _ refused (kind_of _ content _ _ _ _ (given.file, given.named) answer);
     }
 
+pub returns-clause-refusal : goal.returns-clause-refusal
+returns-clause-refusal g c = λ content given. refuses_rightly _ content _ _ _ (answer_given _ _ _ _ _ _ content given c.respond.ensures.answer)
+
 pub returns-clause-ran : goal.returns-clause-ran
 returns-clause-ran g c = λ content given due of_run.
     let answer = answer_given _ _ _ _ _ _ content given c.respond.ensures.answer in
     record {
       only = λ is. ran_only _ content _ _ _ _ due of_run is answer;
-      comes = λ ran. ran_comes content _ _ due one_reading ran (kind_of _ content _ _ _ _ (given.file, given.named) answer);
+      comes = λ ran. ran_comes content _ _ due ran (kind_of _ content _ _ _ _ (given.file, given.named) answer);
     }
 
 pub returns-clause-accepted : goal.returns-clause-accepted
