@@ -1,2 +1,3 @@
 pub mod TableLemmas
 pub mod TreeLemmas
+pub mod RuleLemmas

@@ -3,18 +3,20 @@
 --
 -- It goes by recursion on the levels that are left, since each part of an expression has one level more than the
 -- expression itself: it has one equation for each form of expression, and so it gives each expression just one result.
-use Rattle.std.specs.Prelude.{ℕ, zero, suc, ◌+◌, nat_lt, nat_le, List, [], ◌∷◌, length, slice_get, Option, Some, None, if◌then◌else◌, codes}
+use Rattle.std.specs.Prelude.{ℕ, zero, suc, ◌+◌, nat_lt, nat_le, List, [], ◌∷◌, length, slice_get, Option, Some, None, if◌then◌else◌, codes, neg_ℤ}
 use Rattle.std.specs.Str.{bytes_eq}
+use Rattle.abs_tree.specs.declared.operator.Operator.{Operator}
 use Rattle.abs_tree.specs.declared.program.Variable.{Variable}
 use Rattle.abs_tree.specs.declared.program.Variable.TheVariants.{Named, Slot}
 use Rattle.abs_tree.specs.declared.value.Value.{Value}
-use Rattle.abs_tree.specs.declared.value.Value.TheVariants.{Int, Text}
+use Rattle.abs_tree.specs.declared.value.Value.TheVariants.{Int, Text, Null}
 use Rattle.abs_tree.specs.declared.value.Fault.TheVariants as fault
 use Rattle.abs_tree.specs.declared.value.Evaluated.{Evaluated}
 use Rattle.abs_tree.specs.declared.value.Evaluated.TheVariants.{Good, Bad}
 use Rattle.abs_tree.specs.declared.value.Output.{Output}
 use Rattle.abs_tree.specs.declared.value.Output.TheVariants.{Values, Bad as FirstFault}
-use Rattle.abs_tree.specs.Trees.{ExprTree, ExprTrees, Number, Local, Apply, NoMore, More, name_of}
+use Rattle.abs_tree.specs.Trees.{ExprTree, ExprTrees, OperandTrees, Number, Local, Apply, NoMore, More, Negate, Operators, NoOperand, Then, name_of}
+use Rattle.abs_tree.specs.Numbers.{within, operated}
 use Rattle.abs_tree.specs.Values.{text_of}
 
 -- the function applications that a statement may make
@@ -72,6 +74,35 @@ applied name (Values values) made =
     then record { result = called name values; applications = made + 1 }
     else record { result = Bad fault.Calls; applications = made }
 
+-- a minus before a number
+abbrev pub negative : Evaluated → Evaluated
+negative (Good (Int number)) = within (neg_ℤ number)
+negative (Good (Text text)) = Bad fault.Mistyped
+negative (Good Null) = Bad fault.Mistyped
+negative (Bad fault) = Bad fault
+
+-- an operator between two numbers
+abbrev pub operates : Operator → Value → Value → Evaluated
+operates operator (Int left) (Int right) = within (operated operator left right)
+operates operator left right = Bad fault.Mistyped
+
+-- an operator, once its left operand gave a value and its right operand was evaluated
+abbrev pub operated_on : Operator → Value → Evaluated → Evaluated
+operated_on operator left (Good right) = operates operator left right
+operated_on operator left (Bad fault) = Bad fault
+
+-- one operator behind what stands on its left: a value waits for the right operand, and a fault ends the operators
+abbrev pub operand_gives : (ExprTree → ℕ → Outcome) → Operator → ExprTree → Evaluated → ℕ → Outcome
+operand_gives give operator right (Good value) made =
+    let found = give right made in
+    record { result = operated_on operator value found.result; applications = found.applications }
+operand_gives give operator right (Bad fault) made = record { result = Bad fault; applications = made }
+
+-- operators from the left, each as soon as its right operand was evaluated
+abbrev pub operators_give : (ExprTree → ℕ → Outcome) → Outcome → OperandTrees → Outcome
+operators_give give left NoOperand = left
+operators_give give left (Then operator right rest) = operators_give give (operand_gives give operator right left.result left.applications) rest
+
 -- the value that stands at a slot; there is none past the last slot
 abbrev pub read : Option Value → Evaluated
 read (Some value) = Good value
@@ -91,6 +122,11 @@ evaluate names slots (suc left) (Local place variable) made = record { result = 
 evaluate names slots (suc left) (Apply place function arguments) made =
     let found = each (evaluate names slots left) arguments made in
     applied (name_of names function) found.output found.applications
+evaluate names slots (suc left) (Negate place expr) made =
+    let found = evaluate names slots left expr made in
+    record { result = negative found.result; applications = found.applications }
+evaluate names slots (suc left) (Operators place first operands) made =
+    operators_give (evaluate names slots left) (evaluate names slots left first made) operands
 
 -- what a statement's own expression gives
 abbrev pub result_of : List (List ℕ) → List Value → ExprTree → Evaluated

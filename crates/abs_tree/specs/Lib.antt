@@ -2,6 +2,8 @@ pub mod Places
 pub mod Names
 pub mod Trees
 pub mod Values
+pub mod Numbers
 pub mod Evaluation
+pub mod Rules
 pub mod Refusals
 pub mod Faults

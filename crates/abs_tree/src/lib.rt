@@ -2,6 +2,8 @@
 //! of evaluation over it.
 #![tactic(auto)]
 
+pub mod laws;
+pub mod operator;
 pub mod place;
 pub mod program;
 pub mod refusal;
@@ -9,8 +11,10 @@ pub mod symbol;
 pub mod text;
 pub mod value;
 
+pub use laws::one_outcome;
+pub use operator::{Operator, negated};
 pub use place::Place;
-pub use program::{Expr, Named, Program, Stmt, Variable};
+pub use program::{Expr, Named, Operand, Program, Stmt, Variable};
 pub use refusal::{Code, Offence, Refusal};
 pub use symbol::{Symbol, Symbols};
 pub use text::Text;

@@ -1,7 +1,7 @@
 //! The tree of a program, as the parser makes it, and as it is run once its names were looked up.
 ghost use Rattle.std.specs.Prelude.{◌≤◌, length};
 
-use crate::{Place, Symbol, Symbols};
+use crate::{Operator, Place, Symbol, Symbols};
 use std::sync::Arc;
 
 /// What stands for a local: its name, as it is written, until that was looked up; and then its slot.
@@ -15,6 +15,7 @@ pub enum Variable {
 
 /// An expression, with the place of its first token.
 #[derive(Drop)]
+#[cycle(expressions)]
 pub enum Expr {
     /// A number.
     Number(Place, i128),
@@ -22,6 +23,18 @@ pub enum Expr {
     Local(Place, Variable),
     /// The name of a function, and its arguments.
     Apply(Place, Symbol, Vec<Expr>),
+    /// `-e`
+    Negate(Place, Box<Expr>),
+    /// Operators of one precedence, which are applied from the left: the first operand, and each operator with its right one.
+    Operators(Place, Box<Expr>, Vec<Operand>),
+}
+
+/// An operator, and its right operand.
+#[derive(Drop)]
+#[cycle(expressions)]
+pub struct Operand {
+    pub operator: Operator,
+    pub right: Expr,
 }
 
 /// A statement, with the place of its first token. Its expressions stand behind shared pointers, so that to take them
