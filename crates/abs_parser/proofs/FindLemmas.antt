@@ -11,7 +11,8 @@ use Rattle.abs_tree.specs.Places.{start}
 use Rattle.abs_tree.specs.Trees.{ExprTree, StmtTree, Number, Local, Apply, NoMore, More, Declare, Assign, Print}
 use Rattle.abs_parser.specs.declared.cursor.Class.TheVariants.{Word, Equals, Sign}
 use Rattle.abs_parser.specs.Tokens.{Spot, past_white, Takes, TakesNumber, TakesName}
-use Rattle.abs_parser.specs.Grammar.{symbol_of, ReadsOperand, number, local, ReadsBinding, Opens, Closes, ReadsPrinted, ReadsStmt, declare, assign, print, ReadsBlock, ReadsProgram}
+use Rattle.abs_parser.specs.Expressions.{symbol_of, ReadsPrimary, number, local, reads_sum}
+use Rattle.abs_parser.specs.Grammar.{expression_room, ReadsBinding, Opens, Closes, ReadsPrinted, ReadsStmt, declare, assign, print, ReadsBlock, ReadsProgram}
 use Rattle.abs_parser.specs.Answers.{GoesOn, Finds}
 use Rattle.abs_parser.proofs.NameLemmas.{goes_on_all, goes_on_further, goes_on_itself, number_stays}
 use Rattle.abs_parser.proofs.RunLemmas.{narrowed}
@@ -51,25 +52,25 @@ finds_both {old} {middle} {new} x y f = record {
 
 -- a number that was taken is found without a name
 pub finds_number : {table : List (List ℕ)} {from to : Spot} (z : ℤ) (value : ℕ) → z ≡ pos value → TakesNumber value from to
-    → Finds table table (λ names words. ReadsOperand names from (Number from.place (to_z w128 (of_z w128 z))) words to)
+    → Finds table table (λ names words. ReadsPrimary names from (Number from.place (to_z w128 (of_z w128 z))) words to)
 finds_number {from = from} {to} z value is x = record {
   words = [];
   table = refl;
-  read = λ names more. subst (λ (n : ℤ). ReadsOperand names from (Number from.place n) [] to) (sym (narrowed z value is x.fits)) (number value to x);
+  read = λ names more. subst (λ (n : ℤ). ReadsPrimary names from (Number from.place n) [] to) (sym (narrowed z value is x.fits)) (number value to x);
 }
 
 -- a name that was taken is read as a local
 pub reads_local : {symbol : Symbol} {name : List ℕ} {from to : Spot} → TakesName name from to → (names words : List (List ℕ)) → IsNamed symbol name names words
-    → ReadsOperand names from (Local from.place (Named symbol)) words to
+    → ReadsPrimary names from (Local from.place (Named symbol)) words to
 reads_local {symbol} {name} {from} {to} x names words named = rw (named.symbol_is, named.words_are) (local name to x)
 
--- a name, and an operand behind "=", are read as a binding
-pub reads_binding : {symbol : Symbol} {name : List ℕ} {value : ExprTree} {from behind operand close to : Spot} → TakesName name from behind → Takes Equals (codes "=") behind operand
-    → Takes Sign (codes ";") close to → (names front behind : List (List ℕ)) → IsNamed symbol name names front → ReadsOperand names operand value behind close
+-- a name, and a sum behind "=", are read as a binding
+pub reads_binding : {symbol : Symbol} {name : List ℕ} {value : ExprTree} {from behind sum close to : Spot} → TakesName name from behind → Takes Equals (codes "=") behind sum
+    → Takes Sign (codes ";") close to → (names front behind : List (List ℕ)) → IsNamed symbol name names front → reads_sum expression_room names sum value behind close
     → ReadsBinding names from symbol value (front ++ behind) to
-reads_binding {name = name} {behind = behind_name} {operand} {close} word equal semicolon names front behind named reads = record {
+reads_binding {name = name} {behind = behind_name} {sum} {close} word equal semicolon names front behind named reads = record {
   behind_name = behind_name;
-  operand = operand;
+  sum = sum;
   close = close;
   name = name;
   behind = behind;
@@ -81,13 +82,13 @@ reads_binding {name = name} {behind = behind_name} {operand} {close} word equal 
   words_are = ap (λ (words : List (List ℕ)). words ++ behind) named.words_are;
 }
 
--- "toString" and an operand behind it are read as a text that is printed
-pub reads_printed : {symbol : Symbol} {value text : ExprTree} {from function operand close to : Spot} → Takes Sign (codes "(") from function → Opens (codes "toString") function operand
+-- "toString" and a sum behind it are read as a text that is printed
+pub reads_printed : {symbol : Symbol} {value text : ExprTree} {from function sum close to : Spot} → Takes Sign (codes "(") from function → Opens (codes "toString") function sum
     → Closes close to → text ≡ Apply function.place symbol (More value NoMore) → (names front behind : List (List ℕ)) → IsNamed symbol (codes "toString") names front
-    → ReadsOperand names operand value behind close → ReadsPrinted names from text (front ++ behind) to
-reads_printed {value = value} {function = function} {operand} {close} open_sign opens end text names front behind named reads = record {
+    → reads_sum expression_room names sum value behind close → ReadsPrinted names from text (front ++ behind) to
+reads_printed {value = value} {function = function} {sum} {close} open_sign opens end text names front behind named reads = record {
   function = function;
-  operand = operand;
+  sum = sum;
   close = close;
   value = value;
   behind = behind;

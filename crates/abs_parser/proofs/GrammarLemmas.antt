@@ -1,23 +1,18 @@
--- Each part of the grammar reads a spot in one way only. Two readings may be of programs with different tables of names: they
--- still read the same words and end at the same spot, and where the tables are one, so are the trees.
-use Rattle.std.proofs.Common.{◌≡◌, ℕ, List, [], ◌∷◌, ◌++◌, refl, sym, ap, subst, ◌∙◌, append_assoc, pos}
+-- Each statement, and so each program, is read in one way only.
+use Rattle.std.proofs.Common.{◌≡◌, ℕ, List, [], ◌∷◌, ◌++◌, refl, sym, ap, subst, ◌∙◌, append_assoc}
 use Rattle.std.proofs.lemmas.List.{append-nil}
 use Rattle.std.specs.Prelude.{codes}
 use Rattle.abs_tree.specs.declared.symbol.Symbol.{Symbol}
 use Rattle.abs_tree.specs.declared.program.Variable.TheVariants.{Named}
 use Rattle.abs_tree.specs.Names.{by_first_appearance}
-use Rattle.abs_tree.specs.Trees.{ExprTree, StmtTree, ProgramTree, Number, Local, Apply, NoMore, More, Declare, Assign, Print}
+use Rattle.abs_tree.specs.Trees.{ExprTree, StmtTree, ProgramTree, Apply, NoMore, More, Declare, Assign, Print}
 use Rattle.abs_parser.specs.declared.cursor.Class.TheVariants.{Word, Sign}
-use Rattle.abs_parser.specs.Tokens.{Spot, Takes, TakesNumber, TakesName}
-use Rattle.abs_parser.specs.Grammar.{symbol_of, ReadsOperand, number, local, ReadsBinding, Opens, Closes, ReadsPrinted, ReadsStmt, declare, assign, print, ReadsStmts, none, some, ReadsBlock, ReadsProgram}
+use Rattle.abs_parser.specs.Tokens.{Spot, Takes, TakesName}
+use Rattle.abs_parser.specs.Expressions.{symbol_of}
+use Rattle.abs_parser.specs.Grammar.{expression_room, ReadsBinding, Opens, Closes, ReadsPrinted, ReadsStmt, declare, assign, print, ReadsStmts, none, some, ReadsBlock, ReadsProgram}
 use Rattle.abs_parser.proofs.SpotLemmas.{takes_at}
-use Rattle.abs_parser.proofs.WordLemmas.{name_once, number_is_no_name, int_is_no_name, println_is_no_name, int_is_no_println, closed_is_no_int, closed_is_no_println, closed_is_no_name}
-
--- two readings, of the tables `first` and `second`, agree
-pub record Agree {T : Type 0} (first second : List (List ℕ)) (s t : T) (v w : List (List ℕ)) (a b : Spot) : Type 0 where
-  pub words : v ≡ w
-  pub behind : a ≡ b
-  pub tree : first ≡ second → s ≡ t
+use Rattle.abs_parser.proofs.ExpressionLemmas.{Agree, same_append, sum_once}
+use Rattle.abs_parser.proofs.WordLemmas.{name_once, int_is_no_name, println_is_no_name, int_is_no_println, closed_is_no_int, closed_is_no_println, closed_is_no_name}
 
 -- a name and "(" in one way
 pub opens_once : {name : List ℕ} {from from' a b : Spot} → from ≡ from' → Opens name from a → Opens name from' b → a ≡ b
@@ -27,25 +22,7 @@ opens_once same x y = takes_at (takes_at same x.word y.word) x.open_sign y.open_
 closes_once : {from from' a b : Spot} → from ≡ from' → Closes from a → Closes from' b → a ≡ b
 closes_once same x y = takes_at (takes_at (takes_at same x.first y.first) x.second y.second) x.semicolon y.semicolon
 
--- two numbers at one spot are one
-record SameNumber (m n : ℕ) (a b : Spot) : Type 0 where
-  number : m ≡ n
-  behind : a ≡ b
-
--- a number in one way
-number_once : {m n : ℕ} {from from' a b : Spot} → from ≡ from' → TakesNumber m from a → TakesNumber n from' b → SameNumber m n a b
-number_once {m} {n} {from} {from'} {a} {b} same x y =
-    let x : TakesNumber m from' a = subst (λ (s : Spot). TakesNumber m s a) same x in
-    record { number = x.is ∙ sym y.is; behind = takes_at refl x.token y.token }
-
 -- Trees, symbols and lists whose parts are the same are the same.
-same_number : (p q : Spot) (m n : ℕ) → p ≡ q → m ≡ n → Number p.place (pos m) ≡ Number q.place (pos n)
-same_number p q m n e f = rw (e, f)
-
-same_local : (p q : Spot) (k l : List (List ℕ)) (m n : List ℕ) → p ≡ q → k ≡ l → m ≡ n
-    → Local p.place (Named (symbol_of k m)) ≡ Local q.place (Named (symbol_of l n))
-same_local p q k l m n e f g = rw (e, f, g)
-
 same_symbol : (k l : List (List ℕ)) (m n : List ℕ) → k ≡ l → m ≡ n → symbol_of k m ≡ symbol_of l n
 same_symbol k l m n f g = rw (f, g)
 
@@ -66,32 +43,15 @@ same_print p q s t e f = rw (e, f)
 same_cons : {T : Type 0} (x y : T) (xs ys : List T) → x ≡ y → xs ≡ ys → x ∷ xs ≡ y ∷ ys
 same_cons x y xs ys e f = rw (e, f)
 
-same_append : (a b c d : List (List ℕ)) → a ≡ b → c ≡ d → a ++ c ≡ b ++ d
-same_append a b c d e f = rw (e, f)
-
 same_program : (p q : ProgramTree) → p.names ≡ q.names → p.main ≡ q.main → p ≡ q
 same_program p q e f = rw (e, f)
-
--- a number or a local in one way
-pub operand_once : {m n : List (List ℕ)} {from from' a b : Spot} {s t : ExprTree} {v w : List (List ℕ)} → from ≡ from'
-    → ReadsOperand m from s v a → ReadsOperand n from' t w b → Agree m n s t v w a b
-operand_once {m} {n} {from} {from'} same (number value to x) (number value' to' y) =
-    let once = number_once same x y in
-    record { words = refl; behind = once.behind; tree = λ names. same_number from from' value value' same once.number }
-operand_once {m} {n} {from} {from'} same (number value to x) (local name to' y) =
-    absurd (number_is_no_name (subst (λ (s : Spot). TakesNumber value s to) same x) y)
-operand_once {m} {n} {from} {from'} same (local name to x) (number value to' y) =
-    absurd (number_is_no_name y (subst (λ (s : Spot). TakesName name s to) same x))
-operand_once {m} {n} {from} {from'} same (local name to x) (local name' to' y) =
-    let once = name_once same x y in
-    record { words = ap (λ (word : List ℕ). word ∷ []) once.name; behind = once.behind; tree = λ names. same_local from from' m n name name' same names once.name }
 
 -- a binding in one way: its symbol and its value
 binding_once : {m n : List (List ℕ)} {from from' a b : Spot} {f g : Symbol} {s t : ExprTree} {v w : List (List ℕ)} → from ≡ from'
     → ReadsBinding m from f s v a → ReadsBinding n from' g t w b → (m ≡ n → f ≡ g) × Agree m n s t v w a b
 binding_once {m} {n} same x y =
     let name = name_once same x.name_word y.name_word in
-    let value = operand_once (takes_at name.behind x.equal_sign y.equal_sign) x.reads y.reads in (
+    let value = (sum_once expression_room).agree (takes_at name.behind x.equal_sign y.equal_sign) x.reads y.reads in (
       λ names. x.symbol_is ∙ (same_symbol m n x.name y.name names name.name ∙ sym y.symbol_is),
       record {
         words = x.words_are ∙ (same_cons x.name y.name x.behind y.behind name.name value.words ∙ sym y.words_are);
@@ -105,7 +65,7 @@ printed_once : {m n : List (List ℕ)} {from from' a b : Spot} {s t : ExprTree} 
     → ReadsPrinted m from s v a → ReadsPrinted n from' t w b → Agree m n s t v w a b
 printed_once {m} {n} same x y =
     let function = takes_at same x.open_sign y.open_sign in
-    let value = operand_once (opens_once function x.opens y.opens) x.reads y.reads in
+    let value = (sum_once expression_room).agree (opens_once function x.opens y.opens) x.reads y.reads in
     record {
       words = x.words_are ∙ (ap (λ (words : List (List ℕ)). codes "toString" ∷ words) value.words ∙ sym y.words_are);
       behind = closes_once value.behind x.end y.end;

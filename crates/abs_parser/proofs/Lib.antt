@@ -2,8 +2,11 @@ pub mod SpotLemmas
 pub mod RunLemmas
 pub mod NameLemmas
 pub mod WordLemmas
+pub mod ExpressionLemmas
 pub mod GrammarLemmas
 pub mod FindLemmas
 pub mod RefusalLemmas
 pub mod SizeLemmas
 pub mod PieceLemmas
+pub mod OperandLemmas
+pub mod OpeningLemmas

@@ -10,7 +10,8 @@ use Rattle.abs_parser.specs.declared.cursor.Class.TheVariants.{Word}
 use Rattle.abs_parser.specs.declared.parser.ParseError.{ParseError}
 use Rattle.abs_parser.specs.declared.parser.ParseError.TheVariants.{Refused, Memory}
 use Rattle.abs_parser.specs.Tokens.{Spot, Takes, TakesNumber, TakesName}
-use Rattle.abs_parser.specs.Grammar.{ReadsOperand, number, local, ReadsBinding, Opens, Closes, ReadsPrinted, ReadsStmt, declare, assign, print, ReadsBlock}
+use Rattle.abs_parser.specs.Expressions.{Reading, ReadsPrimary, number, local}
+use Rattle.abs_parser.specs.Grammar.{ReadsBinding, Opens, Closes, ReadsPrinted, ReadsStmt, declare, assign, print, ReadsBlock}
 use Rattle.abs_parser.specs.Answers.{RefusesAt, IsRefusal, RefusesFor}
 use Rattle.abs_parser.proofs.SpotLemmas.{takes_once}
 use Rattle.abs_parser.proofs.WordLemmas.{int_is_no_name, println_is_no_name, int_is_no_println}
@@ -38,9 +39,9 @@ opens_from {name} {to = to} same x = subst (λ (s : Spot). Opens name s to) same
 pub closes_from : {from from' to : Spot} → from ≡ from' → Closes from to → Closes from' to
 closes_from {to = to} same x = subst (λ (s : Spot). Closes s to) same x
 
-pub operand_from : {names : List (List ℕ)} {from from' to : Spot} {value : ExprTree} {words : List (List ℕ)} → from ≡ from'
-    → ReadsOperand names from value words to → ReadsOperand names from' value words to
-operand_from {names} {to = to} {value} {words} same x = subst (λ (s : Spot). ReadsOperand names s value words to) same x
+pub part_from : (part : Reading) {names : List (List ℕ)} {from from' to : Spot} {value : ExprTree} {words : List (List ℕ)} → from ≡ from'
+    → part names from value words to → part names from' value words to
+part_from part {names} {to = to} {value} {words} same x = subst (λ (s : Spot). part names s value words to) same x
 
 binding_from : {names : List (List ℕ)} {from from' to : Spot} {symbol : Symbol} {value : ExprTree} {words : List (List ℕ)} → from ≡ from'
     → ReadsBinding names from symbol value words to → ReadsBinding names from' symbol value words to
@@ -54,12 +55,12 @@ pub block_from : {names : List (List ℕ)} {from from' to : Spot} {stmts : List 
     → ReadsBlock names from stmts words to → ReadsBlock names from' stmts words to
 block_from {names} {to = to} {stmts} {words} same x = subst (λ (s : Spot). ReadsBlock names s stmts words to) same x
 
--- where neither a number nor a name stands, no operand does
-pub no_operand : {names : List (List ℕ)} {from to : Spot} {value : ExprTree} {words : List (List ℕ)}
+-- where neither a number nor a name stands, no primary does
+pub no_primary : {names : List (List ℕ)} {from to : Spot} {value : ExprTree} {words : List (List ℕ)}
     → ((n : ℕ) (to : Spot) → TakesNumber n from to → ⊥) → ((name : List ℕ) (to : Spot) → TakesName name from to → ⊥)
-    → ReadsOperand names from value words to → ⊥
-no_operand no_number no_name (number value to x) = no_number value to x
-no_operand no_number no_name (local name to x) = no_name name to x
+    → ReadsPrimary names from value words to → ⊥
+no_primary no_number no_name (number value to x) = no_number value to x
+no_primary no_number no_name (local name to x) = no_name name to x
 
 -- where "Int" stands and no binding behind it, no statement does
 pub no_declaration : {names : List (List ℕ)} {from name to : Spot} {stmt : StmtTree} {words : List (List ℕ)} → Takes Word (codes "Int") from name

@@ -1,18 +1,23 @@
 -- How much of a text is read: each word and each statement takes at least one byte off what is left, so there are no more of
 -- them than the text has bytes.
-use Rattle.std.proofs.Common.{◌≡◌, ℕ, ◌+◌, ◌<◌, ◌≤◌, List, [], ap, length, drop, arith, length-append, length-drop}
+use Rattle.std.proofs.Common.{◌≡◌, ℕ, zero, suc, ◌+◌, ◌<◌, ◌≤◌, List, [], ap, length, drop, arith, length-append, length-drop}
 use Rattle.abs_tree.specs.declared.symbol.Symbol.{Symbol}
-use Rattle.abs_tree.specs.Trees.{ExprTree, StmtTree}
+use Rattle.abs_tree.specs.declared.operator.Operator.{Operator}
+use Rattle.abs_tree.specs.declared.operator.Operator.TheVariants.{Plus, Minus, Times}
+use Rattle.abs_tree.specs.Trees.{ExprTree, OperandTrees, StmtTree}
 use Rattle.abs_parser.specs.declared.cursor.Class.{Class}
 use Rattle.abs_parser.specs.declared.cursor.Class.TheVariants.{White}
 use Rattle.abs_parser.specs.Tokens.{Spot, run_of, Takes, TakesName}
-use Rattle.abs_parser.specs.Grammar.{ReadsOperand, number, local, ReadsBinding, ReadsPrinted, ReadsStmt, declare, assign, print, ReadsStmts, none, some, ReadsBlock}
+use Rattle.abs_parser.specs.declared.expressions.Rule.{Rule}
+use Rattle.abs_parser.specs.declared.expressions.Rule.TheVariants.{Sum, Product}
+use Rattle.abs_parser.specs.Expressions.{Reading, ReadsPrimary, number, local, ReadsOperator, ReadsOperands, last, operand, ReadsOperators, ReadsUnaryOver, negate, group, primary, reads_unary, reads_sum, reads_part}
+use Rattle.abs_parser.specs.Grammar.{expression_room, ReadsBinding, ReadsPrinted, ReadsStmt, declare, assign, print, ReadsStmts, none, some, ReadsBlock}
 use Rattle.abs_parser.specs.Answers.{Finds}
 use Rattle.abs_parser.proofs.NameLemmas.{few_more, goes_on_itself}
 use Rattle.abs_parser.proofs.WordLemmas.{name_is_some}
 
 -- a token takes its bytes off what is left
-takes_shorter : {class : Class} {token : List ℕ} {from to : Spot} → Takes class token from to → length to.rest + length token ≤ length from.rest
+pub takes_shorter : {class : Class} {token : List ℕ} {from to : Spot} → Takes class token from to → length to.rest + length token ≤ length from.rest
 takes_shorter {class} {token} {from} {to} h =
     let left : length to.rest ≡ length (drop (run_of White h.behind) h.behind) = ap (λ (s : Spot). length s.rest) h.to_is in
     omega (arith, left, length-drop (run_of White h.behind) h.behind, ap length h.text, length-append token h.behind)
@@ -21,16 +26,69 @@ takes_shorter {class} {token} {from} {to} h =
 name_shorter : {name : List ℕ} {from to : Spot} → TakesName name from to → length to.rest < length from.rest
 name_shorter x = omega (arith, name_is_some x, takes_shorter x.token)
 
--- an operand takes a byte where it has a word
-operand_shorter : {names : List (List ℕ)} {from to : Spot} {value : ExprTree} {words : List (List ℕ)} → ReadsOperand names from value words to
+-- a part of an expression takes a byte for each word
+abbrev pub Shorter : Reading → Type 0
+Shorter part = (names : List (List ℕ)) (from : Spot) (expr : ExprTree) (words : List (List ℕ)) (to : Spot) → part names from expr words to
     → length words + length to.rest ≤ length from.rest
-operand_shorter (number value to x) = omega (arith, takes_shorter x.token)
-operand_shorter (local name to x) = omega (arith, name_shorter x)
+
+-- a primary does
+primary_shorter : Shorter ReadsPrimary
+primary_shorter names from _ _ _ (number value to x) = omega (arith, takes_shorter x.token)
+primary_shorter names from _ _ _ (local name to x) = omega (arith, name_shorter x)
+
+-- an operator takes a byte
+pub operator_shorter : {rule : Rule} {operator : Operator} {from to : Spot} → ReadsOperator rule operator from to → length to.rest < length from.rest
+operator_shorter {operator = Plus} x = omega (arith, takes_shorter x.sign)
+operator_shorter {operator = Minus} x = omega (arith, takes_shorter x.sign)
+operator_shorter {operator = Times} x = omega (arith, takes_shorter x.sign)
+
+-- operators with parts behind them take a byte for each word
+operands_shorter : {rule : Rule} {part : Reading} {names : List (List ℕ)} {from to : Spot} {operands : OperandTrees} {words : List (List ℕ)} → Shorter part
+    → ReadsOperands rule part names from operands words to → length words + length to.rest ≤ length from.rest
+operands_shorter shorter (last from to same no_operator) = omega (arith, ap (λ (s : Spot). length s.rest) same)
+operands_shorter shorter (operand from at next to operator right rest front behind words are sign first more) =
+    omega (arith, ap length are, length-append front behind, operator_shorter sign, shorter _ at right front next first, operands_shorter shorter more)
+
+-- so do parts with operators between them
+operators_shorter : (rule : Rule) {part : Reading} → Shorter part → Shorter (ReadsOperators rule part)
+operators_shorter rule shorter names from expr words to x =
+    omega (arith, ap length x.words_are, length-append x.front x.behind, shorter names from x.first x.front x.next x.reads_first, operands_shorter shorter x.reads_operands)
+
+-- and a unary, where a unary and a sum inside it do
+over_shorter : {unary sum : Reading} → Shorter unary → Shorter sum → Shorter (ReadsUnaryOver unary sum)
+over_shorter unaries sums names from _ _ _ (negate next to expr words h x) = omega (arith, takes_shorter h, unaries names next expr words to x)
+over_shorter unaries sums names from _ _ _ (group next close to expr words h x end) =
+    omega (arith, takes_shorter h, sums names next expr words close x, takes_shorter end)
+over_shorter unaries sums names from _ _ _ (primary to expr words x) = primary_shorter names from expr words to x
+
+mutual
+  unfolding reads_unary reads_sum
+
+  -- a unary takes a byte for each word
+  unary_shorter : (room : ℕ) → Shorter (reads_unary room)
+  unary_shorter zero names from expr words to x = absurd x
+  unary_shorter (suc room) names from expr words to x = over_shorter (unary_shorter room) (sum_shorter room) names from expr words to x
+
+  -- so does a sum
+  sum_shorter : (room : ℕ) → Shorter (reads_sum room)
+  sum_shorter zero names from expr words to x = absurd x
+  sum_shorter (suc room) names from expr words to x = operators_shorter Sum (operators_shorter Product (unary_shorter room)) names from expr words to x
+
+-- and a part of a rule
+pub part_shorter : (rule : Rule) (room : ℕ) → Shorter (reads_part rule room)
+part_shorter Sum room = operators_shorter Product (unary_shorter room)
+part_shorter Product room = unary_shorter room
+
+-- no more names are found than bytes are taken
+pub few_found : {old new : List (List ℕ)} {reads : List (List ℕ) → List (List ℕ) → Type 0} (left all : ℕ) → Finds old new reads
+    → ((names words : List (List ℕ)) → reads names words → length words + left ≤ all) → length new + left ≤ length old + all
+few_found {old} {new} left all x shorter =
+    omega (arith, ap length x.table, few_more old x.words, shorter new x.words (x.read new (goes_on_itself new)))
 
 -- a binding takes more bytes than it has words
 binding_shorter : {names : List (List ℕ)} {from to : Spot} {symbol : Symbol} {value : ExprTree} {words : List (List ℕ)} → ReadsBinding names from symbol value words to
     → length words + length to.rest < length from.rest
-binding_shorter x = omega (arith, ap length x.words_are, name_shorter x.name_word, takes_shorter x.equal_sign, operand_shorter x.reads, takes_shorter x.semicolon)
+binding_shorter {value = value} x = omega (arith, ap length x.words_are, name_shorter x.name_word, takes_shorter x.equal_sign, sum_shorter expression_room _ x.sum value x.behind x.close x.reads, takes_shorter x.semicolon)
 
 -- so does a text that is printed
 printed_shorter : {names : List (List ℕ)} {from to : Spot} {text : ExprTree} {words : List (List ℕ)} → ReadsPrinted names from text words to
@@ -42,7 +100,7 @@ printed_shorter x =
       takes_shorter x.open_sign,
       takes_shorter x.opens.word,
       takes_shorter x.opens.open_sign,
-      operand_shorter x.reads,
+      sum_shorter expression_room _ x.sum x.value x.behind x.close x.reads,
       takes_shorter x.end.first,
       takes_shorter x.end.second,
       takes_shorter x.end.semicolon,

@@ -5,6 +5,9 @@ use Rattle.abs_tree.specs.declared.place.Place.{Place}
 use Rattle.abs_tree.specs.declared.refusal.Refusal.{Refusal}
 use Rattle.abs_tree.specs.declared.refusal.Code.TheVariants.{S1}
 use Rattle.abs_tree.specs.Refusals.{refusal_of}
+use Rattle.abs_tree.specs.Trees.{ExprTree}
+use Rattle.abs_parser.specs.Expressions.{Reading}
+use Rattle.abs_parser.specs.Tokens.{Spot}
 use Rattle.abs_parser.specs.declared.parser.ParseError.{ParseError}
 use Rattle.abs_parser.specs.declared.parser.ParseError.TheVariants.{Refused, Memory}
 
@@ -37,6 +40,10 @@ pub record Finds (old new : List (List ℕ)) (reads : List (List ℕ) → List (
   pub words : List (List ℕ)
   pub table : new ≡ fold with_name old words
   pub read : (names : List (List ℕ)) → GoesOn new names → reads names words
+
+-- what a reader of expressions found: a tree, and the spot behind what was read
+abbrev pub FindsTree : Reading → List (List ℕ) → List (List ℕ) → Spot → ExprTree → Spot → Type 0
+FindsTree reading old new from expr to = Finds old new (λ names words. reading names from expr words to)
 
 -- The piece stands in the text.
 pub record IsPiece (text piece : List ℕ) : Type 0 where

@@ -1,37 +1,32 @@
 -- The grammar of a program, as a relation between what is read and its tree. Each line of it stands beside its rule.
 --   Program = "{" {Stmt} "}" End
---   Stmt    = "Int" LName "=" Operand ";" | LName "=" Operand ";"
---           | "println" "(" "toString" "(" Operand ")" ")" ";"
---   Operand = INT | LName
-use Rattle.std.specs.Prelude.{◌≡◌, ℕ, pos, List, [], ◌∷◌, ◌++◌, codes}
+--   Stmt    = "Int" LName "=" Sum ";" | LName "=" Sum ";"
+--           | "println" "(" "toString" "(" Sum ")" ")" ";"
+-- At most 100 of the symbols Stmt, Sum and Unary are open at once.
+use Rattle.std.specs.Prelude.{◌≡◌, ℕ, List, [], ◌∷◌, ◌++◌, codes}
 use Rattle.abs_tree.specs.declared.symbol.Symbol.{Symbol}
 use Rattle.abs_tree.specs.declared.program.Variable.TheVariants.{Named}
 use Rattle.abs_tree.specs.Places.{start}
-use Rattle.abs_tree.specs.Names.{number_of_name, by_first_appearance}
-use Rattle.abs_tree.specs.Trees.{ExprTree, StmtTree, ProgramTree, Number, Local, Apply, NoMore, More, Declare, Assign, Print}
+use Rattle.abs_tree.specs.Names.{by_first_appearance}
+use Rattle.abs_tree.specs.Trees.{ExprTree, StmtTree, ProgramTree, Apply, NoMore, More, Declare, Assign, Print}
 use Rattle.abs_parser.specs.declared.cursor.Class.TheVariants.{Word, Equals, Sign}
-use Rattle.abs_parser.specs.Tokens.{Spot, Takes, TakesNumber, TakesName, past_white}
+use Rattle.abs_parser.specs.Tokens.{Spot, Takes, TakesName, past_white}
+use Rattle.abs_parser.specs.Expressions.{symbol_of, reads_sum}
 
--- the symbol of a name in a program with these names
-abbrev pub symbol_of : List (List ℕ) → List ℕ → Symbol
-symbol_of names name = record { 0 = number_of_name names name }
+-- the symbols that may be open inside a statement, which is one of the 100 that may be open at once
+abbrev pub expression_room : ℕ
+expression_room = 99
 
--- INT | LName: the tree, and the names that were read
-pub data ReadsOperand (names : List (List ℕ)) (from : Spot) : ExprTree → List (List ℕ) → Spot → Type 0 where
-  number : (value : ℕ) (to : Spot) → TakesNumber value from to → ReadsOperand names from (Number from.place (pos value)) [] to
-  local : (name : List ℕ) (to : Spot) → TakesName name from to
-      → ReadsOperand names from (Local from.place (Named (symbol_of names name))) (name ∷ []) to
-
--- LName "=" Operand ";": the symbol of the name, the tree behind "=", and the names that were read
+-- LName "=" Sum ";": the symbol of the name, the tree behind "=", and the names that were read
 pub record ReadsBinding (names : List (List ℕ)) (from : Spot) (symbol : Symbol) (value : ExprTree) (words : List (List ℕ)) (to : Spot) : Type 0 where
   pub behind_name : Spot
-  pub operand : Spot
+  pub sum : Spot
   pub close : Spot
   pub name : List ℕ
   pub behind : List (List ℕ)
   pub name_word : TakesName name from behind_name
-  pub equal_sign : Takes Equals (codes "=") behind_name operand
-  pub reads : ReadsOperand names operand value behind close
+  pub equal_sign : Takes Equals (codes "=") behind_name sum
+  pub reads : reads_sum expression_room names sum value behind close
   pub semicolon : Takes Sign (codes ";") close to
   pub symbol_is : symbol ≡ symbol_of names name
   pub words_are : words ≡ name ∷ behind
@@ -50,16 +45,16 @@ pub record Closes (from to : Spot) : Type 0 where
   pub second : Takes Sign (codes ")") behind_first behind_second
   pub semicolon : Takes Sign (codes ";") behind_second to
 
--- "(" "toString" "(" Operand ")" ")" ";": the tree of the application, and the names that were read
+-- "(" "toString" "(" Sum ")" ")" ";": the tree of the application, and the names that were read
 pub record ReadsPrinted (names : List (List ℕ)) (from : Spot) (text : ExprTree) (words : List (List ℕ)) (to : Spot) : Type 0 where
   pub function : Spot
-  pub operand : Spot
+  pub sum : Spot
   pub close : Spot
   pub value : ExprTree
   pub behind : List (List ℕ)
   pub open_sign : Takes Sign (codes "(") from function
-  pub opens : Opens (codes "toString") function operand
-  pub reads : ReadsOperand names operand value behind close
+  pub opens : Opens (codes "toString") function sum
+  pub reads : reads_sum expression_room names sum value behind close
   pub end : Closes close to
   pub text_is : text ≡ Apply function.place (symbol_of names (codes "toString")) (More value NoMore)
   pub words_are : words ≡ codes "toString" ∷ behind

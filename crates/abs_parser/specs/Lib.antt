@@ -1,5 +1,6 @@
 pub mod Words
 pub mod Tokens
+pub mod Expressions
 pub mod Grammar
 pub mod Answers
 pub mod Views

@@ -58,7 +58,7 @@ pub(crate) struct Cursor<'a> {
 }
 
 impl<'a> Cursor<'a> {
-    ghost use Rattle.abs_tree.specs.Places.{start, behind, place_after};
+    ghost use Rattle.abs_tree.specs.Places.{start, behind};
     ghost use Rattle.abs_parser.specs.Tokens.{Spot, moved, past_white, Takes, TakesNumber, TakesName};
     ghost use Rattle.abs_parser.specs.Answers.{refused_at, RefusesAt};
     ghost use Rattle.abs_parser.specs.Views.{spot};

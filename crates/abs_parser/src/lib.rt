@@ -2,6 +2,7 @@
 #![tactic(auto)]
 
 mod cursor;
+mod expressions;
 pub mod parser;
 mod words;
 

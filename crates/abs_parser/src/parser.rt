@@ -1,13 +1,15 @@
 //! Reads a whole program: its main block, and nothing behind it.
-ghost use Rattle.std.specs.Prelude.{◌≡◌, ℕ, ◌≤◌, List, [], length, map, All, IfOk, IfErr, ◌<◌, ◌^◌};
+ghost use Rattle.std.specs.Prelude.{◌≡◌, ℕ, ◌+◌, ◌≤◌, List, [], length, map, All, IfOk, IfErr, ◌<◌, ◌^◌};
 ghost use Rattle.abs_tree.specs.Trees.{ExprTree, StmtTree, ProgramTree, Apply, NoMore, More, expr_tree, stmt_tree, program_tree};
 ghost use Rattle.abs_parser.specs.Tokens.{Spot};
-ghost use Rattle.abs_parser.specs.Grammar.{ReadsOperand, ReadsBinding, Opens, Closes, ReadsPrinted, ReadsStmt, ReadsBlock, ReadsProgram};
-ghost use Rattle.abs_parser.specs.Answers.{Finds, IsPiece, IsRefusal, RefusesFor};
+ghost use Rattle.abs_parser.specs.Expressions.{ReadsNone};
+ghost use Rattle.abs_parser.specs.Grammar.{ReadsBinding, Opens, Closes, ReadsPrinted, ReadsStmt, ReadsBlock, ReadsProgram};
+ghost use Rattle.abs_parser.specs.Answers.{Finds, FindsTree, IsPiece, IsRefusal, RefusesFor};
 ghost use Rattle.abs_parser.specs.Views.{spot};
 ghost use Rattle.abs_parser.specs.declared.parser.ParseError.TheVariants.{Memory, Refused};
 
 use crate::cursor::{Class, Cursor};
+use crate::expressions::expression;
 use abs_tree::{Expr, Place, Program, Refusal, Stmt, Symbol, Symbols, Variable};
 use std::alloc::{AllocError, AllocFailed, Global};
 use std::sync::Arc;
@@ -66,31 +68,13 @@ fn closes(from: Cursor<'_>) -> Result<Cursor<'_>, Refusal>
         .take(Class::Sign, b";")
 }
 
-/// A number or a local, and the cursor behind it.
-fn operand<'a>(
-    symbols: &mut Symbols<'a>,
-    from: Cursor<'a>,
-) -> Result<(Expr, Cursor<'a>), ParseError>
-    requires { length symbols.old < 2 ^ 31 }
-    ensures found { IfOk result (λ found. Finds symbols.old symbols.new
-        (λ names words. ReadsOperand names (spot from.entry) (expr_tree found.0) words (spot found.1))) }
-    ensures refused { IfErr result (λ error. RefusesFor error ((names : List (List ℕ)) (value : ExprTree) (words : List (List ℕ)) (to : Spot)
-        → ReadsOperand names (spot from.entry) value words to → ⊥)) }
-{
-    if let Ok((number, behind)) = from.number() {
-        return Ok((Expr::Number(from.place, number), behind));
-    }
-    let (name, behind) = from.name()?;
-    let symbol = symbols.intern(name)?;
-    Ok((Expr::Local(from.place, Variable::Named(symbol)), behind))
-}
-
-/// A name, `=`, an operand and `;`: the symbol, the operand, and the cursor behind them.
+/// A name, `=`, an expression and `;`: the symbol, the expression, and the cursor behind them.
 fn binding<'a>(
+    alloc: Global,
     symbols: &mut Symbols<'a>,
     from: Cursor<'a>,
 ) -> Result<(Symbol, Expr, Cursor<'a>), ParseError>
-    requires { length symbols.old < 2 ^ 30 }
+    requires { length symbols.old + length from.rest.now < 2 ^ 31 }
     ensures found { IfOk result (λ found. Finds symbols.old symbols.new
         (λ names words. ReadsBinding names (spot from.entry) found.0 (expr_tree found.1) words (spot found.2))) }
     ensures refused { IfErr result (λ error. RefusesFor error ((names : List (List ℕ)) (symbol : Symbol) (value : ExprTree) (words : List (List ℕ)) (to : Spot)
@@ -98,7 +82,7 @@ fn binding<'a>(
 {
     let (name, behind) = from.name()?;
     let symbol = symbols.intern(name)?;
-    let (value, close) = operand(symbols, behind.take(Class::Equals, b"=")?)?;
+    let (value, close) = expression(alloc, symbols, behind.take(Class::Equals, b"=")?)?;
     let end = close.take(Class::Sign, b";")?;
     Ok((symbol, value, end))
 }
@@ -109,17 +93,16 @@ fn printed<'a>(
     symbols: &mut Symbols<'a>,
     from: Cursor<'a>,
 ) -> Result<(Expr, Cursor<'a>), ParseError>
-    requires { length symbols.old < 2 ^ 30 }
-    ensures found { IfOk result (λ found. Finds symbols.old symbols.new
-        (λ names words. ReadsPrinted names (spot from.entry) (expr_tree found.0) words (spot found.1))) }
-    ensures refused { IfErr result (λ error. RefusesFor error ((names : List (List ℕ)) (text : ExprTree) (words : List (List ℕ)) (to : Spot)
-        → ReadsPrinted names (spot from.entry) text words to → ⊥)) }
+    requires { length symbols.old + length from.rest.now < 2 ^ 31 }
+    ensures found { IfOk result (λ found. FindsTree ReadsPrinted symbols.old symbols.new
+        (spot from.entry) (expr_tree found.0) (spot found.1)) }
+    ensures refused { IfErr result (λ error. RefusesFor error (ReadsNone ReadsPrinted (spot from.entry))) }
 {
     let function = from.take(Class::Sign, b"(")?;
     let argument = opens(function, b"toString")?;
     let (name, _) = function.rest.split_at(b"toString".len());
     let symbol = symbols.intern(name)?;
-    let (value, close) = operand(symbols, argument)?;
+    let (value, close) = expression(alloc, symbols, argument)?;
     let end = closes(close)?;
     let text = application(alloc, function.place, symbol, value)?;
     Ok((text, end))
@@ -144,14 +127,14 @@ fn statement<'a>(
     symbols: &mut Symbols<'a>,
     from: Cursor<'a>,
 ) -> Result<(Stmt, Cursor<'a>), ParseError>
-    requires { length symbols.old < 2 ^ 30 }
+    requires { length symbols.old + length from.rest.now < 2 ^ 31 }
     ensures found { IfOk result (λ found. Finds symbols.old symbols.new
         (λ names words. ReadsStmt names (spot from.entry) (stmt_tree found.0) words (spot found.1))) }
     ensures refused { IfErr result (λ error. RefusesFor error ((names : List (List ℕ)) (stmt : StmtTree) (words : List (List ℕ)) (to : Spot)
         → ReadsStmt names (spot from.entry) stmt words to → ⊥)) }
 {
     if let Ok(name) = from.take(Class::Word, b"Int") {
-        let (symbol, value, end) = binding(symbols, name)?;
+        let (symbol, value, end) = binding(alloc, symbols, name)?;
         let value = Arc::new(alloc, value)?;
         let variable = Variable::Named(symbol);
         return Ok((Stmt::Declare(from.place, name.place, variable, value), end));
@@ -160,7 +143,7 @@ fn statement<'a>(
         let (text, end) = printed(alloc, symbols, behind)?;
         return Ok((Stmt::Print(from.place, Arc::new(alloc, text)?), end));
     }
-    let (symbol, value, end) = binding(symbols, from)?;
+    let (symbol, value, end) = binding(alloc, symbols, from)?;
     let value = Arc::new(alloc, value)?;
     Ok((
         Stmt::Assign(from.place, Variable::Named(symbol), value),

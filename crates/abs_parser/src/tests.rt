@@ -1,7 +1,8 @@
 //! Where a text is refused, of which the contract of `parse_text` says nothing; that texts are read at all; and the names
-//! of some texts and the tree of one, worked out by hand.
+//! and trees of some texts, worked out by hand.
 use super::*;
 use abs_tree::{Code, Expr, Place, Refusal, Stmt, Symbol, Variable};
+use std::alloc::{AllocError, Global};
 use std::test::Fail;
 
 /// A text is refused at the first token that can't stand where it does; a byte that begins no token, and a number past
@@ -45,11 +46,19 @@ fn refused_texts(rt: HostRuntime) -> Result<(), Fail> {
         // signs that go on
         ("{ x == 1; }", 1, 5),
         ("{ x => 1; }", 1, 5),
-        // numbers: none, one with a sign, two, one with letters behind it, one past the limit
+        // operands that are missing, and what is no operator
+        ("{ x = 1 +; }", 1, 10),
+        ("{ x = * 1; }", 1, 7),
+        ("{ x = 1 + * 2; }", 1, 11),
+        ("{ x = +1; }", 1, 7),
+        ("{ x = (); }", 1, 8),
+        ("{ x = 1 2; }", 1, 9),
+        ("{ x = 1 / 2; }", 1, 9),
+        // parentheses that are missing
+        ("{ x = (1; }", 1, 9),
+        ("{ x = 1); }", 1, 8),
+        // numbers: none, one with letters behind it, one past the limit
         ("{ println(toString()); }", 1, 20),
-        ("{ println(toString(-1)); }", 1, 20),
-        ("{ x = -1; }", 1, 7),
-        ("{ println(toString(1 2)); }", 1, 22),
         ("{ println(toString(12a)); }", 1, 22),
         (
             "{ println(toString(170141183460469231731687303715884105728)); }",
@@ -69,6 +78,34 @@ fn refused_texts(rt: HostRuntime) -> Result<(), Fail> {
             column,
         };
         assert_eq!(rt; error, Some(ParseError::Refused(refusal)), "for {text}");
+    }
+    Ok(())
+}
+
+/// At most 100 statements, sums and unaries are open at once. Each parenthesis opens a unary and a sum, and each sign a unary.
+#[test]
+fn nested_texts(rt: HostRuntime) -> Result<(), Fail> {
+    let alloc = rt.alloc();
+    for (front, open, count, close, end, refused) in [
+        ("{ println(toString(", "(", 48, ")", ")); }", None),
+        ("{ println(toString(", "(", 49, ")", ")); }", Some(69)),
+        ("{ println(toString(", "(", 60, ")", ")); }", Some(69)),
+        ("{ x = ", "-", 97, "", "; }", None),
+        ("{ x = ", "-", 98, "", "; }", Some(105)),
+    ] {
+        let opens = open.repeat(alloc, count)?;
+        let closes = close.repeat(alloc, count)?;
+        let text = format!(in alloc; "{front}{opens}1{closes}{end}")?;
+        assert!(rt; text.len() < 1048576);
+        let error = parse_text(alloc, text.as_bytes()).err();
+        let wanted = refused.map(|column| {
+            ParseError::Refused(Refusal {
+                code: Code::S1,
+                line: 1,
+                column,
+            })
+        });
+        assert_eq!(rt; error, wanted, "for {text}");
     }
     Ok(())
 }
@@ -188,6 +225,8 @@ fn place_of(expr: &Expr) -> Place {
         Expr::Number(at, _) => *at,
         Expr::Local(at, _) => *at,
         Expr::Apply(at, _, _) => *at,
+        Expr::Negate(at, _) => *at,
+        Expr::Operators(at, _, _) => *at,
     }
 }
 
@@ -244,6 +283,59 @@ fn a_tree(rt: HostRuntime) -> Result<(), Fail> {
             assert!(rt; applies(text, Symbol(2), Symbol(0), place(42, 4, 21)));
         }
         _ => assert!(rt; false, "a statement that prints"),
+    }
+    Ok(())
+}
+
+/// An expression as text: the column where each node stands, and what it is; a local by the number of its name.
+fn shown(alloc: Global, expr: &Expr) -> Result<String, AllocError> {
+    match expr {
+        Expr::Number(at, number) => format!(in alloc; "{}:{number}", at.column),
+        Expr::Local(at, Variable::Named(name)) => format!(in alloc; "{}:x{}", at.column, name.0),
+        Expr::Local(at, Variable::Slot(_)) => format!(in alloc; "{}:slot", at.column),
+        Expr::Apply(at, _, _) => format!(in alloc; "{}:application", at.column),
+        Expr::Negate(at, operand) => {
+            let operand = shown(alloc, operand)?;
+            format!(in alloc; "{}-{operand}", at.column)
+        }
+        Expr::Operators(at, first, operands) => {
+            let mut text = shown(alloc, first)?;
+            for operand in operands {
+                let right = shown(alloc, &operand.right)?;
+                text = format!(in alloc; "{text} {:?} {right}", operand.operator)?;
+            }
+            format!(in alloc; "{}[{text}]", at.column)
+        }
+    }
+}
+
+/// The trees of expressions, worked out by hand: operators of one precedence make one node, from the left, and neither
+/// parentheses nor a single operand makes one.
+#[test]
+fn expression_trees(rt: HostRuntime) -> Result<(), Fail> {
+    let alloc = rt.alloc();
+    for (text, tree) in [
+        (
+            "{ x = 1 - 2 * -y - 3; }",
+            "7[7:1 Minus 11[11:2 Times 15-16:x1] Minus 20:3]",
+        ),
+        ("{ x = ((1)); }", "9:1"),
+        ("{ x = -1; }", "7-8:1"),
+        ("{ x = - -(x); }", "7-9-11:x0"),
+        ("{ x = (1 + 2) * 3; }", "7[8[8:1 Plus 12:2] Times 17:3]"),
+        ("{ x = 1 - (2 - 3); }", "7[7:1 Minus 12[12:2 Minus 16:3]]"),
+    ] {
+        assert!(rt; text.len() < 1048576);
+        let program = parse_text(alloc, text.as_bytes())?;
+        assert_eq!(rt; program.main.len(), 1, "of {text}");
+        match &program.main[0] {
+            Stmt::Assign(_, _, value) => assert_eq!(rt;
+                shown(alloc, value)?.as_str(),
+                tree,
+                "of {text}"
+            ),
+            _ => assert!(rt; false, "an assignment: {text}"),
+        }
     }
     Ok(())
 }

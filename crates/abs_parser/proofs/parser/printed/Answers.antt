@@ -1,12 +1,15 @@
-use Rattle.std.proofs.Common.{◌≡◌, ◌∙◌, ap, take}
+use Rattle.std.proofs.Common.{◌≡◌, ◌∙◌, ◌∷◌, [], ap, take, length, arith}
 use Rattle.std.proofs.Math.Seq.{take-append_seam}
 use Rattle.std.specs.Prelude.{codes}
 use Rattle.abs_tree.specs.Names.{number_of_name, with_name}
 use Rattle.std.proofs.lemmas.Result.{err_from_is_err_and}
-use Rattle.abs_parser.proofs.NameLemmas.{goes_on_itself}
+use Rattle.abs_parser.proofs.NameLemmas.{goes_on_itself, few_more}
 use Rattle.abs_parser.proofs.SpotLemmas.{takes_once}
-use Rattle.abs_parser.proofs.GrammarLemmas.{opens_once, operand_once}
+use Rattle.abs_parser.specs.Grammar.{expression_room}
+use Rattle.abs_parser.proofs.ExpressionLemmas.{sum_once}
+use Rattle.abs_parser.proofs.GrammarLemmas.{opens_once}
 use Rattle.abs_parser.proofs.FindLemmas.{finds_name, finds_both, reads_printed}
+use Rattle.abs_parser.proofs.SizeLemmas.{takes_shorter}
 use Rattle.abs_parser.proofs.RefusalLemmas.{refused_by_token, refused_by_part, opens_from, closes_from}
 use Rattle.abs_parser.proofs.parser.printed.Goals as goal
 
@@ -19,16 +22,25 @@ pub returns-in_err-argument-clause-refused : goal.returns-in_err-argument-clause
 returns-in_err-argument-clause-refused c =
     let p = err_from_is_err_and c.from_residual-in_err-argument.result c.from_residual-in_err-argument.ensures.1 in
     rw (p.1, p.2) (refused_by_part c.in_err-argument.ensures.refused (λ none names text words to read.
-    none read.operand (opens_from (takes_once read.open_sign c.in_ok-function.ensures.found) read.opens)))
+    none read.sum (opens_from (takes_once read.open_sign c.in_ok-function.ensures.found) read.opens)))
+
+pub expression-requires : goal.expression-requires
+expression-requires c =
+    let few = few_more c.args.symbols.now (c.split_at.result.0.now ∷ []) in
+    let same = ap length c.in_ok-symbol.ensures.names in
+    let first = takes_shorter c.in_ok-function.ensures.found in
+    let word = takes_shorter c.in_ok-argument.ensures.found.word in
+    let second = takes_shorter c.in_ok-argument.ensures.found.open_sign in
+    omega arith
 
 pub returns-in_err-end-clause-refused : goal.returns-in_err-end-clause-refused
 returns-in_err-end-clause-refused c =
     let p = err_from_is_err_and c.from_residual-in_err-end.result c.from_residual-in_err-end.ensures.1 in
     let found = c.in_ok-value.ensures.found in
-    let value = found.read c.operand.new.symbols (goes_on_itself c.operand.new.symbols) in
+    let value = found.read c.expression.new.symbols (goes_on_itself c.expression.new.symbols) in
     rw (p.1, p.2) (refused_by_part c.in_err-end.ensures.refused (λ none names text words to read.
-    let operand = opens_once (takes_once read.open_sign c.in_ok-function.ensures.found) read.opens c.in_ok-argument.ensures.found in
-    none to (closes_from (operand_once operand read.reads value).behind read.end)))
+    let sum = opens_once (takes_once read.open_sign c.in_ok-function.ensures.found) read.opens c.in_ok-argument.ensures.found in
+    none to (closes_from ((sum_once expression_room).agree sum read.reads value).behind read.end)))
 
 pub returns-clause-found : goal.returns-clause-found
 returns-clause-found c =

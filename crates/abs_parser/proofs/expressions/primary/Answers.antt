@@ -1,7 +1,7 @@
 use Rattle.std.proofs.lemmas.Result.{err_from_is_err_and}
 use Rattle.abs_parser.proofs.FindLemmas.{finds_name, finds_number, finds_whole, reads_local}
-use Rattle.abs_parser.proofs.RefusalLemmas.{refused_by_token, no_operand}
-use Rattle.abs_parser.proofs.parser.operand.Goals as goal
+use Rattle.abs_parser.proofs.RefusalLemmas.{refused_by_token, no_primary}
+use Rattle.abs_parser.proofs.expressions.primary.Goals as goal
 
 pub returns-in-Ok-clause-found : goal.returns-in-Ok-clause-found
 returns-in-Ok-clause-found c = finds_number c.in-Ok.number c.in-Ok.ensures.found.0 c.in-Ok.ensures.found.1 c.in-Ok.ensures.found.2
@@ -9,7 +9,7 @@ returns-in-Ok-clause-found c = finds_number c.in-Ok.number c.in-Ok.ensures.found
 pub returns-in_err-name-clause-refused : goal.returns-in_err-name-clause-refused
 returns-in_err-name-clause-refused c =
     let p = err_from_is_err_and c.from_residual.result c.from_residual.ensures.1 in
-    rw (p.1, p.2) (refused_by_token c.in_err-name.ensures.refused (λ none names value words to read. no_operand c.in_default.ensures.refused.why none read))
+    rw (p.1, p.2) (refused_by_token c.in_err-name.ensures.refused (λ none names value words to read. no_primary c.in_default.ensures.refused.why none read))
 
 pub returns-clause-found : goal.returns-clause-found
 returns-clause-found c =
