@@ -1,3 +1,4 @@
 pub mod ScopeLemmas
 pub mod TreeLemmas
 pub mod OffenceLemmas
+pub mod SlotLemmas

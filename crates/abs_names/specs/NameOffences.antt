@@ -6,7 +6,7 @@ use Rattle.abs_tree.specs.declared.program.Variable.{Variable}
 use Rattle.abs_tree.specs.declared.program.Variable.TheVariants.{Named, Slot}
 use Rattle.abs_tree.specs.declared.refusal.Offence.{Offence}
 use Rattle.abs_tree.specs.declared.refusal.Code.TheVariants.{N1, N2}
-use Rattle.abs_tree.specs.Trees.{ExprTree, ExprTrees, StmtTree, ProgramTree, Number, Local, Apply, NoMore, More, Declare, Assign, Print}
+use Rattle.abs_tree.specs.Trees.{ExprTree, ExprTrees, OperandTrees, StmtTree, ProgramTree, Number, Local, Apply, NoMore, More, Negate, Operators, NoOperand, Then, Declare, Assign, Print}
 use Rattle.abs_names.specs.Scopes.{is_declared, scope_behind}
 
 -- a use of a name that is not declared
@@ -25,10 +25,16 @@ abbrev mutual
   unknown_in scope (Number place number) = []
   unknown_in scope (Local place variable) = unknown scope place variable
   unknown_in scope (Apply place function arguments) = unknown_in_all scope arguments
+  unknown_in scope (Negate place expr) = unknown_in scope expr
+  unknown_in scope (Operators place first operands) = unknown_in scope first ++ unknown_in_operands scope operands
 
   pub unknown_in_all : List ℕ → ExprTrees → List Offence
   unknown_in_all scope NoMore = []
   unknown_in_all scope (More expr rest) = unknown_in scope expr ++ unknown_in_all scope rest
+
+  pub unknown_in_operands : List ℕ → OperandTrees → List Offence
+  unknown_in_operands scope NoOperand = []
+  unknown_in_operands scope (Then operator right rest) = unknown_in scope right ++ unknown_in_operands scope rest
 
 -- the offences of a statement, where the statements before it declare these names
 abbrev pub offences_of : List ℕ → StmtTree → List Offence

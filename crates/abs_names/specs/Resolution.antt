@@ -2,7 +2,7 @@
 use Rattle.std.specs.Prelude.{ℕ, List, [], ◌∷◌, length}
 use Rattle.abs_tree.specs.declared.program.Variable.{Variable}
 use Rattle.abs_tree.specs.declared.program.Variable.TheVariants.{Named, Slot}
-use Rattle.abs_tree.specs.Trees.{ExprTree, ExprTrees, StmtTree, ProgramTree, NamedTree, Number, Local, Apply, NoMore, More, Declare, Assign, Print}
+use Rattle.abs_tree.specs.Trees.{ExprTree, ExprTrees, OperandTrees, StmtTree, ProgramTree, NamedTree, Number, Local, Apply, NoMore, More, Negate, Operators, NoOperand, Then, Declare, Assign, Print}
 use Rattle.abs_names.specs.Scopes.{slot_of, with_variable, scope_behind, scope_after}
 
 -- what stands for a local where these names are declared
@@ -16,10 +16,16 @@ abbrev mutual
   resolved_expr scope (Number place number) = Number place number
   resolved_expr scope (Local place variable) = Local place (looked_up scope variable)
   resolved_expr scope (Apply place function arguments) = Apply place function (resolved_exprs scope arguments)
+  resolved_expr scope (Negate place expr) = Negate place (resolved_expr scope expr)
+  resolved_expr scope (Operators place first operands) = Operators place (resolved_expr scope first) (resolved_operands scope operands)
 
   pub resolved_exprs : List ℕ → ExprTrees → ExprTrees
   resolved_exprs scope NoMore = NoMore
   resolved_exprs scope (More expr rest) = More (resolved_expr scope expr) (resolved_exprs scope rest)
+
+  pub resolved_operands : List ℕ → OperandTrees → OperandTrees
+  resolved_operands scope NoOperand = NoOperand
+  resolved_operands scope (Then operator right rest) = Then operator (resolved_expr scope right) (resolved_operands scope rest)
 
 -- a statement, where the statements before it declare these names; the name that it declares itself stands behind its value
 abbrev pub resolved_stmt : List ℕ → StmtTree → StmtTree

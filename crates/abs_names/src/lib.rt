@@ -4,4 +4,4 @@
 pub mod resolver;
 mod scope;
 
-pub use resolver::{NameError, resolve};
+pub use resolver::{NameError, own_slots, resolve};

@@ -1,14 +1,15 @@
 //! Looks up the names of a program: gives each local its slot, or finds the first name offence.
 ghost use Rattle.std.specs.Prelude.{◌≡◌, ◌≤◌, ◌<◌, ◌+◌, ◌^◌, [], length, fold, map, IfOk, IfErr, OnOk};
-ghost use Rattle.abs_tree.specs.Trees.{expr_tree, trees_of, stmt_tree, program_tree, named_tree};
+ghost use Rattle.abs_tree.specs.Trees.{ProgramTree, expr_tree, trees_of, operands_of, stmt_tree, program_tree, named_tree};
 ghost use Rattle.abs_names.specs.Answers.{earlier, Refuses};
-ghost use Rattle.abs_names.specs.NameOffences.{unknown_in, unknown_in_all, offences_of, offences_from, name_offences};
-ghost use Rattle.abs_names.specs.Resolution.{resolved_expr, resolved_exprs, resolved_stmt, resolved_from, resolved};
+ghost use Rattle.abs_names.specs.NameOffences.{unknown_in, unknown_in_all, unknown_in_operands, offences_of, offences_from, name_offences};
+ghost use Rattle.abs_names.specs.Resolution.{resolved_expr, resolved_exprs, resolved_operands, resolved_stmt, resolved_from, resolved};
 ghost use Rattle.abs_names.specs.Scopes.{scope_behind, scope_after};
+ghost use Rattle.abs_names.specs.Slots.{HasOwnSlots};
 ghost use Rattle.abs_names.specs.declared.resolver.NameError.TheVariants.{Memory, Refused};
 
 use crate::scope::Scope;
-use abs_tree::{Expr, Named, Offence, Program, Refusal, Stmt};
+use abs_tree::{Expr, Named, Offence, Operand, Program, Refusal, Stmt};
 use std::alloc::{AllocError, AllocFailed, Global};
 use std::sync::Arc;
 use thiserror::Error;
@@ -137,6 +138,15 @@ fn expression(
             let arguments = expressions(alloc, scope, first, arguments)?;
             Ok(Expr::Apply(*place, *function, arguments))
         }
+        Expr::Negate(place, operand) => {
+            let operand = expression(alloc, scope, first, operand)?;
+            Ok(Expr::Negate(*place, Box::new(alloc, operand)?))
+        }
+        Expr::Operators(place, left, rest) => {
+            let left = Box::new(alloc, expression(alloc, scope, first, left)?)?;
+            let rest = operands(alloc, scope, first, rest)?;
+            Ok(Expr::Operators(*place, left, rest))
+        }
     }
 }
 
@@ -158,3 +168,31 @@ fn expressions(
     }
     Ok(found)
 }
+
+/// Operators with their right operands.
+#[cycle(expressions)]
+fn operands(
+    alloc: Global,
+    scope: &Scope,
+    first: &mut Option<Offence>,
+    operands: &[Operand],
+) -> Result<Vec<Operand>, AllocError>
+    requires { length scope.now < 2 ^ 32 }
+    ensures found { IfOk result (λ found. operands_of found.items ≡ resolved_operands scope.now (operands_of operands.now)) }
+    ensures noted { OnOk result (first.new ≡ fold earlier first.old (unknown_in_operands scope.now (operands_of operands.now))) }
+{
+    let mut found = Vec::with_capacity(alloc, operands.len())?;
+    for operand in operands {
+        let right = expression(alloc, scope, first, &operand.right)?;
+        found.push(Operand {
+            operator: operand.operator,
+            right,
+        })?;
+    }
+    Ok(found)
+}
+
+/// A program in which no name offends has a slot for each declaration, numbered from 0 in the order of the source.
+pub fn own_slots()
+    ensures { (program : ProgramTree) → HasOwnSlots program }
+{}

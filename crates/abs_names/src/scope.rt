@@ -1,9 +1,9 @@
 //! The names that are declared so far, with their slots, and the first offence that was found so far.
-ghost use Rattle.std.specs.Prelude.{◌≡◌, ◌<◌, ◌≤◌, ◌^◌, [], length, fold, IfOk, IfSome, IfNone, OnOk, IsTrue};
+ghost use Rattle.std.specs.Prelude.{◌≡◌, ◌<◌, ◌^◌, [], length, fold, IfOk, OnOk};
 ghost use Rattle.abs_names.specs.Answers.{earlier};
 ghost use Rattle.abs_names.specs.NameOffences.{unknown, twice};
 ghost use Rattle.abs_names.specs.Resolution.{looked_up};
-ghost use Rattle.abs_names.specs.Scopes.{is_declared, slot_of, with_symbol, with_variable};
+ghost use Rattle.abs_names.specs.Scopes.{with_variable};
 
 use abs_tree::{Code, Offence, Place, Symbol, Variable};
 use indexmap::IndexSet;
