@@ -1,18 +1,21 @@
 -- Steps of evaluation, for the expressions as they stand in memory.
 use Rattle.std.proofs.Common.{◌≡◌, ℕ, suc, List, ◌++◌, sym, ap, ◌∙◌}
 use Rattle.std.specs.declared.alloc.Global.{Global}
+use Rattle.std.specs.declared.boxed.Box.{Box}
 use Rattle.std.specs.declared.vec.Vec.{Vec}
 use Rattle.abs_tree.specs.declared.place.Place.{Place}
 use Rattle.abs_tree.specs.declared.symbol.Symbol.{Symbol}
 use Rattle.abs_tree.specs.declared.program.Expr as code
 use Rattle.abs_tree.specs.declared.program.Expr.{Expr}
+use Rattle.abs_tree.specs.declared.program.Operand.{Operand}
 use Rattle.abs_tree.specs.declared.program.Variable.{Variable}
 use Rattle.abs_tree.specs.declared.value.Value.{Value}
+use Rattle.abs_tree.specs.declared.value.Evaluated.{Evaluated}
 use Rattle.abs_tree.specs.declared.value.Output.{Output}
 use Rattle.abs_tree.specs.declared.value.Output.TheVariants.{Values, Bad as FirstFault}
-use Rattle.abs_tree.specs.Trees.{ExprTree, name_of, expr_tree, trees_of}
-use Rattle.abs_tree.specs.Evaluation.{Outcomes, evaluate, local_gives, each, applied}
-use Rattle.abs_tree.proofs.TreeLemmas.{expr_tree-apply}
+use Rattle.abs_tree.specs.Trees.{ExprTree, name_of, expr_tree, trees_of, operands_of}
+use Rattle.abs_tree.specs.Evaluation.{Outcome, Outcomes, evaluate, local_gives, operators_give, each, applied}
+use Rattle.abs_tree.proofs.TreeLemmas.{expr_tree-apply, expr_tree-operators}
 
 -- an application gives what its function gives for what its arguments give
 pub evaluate_apply : (names : List (List ℕ)) (slots : List Value) (left k : ℕ) (expr : Expr) (place : Place) (function : Symbol) (arguments : Vec Expr Global) (name : List ℕ) (made now : ℕ) (output : Output)
@@ -34,6 +37,17 @@ unfolding evaluate
 evaluate_local names slots left k expr place variable made left_is expr_is =
     ap (λ (l : ℕ). evaluate names slots l (expr_tree expr) made) left_is
     ∙ ap (λ (e : Expr). evaluate names slots (suc k) (expr_tree e) made) expr_is
+
+-- a operators gives what its operators give from the left, behind what its first operand gives
+pub evaluate_operators : (names : List (List ℕ)) (slots : List Value) (left k : ℕ) (expr : Expr) (place : Place) (first : Box Expr Global) (operands : Vec Operand Global) (made now : ℕ) (found : Evaluated)
+    → left ≡ suc k → expr ≡ code.Operators place first operands
+    → evaluate names slots k (expr_tree first.value) made ≡ record { result = found; applications = now }
+    → evaluate names slots left (expr_tree expr) made ≡ operators_give (evaluate names slots k) (record { result = found; applications = now }) (operands_of operands.items)
+unfolding evaluate
+evaluate_operators names slots left k expr place first operands made now found left_is expr_is first_is =
+    ap (λ (l : ℕ). evaluate names slots l (expr_tree expr) made) left_is
+    ∙ (ap (λ (t : ExprTree). evaluate names slots (suc k) t made) (ap expr_tree expr_is ∙ expr_tree-operators place first operands)
+    ∙ ap (λ (o : Outcome). operators_give (evaluate names slots k) o (operands_of operands.items)) first_is)
 
 -- values in front of what the rest gives
 abbrev pub all_preceded : List Value → Output → Output

@@ -25,3 +25,7 @@ pub data FirstOffence (text : List ℕ) (refusal : Refusal) : Type 0 where
 -- the text has an offence
 abbrev pub HasOffence : List ℕ → Type 0
 HasOffence text = (refusal : Refusal) × FirstOffence text refusal
+
+-- A text that has a tree is refused for one offence at the most.
+abbrev pub HasOneFirstOffence : List ℕ → ProgramTree → Type 0
+HasOneFirstOffence text tree = ReadsProgram text tree → (one other : Refusal) → FirstOffence text one → FirstOffence text other → one ≡ other

@@ -1,8 +1,8 @@
 //! From the bytes of a source to the program that it is, or to its refusal.
-ghost use Rattle.std.specs.Prelude.{◌≤◌, length, IfOk, IfErr};
-ghost use Rattle.abs_tree.specs.Trees.{named_tree};
+ghost use Rattle.std.specs.Prelude.{◌≤◌, ℕ, List, length, IfOk, IfErr};
+ghost use Rattle.abs_tree.specs.Trees.{ProgramTree, named_tree};
 ghost use Rattle.abs_command.specs.Refused.{RefusesSource};
-ghost use Rattle.abs_command.specs.Sources.{IsProgramOf};
+ghost use Rattle.abs_command.specs.Sources.{IsProgramOf, HasOneFirstOffence};
 
 use abs_names::{NameError, resolve};
 use abs_parser::{ParseError, parse_text};
@@ -42,3 +42,8 @@ pub fn program_of<'a>(alloc: Global, text: &'a [u8]) -> Result<Named<'a>, Source
         Err(NameError::Memory) => Err(SourceError::Memory),
     }
 }
+
+/// A text that has a tree is refused for one offence at the most.
+pub fn one_first_offence()
+    ensures { (text : List ℕ) (tree : ProgramTree) → HasOneFirstOffence text tree }
+{}

@@ -43,6 +43,14 @@ impl<'a> Want<'a> {
         }
     }
 
+    // A run of so many events in which the main block's task ends by a fault.
+    fn failed(written: &'a str, events: u64) -> Want<'a> {
+        Want {
+            status: 10,
+            ..Want::clean(written, events)
+        }
+    }
+
     // A refusal for this offence.
     fn refused(written: &'a str, code: Code, line: u32, column: u32) -> Want<'a> {
         let refusal = Refusal { code, line, column };
@@ -190,6 +198,51 @@ fn sources(rt: HostRuntime) -> Result<(), Fail> {
             "{ Int toString = 5; Int toStrings = 6; println(toString(toString)); }",
             Want::clean("no circular chain\n5\ndone: 1 tasks\n", 5),
         ),
+        (
+            "{ Int x = 2; x = x * 21; println(toString(x)); }",
+            Want::clean("no circular chain\n42\ndone: 1 tasks\n", 5),
+        ),
+        (
+            "{ println(toString(1 - 2 - 3)); println(toString(2 - (3 - 4) * -5)); println(toString(--7)); }",
+            Want::clean("no circular chain\n-4\n-3\n7\ndone: 1 tasks\n", 5),
+        ),
+        (
+            "{ println(toString(0 - 170141183460469231731687303715884105727 - 1)); }",
+            Want::clean(
+                "no circular chain\n-170141183460469231731687303715884105728\ndone: 1 tasks\n",
+                3,
+            ),
+        ),
+        (
+            "{ println(toString(170141183460469231731687303715884105727 + 1)); }",
+            Want::failed(
+                "no circular chain\ndone: 1 tasks\nfault: task 0: Overflow\n",
+                2,
+            ),
+        ),
+        // the largest negative number has no negative of 128 bits, and a fault ends the task
+        (
+            "{ println(toString(1)); Int x = -(0 - 170141183460469231731687303715884105727 - 1); println(toString(2)); }",
+            Want::failed(
+                "no circular chain\n1\ndone: 1 tasks\nfault: task 0: Overflow\n",
+                3,
+            ),
+        ),
+        // an operator is applied as soon as its right operand has its value
+        (
+            "{ println(toString(170141183460469231731687303715884105727 + 1 - 1)); }",
+            Want::failed(
+                "no circular chain\ndone: 1 tasks\nfault: task 0: Overflow\n",
+                2,
+            ),
+        ),
+        (
+            "{ println(toString(1 - 1 + 170141183460469231731687303715884105727 * 1)); }",
+            Want::clean(
+                "no circular chain\n170141183460469231731687303715884105727\ndone: 1 tasks\n",
+                3,
+            ),
+        ),
     ];
     for (content, want) in table {
         let mut source = source_of(alloc, content.as_bytes())?;
@@ -274,6 +327,46 @@ fn offending_names(rt: HostRuntime) -> Result<(), Fail> {
         call_and_read(&rt, alloc, &["abs", "f"], &mut source, want)?;
     }
     Ok(())
+}
+
+// A statement, a sum and what stands in it are at most 100 nested symbols.
+#[test]
+fn nested_parentheses(rt: HostRuntime) -> Result<(), Fail> {
+    let alloc = rt.alloc();
+    let table = [
+        (48, Want::clean("no circular chain\n1\ndone: 1 tasks\n", 3)),
+        (
+            49,
+            Want::refused("refused: S1 at 1:68: unexpected token\n", Code::S1, 1, 68),
+        ),
+        (
+            60,
+            Want::refused("refused: S1 at 1:68: unexpected token\n", Code::S1, 1, 68),
+        ),
+    ];
+    for (depth, want) in table {
+        let mut content = Vec::from_slice(alloc, b"{println(toString(")?;
+        content.resize(18 + depth, b'(')?;
+        content.push(b'1')?;
+        content.resize(19 + 2 * depth, b')')?;
+        content.extend_from_slice(b"));}")?;
+        let mut source = source_of(alloc, content.as_slice())?;
+        call_and_read(&rt, alloc, &["abs", "f"], &mut source, want)?;
+    }
+    Ok(())
+}
+
+#[test]
+fn long_sum(rt: HostRuntime) -> Result<(), Fail> {
+    let alloc = rt.alloc();
+    let mut content = Vec::from_slice(alloc, b"{println(toString(1")?;
+    for _ in 1..100_000 {
+        content.extend_from_slice(b"+1")?;
+    }
+    content.extend_from_slice(b"));}")?;
+    let want = Want::clean("no circular chain\n100000\ndone: 1 tasks\n", 3);
+    let mut source = source_of(alloc, content.as_slice())?;
+    call_and_read(&rt, alloc, &["abs", "f"], &mut source, want)
 }
 
 // A run may have 100,000 events: to take the cog, one for each statement, and to return.

@@ -1,10 +1,11 @@
 //! Evaluates expressions by recursion, as the definition goes.
 ghost use Rattle.std.specs.Prelude.{◌≡◌, IfOk};
-ghost use Rattle.abs_tree.specs.Trees.{expr_tree, trees_of};
-ghost use Rattle.abs_tree.specs.Evaluation.{evaluate as evaluated, local_gives, each, applied, called, built as built_of, result_of};
+ghost use Rattle.abs_tree.specs.Trees.{expr_tree, trees_of, operands_of};
+ghost use Rattle.abs_tree.specs.Evaluation.{evaluate as evaluated, local_gives, negative as negative_of, operated_on, operand_gives, operators_give, each, applied, called, built as built_of, result_of};
 
 use abs_tree::{
-    Evaluated, Expr, Fault, Output, Symbols, Text, Value, Values, Variable, value_text,
+    Evaluated, Expr, Fault, Operand, Operator, Output, Symbols, Text, Value, Values, Variable,
+    negated, value_text,
 };
 use std::alloc::{AllocError, Global};
 
@@ -56,6 +57,82 @@ fn evaluate(
             let output = evaluate_all(alloc, names, slots, left - 1, arguments, made)?;
             apply(alloc, names.name(*function), output, made)
         }
+        Expr::Negate(_, operand) => {
+            let found = evaluate(alloc, names, slots, left - 1, operand, made)?;
+            Ok(negative(found))
+        }
+        Expr::Operators(_, first, operands) => {
+            let first = evaluate(alloc, names, slots, left - 1, first, made)?;
+            operators(alloc, names, slots, left - 1, first, operands, made)
+        }
+    }
+}
+
+/// What operators give from the left, where the first operand gave this.
+#[cycle(evaluation)]
+fn operators(
+    alloc: Global,
+    names: &Symbols<'_>,
+    slots: &[Value],
+    left: u32,
+    first: Evaluated,
+    operands: &[Operand],
+    made: &mut u32,
+) -> Result<Evaluated, AllocError>
+    ensures { IfOk result (λ found. operators_give (evaluated names.now slots.now left) (record { result = first; applications = made.old }) (operands_of operands.now) ≡ record { result = found; applications = made.new }) }
+{
+    let mut so_far = first;
+    for operand in operands {
+        so_far = behind(alloc, names, slots, left, so_far, operand, made)?;
+    }
+    Ok(so_far)
+}
+
+/// What stands on the left of the next operator, once that was applied to what stands on its left. Behind a fault nothing
+/// is evaluated.
+#[cycle(evaluation)]
+fn behind(
+    alloc: Global,
+    names: &Symbols<'_>,
+    slots: &[Value],
+    left: u32,
+    so_far: Evaluated,
+    operand: &Operand,
+    made: &mut u32,
+) -> Result<Evaluated, AllocError>
+    ensures { IfOk result (λ found. operand_gives (evaluated names.now slots.now left) operand.now.operator (expr_tree operand.now.right) so_far made.old ≡ record { result = found; applications = made.new }) }
+{
+    match so_far {
+        Evaluated::Good(value) => {
+            let right = evaluate(alloc, names, slots, left, &operand.right, made)?;
+            Ok(operate(operand.operator, value, right))
+        }
+        Evaluated::Bad(fault) => Ok(Evaluated::Bad(fault)),
+    }
+}
+
+/// What an operator gives, once its right operand was evaluated.
+fn operate(operator: Operator, left: Value, right: Evaluated) -> Evaluated
+    ensures { result ≡ operated_on operator left right }
+{
+    match right {
+        Evaluated::Good(Value::Int(right)) => match left {
+            Value::Int(left) => operator.apply(left, right),
+            Value::Text(_) | Value::Null => Evaluated::Bad(Fault::Mistyped),
+        },
+        Evaluated::Good(Value::Text(_) | Value::Null) => Evaluated::Bad(Fault::Mistyped),
+        Evaluated::Bad(fault) => Evaluated::Bad(fault),
+    }
+}
+
+/// What a minus gives for its operand.
+fn negative(operand: Evaluated) -> Evaluated
+    ensures { result ≡ negative_of operand }
+{
+    match operand {
+        Evaluated::Good(Value::Int(number)) => negated(number),
+        Evaluated::Good(Value::Text(_) | Value::Null) => Evaluated::Bad(Fault::Mistyped),
+        Evaluated::Bad(fault) => Evaluated::Bad(fault),
     }
 }
 

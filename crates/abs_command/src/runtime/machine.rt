@@ -1,8 +1,8 @@
 //! Runs a program: one task after the other takes its steps, and each is recorded.
-ghost use Rattle.std.specs.Prelude.{◌≡◌, ◌<◌, ◌^◌, ℕ, List, IfOk, IfSome, IfNone, IsSome, MatchBool};
+ghost use Rattle.std.specs.Prelude.{◌≡◌, ◌<◌, ℕ, List, IfOk, IfSome, IfNone, IsSome, MatchBool};
 ghost use Rattle.abs_tree.specs.Trees.{NamedTree, named_tree};
 ghost use Rattle.abs_command.specs.Events.{event_of};
-ghost use Rattle.abs_command.specs.Runs.{first as first_of, IsDone, IsOpen, HasStep, NeverStuck, EndsAs};
+ghost use Rattle.abs_command.specs.Runs.{first as first_of, IsDone, IsOpen, HasStep, NeverStuck};
 ghost use Rattle.abs_command.specs.Machine.{IsRun, Settles};
 
 use crate::runtime::config::{Cog, Cogs, Config, Frame, Frames, Lines, State, TaskCell, Tasks};

@@ -1,7 +1,7 @@
 //! The events of tasks: whether a task has one, and what it changes.
-ghost use Rattle.std.specs.Prelude.{◌≡◌, ◌<◌, ◌∷◌, [], ◌++◌, ℕ, List, length, Option, slice_get, Some, None, IsTrue, IsSome, ◌↔◌, IfOk, OnOk, OnErr};
-ghost use Rattle.abs_tree.specs.Trees.{NamedTree, named_tree};
-ghost use Rattle.abs_command.specs.Events.{Change, takes, ends_with, goes_on, assigns, prints, executes, slots_of, runs, runs_body, by_state, event_of, held, following as following_of, Steps, Makes};
+ghost use Rattle.std.specs.Prelude.{◌≡◌, ◌<◌, ℕ, List, length, Option, slice_get, Some, None, IsTrue, IsSome, ◌↔◌, IfOk, OnOk, OnErr};
+ghost use Rattle.abs_tree.specs.Trees.{named_tree};
+ghost use Rattle.abs_command.specs.Events.{takes, ends_with, assigns, prints, executes, slots_of, runs, runs_body, by_state, event_of, held, following as following_of, Steps, Makes};
 ghost use Rattle.abs_command.specs.declared.runtime.config.TaskCell.{TaskCell};
 
 use crate::runtime::config::{Cog, Config, Lines, State, TaskCell};
