@@ -1,11 +1,13 @@
 //! From the bytes of a source to the program that it is, or to its refusal.
-ghost use Rattle.std.specs.Prelude.{◌≤◌, ℕ, List, length, IfOk, IfErr};
-ghost use Rattle.abs_tree.specs.Trees.{ProgramTree, named_tree};
+ghost use Rattle.std.specs.Prelude.{◌≤◌, ℕ, List, length, All, IfOk, IfErr};
+ghost use Rattle.abs_tree.specs.Trees.{named_tree};
 ghost use Rattle.abs_command.specs.Refused.{RefusesSource};
-ghost use Rattle.abs_command.specs.Sources.{IsProgramOf, HasOneFirstOffence};
+ghost use Rattle.abs_command.specs.Sources.{IsProgramOf, IsPiece, HasOneFirstOffence};
 
+use abs_lexer::LexError;
+use abs_lexer::lexer::tokens;
 use abs_names::{NameError, resolve};
-use abs_parser::{ParseError, parse_text};
+use abs_parser::{ParseError, parse};
 use abs_tree::{Named, Refusal};
 use std::alloc::Global;
 use thiserror::Error;
@@ -29,9 +31,15 @@ pub enum SourceError {
 pub fn program_of<'a>(alloc: Global, text: &'a [u8]) -> Result<Named<'a>, SourceError>
     requires { length text.now ≤ 1048576 }
     ensures found { IfOk result (λ program. IsProgramOf text.now (named_tree program)) }
+    ensures pieces { IfOk result (λ program. All (IsPiece text.now) program.symbols) }
     ensures refused { IfErr result (λ error. RefusesSource error text.now) }
 {
-    let program = match parse_text(alloc, text) {
+    let list = match tokens(alloc, text) {
+        Ok(list) => list,
+        Err(LexError::Refused(refusal)) => return Err(SourceError::Refused(refusal)),
+        Err(LexError::Memory) => return Err(SourceError::Memory),
+    };
+    let program = match parse(alloc, &list) {
         Ok(program) => program,
         Err(ParseError::Refused(refusal)) => return Err(SourceError::Refused(refusal)),
         Err(ParseError::Memory) => return Err(SourceError::Memory),
@@ -43,7 +51,7 @@ pub fn program_of<'a>(alloc: Global, text: &'a [u8]) -> Result<Named<'a>, Source
     }
 }
 
-/// A text that has a tree is refused for one offence at the most.
+/// A text is refused for one offence at the most; of an unexpected token the code alone is fixed.
 pub fn one_first_offence()
-    ensures { (text : List ℕ) (tree : ProgramTree) → HasOneFirstOffence text tree }
+    ensures { (text : List ℕ) → HasOneFirstOffence text }
 {}

@@ -11,6 +11,8 @@ use std::alloc::{AllocError, Global};
 use std::process::Abort;
 use std::test::Fail;
 
+mod lexemes;
+
 // The line for words that are not of the command.
 const USAGE: &str =
     "usage: abs [--check] [--trace] [--workers N] [--depth N] [--steps N] [--facts N] (FILE | --make N)\n";
@@ -243,6 +245,15 @@ fn sources(rt: HostRuntime) -> Result<(), Fail> {
                 3,
             ),
         ),
+        // a comment may stand between any two tokens, and before and behind them all
+        (
+            "/*a*/{//x\n Int/**/x=1;println(toString(x/*\n*/));}",
+            Want::clean("no circular chain\n1\ndone: 1 tasks\n", 4),
+        ),
+        (
+            "{ }//",
+            Want::clean("no circular chain\ndone: 1 tasks\n", 2),
+        ),
     ];
     for (content, want) in table {
         let mut source = source_of(alloc, content.as_bytes())?;
@@ -400,20 +411,23 @@ fn step_limit(rt: HostRuntime) -> Result<(), Fail> {
     Ok(())
 }
 
+// All bytes of a file count, and those of a comment too.
 #[test]
 fn size_limit(rt: HostRuntime) -> Result<(), Fail> {
     let alloc = rt.alloc();
+    let accepted = Want::clean("no circular chain\ndone: 1 tasks\n", 2);
+    let too_large = Want::before_analysis("too large: source\n", 6);
+    // what stands in front, with what byte it is filled up to which size, and what stands behind
     let table = [
-        (
-            1_048_573,
-            Want::clean("no circular chain\ndone: 1 tasks\n", 2),
-        ),
-        (1_048_574, Want::before_analysis("too large: source\n", 6)),
+        ("", b' ', 1_048_573, "{ }", accepted),
+        ("", b' ', 1_048_574, "{ }", too_large),
+        ("/*", b'a', 1_048_570, "*/ { }", accepted),
+        ("/*", b'a', 1_048_571, "*/ { }", too_large),
     ];
-    for (spaces, want) in table {
-        let mut content = Vec::new(alloc);
-        content.resize(spaces, b' ')?;
-        content.extend_from_slice(b"{ }")?;
+    for (front, filling, size, behind, want) in table {
+        let mut content = Vec::from_slice(alloc, front.as_bytes())?;
+        content.resize(size, filling)?;
+        content.extend_from_slice(behind.as_bytes())?;
         let mut source = source_of(alloc, content.as_slice())?;
         call_and_read(&rt, alloc, &["abs", "f"], &mut source, want)?;
     }

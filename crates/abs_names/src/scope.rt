@@ -5,7 +5,7 @@ ghost use Rattle.abs_names.specs.NameOffences.{unknown, twice};
 ghost use Rattle.abs_names.specs.Resolution.{looked_up};
 ghost use Rattle.abs_names.specs.Scopes.{with_variable};
 
-use abs_tree::{Code, Offence, Place, Symbol, Variable};
+use abs_tree::{Code, Offence, Place, Variable};
 use indexmap::IndexSet;
 use std::alloc::{AllocError, Global};
 use std::marker::Model;

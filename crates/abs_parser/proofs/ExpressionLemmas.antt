@@ -1,20 +1,18 @@
 -- Each expression is read in one way only. Two readings may be of programs with different tables of names: they still read the
 -- same words and end at the same spot, and where the tables are one, so are the trees.
-use Rattle.std.proofs.Common.{◌≡◌, ℕ, zero, suc, List, [], ◌∷◌, ◌++◌, refl, sym, ap, subst, ◌∙◌, length, arith, pos}
-use Rattle.std.specs.Prelude.{codes}
-use Rattle.std.specs.Char.{is_ascii_digit}
-use Rattle.std.specs.List.{take_while}
+use Rattle.std.proofs.Common.{◌≡◌, ℕ, zero, suc, List, [], ◌∷◌, ◌++◌, refl, sym, ap, subst, ◌∙◌, pos}
+use Rattle.std.specs.Str.Parse.{digits_value}
+use Rattle.abs_lexer.specs.declared.lexeme.Punctuator.TheVariants as punctuator
+use Rattle.abs_lexer.specs.declared.lexeme.Lexeme.TheVariants.{Sign}
 use Rattle.abs_tree.specs.declared.operator.Operator.{Operator}
 use Rattle.abs_tree.specs.declared.operator.Operator.TheVariants.{Plus, Minus, Times}
 use Rattle.abs_tree.specs.declared.program.Variable.TheVariants.{Named}
 use Rattle.abs_tree.specs.Trees.{ExprTree, OperandTrees, Number, Local, Negate, Then}
-use Rattle.abs_parser.specs.declared.cursor.Class.TheVariants.{Word, Sign}
 use Rattle.abs_parser.specs.declared.expressions.Rule.{Rule}
 use Rattle.abs_parser.specs.declared.expressions.Rule.TheVariants.{Sum, Product}
-use Rattle.abs_parser.specs.Tokens.{Spot, is_in, Takes, TakesNumber, TakesName, digits_at, word_at}
+use Rattle.abs_parser.specs.Tokens.{Spot, place_of, TakesSign, TakesNumber, TakesName}
 use Rattle.abs_parser.specs.Expressions.{Reading, symbol_of, ReadsPrimary, number, local, sign_of, ReadsOperator, ReadsOperands, last, operand, node_of, ReadsOperators, ReadsUnaryOver, negate, group, primary, reads_unary, reads_sum, reads_part}
-use Rattle.abs_parser.proofs.SpotLemmas.{takes_at}
-use Rattle.abs_parser.proofs.WordLemmas.{name_once, name_is_some, number_is_no_name}
+use Rattle.abs_parser.proofs.SpotLemmas.{takes_at, takes_written, written_once, kind_once, kinds_differ}
 
 -- two readings, of the tables `first` and `second`, agree
 pub record Agree {T : Type 0} (first second : List (List ℕ)) (s t : T) (v w : List (List ℕ)) (a b : Spot) : Type 0 where
@@ -34,22 +32,22 @@ record SameNumber (m n : ℕ) (a b : Spot) : Type 0 where
 
 -- a number in one way
 number_once : {m n : ℕ} {from from' a b : Spot} → from ≡ from' → TakesNumber m from a → TakesNumber n from' b → SameNumber m n a b
-number_once {m} {n} {from} {from'} {a} {b} same x y =
-    let x : TakesNumber m from' a = subst (λ (s : Spot). TakesNumber m s a) same x in
-    record { number = x.is ∙ sym y.is; behind = takes_at refl x.token y.token }
+number_once same x y =
+    let once = written_once same x.takes y.takes in
+    record { number = x.is ∙ (ap (digits_value 10) once.bytes ∙ sym y.is); behind = once.behind }
 
 -- Trees and lists whose parts are the same are the same.
-same_number : (p q : Spot) (m n : ℕ) → p ≡ q → m ≡ n → Number p.place (pos m) ≡ Number q.place (pos n)
+same_number : (p q : Spot) (m n : ℕ) → p ≡ q → m ≡ n → Number (place_of p) (pos m) ≡ Number (place_of q) (pos n)
 same_number p q m n e f = rw (e, f)
 
 same_local : (p q : Spot) (k l : List (List ℕ)) (m n : List ℕ) → p ≡ q → k ≡ l → m ≡ n
-    → Local p.place (Named (symbol_of k m)) ≡ Local q.place (Named (symbol_of l n))
+    → Local (place_of p) (Named (symbol_of k m)) ≡ Local (place_of q) (Named (symbol_of l n))
 same_local p q k l m n e f g = rw (e, f, g)
 
-same_negate : (p q : Spot) (s t : ExprTree) → p ≡ q → s ≡ t → Negate p.place s ≡ Negate q.place t
+same_negate : (p q : Spot) (s t : ExprTree) → p ≡ q → s ≡ t → Negate (place_of p) s ≡ Negate (place_of q) t
 same_negate p q s t e f = rw (e, f)
 
-same_operators : (p q : Spot) (s t : ExprTree) (k l : OperandTrees) → p ≡ q → s ≡ t → k ≡ l → node_of p.place s k ≡ node_of q.place t l
+same_operators : (p q : Spot) (s t : ExprTree) (k l : OperandTrees) → p ≡ q → s ≡ t → k ≡ l → node_of (place_of p) s k ≡ node_of (place_of q) t l
 same_operators p q s t k l e f g = rw (e, f, g)
 
 same_then : (o p : Operator) (s t : ExprTree) (k l : OperandTrees) → o ≡ p → s ≡ t → k ≡ l → Then o s k ≡ Then p t l
@@ -57,6 +55,10 @@ same_then o p s t k l e f g = rw (e, f, g)
 
 pub same_append : (a b c d : List (List ℕ)) → a ≡ b → c ≡ d → a ++ c ≡ b ++ d
 same_append a b c d e f = rw (e, f)
+
+-- where a number stands, no name does
+number_is_no_name : {value : ℕ} {name : List ℕ} {from from' a b : Spot} → from ≡ from' → TakesNumber value from a → TakesName name from' b → ⊥
+number_is_no_name same x y = kinds_differ (λ e. cc) same (takes_written x.takes) (takes_written y)
 
 -- a number or a local in one way
 primary_once : Once ReadsPrimary
@@ -67,70 +69,50 @@ primary_once = record { agree = λ same x y. once same x y }
     once {m} {n} {from} {from'} same (number value to x) (number value' to' y) =
         let once = number_once same x y in
         record { words = refl; behind = once.behind; tree = λ names. same_number from from' value value' same once.number }
-    once {m} {n} {from} {from'} same (number value to x) (local name to' y) =
-        absurd (number_is_no_name (subst (λ (s : Spot). TakesNumber value s to) same x) y)
-    once {m} {n} {from} {from'} same (local name to x) (number value to' y) =
-        absurd (number_is_no_name y (subst (λ (s : Spot). TakesName name s to) same x))
+    once same (number value to x) (local name to' y) = absurd (number_is_no_name same x y)
+    once same (local name to x) (number value to' y) = absurd (number_is_no_name (sym same) y x)
     once {m} {n} {from} {from'} same (local name to x) (local name' to' y) =
-        let once = name_once same x y in
-        record { words = ap (λ (word : List ℕ). word ∷ []) once.name; behind = once.behind; tree = λ names. same_local from from' m n name name' same names once.name }
+        let once = written_once same x y in
+        record { words = ap (λ (word : List ℕ). word ∷ []) once.bytes; behind = once.behind; tree = λ names. same_local from from' m n name name' same names once.bytes }
 
--- the byte that stands in front
-abbrev front_byte : List ℕ → ℕ
-front_byte [] = 0
-front_byte (byte ∷ bytes) = byte
-
--- two signs at one spot are one
-signs_once : (x y : ℕ) {from from' a b : Spot} → from ≡ from' → Takes Sign (x ∷ []) from a → Takes Sign (y ∷ []) from' b → x ≡ y
-signs_once x y same h k = sym (ap front_byte h.text) ∙ (ap (λ (s : Spot). front_byte s.rest) same ∙ ap front_byte k.text)
-
--- where a sign stands with which neither a number nor a word begins, no primary does
-sign_is_no_primary : {names : List (List ℕ)} {from from' a b : Spot} {value : ExprTree} {words : List (List ℕ)} (sign : ℕ)
-    → ((bytes : List ℕ) → take_while is_ascii_digit (sign ∷ bytes) ≡ []) → ((bytes : List ℕ) → take_while (is_in Word) (sign ∷ bytes) ≡ []) → from ≡ from'
-    → Takes Sign (sign ∷ []) from a → ReadsPrimary names from' value words b → ⊥
-sign_is_no_primary sign no_digits no_word same h (number value to x) =
-    let digits = ap length (ap digits_at (sym same) ∙ (ap (take_while is_ascii_digit) h.text ∙ no_digits h.behind)) in
-    let some = x.numeral.0 in
-    omega arith
-sign_is_no_primary sign no_digits no_word same h (local name to x) =
-    let word = ap length (x.is ∙ (ap word_at (sym same) ∙ (ap (take_while (is_in Word)) h.text ∙ no_word h.behind))) in
-    omega (arith, name_is_some x)
-
+-- no primary stands where "-" does
 pub minus_is_no_primary : {names : List (List ℕ)} {from from' a b : Spot} {value : ExprTree} {words : List (List ℕ)} → from ≡ from'
-    → Takes Sign (codes "-") from a → ReadsPrimary names from' value words b → ⊥
-minus_is_no_primary same h x = sign_is_no_primary 45 (λ _. refl) (λ _. refl) same h x
+    → TakesSign punctuator.Minus from a → ReadsPrimary names from' value words b → ⊥
+minus_is_no_primary same h (number value to x) = kinds_differ (λ e. cc) same h (takes_written x.takes)
+minus_is_no_primary same h (local name to x) = kinds_differ (λ e. cc) same h (takes_written x)
 
+-- nor where "(" does
 pub open_is_no_primary : {names : List (List ℕ)} {from from' a b : Spot} {value : ExprTree} {words : List (List ℕ)} → from ≡ from'
-    → Takes Sign (codes "(") from a → ReadsPrimary names from' value words b → ⊥
-open_is_no_primary same h x = sign_is_no_primary 40 (λ _. refl) (λ _. refl) same h x
+    → TakesSign punctuator.OpenParen from a → ReadsPrimary names from' value words b → ⊥
+open_is_no_primary same h (number value to x) = kinds_differ (λ e. cc) same h (takes_written x.takes)
+open_is_no_primary same h (local name to x) = kinds_differ (λ e. cc) same h (takes_written x)
 
-pub minus_is_no_open : {from from' a b : Spot} → from ≡ from' → Takes Sign (codes "-") from a → Takes Sign (codes "(") from' b → ⊥
-minus_is_no_open same h k = omega (arith, signs_once 45 40 same h k)
+-- and "(" does not stand where "-" does
+pub minus_is_no_open : {from from' a b : Spot} → from ≡ from' → TakesSign punctuator.Minus from a → TakesSign punctuator.OpenParen from' b → ⊥
+minus_is_no_open same h k = kinds_differ (λ e. cc) same h k
 
 -- two operators at one spot are one
 pub record SameOperator (o p : Operator) (a b : Spot) : Type 0 where
   pub operator : o ≡ p
   pub behind : a ≡ b
 
-signs_differ : (x y : ℕ) {A : Type 0} {from from' a b : Spot} → (x ≡ y → ⊥) → from ≡ from' → Takes Sign (x ∷ []) from a → Takes Sign (y ∷ []) from' b → A
-signs_differ x y differ same h k = absurd (differ (signs_once x y same h k))
-
-same_operator : (o p : Operator) {from from' a b : Spot} → from ≡ from' → Takes Sign (sign_of o) from a → Takes Sign (sign_of p) from' b → o ≡ p
-same_operator Plus Plus same x y = refl
-same_operator Plus Minus same x y = signs_differ 43 45 (λ e. omega arith) same x y
-same_operator Plus Times same x y = signs_differ 43 42 (λ e. omega arith) same x y
-same_operator Minus Plus same x y = signs_differ 45 43 (λ e. omega arith) same x y
-same_operator Minus Minus same x y = refl
-same_operator Minus Times same x y = signs_differ 45 42 (λ e. omega arith) same x y
-same_operator Times Plus same x y = signs_differ 42 43 (λ e. omega arith) same x y
-same_operator Times Minus same x y = signs_differ 42 45 (λ e. omega arith) same x y
-same_operator Times Times same x y = refl
+-- operators that are written alike are one
+same_operator : (o p : Operator) → Sign (sign_of o) ≡ Sign (sign_of p) → o ≡ p
+same_operator Plus Plus e = refl
+same_operator Plus Minus e = cc
+same_operator Plus Times e = cc
+same_operator Minus Plus e = cc
+same_operator Minus Minus e = refl
+same_operator Minus Times e = cc
+same_operator Times Plus e = cc
+same_operator Times Minus e = cc
+same_operator Times Times e = refl
 
 -- an operator in one way
 pub operator_once : {rule : Rule} {o p : Operator} {from from' a b : Spot} → from ≡ from' → ReadsOperator rule o from a → ReadsOperator rule p from' b → SameOperator o p a b
 operator_once {o = o} {p} {from} {a = a} same x y =
-    let operator = same_operator o p same x.sign y.sign in
-    record { operator = operator; behind = takes_at same (subst (λ (q : Operator). Takes Sign (sign_of q) from a) operator x.sign) y.sign }
+    let operator = same_operator o p (kind_once same x.sign y.sign) in
+    record { operator = operator; behind = takes_at same (subst (λ (q : Operator). TakesSign (sign_of q) from a) operator x.sign) y.sign }
 
 -- what stands at a spot stands at the same spot by another name
 pub operator_from : {rule : Rule} {operator : Operator} {from from' to : Spot} → from ≡ from' → ReadsOperator rule operator from to → ReadsOperator rule operator from' to

@@ -1,21 +1,24 @@
 -- What a reader found, put together from what its parts found.
 use Rattle.std.proofs.Common.{◌≡◌, ℕ, ℤ, pos, List, [], ◌∷◌, ◌++◌, refl, sym, ap, subst, ◌∙◌, fold}
 use Rattle.std.proofs.lemmas.List.Sums.{fold-append}
-use Rattle.std.specs.Prelude.{codes}
+use Rattle.std.specs.Prelude.{codes, ◌^◌, ◌<◌}
+use Rattle.abs_lexer.specs.declared.lexeme.Keyword.TheVariants as word
+use Rattle.abs_lexer.specs.declared.lexeme.Lexeme.TheVariants.{UpperName, Word}
+use Rattle.abs_lexer.specs.declared.lexeme.Punctuator.TheVariants as punctuator
+use Rattle.abs_lexer.specs.Tokens.{TokenList}
 use mir.Val.{to_z, of_z}
 use mir.Syntax.{w128}
+use Rattle.abs_tree.specs.declared.place.Place.{Place}
 use Rattle.abs_tree.specs.declared.symbol.Symbol.{Symbol}
 use Rattle.abs_tree.specs.declared.program.Variable.TheVariants.{Named}
 use Rattle.abs_tree.specs.Names.{number_of_name, with_name}
-use Rattle.abs_tree.specs.Places.{start}
 use Rattle.abs_tree.specs.Trees.{ExprTree, StmtTree, Number, Local, Apply, NoMore, More, Declare, Assign, Print}
-use Rattle.abs_parser.specs.declared.cursor.Class.TheVariants.{Word, Equals, Sign}
-use Rattle.abs_parser.specs.Tokens.{Spot, past_white, Takes, TakesNumber, TakesName}
+use Rattle.abs_parser.specs.Tokens.{Spot, whole, place_of, Takes, TakesSign, TakesWritten, TakesNumber, TakesName}
 use Rattle.abs_parser.specs.Expressions.{symbol_of, ReadsPrimary, number, local, reads_sum}
 use Rattle.abs_parser.specs.Grammar.{expression_room, ReadsBinding, Opens, Closes, ReadsPrinted, ReadsStmt, declare, assign, print, ReadsBlock, ReadsProgram}
 use Rattle.abs_parser.specs.Answers.{GoesOn, Finds}
 use Rattle.abs_parser.proofs.NameLemmas.{goes_on_all, goes_on_further, goes_on_itself, number_stays}
-use Rattle.abs_parser.proofs.RunLemmas.{narrowed}
+use Rattle.abs_parser.proofs.DigitLemmas.{narrowed}
 
 -- a name that was found has its symbol in each program whose names go on with the table
 pub record IsNamed (symbol : Symbol) (name : List ℕ) (names words : List (List ℕ)) : Type 0 where
@@ -51,22 +54,22 @@ finds_both {old} {middle} {new} x y f = record {
     goes_on_read {old} x = rw x.table (goes_on_all old x.words)
 
 -- a number that was taken is found without a name
-pub finds_number : {table : List (List ℕ)} {from to : Spot} (z : ℤ) (value : ℕ) → z ≡ pos value → TakesNumber value from to
-    → Finds table table (λ names words. ReadsPrimary names from (Number from.place (to_z w128 (of_z w128 z))) words to)
-finds_number {from = from} {to} z value is x = record {
+pub finds_number : {table : List (List ℕ)} {place : Place} {from to : Spot} (z : ℤ) (value : ℕ) → place ≡ place_of from → z ≡ pos value → value < 2 ^ 127 → TakesNumber value from to
+    → Finds table table (λ names words. ReadsPrimary names from (Number place (to_z w128 (of_z w128 z))) words to)
+finds_number {place = place} {from} {to} z value here is fits x = record {
   words = [];
   table = refl;
-  read = λ names more. subst (λ (n : ℤ). ReadsPrimary names from (Number from.place n) [] to) (sym (narrowed z value is x.fits)) (number value to x);
+  read = λ names more. rw here (subst (λ (n : ℤ). ReadsPrimary names from (Number (place_of from) n) [] to) (sym (narrowed z value is fits)) (number value to x));
 }
 
 -- a name that was taken is read as a local
-pub reads_local : {symbol : Symbol} {name : List ℕ} {from to : Spot} → TakesName name from to → (names words : List (List ℕ)) → IsNamed symbol name names words
-    → ReadsPrimary names from (Local from.place (Named symbol)) words to
-reads_local {symbol} {name} {from} {to} x names words named = rw (named.symbol_is, named.words_are) (local name to x)
+pub reads_local : {symbol : Symbol} {name : List ℕ} {place : Place} {from to : Spot} → place ≡ place_of from → TakesName name from to → (names words : List (List ℕ)) → IsNamed symbol name names words
+    → ReadsPrimary names from (Local place (Named symbol)) words to
+reads_local {symbol} {name} {from = from} {to} here x names words named = rw (here, named.symbol_is, named.words_are) (local name to x)
 
 -- a name, and a sum behind "=", are read as a binding
-pub reads_binding : {symbol : Symbol} {name : List ℕ} {value : ExprTree} {from behind sum close to : Spot} → TakesName name from behind → Takes Equals (codes "=") behind sum
-    → Takes Sign (codes ";") close to → (names front behind : List (List ℕ)) → IsNamed symbol name names front → reads_sum expression_room names sum value behind close
+pub reads_binding : {symbol : Symbol} {name : List ℕ} {value : ExprTree} {from behind sum close to : Spot} → TakesName name from behind → TakesSign punctuator.Assign behind sum
+    → TakesSign punctuator.Semicolon close to → (names front behind : List (List ℕ)) → IsNamed symbol name names front → reads_sum expression_room names sum value behind close
     → ReadsBinding names from symbol value (front ++ behind) to
 reads_binding {name = name} {behind = behind_name} {sum} {close} word equal semicolon names front behind named reads = record {
   behind_name = behind_name;
@@ -82,11 +85,15 @@ reads_binding {name = name} {behind = behind_name} {sum} {close} word equal semi
   words_are = ap (λ (words : List (List ℕ)). words ++ behind) named.words_are;
 }
 
+-- applications of the same function at the same place are the same
+same_application : {p q : Place} {f g : Symbol} {value : ExprTree} → p ≡ q → f ≡ g → Apply p f (More value NoMore) ≡ Apply q g (More value NoMore)
+same_application e h = rw (e, h)
+
 -- "toString" and a sum behind it are read as a text that is printed
-pub reads_printed : {symbol : Symbol} {value text : ExprTree} {from function sum close to : Spot} → Takes Sign (codes "(") from function → Opens (codes "toString") function sum
-    → Closes close to → text ≡ Apply function.place symbol (More value NoMore) → (names front behind : List (List ℕ)) → IsNamed symbol (codes "toString") names front
+pub reads_printed : {symbol : Symbol} {value text : ExprTree} {place : Place} {from function sum close to : Spot} → TakesSign punctuator.OpenParen from function → Opens (codes "toString") function sum
+    → Closes close to → place ≡ place_of function → text ≡ Apply place symbol (More value NoMore) → (names front behind : List (List ℕ)) → IsNamed symbol (codes "toString") names front
     → reads_sum expression_room names sum value behind close → ReadsPrinted names from text (front ++ behind) to
-reads_printed {value = value} {function = function} {sum} {close} open_sign opens end text names front behind named reads = record {
+reads_printed {value = value} {function = function} {sum} {close} open_sign opens end here text names front behind named reads = record {
   function = function;
   sum = sum;
   close = close;
@@ -96,35 +103,35 @@ reads_printed {value = value} {function = function} {sum} {close} open_sign open
   opens = opens;
   reads = reads;
   end = end;
-  text_is = text ∙ ap (λ (s : Symbol). Apply function.place s (More value NoMore)) named.symbol_is;
+  text_is = text ∙ same_application here named.symbol_is;
   words_are = ap (λ (words : List (List ℕ)). words ++ behind) named.words_are;
 }
 
 -- "Int" and a binding behind it are read as a declaration, whose value stands in memory
-pub reads_declaration : {symbol : Symbol} {value stored : ExprTree} {from name to : Spot} → stored ≡ value → Takes Word (codes "Int") from name → (names words : List (List ℕ))
-    → ReadsBinding names name symbol value words to → ReadsStmt names from (Declare from.place name.place (Named symbol) stored) words to
-reads_declaration {symbol} {value} {name = name} {to} same int names words read = rw same (declare name symbol value words to int read)
+pub reads_declaration : {symbol : Symbol} {value stored : ExprTree} {place name_place : Place} {from name to : Spot} → place ≡ place_of from → name_place ≡ place_of name → stored ≡ value → TakesWritten UpperName (codes "Int") from name → (names words : List (List ℕ))
+    → ReadsBinding names name symbol value words to → ReadsStmt names from (Declare place name_place (Named symbol) stored) words to
+reads_declaration {symbol} {value} {name = name} {to} here there same int names words read = rw (here, there, same) (declare name symbol value words to int read)
 
 -- a binding is read as an assignment
-pub reads_assignment : {symbol : Symbol} {value stored : ExprTree} {from to : Spot} → stored ≡ value → (names words : List (List ℕ)) → ReadsBinding names from symbol value words to
-    → ReadsStmt names from (Assign from.place (Named symbol) stored) words to
-reads_assignment {symbol} {value} {to = to} same names words read = rw same (assign symbol value words to read)
+pub reads_assignment : {symbol : Symbol} {value stored : ExprTree} {place : Place} {from to : Spot} → place ≡ place_of from → stored ≡ value → (names words : List (List ℕ)) → ReadsBinding names from symbol value words to
+    → ReadsStmt names from (Assign place (Named symbol) stored) words to
+reads_assignment {symbol} {value} {to = to} here same names words read = rw (here, same) (assign symbol value words to read)
 
 -- "println" and a text that is printed are read as a statement that prints
-pub reads_print : {text stored : ExprTree} {from behind to : Spot} → stored ≡ text → Takes Word (codes "println") from behind → (names words : List (List ℕ))
-    → ReadsPrinted names behind text words to → ReadsStmt names from (Print from.place stored) words to
-reads_print {text} {behind = behind} {to} same println names words read = rw same (print behind text words to println read)
+pub reads_print : {text stored : ExprTree} {place : Place} {from behind to : Spot} → place ≡ place_of from → stored ≡ text → Takes (Word word.Println) from behind → (names words : List (List ℕ))
+    → ReadsPrinted names behind text words to → ReadsStmt names from (Print place stored) words to
+reads_print {text} {behind = behind} {to} here same println names words read = rw (here, same) (print behind text words to println read)
 
 -- "{" and a block up to the end of the text are read as a program
-pub reads_program : {text : List ℕ} {symbols : List (List ℕ)} {main : List StmtTree} {here begin end : Spot} → here ≡ past_white (record { rest = text; place = start })
-    → Takes Sign (codes "{") here begin → Finds [] symbols (λ names words. ReadsBlock names begin main words end) → end.rest ≡ []
-    → ReadsProgram text (record { names = symbols; main = main })
-reads_program {symbols = symbols} {begin = begin} {end} same open_sign found whole = record {
+pub reads_program : {list : TokenList} {symbols : List (List ℕ)} {main : List StmtTree} {here begin end : Spot} → here ≡ whole list
+    → TakesSign punctuator.OpenBrace here begin → Finds [] symbols (λ names words. ReadsBlock names begin main words end) → end.rest ≡ []
+    → ReadsProgram list (record { names = symbols; main = main })
+reads_program {symbols = symbols} {begin = begin} {end} same open_sign found nothing_behind = record {
   begin = begin;
   end = end;
   words = found.words;
-  begin_sign = subst (λ (s : Spot). Takes Sign (codes "{") s begin) same open_sign;
+  begin_sign = subst (λ (s : Spot). TakesSign punctuator.OpenBrace s begin) same open_sign;
   block = found.read symbols (goes_on_itself symbols);
-  whole = whole;
+  nothing_behind = nothing_behind;
   names = found.table;
 }

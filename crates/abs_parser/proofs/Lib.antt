@@ -1,7 +1,7 @@
 pub mod SpotLemmas
-pub mod RunLemmas
+pub mod KindLemmas
+pub mod DigitLemmas
 pub mod NameLemmas
-pub mod WordLemmas
 pub mod ExpressionLemmas
 pub mod GrammarLemmas
 pub mod FindLemmas

@@ -8,7 +8,7 @@ use Rattle.abs_tree.specs.declared.place.Place.{Place}
 use Rattle.abs_tree.specs.declared.program.Operand.{Operand}
 use Rattle.abs_tree.specs.Trees.{ExprTree, OperandTrees, Operators, NoOperand, Then, expr_tree, operands_of}
 use Rattle.abs_parser.specs.declared.expressions.Rule.{Rule}
-use Rattle.abs_parser.specs.Tokens.{Spot}
+use Rattle.abs_parser.specs.Tokens.{Spot, place_of}
 use Rattle.abs_parser.specs.Expressions.{Reading, ReadsOperator, NoOperator, ReadsOperands, last, operand, node_of, ReadsOperators}
 use Rattle.abs_parser.proofs.ExpressionLemmas.{Once, operator_once, operator_from}
 use Rattle.abs_parser.proofs.RefusalLemmas.{part_from}
@@ -84,9 +84,9 @@ some_whole (stop from to same) none = last from to same (λ operator at x. none 
 some_whole (go from at next to operator right rest f g words are sign x more) none = operand from at next to operator right rest f g words are sign x (some_whole more none)
 
 -- where no operator follows, that is all
-pub front_whole : {rule : Rule} {part : Reading} {names : List (List ℕ)} {from to : Spot} {first expr : ExprTree} {operands : OperandTrees} {words : List (List ℕ)}
-    → expr ≡ node_of from.place first operands → NoOperator rule to → ReadsFront rule part names from first operands words to → ReadsOperators rule part names from expr words to
-front_whole {first = first} {operands = operands} is none x = record {
+pub front_whole : {rule : Rule} {part : Reading} {names : List (List ℕ)} {place : Place} {from to : Spot} {first expr : ExprTree} {operands : OperandTrees} {words : List (List ℕ)}
+    → place ≡ place_of from → expr ≡ node_of place first operands → NoOperator rule to → ReadsFront rule part names from first operands words to → ReadsOperators rule part names from expr words to
+front_whole {first = first} {operands = operands} here is none x = record {
   next = x.next;
   first = first;
   operands = operands;
@@ -94,7 +94,7 @@ front_whole {first = first} {operands = operands} is none x = record {
   behind = x.behind;
   reads_first = x.reads_first;
   reads_operands = some_whole x.reads_some none;
-  expr_is = is;
+  expr_is = is ∙ ap (λ (place : Place). node_of place first operands) here;
   words_are = x.words_are;
 }
 
@@ -122,7 +122,7 @@ some_shorter shorter (stop from to same) = omega (arith, ap (λ (s : Spot). leng
 some_shorter shorter (go from at next to operator right rest front behind words are sign first more) =
     omega (arith, ap length are, length-append front behind, operator_shorter sign, shorter _ at right front next first, some_shorter shorter more)
 
--- what was read so far takes a byte for each word
+-- what was read so far takes a token for each word
 pub front_shorter : {rule : Rule} {part : Reading} {names : List (List ℕ)} {from to : Spot} {first : ExprTree} {operands : OperandTrees} {words : List (List ℕ)} → Shorter part
     → ReadsFront rule part names from first operands words to → length words + length to.rest ≤ length from.rest
 front_shorter {names = names} {from} {first = first} shorter x =

@@ -1,48 +1,33 @@
--- How much of a text is read: each word and each statement takes at least one byte off what is left, so there are no more of
--- them than the text has bytes.
-use Rattle.std.proofs.Common.{◌≡◌, ℕ, zero, suc, ◌+◌, ◌<◌, ◌≤◌, List, [], ap, length, drop, arith, length-append, length-drop}
+-- How much is read: each word and each statement takes at least one token off those that are left, so there are no more of
+-- them than tokens.
+use Rattle.std.proofs.Common.{ℕ, zero, suc, ◌+◌, ◌<◌, ◌≤◌, List, [], ap, length, arith, length-append}
 use Rattle.abs_tree.specs.declared.symbol.Symbol.{Symbol}
 use Rattle.abs_tree.specs.declared.operator.Operator.{Operator}
-use Rattle.abs_tree.specs.declared.operator.Operator.TheVariants.{Plus, Minus, Times}
 use Rattle.abs_tree.specs.Trees.{ExprTree, OperandTrees, StmtTree}
-use Rattle.abs_parser.specs.declared.cursor.Class.{Class}
-use Rattle.abs_parser.specs.declared.cursor.Class.TheVariants.{White}
-use Rattle.abs_parser.specs.Tokens.{Spot, run_of, Takes, TakesName}
+use Rattle.abs_parser.specs.Tokens.{Spot}
 use Rattle.abs_parser.specs.declared.expressions.Rule.{Rule}
 use Rattle.abs_parser.specs.declared.expressions.Rule.TheVariants.{Sum, Product}
 use Rattle.abs_parser.specs.Expressions.{Reading, ReadsPrimary, number, local, ReadsOperator, ReadsOperands, last, operand, ReadsOperators, ReadsUnaryOver, negate, group, primary, reads_unary, reads_sum, reads_part}
 use Rattle.abs_parser.specs.Grammar.{expression_room, ReadsBinding, ReadsPrinted, ReadsStmt, declare, assign, print, ReadsStmts, none, some, ReadsBlock}
 use Rattle.abs_parser.specs.Answers.{Finds}
 use Rattle.abs_parser.proofs.NameLemmas.{few_more, goes_on_itself}
-use Rattle.abs_parser.proofs.WordLemmas.{name_is_some}
+use Rattle.abs_parser.proofs.SpotLemmas.{takes_shorter, takes_written}
 
--- a token takes its bytes off what is left
-pub takes_shorter : {class : Class} {token : List ℕ} {from to : Spot} → Takes class token from to → length to.rest + length token ≤ length from.rest
-takes_shorter {class} {token} {from} {to} h =
-    let left : length to.rest ≡ length (drop (run_of White h.behind) h.behind) = ap (λ (s : Spot). length s.rest) h.to_is in
-    omega (arith, left, length-drop (run_of White h.behind) h.behind, ap length h.text, length-append token h.behind)
-
--- a name takes a byte
-name_shorter : {name : List ℕ} {from to : Spot} → TakesName name from to → length to.rest < length from.rest
-name_shorter x = omega (arith, name_is_some x, takes_shorter x.token)
-
--- a part of an expression takes a byte for each word
+-- a part of an expression takes a token for each word
 abbrev pub Shorter : Reading → Type 0
 Shorter part = (names : List (List ℕ)) (from : Spot) (expr : ExprTree) (words : List (List ℕ)) (to : Spot) → part names from expr words to
     → length words + length to.rest ≤ length from.rest
 
 -- a primary does
 primary_shorter : Shorter ReadsPrimary
-primary_shorter names from _ _ _ (number value to x) = omega (arith, takes_shorter x.token)
-primary_shorter names from _ _ _ (local name to x) = omega (arith, name_shorter x)
+primary_shorter names from _ _ _ (number value to x) = omega (arith, takes_shorter (takes_written x.takes))
+primary_shorter names from _ _ _ (local name to x) = omega (arith, takes_shorter (takes_written x))
 
--- an operator takes a byte
+-- an operator takes a token
 pub operator_shorter : {rule : Rule} {operator : Operator} {from to : Spot} → ReadsOperator rule operator from to → length to.rest < length from.rest
-operator_shorter {operator = Plus} x = omega (arith, takes_shorter x.sign)
-operator_shorter {operator = Minus} x = omega (arith, takes_shorter x.sign)
-operator_shorter {operator = Times} x = omega (arith, takes_shorter x.sign)
+operator_shorter x = omega (arith, takes_shorter x.sign)
 
--- operators with parts behind them take a byte for each word
+-- operators with parts behind them take a token for each word
 operands_shorter : {rule : Rule} {part : Reading} {names : List (List ℕ)} {from to : Spot} {operands : OperandTrees} {words : List (List ℕ)} → Shorter part
     → ReadsOperands rule part names from operands words to → length words + length to.rest ≤ length from.rest
 operands_shorter shorter (last from to same no_operator) = omega (arith, ap (λ (s : Spot). length s.rest) same)
@@ -64,7 +49,7 @@ over_shorter unaries sums names from _ _ _ (primary to expr words x) = primary_s
 mutual
   unfolding reads_unary reads_sum
 
-  -- a unary takes a byte for each word
+  -- a unary takes a token for each word
   unary_shorter : (room : ℕ) → Shorter (reads_unary room)
   unary_shorter zero names from expr words to x = absurd x
   unary_shorter (suc room) names from expr words to x = over_shorter (unary_shorter room) (sum_shorter room) names from expr words to x
@@ -79,16 +64,16 @@ pub part_shorter : (rule : Rule) (room : ℕ) → Shorter (reads_part rule room)
 part_shorter Sum room = operators_shorter Product (unary_shorter room)
 part_shorter Product room = unary_shorter room
 
--- no more names are found than bytes are taken
+-- no more names are found than tokens are taken
 pub few_found : {old new : List (List ℕ)} {reads : List (List ℕ) → List (List ℕ) → Type 0} (left all : ℕ) → Finds old new reads
     → ((names words : List (List ℕ)) → reads names words → length words + left ≤ all) → length new + left ≤ length old + all
 few_found {old} {new} left all x shorter =
     omega (arith, ap length x.table, few_more old x.words, shorter new x.words (x.read new (goes_on_itself new)))
 
--- a binding takes more bytes than it has words
+-- a binding takes more tokens than it has words
 binding_shorter : {names : List (List ℕ)} {from to : Spot} {symbol : Symbol} {value : ExprTree} {words : List (List ℕ)} → ReadsBinding names from symbol value words to
     → length words + length to.rest < length from.rest
-binding_shorter {value = value} x = omega (arith, ap length x.words_are, name_shorter x.name_word, takes_shorter x.equal_sign, sum_shorter expression_room _ x.sum value x.behind x.close x.reads, takes_shorter x.semicolon)
+binding_shorter {value = value} x = omega (arith, ap length x.words_are, takes_shorter (takes_written x.name_word), takes_shorter x.equal_sign, sum_shorter expression_room _ x.sum value x.behind x.close x.reads, takes_shorter x.semicolon)
 
 -- so does a text that is printed
 printed_shorter : {names : List (List ℕ)} {from to : Spot} {text : ExprTree} {words : List (List ℕ)} → ReadsPrinted names from text words to
@@ -98,7 +83,7 @@ printed_shorter x =
       arith,
       ap length x.words_are,
       takes_shorter x.open_sign,
-      takes_shorter x.opens.word,
+      takes_shorter (takes_written x.opens.word),
       takes_shorter x.opens.open_sign,
       sum_shorter expression_room _ x.sum x.value x.behind x.close x.reads,
       takes_shorter x.end.first,
@@ -109,11 +94,11 @@ printed_shorter x =
 -- and so does a statement
 pub stmt_shorter : {names : List (List ℕ)} {from to : Spot} {stmt : StmtTree} {words : List (List ℕ)} → ReadsStmt names from stmt words to
     → length words + length to.rest < length from.rest
-stmt_shorter (declare name symbol value words to int x) = omega (arith, takes_shorter int, binding_shorter x)
+stmt_shorter (declare name symbol value words to int x) = omega (arith, takes_shorter (takes_written int), binding_shorter x)
 stmt_shorter (assign symbol value words to x) = binding_shorter x
 stmt_shorter (print behind text words to println x) = omega (arith, takes_shorter println, printed_shorter x)
 
--- statements take a byte for each word
+-- statements take a token for each word
 few_words : {names : List (List ℕ)} {from to : Spot} {stmts : List StmtTree} {words : List (List ℕ)} → ReadsStmts names from stmts words to
     → length words + length to.rest ≤ length from.rest
 few_words (none from to same) = omega (arith, ap (λ (s : Spot). length s.rest) same)
@@ -126,7 +111,7 @@ few_stmts : {names : List (List ℕ)} {from to : Spot} {stmts : List StmtTree} {
 few_stmts (none from to same) = omega (arith, ap (λ (s : Spot). length s.rest) same)
 few_stmts (some from next to stmt stmts front behind words are first rest) = omega (arith, stmt_shorter first, few_stmts rest)
 
--- no more names are found in statements than the text has bytes
+-- no more names are found in statements than there are tokens
 pub few_symbols : {symbols : List (List ℕ)} {from to : Spot} {stmts : List StmtTree} → Finds [] symbols (λ names words. ReadsStmts names from stmts words to)
     → length symbols ≤ length from.rest
 few_symbols {symbols} x =

@@ -1,5 +1,6 @@
 -- What the readers' answers mean: what was found, and why nothing was.
-use Rattle.std.specs.Prelude.{◌≡◌, ℕ, List, ◌++◌, fold, ⊤}
+use Rattle.std.specs.Prelude.{◌≡◌, ℕ, List, ◌++◌, fold, Contains, ⊤}
+use Rattle.abs_lexer.specs.Tokens.{Lexed}
 use Rattle.abs_tree.specs.Names.{with_name}
 use Rattle.abs_tree.specs.declared.place.Place.{Place}
 use Rattle.abs_tree.specs.declared.refusal.Refusal.{Refusal}
@@ -45,8 +46,8 @@ pub record Finds (old new : List (List ℕ)) (reads : List (List ℕ) → List (
 abbrev pub FindsTree : Reading → List (List ℕ) → List (List ℕ) → Spot → ExprTree → Spot → Type 0
 FindsTree reading old new from expr to = Finds old new (λ names words. reading names from expr words to)
 
--- The piece stands in the text.
-pub record IsPiece (text piece : List ℕ) : Type 0 where
-  pub front : List ℕ
-  pub behind : List ℕ
-  pub is : text ≡ front ++ (piece ++ behind)
+-- one of the tokens is written so
+pub record IsWritten (tokens : List Lexed) (name : List ℕ) : Type 0 where
+  pub token : Lexed
+  pub among : Contains tokens token
+  pub is : name ≡ token.bytes

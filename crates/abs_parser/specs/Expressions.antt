@@ -1,11 +1,13 @@
--- The grammar of expressions, as a relation between what is read and its tree. Each rule says what it reads of a text, given
--- what its parts read.
+-- The grammar of expressions, as a relation between what is read and its tree. Each rule says what it reads of the tokens of
+-- a text, given what its parts read.
 --   Sum     = Mul {("+" | "-") Mul}
 --   Mul     = Unary {"*" Unary}
 --   Unary   = "-" Unary | "(" Sum ")" | Primary
 --   Primary = INT | LName
 -- A sum and a unary can be opened only where one more symbol may be open.
-use Rattle.std.specs.Prelude.{◌≡◌, ℕ, zero, suc, pos, List, [], ◌∷◌, ◌++◌, codes}
+use Rattle.std.specs.Prelude.{◌≡◌, ℕ, zero, suc, pos, List, [], ◌∷◌, ◌++◌}
+use Rattle.abs_lexer.specs.declared.lexeme.Punctuator.{Punctuator}
+use Rattle.abs_lexer.specs.declared.lexeme.Punctuator.TheVariants as punctuator
 use Rattle.abs_tree.specs.declared.operator.Operator.{Operator}
 use Rattle.abs_tree.specs.declared.operator.Operator.TheVariants.{Plus, Minus, Times}
 use Rattle.abs_tree.specs.declared.place.Place.{Place}
@@ -13,12 +15,11 @@ use Rattle.abs_tree.specs.declared.symbol.Symbol.{Symbol}
 use Rattle.abs_tree.specs.declared.program.Variable.TheVariants.{Named}
 use Rattle.abs_tree.specs.Names.{number_of_name}
 use Rattle.abs_tree.specs.Trees.{ExprTree, OperandTrees, Number, Local, Negate, Operators, NoOperand, Then}
-use Rattle.abs_parser.specs.declared.cursor.Class.TheVariants.{Sign}
 use Rattle.abs_parser.specs.declared.expressions.Rule.{Rule}
 use Rattle.abs_parser.specs.declared.expressions.Rule.TheVariants.{Sum, Product}
-use Rattle.abs_parser.specs.Tokens.{Spot, Takes, TakesNumber, TakesName}
+use Rattle.abs_parser.specs.Tokens.{Spot, place_of, TakesSign, TakesNumber, TakesName}
 
--- What is read of a text, in a program with these names: what stands from a spot on, its tree, the names in it, and the spot
+-- What is read of some tokens, in a program with these names: what stands from a spot on, its tree, the names in it, and the spot
 -- behind it.
 abbrev pub Reading : Type 1
 Reading = List (List ℕ) → Spot → ExprTree → List (List ℕ) → Spot → Type 0
@@ -29,9 +30,9 @@ symbol_of names name = record { 0 = number_of_name names name }
 
 -- INT | LName
 pub data ReadsPrimary (names : List (List ℕ)) (from : Spot) : ExprTree → List (List ℕ) → Spot → Type 0 where
-  number : (value : ℕ) (to : Spot) → TakesNumber value from to → ReadsPrimary names from (Number from.place (pos value)) [] to
+  number : (value : ℕ) (to : Spot) → TakesNumber value from to → ReadsPrimary names from (Number (place_of from) (pos value)) [] to
   local : (name : List ℕ) (to : Spot) → TakesName name from to
-      → ReadsPrimary names from (Local from.place (Named (symbol_of names name))) (name ∷ []) to
+      → ReadsPrimary names from (Local (place_of from) (Named (symbol_of names name))) (name ∷ []) to
 
 -- the rule in which an operator stands between operands
 abbrev pub rule_of : Operator → Rule
@@ -40,15 +41,15 @@ rule_of Minus = Sum
 rule_of Times = Product
 
 -- how an operator is written
-abbrev pub sign_of : Operator → List ℕ
-sign_of Plus = codes "+"
-sign_of Minus = codes "-"
-sign_of Times = codes "*"
+abbrev pub sign_of : Operator → Punctuator
+sign_of Plus = punctuator.Plus
+sign_of Minus = punctuator.Minus
+sign_of Times = punctuator.Star
 
 -- an operator of a rule
 pub record ReadsOperator (rule : Rule) (operator : Operator) (from to : Spot) : Type 0 where
   pub rule_is : rule_of operator ≡ rule
-  pub sign : Takes Sign (sign_of operator) from to
+  pub sign : TakesSign (sign_of operator) from to
 
 -- no operator of a rule stands here
 abbrev pub NoOperator : Rule → Spot → Type 0
@@ -75,15 +76,15 @@ pub record ReadsOperators (rule : Rule) (part : Reading) (names : List (List ℕ
   pub behind : List (List ℕ)
   pub reads_first : part names from first front next
   pub reads_operands : ReadsOperands rule part names next operands behind to
-  pub expr_is : expr ≡ node_of from.place first operands
+  pub expr_is : expr ≡ node_of (place_of from) first operands
   pub words_are : words ≡ front ++ behind
 
 -- "-" Unary | "(" Sum ")" | Primary, given what a unary and a sum read inside; parentheses leave no node
 pub data ReadsUnaryOver (unary sum : Reading) (names : List (List ℕ)) (from : Spot) : ExprTree → List (List ℕ) → Spot → Type 0 where
-  negate : (next to : Spot) (expr : ExprTree) (words : List (List ℕ)) → Takes Sign (codes "-") from next → unary names next expr words to
-      → ReadsUnaryOver unary sum names from (Negate from.place expr) words to
-  group : (next close to : Spot) (expr : ExprTree) (words : List (List ℕ)) → Takes Sign (codes "(") from next → sum names next expr words close
-      → Takes Sign (codes ")") close to → ReadsUnaryOver unary sum names from expr words to
+  negate : (next to : Spot) (expr : ExprTree) (words : List (List ℕ)) → TakesSign punctuator.Minus from next → unary names next expr words to
+      → ReadsUnaryOver unary sum names from (Negate (place_of from) expr) words to
+  group : (next close to : Spot) (expr : ExprTree) (words : List (List ℕ)) → TakesSign punctuator.OpenParen from next → sum names next expr words close
+      → TakesSign punctuator.CloseParen close to → ReadsUnaryOver unary sum names from expr words to
   primary : (to : Spot) (expr : ExprTree) (words : List (List ℕ)) → ReadsPrimary names from expr words to → ReadsUnaryOver unary sum names from expr words to
 
 -- nothing is read

@@ -1,4 +1,3 @@
-pub mod Words
 pub mod Tokens
 pub mod Expressions
 pub mod Grammar

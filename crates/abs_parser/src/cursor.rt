@@ -1,197 +1,160 @@
-//! A cursor over the text of a source: what is left of it, and the place where that begins, carried along byte by byte.
-ghost use Rattle.std.specs.Prelude.{◌≡◌, ℕ, ◌+◌, ◌^◌, ◌<◌, ◌≤◌, length, IfOk, IfErr, IfSome, IfNone, pos, List};
-ghost use Rattle.std.specs.Char.{is_ascii_digit};
-ghost use Rattle.std.specs.List.{AllPass};
-ghost use Rattle.std.specs.Str.Parse.{IsNumeral, digits_value};
+//! A cursor over the tokens of a text: which of them are left, and what the next one is.
+ghost use Rattle.std.specs.Prelude.{◌≡◌, ℕ, ◌^◌, ◌<◌, ◌≤◌, [], length, IfOk, IfErr, IfSome, IfNone, pos, List};
+ghost use Rattle.std.specs.Str.Parse.{digits_value};
+ghost use Rattle.abs_lexer.specs.Forms.{IsNumber};
 
-use crate::words::is_name;
+use abs_lexer::token::Tokens;
+use abs_lexer::{Lexeme, Token};
 use abs_tree::{Code, Offence, Place, Refusal};
 
-/// What the bytes of a token have in common, and the bytes with which it would go on.
-#[derive(Clone, Copy, Debug, PartialEq, Eq)]
-pub(crate) enum Class {
-    /// Space, tab, carriage return and line feed.
-    White,
-    /// The digits of a number.
-    Digit,
-    /// The letters, digits and `_` of a word.
-    Word,
-    /// The sign `=`, which would go on to `==` or `=>`.
-    Equals,
-    /// Any other sign, which goes on with no byte.
-    Sign,
-}
-
-impl Class {
-    ghost use Rattle.abs_parser.specs.Tokens.{is_in, run_of};
-
-    /// Whether a byte is one of the class.
-    fn has(self, byte: u8) -> bool
-        ensures { result ≡ is_in self byte }
-    {
-        match self {
-            Class::White => matches!(byte, b' ' | b'\t' | b'\r' | b'\n'),
-            Class::Digit => byte.is_ascii_digit(),
-            Class::Word => byte.is_ascii_alphanumeric() || byte == b'_',
-            Class::Equals => matches!(byte, b'=' | b'>'),
-            Class::Sign => false,
-        }
-    }
-
-    /// How many bytes of the class stand in front.
-    fn run(self, bytes: &[u8]) -> usize
-        ensures count { result ≡ run_of self bytes.now }
-        ensures within { result ≤ length bytes.now }
-    {
-        bytes.iter().take_while(|byte| self.has(**byte)).count()
-    }
-}
-
-/// What is left of a text, and the place where that begins.
+/// A place in a list of tokens: those from there on are left.
 #[derive(Clone, Copy)]
-pub(crate) struct Cursor<'a> {
-    pub rest: &'a [u8],
-    pub place: Place,
-    ghost in_text: { place.offset + length rest.now ≤ 1048576 },
-    ghost line: { place.line ≤ place.offset + 1 },
-    ghost column: { place.column ≤ place.offset + 1 },
+pub(crate) struct Cursor<'a, 'b> {
+    tokens: &'b Tokens<'a>,
+    index: usize,
+    ghost within: { index ≤ length tokens.now.tokens },
+    ghost few: { length tokens.now.tokens ≤ 1048576 },
 }
 
-impl<'a> Cursor<'a> {
-    ghost use Rattle.abs_tree.specs.Places.{start, behind};
-    ghost use Rattle.abs_parser.specs.Tokens.{Spot, moved, past_white, Takes, TakesNumber, TakesName};
+impl<'a, 'b> Cursor<'a, 'b> {
+    ghost use Rattle.abs_lexer.specs.Tokens.{IsWellFormed};
+    ghost use Rattle.abs_lexer.specs.Views.{lexed};
+    ghost use Rattle.abs_parser.specs.Tokens.{Spot, whole, place_of, TakesToken, Takes, TakesWritten, TakesName, TakesNumber};
     ghost use Rattle.abs_parser.specs.Answers.{refused_at, RefusesAt};
     ghost use Rattle.abs_parser.specs.Views.{spot};
 
-    /// The whole text.
-    pub fn new(text: &'a [u8]) -> Cursor<'a>
-        requires { length text.now ≤ 1048576 }
-        ensures { spot result ≡ record { rest = text.now; place = start } }
+    /// All the tokens.
+    pub fn new(tokens: &'b Tokens<'a>) -> Cursor<'a, 'b>
+        ensures { spot result ≡ whole tokens.now }
     {
-        let place = Place {
-            offset: 0,
-            line: 1,
-            column: 1,
-        };
-        Cursor { rest: text, place }
+        // read for the bound alone, which no clause of the list itself gives
+        let few = tokens.len() <= 1_048_576;
+        prove!(few);
+        Cursor { tokens, index: 0 }
     }
 
-    /// The cursor behind the next byte.
-    fn step(self) -> Cursor<'a>
-        requires { 0 < length self.rest.now }
-        ensures { spot result ≡ moved 1 (spot self.entry) }
+    /// The next token, and the cursor behind it.
+    pub fn next(self) -> Option<(Token<'a>, Cursor<'a, 'b>)>
+        ensures some { IfSome result (λ found. TakesToken (lexed found.0) (spot self.entry) (spot found.1)) }
+        ensures well_formed { IfSome result (λ found. IsWellFormed (lexed found.0)) }
+        ensures none { IfNone result ((spot self.entry).rest ≡ []) }
     {
-        let Place {
-            offset,
-            line,
-            column,
-        } = self.place;
-        let place = if self.rest[0] == b'\n' {
-            Place {
-                offset: offset + 1,
-                line: line + 1,
-                column: 1,
-            }
-        } else {
-            Place {
-                offset: offset + 1,
-                line,
-                column: column + 1,
-            }
+        if self.index >= self.tokens.len() {
+            return None;
+        }
+        let token = self.tokens.at(self.index);
+        let behind = Cursor {
+            tokens: self.tokens,
+            index: self.index + 1,
         };
-        Cursor {
-            rest: &self.rest[1..],
-            place,
+        Some((token, behind))
+    }
+
+    /// The place of the next token; the end of the text counts as one.
+    pub fn place(self) -> Place
+        ensures { result ≡ place_of (spot self.entry) }
+    {
+        match self.next() {
+            Some((token, _)) => token.place,
+            None => self.tokens.end(),
         }
     }
 
-    /// The cursor behind the next bytes, so many of them.
-    fn advance(self, count: usize) -> Cursor<'a>
-        requires { count ≤ length self.rest.now }
-        ensures { spot result ≡ moved count (spot self.entry) }
-    {
-        let mut cursor = self;
-        for _ in 0..count {
-            cursor = cursor.step();
-        }
-        cursor
-    }
-
-    /// The cursor behind all the white space that stands here.
-    pub fn past_white(self) -> Cursor<'a>
-        ensures { spot result ≡ past_white (spot self.entry) }
-    {
-        self.advance(Class::White.run(self.rest))
-    }
-
-    /// The refusal of what stands here.
+    /// The refusal of the token that stands here.
     pub fn unexpected(self) -> Refusal
-        ensures { result ≡ refused_at self.entry.place }
+        ensures { result ≡ refused_at (place_of (spot self.entry)) }
     {
         let offence = Offence {
             code: Code::S1,
-            place: self.place,
+            place: self.place(),
         };
         offence.refusal()
     }
 
-    /// The cursor behind a token that is to stand here, and behind the white space that follows it.
+    /// The token of this kind that is to stand here, and the cursor behind it.
     ///
     /// # Errors
-    /// The refusal of what stands here, where it is not that token.
-    pub fn take(self, class: Class, token: &[u8]) -> Result<Cursor<'a>, Refusal>
-        ensures found { IfOk result (λ to. Takes class token.now (spot self.entry) (spot to)) }
-        ensures refused { IfErr result (λ refusal. RefusesAt self.entry.place refusal ((to : Spot) → Takes class token.now (spot self.entry) to → ⊥)) }
+    /// The refusal of the token that stands here, where it is of another kind.
+    fn token(self, kind: Lexeme) -> Result<(Token<'a>, Cursor<'a, 'b>), Refusal>
+        ensures kind { IfOk result (λ found. found.0.kind ≡ kind) }
+        ensures found { IfOk result (λ found. TakesToken (lexed found.0) (spot self.entry) (spot found.1)) }
+        ensures well_formed { IfOk result (λ found. IsWellFormed (lexed found.0)) }
+        ensures refused { IfErr result (λ refusal. RefusesAt (place_of (spot self.entry)) refusal ((to : Spot) → Takes kind (spot self.entry) to → ⊥)) }
     {
-        if !self.rest.starts_with(token) {
+        let Some((token, behind)) = self.next() else {
+            return Err(self.unexpected());
+        };
+        if token.kind != kind {
             return Err(self.unexpected());
         }
-        let behind = self.advance(token.len());
-        if class.run(behind.rest) != 0 {
+        Ok((token, behind))
+    }
+
+    /// The cursor behind a token of this kind, which is to stand here.
+    ///
+    /// # Errors
+    /// The refusal of the token that stands here, where it is of another kind.
+    pub fn take(self, kind: Lexeme) -> Result<Cursor<'a, 'b>, Refusal>
+        ensures found { IfOk result (λ to. Takes kind (spot self.entry) (spot to)) }
+        ensures refused { IfErr result (λ refusal. RefusesAt (place_of (spot self.entry)) refusal ((to : Spot) → Takes kind (spot self.entry) to → ⊥)) }
+    {
+        let (_, behind) = self.token(kind)?;
+        Ok(behind)
+    }
+
+    /// The bytes, as they stand in the text, of the token of this kind that is to stand here and to be written so, and the
+    /// cursor behind it.
+    ///
+    /// # Errors
+    /// The refusal of the token that stands here, where it is another one.
+    pub fn written(self, kind: Lexeme, bytes: &[u8]) -> Result<(&'a [u8], Cursor<'a, 'b>), Refusal>
+        ensures bytes { IfOk result (λ found. found.0.now ≡ bytes.now) }
+        ensures found { IfOk result (λ found. TakesWritten kind bytes.now (spot self.entry) (spot found.1)) }
+        ensures refused { IfErr result (λ refusal. RefusesAt (place_of (spot self.entry)) refusal ((to : Spot) → TakesWritten kind bytes.now (spot self.entry) to → ⊥)) }
+    {
+        let (token, behind) = self.token(kind)?;
+        if token.slice != bytes {
             return Err(self.unexpected());
         }
-        Ok(behind.past_white())
+        Ok((token.slice, behind))
     }
 
-    /// The number that is to stand here, and the cursor behind it and the white space that follows it.
+    /// The name of a local that is to stand here, and the cursor behind it.
     ///
     /// # Errors
-    /// The refusal of what stands here, where it is no number of 128 bits.
-    pub fn number(self) -> Result<(i128, Cursor<'a>), Refusal>
-        ensures found { IfOk result (λ found. (number : ℕ) × (found.0 ≡ pos number) × TakesNumber number (spot self.entry) (spot found.1)) }
-        ensures refused { IfErr result (λ refusal. RefusesAt self.entry.place refusal ((number : ℕ) (to : Spot) → TakesNumber number (spot self.entry) to → ⊥)) }
-    {
-        let count = Class::Digit.run(self.rest);
-        let (digits, _) = self.rest.split_at(count);
-        match numeral(digits) {
-            Some(number) => Ok((number, self.advance(count).past_white())),
-            None => Err(self.unexpected()),
-        }
-    }
-
-    /// The name of a local that is to stand here, and the cursor behind it and the white space that follows it.
-    ///
-    /// # Errors
-    /// The refusal of what stands here, where it is no such name.
-    pub fn name(self) -> Result<(&'a [u8], Cursor<'a>), Refusal>
+    /// The refusal of the token that stands here, where it is no such name.
+    pub fn name(self) -> Result<(&'a [u8], Cursor<'a, 'b>), Refusal>
         ensures found { IfOk result (λ found. TakesName found.0.now (spot self.entry) (spot found.1)) }
-        ensures refused { IfErr result (λ refusal. RefusesAt self.entry.place refusal ((name : List ℕ) (to : Spot) → TakesName name (spot self.entry) to → ⊥)) }
+        ensures refused { IfErr result (λ refusal. RefusesAt (place_of (spot self.entry)) refusal ((name : List ℕ) (to : Spot) → TakesName name (spot self.entry) to → ⊥)) }
     {
-        let count = Class::Word.run(self.rest);
-        let (word, _) = self.rest.split_at(count);
-        if !is_name(word) {
-            return Err(self.unexpected());
-        }
-        Ok((word, self.advance(count).past_white()))
+        let (token, behind) = self.token(Lexeme::LowerName)?;
+        Ok((token.slice, behind))
+    }
+
+    /// The number that is to stand here, and the cursor behind it.
+    ///
+    /// # Errors
+    /// The refusal of the token that stands here, where it is no number.
+    pub fn number(self) -> Result<(i128, Cursor<'a, 'b>), Refusal>
+        ensures found { IfOk result (λ found. (number : ℕ) × (found.0 ≡ pos number) × (number < 2 ^ 127) × TakesNumber number (spot self.entry) (spot found.1)) }
+        ensures refused { IfErr result (λ refusal. RefusesAt (place_of (spot self.entry)) refusal ((number : ℕ) (to : Spot) → TakesNumber number (spot self.entry) to → ⊥)) }
+    {
+        let (token, behind) = self.token(Lexeme::Number)?;
+        Ok((numeral(token.slice), behind))
     }
 }
 
 /// The number that digits write.
-fn numeral(digits: &[u8]) -> Option<i128>
-    requires { AllPass is_ascii_digit digits.now }
-    ensures some { IfSome result (λ number. IsNumeral 10 digits.now × (digits_value 10 digits.now < 2 ^ 127) × (number ≡ pos (digits_value 10 digits.now))) }
-    ensures none { IfNone result (IsNumeral 10 digits.now → digits_value 10 digits.now < 2 ^ 127 → ⊥) }
+fn numeral(digits: &[u8]) -> i128
+    requires number { IsNumber digits.now }
+    requires fits { digits_value 10 digits.now < 2 ^ 127 }
+    ensures { result ≡ pos (digits_value 10 digits.now) }
 {
-    let text = str::from_utf8(digits).ok()?;
-    text.parse::<i128>().ok()
+    match str::from_utf8(digits) {
+        Ok(text) => match text.parse::<i128>() {
+            Ok(number) => number,
+            Err(_) => unreachable!(),
+        },
+        Err(_) => unreachable!(),
+    }
 }

@@ -1,15 +1,15 @@
 //! Reads expressions, by a number that falls with each symbol that is opened.
 ghost use Rattle.std.specs.Prelude.{◌≡◌, ◌+◌, ◌<◌, ◌^◌, length, IfOk, IfErr, IfSome, IfNone};
 ghost use Rattle.abs_tree.specs.Trees.{expr_tree, operands_of};
-ghost use Rattle.abs_parser.specs.Tokens.{Spot, Takes};
-ghost use Rattle.abs_parser.specs.declared.cursor.Class.TheVariants.{Sign};
+ghost use Rattle.abs_parser.specs.Tokens.{Spot, TakesSign};
 ghost use Rattle.abs_parser.specs.Expressions.{ReadsPrimary, ReadsOperator, NoOperator, ReadsOperators, ReadsNone, reads_unary, reads_sum, node_of, reads_part};
 ghost use Rattle.abs_parser.specs.Grammar.{expression_room};
 ghost use Rattle.abs_parser.specs.Answers.{FindsTree, RefusesFor};
 ghost use Rattle.abs_parser.specs.Views.{spot};
 
 use crate::ParseError;
-use crate::cursor::{Class, Cursor};
+use crate::cursor::Cursor;
+use abs_lexer::{Lexeme, Punctuator};
 use abs_tree::{Expr, Operand, Operator, Place, Symbols, Variable};
 use std::alloc::{AllocError, Global};
 
@@ -27,27 +27,27 @@ pub(crate) enum Rule {
 
 impl Rule {
     /// The operator of the rule that stands here, where one does, and the cursor behind it.
-    fn operator(self, from: Cursor<'_>) -> Option<(Operator, Cursor<'_>)>
+    fn operator<'a, 'b>(self, from: Cursor<'a, 'b>) -> Option<(Operator, Cursor<'a, 'b>)>
         ensures some { IfSome result (λ found. ReadsOperator self found.0 (spot from.entry) (spot found.1)) }
         ensures none { IfNone result (NoOperator self (spot from.entry)) }
     {
         match self {
-            Rule::Sum => match sign(Operator::Plus, b"+", from) {
+            Rule::Sum => match sign(Operator::Plus, Punctuator::Plus, from) {
                 Some(found) => Some(found),
-                None => sign(Operator::Minus, b"-", from),
+                None => sign(Operator::Minus, Punctuator::Minus, from),
             },
-            Rule::Product => sign(Operator::Times, b"*", from),
+            Rule::Product => sign(Operator::Times, Punctuator::Star, from),
         }
     }
 }
 
 /// The expression of a statement, and the cursor behind it.
-pub(crate) fn expression<'a>(
+pub(crate) fn expression<'a, 'b>(
     alloc: Global,
     symbols: &mut Symbols<'a>,
-    from: Cursor<'a>,
-) -> Result<(Expr, Cursor<'a>), ParseError>
-    requires { length symbols.old + length from.rest.now < 2 ^ 31 }
+    from: Cursor<'a, 'b>,
+) -> Result<(Expr, Cursor<'a, 'b>), ParseError>
+    requires { length symbols.old + length (spot from).rest < 2 ^ 31 }
     ensures found { IfOk result (λ found. FindsTree (reads_sum expression_room) symbols.old symbols.new
         (spot from.entry) (expr_tree found.0) (spot found.1)) }
     ensures refused { IfErr result (λ error. RefusesFor error (ReadsNone (reads_sum expression_room) (spot from.entry))) }
@@ -57,13 +57,13 @@ pub(crate) fn expression<'a>(
 
 /// A sum, where so many symbols may still be opened, and the cursor behind it.
 #[cycle(expressions)]
-fn sum<'a>(
+fn sum<'a, 'b>(
     alloc: Global,
     symbols: &mut Symbols<'a>,
     room: u32,
-    from: Cursor<'a>,
-) -> Result<(Expr, Cursor<'a>), ParseError>
-    requires { length symbols.old + length from.rest.now < 2 ^ 31 }
+    from: Cursor<'a, 'b>,
+) -> Result<(Expr, Cursor<'a, 'b>), ParseError>
+    requires { length symbols.old + length (spot from).rest < 2 ^ 31 }
     ensures found { IfOk result (λ found. FindsTree (reads_sum room) symbols.old symbols.new
         (spot from.entry) (expr_tree found.0) (spot found.1)) }
     ensures refused { IfErr result (λ error. RefusesFor error (ReadsNone (reads_sum room) (spot from.entry))) }
@@ -76,14 +76,14 @@ fn sum<'a>(
 
 /// Parts of a rule with its operators between them, and the cursor behind them.
 #[cycle(expressions)]
-fn operators<'a>(
+fn operators<'a, 'b>(
     alloc: Global,
     symbols: &mut Symbols<'a>,
     rule: Rule,
     room: u32,
-    from: Cursor<'a>,
-) -> Result<(Expr, Cursor<'a>), ParseError>
-    requires { length symbols.old + length from.rest.now < 2 ^ 31 }
+    from: Cursor<'a, 'b>,
+) -> Result<(Expr, Cursor<'a, 'b>), ParseError>
+    requires { length symbols.old + length (spot from).rest < 2 ^ 31 }
     ensures found { IfOk result (λ found. FindsTree (ReadsOperators rule (reads_part rule room)) symbols.old symbols.new
         (spot from.entry) (expr_tree found.0) (spot found.1)) }
     ensures refused { IfErr result (λ error. RefusesFor error (ReadsNone (ReadsOperators rule (reads_part rule room)) (spot from.entry))) }
@@ -95,19 +95,19 @@ fn operators<'a>(
         operands.push(Operand { operator, right })?;
         here = next;
     }
-    Ok((node(alloc, from.place, first, operands)?, here))
+    Ok((node(alloc, from.place(), first, operands)?, here))
 }
 
 /// A part of a rule, and the cursor behind it.
 #[cycle(expressions)]
-fn part<'a>(
+fn part<'a, 'b>(
     alloc: Global,
     symbols: &mut Symbols<'a>,
     rule: Rule,
     room: u32,
-    from: Cursor<'a>,
-) -> Result<(Expr, Cursor<'a>), ParseError>
-    requires { length symbols.old + length from.rest.now < 2 ^ 31 }
+    from: Cursor<'a, 'b>,
+) -> Result<(Expr, Cursor<'a, 'b>), ParseError>
+    requires { length symbols.old + length (spot from).rest < 2 ^ 31 }
     ensures found { IfOk result (λ found. FindsTree (reads_part rule room) symbols.old symbols.new
         (spot from.entry) (expr_tree found.0) (spot found.1)) }
     ensures refused { IfErr result (λ error. RefusesFor error (ReadsNone (reads_part rule room) (spot from.entry))) }
@@ -120,13 +120,13 @@ fn part<'a>(
 
 /// A unary, where so many symbols may still be opened, and the cursor behind it.
 #[cycle(expressions)]
-fn unary<'a>(
+fn unary<'a, 'b>(
     alloc: Global,
     symbols: &mut Symbols<'a>,
     room: u32,
-    from: Cursor<'a>,
-) -> Result<(Expr, Cursor<'a>), ParseError>
-    requires { length symbols.old + length from.rest.now < 2 ^ 31 }
+    from: Cursor<'a, 'b>,
+) -> Result<(Expr, Cursor<'a, 'b>), ParseError>
+    requires { length symbols.old + length (spot from).rest < 2 ^ 31 }
     ensures found { IfOk result (λ found. FindsTree (reads_unary room) symbols.old symbols.new
         (spot from.entry) (expr_tree found.0) (spot found.1)) }
     ensures refused { IfErr result (λ error. RefusesFor error (ReadsNone (reads_unary room) (spot from.entry))) }
@@ -134,42 +134,46 @@ fn unary<'a>(
     if room == 0 {
         return Err(ParseError::Refused(from.unexpected()));
     }
-    if let Ok(behind) = from.take(Class::Sign, b"-") {
+    if let Ok(behind) = from.take(Lexeme::Sign(Punctuator::Minus)) {
         let (negated, end) = unary(alloc, symbols, room - 1, behind)?;
-        return Ok((Expr::Negate(from.place, Box::new(alloc, negated)?), end));
+        return Ok((Expr::Negate(from.place(), Box::new(alloc, negated)?), end));
     }
-    if let Ok(behind) = from.take(Class::Sign, b"(") {
+    if let Ok(behind) = from.take(Lexeme::Sign(Punctuator::OpenParen)) {
         let (inside, close) = sum(alloc, symbols, room - 1, behind)?;
-        let end = close.take(Class::Sign, b")")?;
+        let end = close.take(Lexeme::Sign(Punctuator::CloseParen))?;
         return Ok((inside, end));
     }
     primary(symbols, from)
 }
 
 /// A number or a local, and the cursor behind it.
-fn primary<'a>(
+fn primary<'a, 'b>(
     symbols: &mut Symbols<'a>,
-    from: Cursor<'a>,
-) -> Result<(Expr, Cursor<'a>), ParseError>
+    from: Cursor<'a, 'b>,
+) -> Result<(Expr, Cursor<'a, 'b>), ParseError>
     requires { length symbols.old < 2 ^ 31 }
     ensures found { IfOk result (λ found. FindsTree ReadsPrimary symbols.old symbols.new
         (spot from.entry) (expr_tree found.0) (spot found.1)) }
     ensures refused { IfErr result (λ error. RefusesFor error (ReadsNone ReadsPrimary (spot from.entry))) }
 {
     if let Ok((number, behind)) = from.number() {
-        return Ok((Expr::Number(from.place, number), behind));
+        return Ok((Expr::Number(from.place(), number), behind));
     }
     let (name, behind) = from.name()?;
     let symbol = symbols.intern(name)?;
-    Ok((Expr::Local(from.place, Variable::Named(symbol)), behind))
+    Ok((Expr::Local(from.place(), Variable::Named(symbol)), behind))
 }
 
-/// An operator that is written so, where it stands here, and the cursor behind it.
-fn sign<'a>(operator: Operator, text: &[u8], from: Cursor<'a>) -> Option<(Operator, Cursor<'a>)>
-    ensures some { IfSome result (λ found. (found.0 ≡ operator) × Takes Sign text.now (spot from.entry) (spot found.1)) }
-    ensures none { IfNone result ((to : Spot) → Takes Sign text.now (spot from.entry) to → ⊥) }
+/// An operator that has this sign, where it stands here, and the cursor behind it.
+fn sign<'a, 'b>(
+    operator: Operator,
+    punctuator: Punctuator,
+    from: Cursor<'a, 'b>,
+) -> Option<(Operator, Cursor<'a, 'b>)>
+    ensures some { IfSome result (λ found. (found.0 ≡ operator) × TakesSign punctuator (spot from.entry) (spot found.1)) }
+    ensures none { IfNone result ((to : Spot) → TakesSign punctuator (spot from.entry) to → ⊥) }
 {
-    let behind = from.take(Class::Sign, text).ok()?;
+    let behind = from.take(Lexeme::Sign(punctuator)).ok()?;
     Some((operator, behind))
 }
 

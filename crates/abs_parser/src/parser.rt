@@ -1,24 +1,27 @@
 //! Reads a whole program: its main block, and nothing behind it.
-ghost use Rattle.std.specs.Prelude.{◌≡◌, ℕ, ◌+◌, ◌≤◌, List, [], length, map, All, IfOk, IfErr, ◌<◌, ◌^◌};
+ghost use Rattle.std.specs.Prelude.{◌≡◌, ℕ, ◌+◌, List, [], length, map, All, IfOk, IfErr, ◌<◌, ◌^◌};
 ghost use Rattle.abs_tree.specs.Trees.{ExprTree, StmtTree, ProgramTree, Apply, NoMore, More, expr_tree, stmt_tree, program_tree};
+ghost use Rattle.abs_lexer.specs.Tokens.{TokenList};
 ghost use Rattle.abs_parser.specs.Tokens.{Spot};
 ghost use Rattle.abs_parser.specs.Expressions.{ReadsNone};
 ghost use Rattle.abs_parser.specs.Grammar.{ReadsBinding, Opens, Closes, ReadsPrinted, ReadsStmt, ReadsBlock, ReadsProgram};
-ghost use Rattle.abs_parser.specs.Answers.{Finds, FindsTree, IsPiece, IsRefusal, RefusesFor};
+ghost use Rattle.abs_parser.specs.Answers.{Finds, FindsTree, IsRefusal, IsWritten, RefusesFor};
 ghost use Rattle.abs_parser.specs.Views.{spot};
 ghost use Rattle.abs_parser.specs.declared.parser.ParseError.TheVariants.{Memory, Refused};
 
-use crate::cursor::{Class, Cursor};
+use crate::cursor::Cursor;
 use crate::expressions::expression;
+use abs_lexer::token::Tokens;
+use abs_lexer::{Keyword, Lexeme, Punctuator};
 use abs_tree::{Expr, Place, Program, Refusal, Stmt, Symbol, Symbols, Variable};
 use std::alloc::{AllocError, AllocFailed, Global};
 use std::sync::Arc;
 use thiserror::Error;
 
-/// Why a text has no tree.
+/// Why tokens have no tree.
 #[derive(Clone, Copy, Debug, PartialEq, Eq, Error)]
 pub enum ParseError {
-    /// The text is not in the grammar; what can't stand where it does is refused.
+    /// The tokens are not in the grammar; the one that can't stand where it does is refused.
     #[error("the text is not in the grammar")]
     Refused(Refusal),
     /// Memory ran out.
@@ -50,31 +53,34 @@ impl From<Refusal> for ParseError {
     }
 }
 
-/// The cursor behind a name and `(`.
-fn opens<'a>(from: Cursor<'a>, name: &[u8]) -> Result<Cursor<'a>, Refusal>
-    ensures found { IfOk result (λ to. Opens name.now (spot from.entry) (spot to)) }
+/// A name that is written so, and `(`: its bytes, as they stand in the text, and the cursor behind them.
+fn opens<'a, 'b>(from: Cursor<'a, 'b>, name: &[u8]) -> Result<(&'a [u8], Cursor<'a, 'b>), Refusal>
+    ensures name { IfOk result (λ found. found.0.now ≡ name.now) }
+    ensures found { IfOk result (λ found. Opens name.now (spot from.entry) (spot found.1)) }
     ensures refused { IfErr result (λ refusal. IsRefusal refusal ((to : Spot) → Opens name.now (spot from.entry) to → ⊥)) }
 {
-    from.take(Class::Word, name)?.take(Class::Sign, b"(")
+    let (word, behind) = from.written(Lexeme::LowerName, name)?;
+    let to = behind.take(Lexeme::Sign(Punctuator::OpenParen))?;
+    Ok((word, to))
 }
 
 /// The cursor behind `)`, `)` and `;`.
-fn closes(from: Cursor<'_>) -> Result<Cursor<'_>, Refusal>
+fn closes<'a, 'b>(from: Cursor<'a, 'b>) -> Result<Cursor<'a, 'b>, Refusal>
     ensures found { IfOk result (λ to. Closes (spot from.entry) (spot to)) }
     ensures refused { IfErr result (λ refusal. IsRefusal refusal ((to : Spot) → Closes (spot from.entry) to → ⊥)) }
 {
-    from.take(Class::Sign, b")")?
-        .take(Class::Sign, b")")?
-        .take(Class::Sign, b";")
+    from.take(Lexeme::Sign(Punctuator::CloseParen))?
+        .take(Lexeme::Sign(Punctuator::CloseParen))?
+        .take(Lexeme::Sign(Punctuator::Semicolon))
 }
 
 /// A name, `=`, an expression and `;`: the symbol, the expression, and the cursor behind them.
-fn binding<'a>(
+fn binding<'a, 'b>(
     alloc: Global,
     symbols: &mut Symbols<'a>,
-    from: Cursor<'a>,
-) -> Result<(Symbol, Expr, Cursor<'a>), ParseError>
-    requires { length symbols.old + length from.rest.now < 2 ^ 31 }
+    from: Cursor<'a, 'b>,
+) -> Result<(Symbol, Expr, Cursor<'a, 'b>), ParseError>
+    requires { length symbols.old + length (spot from).rest < 2 ^ 31 }
     ensures found { IfOk result (λ found. Finds symbols.old symbols.new
         (λ names words. ReadsBinding names (spot from.entry) found.0 (expr_tree found.1) words (spot found.2))) }
     ensures refused { IfErr result (λ error. RefusesFor error ((names : List (List ℕ)) (symbol : Symbol) (value : ExprTree) (words : List (List ℕ)) (to : Spot)
@@ -82,29 +88,32 @@ fn binding<'a>(
 {
     let (name, behind) = from.name()?;
     let symbol = symbols.intern(name)?;
-    let (value, close) = expression(alloc, symbols, behind.take(Class::Equals, b"=")?)?;
-    let end = close.take(Class::Sign, b";")?;
+    let (value, close) = expression(
+        alloc,
+        symbols,
+        behind.take(Lexeme::Sign(Punctuator::Assign))?,
+    )?;
+    let end = close.take(Lexeme::Sign(Punctuator::Semicolon))?;
     Ok((symbol, value, end))
 }
 
 /// What stands behind `println`: the text that is printed, and the cursor behind the statement.
-fn printed<'a>(
+fn printed<'a, 'b>(
     alloc: Global,
     symbols: &mut Symbols<'a>,
-    from: Cursor<'a>,
-) -> Result<(Expr, Cursor<'a>), ParseError>
-    requires { length symbols.old + length from.rest.now < 2 ^ 31 }
+    from: Cursor<'a, 'b>,
+) -> Result<(Expr, Cursor<'a, 'b>), ParseError>
+    requires { length symbols.old + length (spot from).rest < 2 ^ 31 }
     ensures found { IfOk result (λ found. FindsTree ReadsPrinted symbols.old symbols.new
         (spot from.entry) (expr_tree found.0) (spot found.1)) }
     ensures refused { IfErr result (λ error. RefusesFor error (ReadsNone ReadsPrinted (spot from.entry))) }
 {
-    let function = from.take(Class::Sign, b"(")?;
-    let argument = opens(function, b"toString")?;
-    let (name, _) = function.rest.split_at(b"toString".len());
+    let function = from.take(Lexeme::Sign(Punctuator::OpenParen))?;
+    let (name, argument) = opens(function, b"toString")?;
     let symbol = symbols.intern(name)?;
     let (value, close) = expression(alloc, symbols, argument)?;
     let end = closes(close)?;
-    let text = application(alloc, function.place, symbol, value)?;
+    let text = application(alloc, function.place(), symbol, value)?;
     Ok((text, end))
 }
 
@@ -122,40 +131,43 @@ fn application(
 }
 
 /// A statement, and the cursor behind it.
-fn statement<'a>(
+fn statement<'a, 'b>(
     alloc: Global,
     symbols: &mut Symbols<'a>,
-    from: Cursor<'a>,
-) -> Result<(Stmt, Cursor<'a>), ParseError>
-    requires { length symbols.old + length from.rest.now < 2 ^ 31 }
+    from: Cursor<'a, 'b>,
+) -> Result<(Stmt, Cursor<'a, 'b>), ParseError>
+    requires { length symbols.old + length (spot from).rest < 2 ^ 31 }
     ensures found { IfOk result (λ found. Finds symbols.old symbols.new
         (λ names words. ReadsStmt names (spot from.entry) (stmt_tree found.0) words (spot found.1))) }
     ensures refused { IfErr result (λ error. RefusesFor error ((names : List (List ℕ)) (stmt : StmtTree) (words : List (List ℕ)) (to : Spot)
         → ReadsStmt names (spot from.entry) stmt words to → ⊥)) }
 {
-    if let Ok(name) = from.take(Class::Word, b"Int") {
+    if let Ok((_, name)) = from.written(Lexeme::UpperName, b"Int") {
         let (symbol, value, end) = binding(alloc, symbols, name)?;
         let value = Arc::new(alloc, value)?;
         let variable = Variable::Named(symbol);
-        return Ok((Stmt::Declare(from.place, name.place, variable, value), end));
+        return Ok((
+            Stmt::Declare(from.place(), name.place(), variable, value),
+            end,
+        ));
     }
-    if let Ok(behind) = from.take(Class::Word, b"println") {
+    if let Ok(behind) = from.take(Lexeme::Word(Keyword::Println)) {
         let (text, end) = printed(alloc, symbols, behind)?;
-        return Ok((Stmt::Print(from.place, Arc::new(alloc, text)?), end));
+        return Ok((Stmt::Print(from.place(), Arc::new(alloc, text)?), end));
     }
     let (symbol, value, end) = binding(alloc, symbols, from)?;
     let value = Arc::new(alloc, value)?;
     Ok((
-        Stmt::Assign(from.place, Variable::Named(symbol), value),
+        Stmt::Assign(from.place(), Variable::Named(symbol), value),
         end,
     ))
 }
 
 /// The statements of a block and their names, from behind its `{`, and the cursor behind its `}`.
-fn block<'a>(
+fn block<'a, 'b>(
     alloc: Global,
-    from: Cursor<'a>,
-) -> Result<(Symbols<'a>, Vec<Stmt>, Cursor<'a>), ParseError>
+    from: Cursor<'a, 'b>,
+) -> Result<(Symbols<'a>, Vec<Stmt>, Cursor<'a, 'b>), ParseError>
     ensures found { IfOk result (λ found. Finds [] found.0
         (λ names words. ReadsBlock names (spot from.entry) (map stmt_tree found.1.items) words (spot found.2))) }
     ensures refused { IfErr result (λ error. RefusesFor error ((names : List (List ℕ)) (stmts : List StmtTree) (words : List (List ℕ)) (to : Spot)
@@ -165,7 +177,7 @@ fn block<'a>(
     let mut main = Vec::new(alloc);
     let mut here = from;
     loop {
-        match here.take(Class::Sign, b"}") {
+        match here.take(Lexeme::Sign(Punctuator::CloseBrace)) {
             Ok(end) => return Ok((symbols, main, end)),
             Err(_) => {
                 let (stmt, behind) = statement(alloc, &mut symbols, here)?;
@@ -176,26 +188,25 @@ fn block<'a>(
     }
 }
 
-/// The tree of a program, from its text. Where the text is not in the grammar, the refusal is one by S1; it stands at
-/// the first token that can't stand where it does, which tests alone show.
+/// The tree of a program, from the tokens of its text. Where they are not in the grammar, the refusal is one by S1; it
+/// stands at the first token that can't stand where it does, which tests alone show.
 ///
 /// # Errors
-/// [`ParseError::Refused`] where the text has no tree, and [`ParseError::Memory`] where memory runs out.
-pub fn parse_text<'a>(alloc: Global, text: &'a [u8]) -> Result<Program<'a>, ParseError>
-    requires { length text.now ≤ 1048576 }
-    ensures found { IfOk result (λ program. ReadsProgram text.now (program_tree program)) }
-    ensures pieces { IfOk result (λ program. All (IsPiece text.now) program.symbols) }
-    ensures refused { IfErr result (λ error. RefusesFor error ((program : ProgramTree) → ReadsProgram text.now program → ⊥)) }
+/// [`ParseError::Refused`] where the tokens have no tree, and [`ParseError::Memory`] where memory runs out.
+pub fn parse<'a>(alloc: Global, list: &Tokens<'a>) -> Result<Program<'a>, ParseError>
+    ensures found { IfOk result (λ program. ReadsProgram list.now (program_tree program)) }
+    ensures names { IfOk result (λ program. All (IsWritten list.now.tokens) program.symbols) }
+    ensures refused { IfErr result (λ error. RefusesFor error ((program : ProgramTree) → ReadsProgram list.now program → ⊥)) }
 {
-    let begin = Cursor::new(text).past_white().take(Class::Sign, b"{")?;
+    let begin = Cursor::new(list).take(Lexeme::Sign(Punctuator::OpenBrace))?;
     let (symbols, main, end) = block(alloc, begin)?;
-    if !end.rest.is_empty() {
-        return Err(ParseError::Refused(end.unexpected()));
+    match end.next() {
+        Some(_) => Err(ParseError::Refused(end.unexpected())),
+        None => Ok(Program { symbols, main }),
     }
-    Ok(Program { symbols, main })
 }
 
-/// A text has at most one tree.
+/// The tokens of a text have at most one tree.
 pub fn one_tree()
-    ensures { (text : List ℕ) (first second : ProgramTree) → ReadsProgram text first → ReadsProgram text second → first ≡ second }
+    ensures { (list : TokenList) (first second : ProgramTree) → ReadsProgram list first → ReadsProgram list second → first ≡ second }
 {}

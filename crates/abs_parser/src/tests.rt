@@ -1,12 +1,12 @@
-//! Where a text is refused, of which the contract of `parse_text` says nothing; that texts are read at all; and the names
-//! and trees of some texts, worked out by hand.
+//! Where tokens are refused, of which the contract of `parse` says nothing; that texts are read at all; and the names and
+//! trees of some texts, worked out by hand.
 use super::*;
+use abs_lexer::lexer::tokens;
 use abs_tree::{Code, Expr, Place, Refusal, Stmt, Symbol, Variable};
 use std::alloc::{AllocError, Global};
 use std::test::Fail;
 
-/// A text is refused at the first token that can't stand where it does; a byte that begins no token, and a number past
-/// the limit, are refused at their place, and the end of the text counts as a token.
+/// A text is refused at the first token that can't stand where it does; the end of the text counts as a token.
 #[test]
 fn refused_texts(rt: HostRuntime) -> Result<(), Fail> {
     for (text, line, column) in [
@@ -57,21 +57,15 @@ fn refused_texts(rt: HostRuntime) -> Result<(), Fail> {
         // parentheses that are missing
         ("{ x = (1; }", 1, 9),
         ("{ x = 1); }", 1, 8),
-        // numbers: none, one with letters behind it, one past the limit
+        // numbers: none, and one with letters behind it
         ("{ println(toString()); }", 1, 20),
         ("{ println(toString(12a)); }", 1, 22),
-        (
-            "{ println(toString(170141183460469231731687303715884105728)); }",
-            1,
-            20,
-        ),
-        // bytes that begin no token, and what ends a line
-        ("{ # }", 1, 3),
-        ("{\u{b}}", 1, 2),
+        // what ends a line
         ("{\r\n\t}\r}", 2, 4),
     ] {
         assert!(rt; text.len() < 1048576);
-        let error = parse_text(rt.alloc(), text.as_bytes()).err();
+        let list = tokens(rt.alloc(), text.as_bytes())?;
+        let error = parse(rt.alloc(), &list).err();
         let refusal = Refusal {
             code: Code::S1,
             line,
@@ -97,7 +91,8 @@ fn nested_texts(rt: HostRuntime) -> Result<(), Fail> {
         let closes = close.repeat(alloc, count)?;
         let text = format!(in alloc; "{front}{opens}1{closes}{end}")?;
         assert!(rt; text.len() < 1048576);
-        let error = parse_text(alloc, text.as_bytes()).err();
+        let list = tokens(alloc, text.as_bytes())?;
+        let error = parse(alloc, &list).err();
         let wanted = refused.map(|column| {
             ParseError::Refused(Refusal {
                 code: Code::S1,
@@ -161,7 +156,8 @@ fn accepted_texts(rt: HostRuntime) -> Result<(), Fail> {
         ),
     ] {
         assert!(rt; text.len() < 1048576);
-        let program = parse_text(rt.alloc(), text.as_bytes())?;
+        let list = tokens(rt.alloc(), text.as_bytes())?;
+        let program = parse(rt.alloc(), &list)?;
         assert_eq!(rt; program.main.len(), numbers.len(), "of {text}");
         for (stmt, number) in program.main.iter().zip(numbers) {
             assert!(rt; prints(stmt, *number), "{number} of {text}");
@@ -198,7 +194,8 @@ fn names_in_order(rt: HostRuntime) -> Result<(), Fail> {
         ),
     ] {
         assert!(rt; text.len() < 1048576);
-        let program = parse_text(rt.alloc(), text.as_bytes())?;
+        let list = tokens(rt.alloc(), text.as_bytes())?;
+        let program = parse(rt.alloc(), &list)?;
         assert_eq!(rt; program.symbols.len(), names.len(), "of {text}");
         for (number, name) in (0u32..).zip(names) {
             assert_eq!(rt;
@@ -255,7 +252,8 @@ fn applies(expr: &Expr, function: Symbol, name: Symbol, wanted: Place) -> bool {
 #[test]
 fn a_tree(rt: HostRuntime) -> Result<(), Fail> {
     let text = b"{\n Int x = 7;\n x = y;\n println(\ttoString (x));\n}";
-    let program = parse_text(rt.alloc(), text)?;
+    let list = tokens(rt.alloc(), text)?;
+    let program = parse(rt.alloc(), &list)?;
     assert_eq!(rt; program.main.len(), 3);
     match &program.main[0] {
         Stmt::Declare(at, name, variable, value) => {
@@ -326,7 +324,8 @@ fn expression_trees(rt: HostRuntime) -> Result<(), Fail> {
         ("{ x = 1 - (2 - 3); }", "7[7:1 Minus 12[12:2 Minus 16:3]]"),
     ] {
         assert!(rt; text.len() < 1048576);
-        let program = parse_text(alloc, text.as_bytes())?;
+        let list = tokens(alloc, text.as_bytes())?;
+        let program = parse(alloc, &list)?;
         assert_eq!(rt; program.main.len(), 1, "of {text}");
         match &program.main[0] {
             Stmt::Assign(_, _, value) => assert_eq!(rt;

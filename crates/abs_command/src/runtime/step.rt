@@ -6,7 +6,7 @@ ghost use Rattle.abs_command.specs.declared.runtime.config.TaskCell.{TaskCell};
 
 use crate::runtime::config::{Cog, Config, Lines, State, TaskCell};
 use crate::runtime::evaluator;
-use abs_tree::{Evaluated, Expr, Fault, Named, Stmt, Text, Value, Variable};
+use abs_tree::{Evaluated, Fault, Named, Stmt, Text, Value, Variable};
 use std::alloc::{AllocError, Global};
 
 /// Whether a task has an event.

@@ -1,6 +1,12 @@
 use Rattle.std.proofs.Common.{rules}
-use Rattle.abs_parser.proofs.RunLemmas.{IsUtf8-digits}
+use Rattle.abs_lexer.proofs.NumberLemmas.{IsUtf8-digits}
+use Rattle.abs_parser.proofs.DigitLemmas.{numeral_of}
 use Rattle.abs_parser.proofs.cursor.numeral.Goals as goal
 
-pub returns-in_err-text-clause-none : goal.returns-in_err-text-clause-none
-returns-in_err-text-clause-none c = let valid = IsUtf8-digits c.args.digits.now c.requires in search (rules, c.from_utf8.ensures.cases, valid)
+pub unreachable-requires : goal.unreachable-requires
+unreachable-requires c =
+    let numeral = numeral_of c.requires.number in
+    search (rules, c.parse.ensures.value, numeral)
+
+pub unreachable-requires-in-Err : goal.unreachable-requires-in-Err
+unreachable-requires-in-Err c = c.in-Err.ensures.cases.0 (IsUtf8-digits c.args.digits.now c.requires.number.digits)

@@ -17,7 +17,7 @@ operators-loop-operator-init t c = record { read = finds_whole c.in_ok-first.ens
 
 pub operators-part-requires-in-Some : goal.operators-part-requires-in-Some
 operators-part-requires-in-Some t c =
-    let few = few_found (length c.loop-operator.here.rest.now) (length c.args.from.rest.now) c.loop-operator.invariant.read (λ names words x. front_shorter (part_shorter c.args.rule c.args.room) x) in
+    let few = few_found (length (spot c.loop-operator.here).rest) (length (spot c.args.from).rest) c.loop-operator.invariant.read (λ names words x. front_shorter (part_shorter c.args.rule c.args.room) x) in
     let shorter = operator_shorter c.in-Some.ensures.some in
     (search rules, omega arith)
 
@@ -43,7 +43,7 @@ operators-loop-operator-preserved t c = record {
 }
 
 pub operators-returns-clause-found : goal.operators-returns-clause-found
-operators-returns-clause-found t c = finds_whole c.loop-operator.invariant.read (λ names words x. front_whole c.in_ok-node.ensures c.in_default.ensures.none x)
+operators-returns-clause-found t c = finds_whole c.loop-operator.invariant.read (λ names words x. front_whole c.place.ensures c.in_ok-node.ensures c.in_default.ensures.none x)
 
 pub part-returns-in-Sum-clause-found : goal.part-returns-in-Sum-clause-found
 part-returns-in-Sum-clause-found t c = rw c.in-Sum.is c.operators.ensures.found
@@ -86,7 +86,7 @@ unary-returns-in_err-negated-clause-refused t c =
 pub unary-returns-in-Ok-clause-found : goal.unary-returns-in-Ok-clause-found
 unary-returns-in-Ok-clause-found t c =
     let is : c.args.room ≡ suc (c.args.room - 1) = omega arith in
-    finds_whole c.in_ok-negated.ensures.found (reads_negation c.args.room (c.args.room - 1) (spot c.in_ok-negated.end) is (ap expr_tree c.in_ok-new.ensures.ok) c.in-Ok.ensures.found)
+    finds_whole c.in_ok-negated.ensures.found (reads_negation c.args.room (c.args.room - 1) (spot c.in_ok-negated.end) is c.place.ensures (ap expr_tree c.in_ok-new.ensures.ok) c.in-Ok.ensures.found)
 
 pub unary-returns-in_err-inside-clause-refused : goal.unary-returns-in_err-inside-clause-refused
 unary-returns-in_err-inside-clause-refused t c =

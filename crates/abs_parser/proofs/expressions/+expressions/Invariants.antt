@@ -33,4 +33,4 @@ invariant-operators-loop-operator l = record {
 }
 
 abbrev pub decreases-operators-loop-operator : goal.decreases-operators-loop-operator
-decreases-operators-loop-operator l = length l.here.rest.now
+decreases-operators-loop-operator l = length (spot l.here).rest

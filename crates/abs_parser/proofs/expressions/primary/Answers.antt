@@ -4,7 +4,7 @@ use Rattle.abs_parser.proofs.RefusalLemmas.{refused_by_token, no_primary}
 use Rattle.abs_parser.proofs.expressions.primary.Goals as goal
 
 pub returns-in-Ok-clause-found : goal.returns-in-Ok-clause-found
-returns-in-Ok-clause-found c = finds_number c.in-Ok.number c.in-Ok.ensures.found.0 c.in-Ok.ensures.found.1 c.in-Ok.ensures.found.2
+returns-in-Ok-clause-found c = finds_number c.in-Ok.number c.in-Ok.ensures.found.0 c.place.ensures c.in-Ok.ensures.found.1 c.in-Ok.ensures.found.2 c.in-Ok.ensures.found.3
 
 pub returns-in_err-name-clause-refused : goal.returns-in_err-name-clause-refused
 returns-in_err-name-clause-refused c =
@@ -13,4 +13,4 @@ returns-in_err-name-clause-refused c =
 
 pub returns-clause-found : goal.returns-clause-found
 returns-clause-found c =
-    finds_whole (finds_name c.in_ok-symbol.symbol c.in_ok-symbol.ensures.symbol c.in_ok-symbol.ensures.names) (reads_local c.in_ok-name.ensures.found)
+    finds_whole (finds_name c.in_ok-symbol.symbol c.in_ok-symbol.ensures.symbol c.in_ok-symbol.ensures.names) (reads_local c.place-2.ensures c.in_ok-name.ensures.found)

@@ -1,4 +1,4 @@
-use Rattle.std.proofs.Common.{◌≡◌, ◌∙◌, ◌++◌, ◌∷◌, [], List, refl, ap, subst, sym, map, arith}
+use Rattle.std.proofs.Common.{◌≡◌, ◌∙◌, ◌++◌, ◌∷◌, [], List, refl, ap, subst, sym, map, arith, length-drop}
 use Rattle.std.proofs.lemmas.List.{map-append}
 use Rattle.std.proofs.lemmas.Result.{err_from_is_err_and}
 use Rattle.abs_tree.specs.Trees.{StmtTree, stmt_tree}
@@ -18,7 +18,10 @@ returns-in-Ok-clause-found c =
 pub statement-requires : goal.statement-requires
 statement-requires c =
     let few = few_symbols c.loop-end.invariant.read in
-    let text = c.args.from.in_text in
+    let rest = length-drop c.args.from.index c.args.from.tokens.now.tokens in
+    let all = c.args.from.few in
+    let left = length-drop c.loop-end.here.index c.loop-end.here.tokens.now.tokens in
+    let few_left = c.loop-end.here.few in
     omega arith
 
 pub returns-in_err-stmt-in-Err-clause-refused : goal.returns-in_err-stmt-in-Err-clause-refused

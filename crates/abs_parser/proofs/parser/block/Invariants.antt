@@ -11,4 +11,4 @@ invariant-loop-end l = record {
 }
 
 abbrev pub decreases-loop-end : goal.decreases-loop-end
-decreases-loop-end l = length l.here.rest.now
+decreases-loop-end l = length (spot l.here).rest

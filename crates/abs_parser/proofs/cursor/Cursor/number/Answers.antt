@@ -1,28 +1,29 @@
-use Rattle.std.proofs.Common.{◌≡◌, ◌∙◌, sym, ap, subst, ℕ, List, take}
-use Rattle.std.specs.Char.{is_ascii_digit}
-use Rattle.std.specs.Str.Parse.{IsNumeral, digits_value}
-use Rattle.abs_parser.specs.Tokens.{digits_at, past_white, moved, Takes}
-use Rattle.abs_parser.specs.Views.{spot}
-use Rattle.abs_parser.proofs.RunLemmas.{run_passes, narrowed}
-use Rattle.abs_parser.proofs.SpotLemmas.{takes_run}
-use Rattle.abs_parser.specs.declared.cursor.Class.TheVariants.{Digit}
+use Rattle.std.proofs.Common.{refl}
+use Rattle.std.specs.Str.Parse.{digits_value}
+use Rattle.std.proofs.lemmas.Result.{err_from_is_err_and}
+use Rattle.abs_parser.proofs.DigitLemmas.{number_digits, number_fits, narrowed}
+use Rattle.abs_parser.proofs.SpotLemmas.{takes_written, written_token}
 use Rattle.abs_parser.proofs.cursor.Cursor.number.Goals as goal
 
-pub numeral-requires : goal.numeral-requires
-numeral-requires c = rw (c.split_at.ensures.front, c.run-count.ensures.count) (run_passes is_ascii_digit c.args.self.rest.now)
+pub returns-in_err-token-clause-refused : goal.returns-in_err-token-clause-refused
+returns-in_err-token-clause-refused c =
+    let p = err_from_is_err_and c.from_residual.result c.from_residual.ensures.1 in
+    rw (p.1, p.2) (record { is = c.in_err-token.ensures.refused.is; why = λ number to x. c.in_err-token.ensures.refused.why to (takes_written x.takes) })
 
-pub returns-in-Some-clause-found : goal.returns-in-Some-clause-found
-returns-in-Some-clause-found c =
-    let found = c.in-Some.ensures.some in
-    let digits : c.split_at.result.0.now ≡ digits_at (spot c.args.self) =
-    c.split_at.ensures.front ∙ ap (λ (n : ℕ). take n c.args.self.rest.now) c.run-count.ensures.count in
-    let past = c.past_white.ensures ∙ ap past_white (c.advance.ensures ∙ ap (λ (n : ℕ). moved n (spot c.args.self)) c.run-count.ensures.count) in (
-      digits_value 10 c.split_at.result.0.now,
-      narrowed c.in-Some.number (digits_value 10 c.split_at.result.0.now) found.2 found.1,
-      record {
-        numeral = subst (λ (ds : List ℕ). IsNumeral 10 ds) digits found.0;
-        is = ap (digits_value 10) digits;
-        fits = found.1;
-        token = subst (Takes Digit (digits_at (spot c.args.self)) (spot c.args.self)) (sym past) (takes_run Digit (spot c.args.self));
-      },
-    )
+pub numeral-requires-clause-number : goal.numeral-requires-clause-number
+numeral-requires-clause-number c = number_digits c.in_ok-token.ensures.kind c.in_ok-token.ensures.well_formed
+
+pub numeral-requires-clause-fits : goal.numeral-requires-clause-fits
+numeral-requires-clause-fits c = number_fits c.in_ok-token.ensures.kind c.in_ok-token.ensures.well_formed
+
+pub returns-clause-found : goal.returns-clause-found
+returns-clause-found c = (
+  digits_value 10 c.in_ok-token.token.slice.now,
+  narrowed c.numeral.result (digits_value 10 c.in_ok-token.token.slice.now) c.numeral.ensures (number_fits c.in_ok-token.ensures.kind c.in_ok-token.ensures.well_formed),
+  number_fits c.in_ok-token.ensures.kind c.in_ok-token.ensures.well_formed,
+  record {
+    digits = c.in_ok-token.token.slice.now;
+    is = refl;
+    takes = written_token c.in_ok-token.ensures.kind c.in_ok-token.ensures.found;
+  },
+)

@@ -1,10 +1,10 @@
 use Rattle.std.proofs.Common.{◌≡◌}
-use Rattle.std.specs.Prelude.{Option, Some, None, IfNone, codes}
+use Rattle.std.specs.Prelude.{Option, Some, None, IfNone}
 use Rattle.abs_tree.specs.declared.operator.Operator.TheVariants.{Plus, Minus, Times}
-use Rattle.abs_parser.specs.declared.cursor.Class.TheVariants.{Sign}
+use Rattle.abs_lexer.specs.declared.lexeme.Punctuator.TheVariants as punctuator
 use Rattle.abs_parser.specs.declared.expressions.Rule.{Rule}
 use Rattle.abs_parser.specs.declared.expressions.Rule.TheVariants.{Sum, Product}
-use Rattle.abs_parser.specs.Tokens.{Spot, Takes}
+use Rattle.abs_parser.specs.Tokens.{Spot, TakesSign}
 use Rattle.abs_parser.specs.Expressions.{NoOperator}
 use Rattle.abs_parser.proofs.expressions.Rule.operator.Goals as goal
 
@@ -14,13 +14,13 @@ none_weaker (Some x) f h = h
 none_weaker None f h = f h
 
 -- a sum has two operators
-no_sum : {from : Spot} (rule : Rule) → rule ≡ Sum → ((to : Spot) → Takes Sign (codes "+") from to → ⊥) → ((to : Spot) → Takes Sign (codes "-") from to → ⊥) → NoOperator rule from
+no_sum : {from : Spot} (rule : Rule) → rule ≡ Sum → ((to : Spot) → TakesSign punctuator.Plus from to → ⊥) → ((to : Spot) → TakesSign punctuator.Minus from to → ⊥) → NoOperator rule from
 no_sum rule is no_plus no_minus Plus to x = no_plus to x.sign
 no_sum rule is no_plus no_minus Minus to x = no_minus to x.sign
 no_sum rule is no_plus no_minus Times to x = let is' = x.rule_is in cc
 
 -- and a product one
-no_product : {from : Spot} (rule : Rule) → rule ≡ Product → ((to : Spot) → Takes Sign (codes "*") from to → ⊥) → NoOperator rule from
+no_product : {from : Spot} (rule : Rule) → rule ≡ Product → ((to : Spot) → TakesSign punctuator.Star from to → ⊥) → NoOperator rule from
 no_product rule is no_times Plus to x = let is' = x.rule_is in cc
 no_product rule is no_times Minus to x = let is' = x.rule_is in cc
 no_product rule is no_times Times to x = no_times to x.sign

@@ -1,0 +1,138 @@
+-- Where bytes are no longer UTF-8, and where a comment ends, as the scanner finds it.
+use Rattle.std.proofs.Common.{◌≡◌, ℕ, zero, suc, ◌+◌, ◌<◌, ◌≤◌, Bool, true, false, List, [], ◌∷◌, ◌++◌, length, take, drop, refl, sym, ap, cond, subst, ◌∙◌, arith, length-append, ◌⊎◌, inl, inr}
+use Rattle.std.proofs.lemmas.Bool.{cases_lt, false≢true}
+use Rattle.std.proofs.lemmas.List.{take-append-drop, take_all}
+use Rattle.std.proofs.lemmas.Slice.Eq.{bytes_eq-Decides}
+use Rattle.std.proofs.lemmas.Str.{IsUtf8-nil, IsUtf8-from_is_utf8, is_utf8-from_IsUtf8, utf8_valid_len_le}
+use Rattle.std.specs.Prelude.{Some, codes, IsUtf8}
+use Rattle.std.specs.Str.{bytes_eq, is_utf8, IsValidUpTo}
+use Rattle.std.specs.Str.Lossy.{valid_len_up_to, utf8_valid_len}
+use Rattle.abs_lexer.specs.Forms.{NowhereIn}
+use Rattle.abs_lexer.specs.Scans.{block_end}
+use Rattle.abs_lexer.proofs.TextLemmas.{further_some}
+
+-- the front that the search for the longest one comes to is UTF-8
+front_by : (b : Bool) (bytes : List ℕ) (n m : ℕ) → is_utf8 (take n bytes) ≡ b → IsUtf8 (take m bytes) → IsUtf8 (take (cond b n m) bytes)
+front_by true bytes n m h rest = IsUtf8-from_is_utf8 (take n bytes) h
+front_by false bytes n m h rest = rest
+
+front_valid : (bytes : List ℕ) (n : ℕ) → IsUtf8 (take (valid_len_up_to bytes n) bytes)
+front_valid bytes zero = IsUtf8-nil
+front_valid bytes (suc n) = front_by (is_utf8 (take (suc n) bytes)) bytes (suc n) (valid_len_up_to bytes n) refl (front_valid bytes n)
+
+-- and no longer one is
+longer_by : (b : Bool) (bytes : List ℕ) (n k : ℕ) → is_utf8 (take (suc n) bytes) ≡ b → cond b (suc n) (valid_len_up_to bytes n) < k → k ≤ suc n
+    → (valid_len_up_to bytes n < k → k ≤ n → IsUtf8 (take k bytes) → ⊥) → IsUtf8 (take k bytes) → ⊥
+longer_by true bytes n k h above below rest valid = absurd (omega arith)
+longer_by false bytes n k h above below rest valid = last (cases_lt n k)
+  where
+    last : (n < k) ⊎ (k ≤ n) → ⊥
+    last (inr within) = rest above within valid
+    last (inl past) =
+        let same : k ≡ suc n = omega arith in
+        false≢true (sym h ∙ is_utf8-from_IsUtf8 (take (suc n) bytes) (subst (λ (m : ℕ). IsUtf8 (take m bytes)) same valid))
+
+longer_broken : (bytes : List ℕ) (n k : ℕ) → valid_len_up_to bytes n < k → k ≤ n → IsUtf8 (take k bytes) → ⊥
+longer_broken bytes zero k above below valid = absurd (omega arith)
+longer_broken bytes (suc n) k above below valid =
+    longer_by (is_utf8 (take (suc n) bytes)) bytes n k refl above below (λ a b v. longer_broken bytes n k a b v) valid
+
+-- bytes that are no UTF-8 stop being so behind the longest front that is
+pub broken : (bytes : List ℕ) → utf8_valid_len bytes < length bytes → IsValidUpTo bytes (utf8_valid_len bytes)
+unfolding utf8_valid_len
+broken bytes h = record { short = h; front = front_valid bytes (length bytes); longest = λ k above. last k above (cases_lt (length bytes) k) }
+  where
+    last : (k : ℕ) → valid_len_up_to bytes (length bytes) < k → (length bytes < k) ⊎ (k ≤ length bytes) → IsUtf8 (take k bytes) → ⊥
+    last k above (inr within) valid = longer_broken bytes (length bytes) k above within valid
+    last k above (inl past) valid =
+        longer_broken bytes (length bytes) (length bytes) h (omega arith)
+        (subst (λ (xs : List ℕ). IsUtf8 xs) (take_all k bytes (omega arith) ∙ sym (take_all (length bytes) bytes (omega arith))) valid)
+
+-- and those that don't stop are UTF-8
+pub unbroken : (bytes : List ℕ) → length bytes ≤ utf8_valid_len bytes → IsUtf8 bytes
+unfolding utf8_valid_len
+unbroken bytes h =
+    let all : valid_len_up_to bytes (length bytes) ≡ length bytes = omega (arith, utf8_valid_len_le bytes) in
+    subst (λ (xs : List ℕ). IsUtf8 xs) (ap (λ (n : ℕ). take n bytes) all ∙ take_all (length bytes) bytes (omega arith)) (front_valid bytes (length bytes))
+
+-- two bytes in front, where they are there
+pub two_in_front : (first second : ℕ) (bytes : List ℕ) → bytes_eq (take 2 bytes) (first ∷ second ∷ []) ≡ true → bytes ≡ first ∷ second ∷ drop 2 bytes
+two_in_front first second bytes h =
+    sym (take-append-drop 2 bytes) ∙ ap (λ (front : List ℕ). front ++ drop 2 bytes) ((bytes_eq-Decides (take 2 bytes) (first ∷ second ∷ [])).0 h)
+
+-- a comment ends at the first "*/"
+ends_here : (byte : ℕ) (others behind : List ℕ) → NowhereIn (byte ∷ others) (codes "*/") → bytes_eq (take 2 (byte ∷ (others ++ (codes "*/" ++ behind)))) (codes "*/") ≡ true → ⊥
+ends_here byte [] behind none h = let same = two_in_front 42 47 (byte ∷ 42 ∷ 47 ∷ behind) h in let second : ◌≡◌ {A = ℕ} 42 47 = cc in omega (arith, second)
+ends_here byte (next ∷ others) behind none h =
+    let same = two_in_front 42 47 (byte ∷ next ∷ (others ++ (codes "*/" ++ behind))) h in
+    let first : byte ≡ 42 = cc in
+    let second : next ≡ 47 = cc in
+    none [] others (rw (first, second) refl)
+
+-- the rest of what nowhere holds a piece holds it nowhere
+pub nowhere_rest : (byte : ℕ) (others piece : List ℕ) → NowhereIn (byte ∷ others) piece → NowhereIn others piece
+nowhere_rest byte others piece none front behind is = none (byte ∷ front) behind (ap (λ (bytes : List ℕ). byte ∷ bytes) is)
+
+-- what is not true is false
+pub true_or_false : (b : Bool) → (b ≡ true → ⊥) → b ≡ false
+true_or_false true h = absurd (h refl)
+true_or_false false h = refl
+
+pub block_ends : (inside behind : List ℕ) → NowhereIn inside (codes "*/") → block_end (inside ++ (codes "*/" ++ behind)) ≡ Some (length inside)
+unfolding block_end
+block_ends [] behind none = refl
+block_ends (byte ∷ others) behind none =
+    let here = true_or_false (bytes_eq (take 2 (byte ∷ (others ++ (codes "*/" ++ behind)))) (codes "*/")) (ends_here byte others behind none) in
+    let rest = block_ends others behind (nowhere_rest byte others (codes "*/") none) in
+    rw (here, rest) (ap (λ (n : ℕ). Some n) (omega arith))
+
+-- a comment that ends behind so many bytes
+pub record Ends (bytes : List ℕ) (count : ℕ) : Type 0 where
+  pub inside : List ℕ
+  pub behind : List ℕ
+  pub is : bytes ≡ inside ++ (codes "*/" ++ behind)
+  pub nowhere : NowhereIn inside (codes "*/")
+  pub count_is : length inside ≡ count
+
+ends_first : (bytes : List ℕ) (n : ℕ) → bytes_eq (take 2 bytes) (codes "*/") ≡ true → Some 0 ≡ Some n → Ends bytes n
+ends_first bytes n h e = record {
+  inside = [];
+  behind = drop 2 bytes;
+  is = two_in_front 42 47 bytes h;
+  nowhere = λ front behind is. let long = ap length is in omega (arith, long, length-append front (codes "*/" ++ behind));
+  count_is = cc;
+}
+
+-- a piece in front of two lists is in front of the first, where that is long enough
+not_in_front : (byte : ℕ) (inside behind : List ℕ) (rest : List ℕ) → bytes_eq (take 2 (byte ∷ (inside ++ rest))) (codes "*/") ≡ false → byte ∷ inside ≡ codes "*/" ++ behind → ⊥
+not_in_front byte [] behind rest h is = let long = ap length is in omega (arith, long)
+not_in_front byte (next ∷ inside) behind rest h is =
+    let first : byte ≡ 42 = cc in
+    let second : next ≡ 47 = cc in
+    let test : bytes_eq (byte ∷ next ∷ []) (codes "*/") ≡ true = rw (first, second) refl in
+    false≢true (sym h ∙ test)
+
+ends_later : (byte : ℕ) (others : List ℕ) (m n : ℕ) → bytes_eq (take 2 (byte ∷ others)) (codes "*/") ≡ false → Ends others m → n ≡ 1 + m → Ends (byte ∷ others) n
+ends_later byte others m n h x e = record {
+  inside = byte ∷ x.inside;
+  behind = x.behind;
+  is = ap (λ (bytes : List ℕ). byte ∷ bytes) x.is;
+  nowhere = nowhere;
+  count_is = omega (arith, x.count_is, e);
+}
+  where
+    nowhere : NowhereIn (byte ∷ x.inside) (codes "*/")
+    nowhere [] behind is =
+        not_in_front byte x.inside behind (codes "*/" ++ x.behind) (subst (λ (bytes : List ℕ). bytes_eq (take 2 (byte ∷ bytes)) (codes "*/") ≡ false) x.is h) is
+    nowhere (first ∷ front) behind is = x.nowhere front behind cc
+
+ends_by : (b : Bool) (byte : ℕ) (others : List ℕ) (n : ℕ) → bytes_eq (take 2 (byte ∷ others)) (codes "*/") ≡ b → block_end (byte ∷ others) ≡ Some n
+    → ((m : ℕ) → block_end others ≡ Some m → Ends others m) → Ends (byte ∷ others) n
+unfolding block_end
+ends_by true byte others n h e reads = ends_first (byte ∷ others) n h (rw h at e)
+ends_by false byte others n h e reads = let more = further_some 1 (block_end others) n (rw h at e) in ends_later byte others more.0 n h (reads more.0 more.1) more.2
+
+pub block_reads : (bytes : List ℕ) (n : ℕ) → block_end bytes ≡ Some n → Ends bytes n
+unfolding block_end
+block_reads [] n e = cc
+block_reads (byte ∷ others) n e = ends_by (bytes_eq (take 2 (byte ∷ others)) (codes "*/")) byte others n refl e (λ m x. block_reads others m x)

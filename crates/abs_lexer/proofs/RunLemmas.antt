@@ -1,0 +1,52 @@
+-- The run of bytes that pass a test in front of a list: all of it passes, and behind it stands none that does.
+use Rattle.std.proofs.Common.{◌≡◌, ℕ, suc, ◌+◌, ◌≤◌, Bool, true, false, List, [], ◌∷◌, ◌++◌, refl, cond, length, take, drop, arith, sym, subst, length-take}
+use Rattle.std.proofs.lemmas.Bool.Decides.{nat_tests}
+use Rattle.std.proofs.lemmas.List.Elements.{All-nil, All-cons, All-head, All-tail}
+use Rattle.std.specs.List.{AllPass, prefix_len}
+
+suc_is : (n : ℕ) → 1 + n ≡ suc n
+suc_is n = omega arith
+
+-- each byte of the run passes
+passes_by : (p : ℕ → Bool) (b : Bool) (x : ℕ) (xs : List ℕ) → p x ≡ b → AllPass p (take (prefix_len p xs) xs) → AllPass p (take (cond b (1 + prefix_len p xs) 0) (x ∷ xs))
+passes_by p true x xs e rest =
+    subst (λ (n : ℕ). AllPass p (take n (x ∷ xs))) (sym (suc_is (prefix_len p xs))) (All-cons (λ y. p y ≡ true) x (take (prefix_len p xs) xs) e rest)
+passes_by p false x xs e rest = All-nil (λ y. p y ≡ true)
+
+pub run_passes : (p : ℕ → Bool) (xs : List ℕ) → AllPass p (take (prefix_len p xs) xs)
+run_passes p [] = All-nil (λ x. p x ≡ true)
+run_passes p (x ∷ xs) = passes_by p (p x) x xs refl (run_passes p xs)
+
+-- behind the run stands no byte that passes
+ends_by : (p : ℕ → Bool) (b : Bool) (x : ℕ) (xs : List ℕ) → p x ≡ b → prefix_len p (drop (prefix_len p xs) xs) ≡ 0 → prefix_len p (drop (cond b (1 + prefix_len p xs) 0) (x ∷ xs)) ≡ 0
+ends_by p true x xs e rest = subst (λ (n : ℕ). prefix_len p (drop n (x ∷ xs)) ≡ 0) (sym (suc_is (prefix_len p xs))) rest
+ends_by p false x xs e rest = rw e refl
+
+pub run_ends : (p : ℕ → Bool) (xs : List ℕ) → prefix_len p (drop (prefix_len p xs) xs) ≡ 0
+run_ends p [] = refl
+run_ends p (x ∷ xs) = ends_by p (p x) x xs refl (run_ends p xs)
+
+-- the run is no longer than the list
+pub run_within : (p : ℕ → Bool) (xs : List ℕ) → prefix_len p xs ≤ length xs
+run_within p [] = omega arith
+run_within p (x ∷ xs) = within_by (p x) (run_within p xs)
+  where
+    within_by : (b : Bool) → prefix_len p xs ≤ length xs → cond b (1 + prefix_len p xs) 0 ≤ suc (length xs)
+    within_by true h = omega arith
+    within_by false h = omega arith
+
+-- the run of a list that passes goes on as far as that of what follows
+pub run_over : (p : ℕ → Bool) (xs ys : List ℕ) → AllPass p xs → prefix_len p (xs ++ ys) ≡ length xs + prefix_len p ys
+run_over p [] ys h = omega arith
+run_over p (x ∷ xs) ys h =
+    let passes : p x ≡ true = All-head (λ y. p y ≡ true) x xs h in
+    let rest = run_over p xs ys (All-tail (λ y. p y ≡ true) x xs h) in
+    rw (passes, rest) (omega arith)
+
+-- a list that passes, with none behind it that does, is the run
+pub run_is : (p : ℕ → Bool) (xs ys : List ℕ) → AllPass p xs → prefix_len p ys ≡ 0 → prefix_len p (xs ++ ys) ≡ length xs
+run_is p xs ys h none = omega (arith, run_over p xs ys h)
+
+-- the length of a front of a list
+pub length_front : (n : ℕ) (xs : List ℕ) → n ≤ length xs → length (take n xs) ≡ n
+length_front n xs h = grind (arith, nat_tests, length-take)

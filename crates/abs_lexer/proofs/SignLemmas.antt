@@ -1,0 +1,215 @@
+-- Signs: each is found by its bytes, the one of two bytes before the one of one; and so what begins with any other byte.
+use Rattle.std.proofs.Common.{◌≡◌, ℕ, ◌<◌, ◌≤◌, Bool, true, false, cond, List, [], ◌∷◌, ◌++◌, length, take, drop, refl, sym, ap, ◌∙◌, arith}
+use Rattle.std.proofs.Math.Seq.{take-append_seam}
+use Rattle.std.proofs.lemmas.Bool.{false≢true}
+use Rattle.std.proofs.lemmas.Bool.Decides.{Decides-eqb}
+use Rattle.std.proofs.lemmas.List.{take-append-drop}
+use Rattle.std.proofs.lemmas.Slice.Eq.{bytes_eq-Decides}
+use Rattle.std.specs.Prelude.{⊤, Option, Some, None}
+use Rattle.std.specs.Str.{bytes_eq}
+use Rattle.abs_tree.specs.declared.refusal.Code.TheVariants.{L1}
+use Rattle.abs_lexer.specs.declared.lexeme.Lexeme.{Lexeme}
+use Rattle.abs_lexer.specs.declared.lexeme.Lexeme.TheVariants.{Sign}
+use Rattle.abs_lexer.specs.declared.lexeme.Punctuator.{Punctuator}
+use Rattle.abs_lexer.specs.declared.lexeme.Punctuator.TheVariants as punctuator
+use Rattle.abs_lexer.specs.declared.piece.Piece.TheVariants.{Token, Offence}
+use Rattle.abs_lexer.specs.Words.{sign_text}
+use Rattle.abs_lexer.specs.Forms.{IsForm, opens_comment}
+use Rattle.abs_lexer.specs.Forms.IsForm.{sign as form_sign}
+use Rattle.abs_lexer.specs.Offences.OffendsAt.{stray_byte}
+use Rattle.abs_lexer.specs.Scans.{sign_among, long_signs, short_signs, long_sign, short_sign, sign_found, sign_at}
+use Rattle.abs_lexer.proofs.ClassLemmas.{Mark, class_of, test_of_class, FormOf, formed_in}
+use Rattle.abs_lexer.proofs.ClassLemmas.FormOf.{sign}
+use Rattle.abs_lexer.proofs.ScanLemmas.{Describes, longest_in}
+use Rattle.abs_lexer.proofs.ScanLemmas.Describes.{token, offence}
+
+-- a sign that is found among some is written so
+written_by : (b : Bool) (p q : Punctuator) (others : List Punctuator) (bytes : List ℕ) → bytes_eq (sign_text p) bytes ≡ b → cond b (Some p) (sign_among others bytes) ≡ Some q
+    → (sign_among others bytes ≡ Some q → sign_text q ≡ bytes) → sign_text q ≡ bytes
+written_by true p q others bytes h e rest = let same : p ≡ q = cc in ap sign_text (sym same) ∙ (bytes_eq-Decides (sign_text p) bytes).0 h
+written_by false p q others bytes h e rest = rest e
+
+written : (among : List Punctuator) (bytes : List ℕ) (q : Punctuator) → sign_among among bytes ≡ Some q → sign_text q ≡ bytes
+written [] bytes q e = cc
+written (p ∷ others) bytes q e = written_by (bytes_eq (sign_text p) bytes) p q others bytes refl e (written others bytes q)
+
+-- and has the size that they have
+abbrev EachHas : ℕ → List Punctuator → Type 0
+EachHas size [] = ⊤
+EachHas size (p ∷ others) = (length (sign_text p) ≡ size) × EachHas size others
+
+size_by : (b : Bool) (p q : Punctuator) (others : List Punctuator) (bytes : List ℕ) (size : ℕ) → cond b (Some p) (sign_among others bytes) ≡ Some q → length (sign_text p) ≡ size
+    → (sign_among others bytes ≡ Some q → length (sign_text q) ≡ size) → length (sign_text q) ≡ size
+size_by true p q others bytes size e h rest = let same : p ≡ q = cc in ap (λ (s : Punctuator). length (sign_text s)) (sym same) ∙ h
+size_by false p q others bytes size e h rest = rest e
+
+size_among : (among : List Punctuator) (bytes : List ℕ) (q : Punctuator) (size : ℕ) → EachHas size among → sign_among among bytes ≡ Some q → length (sign_text q) ≡ size
+size_among [] bytes q size h e = cc
+size_among (p ∷ others) bytes q size h e = size_by (bytes_eq (sign_text p) bytes) p q others bytes size e h.0 (size_among others bytes q size h.1)
+
+-- what the two scans for signs find
+record IsFound (bytes : List ℕ) (p : Punctuator) (size : ℕ) : Type 0 where
+  text : sign_text p ≡ bytes
+  size_is : length (sign_text p) ≡ size
+
+long_found : (bytes : List ℕ) (p : Punctuator) → long_sign bytes ≡ Some p → IsFound bytes p 2
+unfolding long_sign
+long_found bytes p e = record { text = written long_signs bytes p e; size_is = size_among long_signs bytes p 2 (refl, (refl, (refl, (refl, (refl, (refl, (refl, tt))))))) e }
+
+short_found : (bytes : List ℕ) (p : Punctuator) → short_sign bytes ≡ Some p → IsFound bytes p 1
+unfolding short_sign
+short_found bytes p e = record {
+  text = written short_signs bytes p e;
+  size_is = size_among short_signs bytes p 1
+      (refl, (refl, (refl, (refl, (refl, (refl, (refl, (refl, (refl, (refl, (refl, (refl, (refl, (refl, (refl, (refl, (refl, (refl, (refl, (refl, tt)))))))))))))))))))) e;
+}
+
+-- each sign has one byte or two, and is found by them
+pub data SizeOf (p : Punctuator) : Type 0 where
+  short : length (sign_text p) ≡ 1 → short_sign (sign_text p) ≡ Some p → SizeOf p
+  long : length (sign_text p) ≡ 2 → long_sign (sign_text p) ≡ Some p → SizeOf p
+
+size_of : (p : Punctuator) → SizeOf p
+unfolding short_sign long_sign
+size_of punctuator.OpenParen = short refl refl
+size_of punctuator.CloseParen = short refl refl
+size_of punctuator.OpenBrace = short refl refl
+size_of punctuator.CloseBrace = short refl refl
+size_of punctuator.Less = short refl refl
+size_of punctuator.Greater = short refl refl
+size_of punctuator.Comma = short refl refl
+size_of punctuator.Semicolon = short refl refl
+size_of punctuator.Dot = short refl refl
+size_of punctuator.Assign = short refl refl
+size_of punctuator.Equal = long refl refl
+size_of punctuator.NotEqual = long refl refl
+size_of punctuator.LessEqual = long refl refl
+size_of punctuator.GreaterEqual = long refl refl
+size_of punctuator.Plus = short refl refl
+size_of punctuator.Minus = short refl refl
+size_of punctuator.Star = short refl refl
+size_of punctuator.Slash = short refl refl
+size_of punctuator.Percent = short refl refl
+size_of punctuator.Not = short refl refl
+size_of punctuator.Tilde = short refl refl
+size_of punctuator.Question = short refl refl
+size_of punctuator.Bar = short refl refl
+size_of punctuator.Or = long refl refl
+size_of punctuator.And = long refl refl
+size_of punctuator.Arrow = long refl refl
+size_of punctuator.Underscore = short refl refl
+
+-- the front of some bytes that begin with a sign
+front_is : {bytes : List ℕ} (p : Punctuator) (piece behind : List ℕ) (size : ℕ) → bytes ≡ piece ++ behind → piece ≡ sign_text p → length (sign_text p) ≡ size → take size bytes ≡ sign_text p
+front_is {bytes} p piece behind size is e sized =
+    let size_is : size ≡ length piece = sym sized ∙ ap length (sym e) in
+    ap (λ (n : ℕ). take n bytes) size_is ∙ (ap (λ (bs : List ℕ). take (length piece) bs) is ∙ (take-append_seam piece behind ∙ e))
+
+-- no sign of two bytes stands in front
+abbrev NoLong : List ℕ → Type 0
+NoLong bytes = (q : Punctuator) → long_sign (take 2 bytes) ≡ Some q → ⊥
+
+none_long : (found : Option Punctuator) → ((q : Punctuator) → found ≡ Some q → ⊥) → found ≡ None
+none_long None none = refl
+none_long (Some q) none = absurd (none q refl)
+
+-- the longest sign in front is found
+pub sign_is_found : {bytes : List ℕ} (p : Punctuator) (piece behind : List ℕ) → bytes ≡ piece ++ behind → piece ≡ sign_text p
+    → ((q : Punctuator) (more : List ℕ) → bytes ≡ sign_text q ++ more → length (sign_text q) ≤ length piece) → sign_at bytes ≡ Token (Sign p) (length piece)
+unfolding sign_at
+sign_is_found {bytes} p piece behind is e longest = by (size_of p)
+  where
+    by : SizeOf p → sign_found (long_sign (take 2 bytes)) (short_sign (take 1 bytes)) ≡ Token (Sign p) (length piece)
+    by (long two known) =
+        let found : long_sign (take 2 bytes) ≡ Some p = ap long_sign (front_is p piece behind 2 is e two) ∙ known in
+        rw found (ap (λ (n : ℕ). Token (Sign p) n) (sym (ap length e ∙ two)))
+    by (short one known) =
+        let none = none_long (long_sign (take 2 bytes)) (λ q found.
+        let x = long_found (take 2 bytes) q found in
+        let few = longest q (drop 2 bytes) (sym (take-append-drop 2 bytes) ∙ ap (λ (f : List ℕ). f ++ drop 2 bytes) (sym x.text)) in
+        omega (arith, few, x.size_is, ap length e, one)) in
+        let found : short_sign (take 1 bytes) ≡ Some p = ap short_sign (front_is p piece behind 1 is e one) ∙ known in
+        rw (none, found) (ap (λ (n : ℕ). Token (Sign p) n) (sym (ap length e ∙ one)))
+
+-- where a sign stands in front, one is found
+not_none : (bytes : List ℕ) (q : Punctuator) (more : List ℕ) → bytes ≡ sign_text q ++ more → long_sign (take 2 bytes) ≡ None → short_sign (take 1 bytes) ≡ None → ⊥
+not_none bytes q more is no_long no_short = by (size_of q)
+  where
+    by : SizeOf q → ⊥
+    by (long two known) = let clash : None ≡ Some q = sym no_long ∙ (ap long_sign (front_is q (sign_text q) more 2 is refl two) ∙ known) in cc
+    by (short one known) = let clash : None ≡ Some q = sym no_short ∙ (ap short_sign (front_is q (sign_text q) more 1 is refl one) ∙ known) in cc
+
+-- what begins with any other byte
+pub describe_sign : (byte : ℕ) (others : List ℕ) → class_of byte ≡ Mark → opens_comment (byte ∷ others) ≡ false → Describes (byte ∷ others) (sign_at (byte ∷ others))
+unfolding sign_at
+describe_sign byte others class no_comment = by (long_sign (take 2 bytes)) (short_sign (take 1 bytes)) refl refl
+  where
+    bytes : List ℕ
+    bytes = byte ∷ others
+
+    signed : {kind : Lexeme} (piece more : List ℕ) → bytes ≡ piece ++ more → IsForm kind piece → (q : Punctuator) × (piece ≡ sign_text q)
+    signed {kind} piece more is x = of (formed_in piece more is class x)
+      where
+        of : FormOf kind piece Mark → (q : Punctuator) × (piece ≡ sign_text q)
+        of (sign q e k) = (q, e)
+
+    within : (q : Punctuator) → length (sign_text q) ≤ 2
+    within q = of (size_of q)
+      where
+        of : SizeOf q → length (sign_text q) ≤ 2
+        of (short one known) = omega arith
+        of (long two known) = omega arith
+
+    in_front : (p : Punctuator) (size : ℕ) → IsFound (take size bytes) p size → bytes ≡ sign_text p ++ drop size bytes
+    in_front p size x = sym (take-append-drop size bytes) ∙ ap (λ (f : List ℕ). f ++ drop size bytes) (sym x.text)
+
+    one_byte : (q : Punctuator) (more : List ℕ) → bytes ≡ sign_text q ++ more → long_sign (take 2 bytes) ≡ None → length (sign_text q) ≤ 1
+    one_byte q more is none = of (size_of q)
+      where
+        of : SizeOf q → length (sign_text q) ≤ 1
+        of (short one known) = omega arith
+        of (long two known) = let clash : None ≡ Some q = sym none ∙ (ap long_sign (front_is q (sign_text q) more 2 is refl two) ∙ known) in absurd cc
+
+    by : (long_one short_one : Option Punctuator) → long_sign (take 2 bytes) ≡ long_one → short_sign (take 1 bytes) ≡ short_one → Describes bytes (sign_found long_one short_one)
+    by (Some p) short_one l s =
+        let x = long_found (take 2 bytes) p l in
+        token (Sign p) (sign_text p) (drop 2 bytes) 2 (in_front p 2 x) no_comment
+        (longest_in (in_front p 2 x) (form_sign p refl refl) (λ other longer more e y.
+        let q = signed longer more e y in omega (arith, ap length q.1, within q.0, x.size_is))) tt (sym x.size_is)
+    by None (Some p) l s =
+        let x = short_found (take 1 bytes) p s in
+        token (Sign p) (sign_text p) (drop 1 bytes) 1 (in_front p 1 x) no_comment
+        (longest_in (in_front p 1 x) (form_sign p refl refl) (λ other longer more e y.
+        let q = signed longer more e y in
+        omega (arith, ap length q.1, one_byte q.0 more (e ∙ ap (λ (f : List ℕ). f ++ more) q.1) l, x.size_is))) tt (sym x.size_is)
+    by None None l s =
+        let tests = test_of_class Mark byte class in
+        offence L1 0 (λ place. stray_byte (record {
+          byte = byte;
+          others = others;
+          is = refl;
+          no_white = tests.0;
+          no_quote = λ e. false≢true (sym tests.1 ∙ (Decides-eqb byte 34).1 e);
+          no_comment = no_comment;
+          no_token = λ kind piece behind e y. let q = signed piece behind e y in not_none bytes q.0 behind (e ∙ ap (λ (f : List ℕ). f ++ behind) q.1) l s;
+        })) (omega arith)
+
+-- where no sign stands in front, none is found
+pub no_sign_found : (bytes : List ℕ) → ((p : Punctuator) (behind : List ℕ) → bytes ≡ sign_text p ++ behind → ⊥) → sign_at bytes ≡ Offence L1 0
+unfolding sign_at
+no_sign_found bytes none = by (long_sign (take 2 bytes)) (short_sign (take 1 bytes)) refl refl
+  where
+    by : (long_one short_one : Option Punctuator) → long_sign (take 2 bytes) ≡ long_one → short_sign (take 1 bytes) ≡ short_one → sign_found long_one short_one ≡ Offence L1 0
+    by (Some p) short_one l s =
+        absurd (none p (drop 2 bytes) (sym (take-append-drop 2 bytes) ∙ ap (λ (f : List ℕ). f ++ drop 2 bytes) (sym (long_found (take 2 bytes) p l).text)))
+    by None (Some p) l s =
+        absurd (none p (drop 1 bytes) (sym (take-append-drop 1 bytes) ∙ ap (λ (f : List ℕ). f ++ drop 1 bytes) (sym (short_found (take 1 bytes) p s).text)))
+    by None None l s = refl
+
+-- every sign has a byte
+pub sign_some : (p : Punctuator) → 0 < length (sign_text p)
+sign_some p = of (size_of p)
+  where
+    of : SizeOf p → 0 < length (sign_text p)
+    of (short one known) = omega arith
+    of (long two known) = omega arith

@@ -1,0 +1,179 @@
+-- Texts and comments as the scanner finds them: where a text closes, which escape is none, where the bytes are no longer UTF-8,
+-- and where a comment ends.
+use Rattle.std.proofs.Common.{◌≡◌, ℕ, suc, ◌+◌, ◌≤◌, ◌==◌, ◌||◌, not, Bool, true, false, List, [], ◌∷◌, ◌++◌, length, refl, ap, cond, ◌∙◌, arith}
+use Rattle.std.proofs.lemmas.Bool.Decides.{Decides-eqb}
+use Rattle.std.specs.Prelude.{Option, Some, None}
+use Rattle.abs_lexer.specs.Forms.{is_escape, is_on_line, is_plain, IsInside}
+use Rattle.abs_lexer.specs.Forms.IsInside.{nothing, plain, escaped}
+use Rattle.abs_lexer.specs.Scans.{further, closing, closing_behind, bad_escape}
+
+-- What stands in a text for itself is no quote, no `\` and no line feed.
+record IsOther (byte : ℕ) : Type 0 where
+  quote : (byte == 34) ≡ false
+  escape : (byte == 92) ≡ false
+  feed : (byte == 10) ≡ false
+
+none_of : (q e f : Bool) → not (q || e || f) ≡ true → (q ≡ false) × (e ≡ false) × (f ≡ false)
+none_of true e f h = cc
+none_of false true f h = cc
+none_of false false true h = cc
+none_of false false false h = (refl, refl, refl)
+
+is_other : (byte : ℕ) → is_plain byte ≡ true → IsOther byte
+is_other byte h = let parts = none_of (byte == 34) (byte == 92) (byte == 10) h in record { quote = parts.0; escape = parts.1; feed = parts.2 }
+
+-- a byte that is none of them stands for itself
+other_is : (byte : ℕ) → (byte == 34) ≡ false → (byte == 92) ≡ false → (byte == 10) ≡ false → is_plain byte ≡ true
+other_is byte q e f = rw (q, e, f) refl
+
+not_true : (b : Bool) → not b ≡ true → b ≡ false
+not_true true h = cc
+not_true false h = refl
+
+not_false : (b : Bool) → b ≡ false → not b ≡ true
+not_false true h = cc
+not_false false h = refl
+
+byte_is : (byte other : ℕ) → (byte == other) ≡ true → byte ≡ other
+byte_is byte other h = (Decides-eqb byte other).0 h
+
+-- a text that closes is closed behind what stands in it
+pub closing_inside : {inside : List ℕ} (behind : List ℕ) → IsInside is_on_line inside → closing (inside ++ 34 ∷ behind) ≡ Some (length inside)
+unfolding closing
+closing_inside behind nothing = refl
+closing_inside behind (plain byte others p h) =
+    let other = is_other byte p in
+    let rest = closing_inside behind h in
+    rw (other.quote, other.escape, other.feed, rest) (ap (λ (n : ℕ). Some n) (omega arith))
+closing_inside behind (escaped byte others p h) =
+    let feed = not_true (byte == 10) p in
+    let rest = closing_inside behind h in
+    rw (feed, rest) (ap (λ (n : ℕ). Some n) (omega arith))
+
+-- so many more of a number is one, of which it is so many more
+pub further_some : (count : ℕ) (index : Option ℕ) (n : ℕ) → further count index ≡ Some n → (m : ℕ) × (index ≡ Some m) × (n ≡ count + m)
+further_some count None n h = cc
+further_some count (Some m) n h = (m, refl, cc)
+
+-- a text that closes behind so many bytes
+pub record Closes (bytes : List ℕ) (count : ℕ) : Type 0 where
+  pub inside : List ℕ
+  pub behind : List ℕ
+  pub is : bytes ≡ inside ++ 34 ∷ behind
+  pub reads : IsInside is_on_line inside
+  pub count_is : length inside ≡ count
+
+-- the same behind a `\`
+record ClosesBehind (bytes : List ℕ) (count : ℕ) : Type 0 where
+  byte : ℕ
+  others : List ℕ
+  is : bytes ≡ byte ∷ others
+  line : is_on_line byte ≡ true
+  rest : ℕ
+  closes : Closes others rest
+  count_is : count ≡ 2 + rest
+
+closes_quote : (byte : ℕ) (others : List ℕ) (n : ℕ) → (byte == 34) ≡ true → Some 0 ≡ Some n → Closes (byte ∷ others) n
+closes_quote byte others n q h = record { inside = []; behind = others; is = ap (λ (b : ℕ). b ∷ others) (byte_is byte 34 q); reads = nothing; count_is = cc }
+
+closes_plain : (byte : ℕ) (others : List ℕ) (m n : ℕ) → is_plain byte ≡ true → Closes others m → n ≡ 1 + m → Closes (byte ∷ others) n
+closes_plain byte others m n p x e = record {
+  inside = byte ∷ x.inside;
+  behind = x.behind;
+  is = ap (λ (bytes : List ℕ). byte ∷ bytes) x.is;
+  reads = plain byte x.inside p x.reads;
+  count_is = omega (arith, x.count_is, e);
+}
+
+closes_escaped : (byte : ℕ) (others : List ℕ) (n : ℕ) → (byte == 92) ≡ true → ClosesBehind others n → Closes (byte ∷ others) n
+closes_escaped byte others n e x = record {
+  inside = 92 ∷ x.byte ∷ x.closes.inside;
+  behind = x.closes.behind;
+  is = ap (λ (b : ℕ). b ∷ others) (byte_is byte 92 e) ∙ ap (λ (bytes : List ℕ). 92 ∷ bytes) (x.is ∙ ap (λ (bytes : List ℕ). x.byte ∷ bytes) x.closes.is);
+  reads = escaped x.byte x.closes.inside x.line x.closes.reads;
+  count_is = omega (arith, x.closes.count_is, x.count_is);
+}
+
+-- by the first byte: a quote closes, a line feed ends the line, a `\` has the next byte behind it, and any other is passed
+closes_by : (q f e : Bool) (byte : ℕ) (others : List ℕ) (n : ℕ) → (byte == 34) ≡ q → (byte == 10) ≡ f → (byte == 92) ≡ e → closing (byte ∷ others) ≡ Some n
+    → ((m : ℕ) → closing others ≡ Some m → Closes others m) → ((m : ℕ) → closing_behind others ≡ Some m → ClosesBehind others m) → Closes (byte ∷ others) n
+unfolding closing
+closes_by true f e byte others n a b c h reads behind = closes_quote byte others n a (rw a at h)
+closes_by false true e byte others n a b c h reads behind = let h : None ≡ Some n = rw (a, b) at h in cc
+closes_by false false true byte others n a b c h reads behind = closes_escaped byte others n c (behind n (rw (a, b, c) at h))
+closes_by false false false byte others n a b c h reads behind =
+    let more = further_some 1 (closing others) n (rw (a, b, c) at h) in
+    closes_plain byte others more.0 n (other_is byte a c b) (reads more.0 more.1) more.2
+
+behind_by : (f : Bool) (byte : ℕ) (others : List ℕ) (n : ℕ) → (byte == 10) ≡ f → closing_behind (byte ∷ others) ≡ Some n
+    → ((m : ℕ) → closing others ≡ Some m → Closes others m) → ClosesBehind (byte ∷ others) n
+unfolding closing
+behind_by true byte others n a h reads = let h : None ≡ Some n = rw a at h in cc
+behind_by false byte others n a h reads =
+    let more = further_some 2 (closing others) n (rw a at h) in
+    record { byte = byte; others = others; is = refl; line = not_false (byte == 10) a; rest = more.0; closes = reads more.0 more.1; count_is = more.2 }
+
+mutual
+  unfolding closing
+
+  -- where a text closes, it does so behind what stands in it
+  pub closing_reads : (bytes : List ℕ) (n : ℕ) → closing bytes ≡ Some n → Closes bytes n
+  closing_reads [] n h = cc
+  closing_reads (byte ∷ others) n h =
+      closes_by (byte == 34) (byte == 10) (byte == 92) byte others n refl refl refl h (λ m x. closing_reads others m x) (λ m x. behind_reads others m x)
+
+  behind_reads : (bytes : List ℕ) (n : ℕ) → closing_behind bytes ≡ Some n → ClosesBehind bytes n
+  behind_reads [] n h = cc
+  behind_reads (byte ∷ others) n h = behind_by (byte == 10) byte others n refl h (λ m x. closing_reads others m x)
+
+-- a byte that is no `\` is passed
+pub bad_step : (byte : ℕ) (others : List ℕ) → (byte == 92) ≡ false → bad_escape (byte ∷ others) ≡ 1 + bad_escape others
+unfolding bad_escape
+bad_step byte [] h = refl
+bad_step byte (next ∷ others) h = rw h refl
+
+-- a `\` in front of what makes no escape is the first such
+pub bad_least : {front : List ℕ} (byte : ℕ) (others : List ℕ) → is_escape byte ≡ false → IsInside is_on_line front → bad_escape (front ++ 92 ∷ byte ∷ others) ≤ length front
+unfolding bad_escape
+bad_least byte others bad nothing = rw bad (omega arith)
+bad_least byte others bad (plain first rest p h) =
+    omega (arith, bad_step first (rest ++ 92 ∷ byte ∷ others) (is_other first p).escape, bad_least byte others bad h)
+bad_least byte others bad (escaped next rest p h) = bad_behind (is_escape next) (bad_escape (rest ++ 92 ∷ byte ∷ others)) (length rest) (bad_least byte others bad h)
+  where
+    bad_behind : (b : Bool) (m n : ℕ) → m ≤ n → cond b (2 + m) 0 ≤ suc (suc n)
+    bad_behind true m n h = omega arith
+    bad_behind false m n h = omega arith
+
+-- where each escape is one, there is none that is bad
+pub bad_nowhere : {inside : List ℕ} → IsInside is_escape inside → bad_escape (inside ++ 34 ∷ []) ≡ length inside + 1
+unfolding bad_escape
+bad_nowhere nothing = refl
+bad_nowhere (plain byte others p h) =
+    let step : bad_escape (byte ∷ (others ++ 34 ∷ [])) ≡ 1 + bad_escape (others ++ 34 ∷ []) = bad_step byte (others ++ 34 ∷ []) (is_other byte p).escape in
+    omega (arith, step, bad_nowhere h)
+bad_nowhere (escaped byte others p h) = rw (p, bad_nowhere h) (omega arith)
+
+-- What the scan for escapes says of what stands in a text: each is one, or behind this front stands one that is none.
+pub data Judged (inside : List ℕ) : Type 0 where
+  good : IsInside is_escape inside → Judged inside
+  bad : (front : List ℕ) (byte : ℕ) (others : List ℕ) → inside ≡ front ++ 92 ∷ byte ∷ others → IsInside is_on_line front → is_escape byte ≡ false
+      → bad_escape (inside ++ 34 ∷ []) ≡ length front → Judged inside
+
+pub judged : {inside : List ℕ} → IsInside is_on_line inside → Judged inside
+unfolding bad_escape
+judged nothing = good nothing
+judged (plain byte others p h) = further_on (judged h)
+  where
+    further_on : Judged others → Judged (byte ∷ others)
+    further_on (good x) = good (plain byte others p x)
+    further_on (bad front other rest is reads wrong at) =
+        bad (byte ∷ front) other rest (ap (λ (bytes : List ℕ). byte ∷ bytes) is) (plain byte front p reads) wrong
+        (omega (arith, bad_step byte (others ++ 34 ∷ []) (is_other byte p).escape, at))
+judged (escaped byte others p h) = judged_by (is_escape byte) refl (judged h)
+  where
+    judged_by : (b : Bool) → is_escape byte ≡ b → Judged others → Judged (92 ∷ byte ∷ others)
+    judged_by false e x = bad [] byte others refl nothing e (rw e refl)
+    judged_by true e (good x) = good (escaped byte others e x)
+    judged_by true e (bad front other rest is reads wrong at) =
+        bad (92 ∷ byte ∷ front) other rest (ap (λ (bytes : List ℕ). 92 ∷ byte ∷ bytes) is) (escaped byte front p reads) wrong
+        (rw (e, at) (omega arith))

@@ -1,0 +1,11 @@
+use Rattle.std.proofs.Common.{◌∙◌}
+use Rattle.abs_lexer.proofs.NumberLemmas.{IsUtf8-digits, parses_small}
+use Rattle.abs_lexer.proofs.piece.is_small.Goals as goal
+
+pub returns-in-Ok : goal.returns-in-Ok
+returns-in-Ok c =
+    let parses = rw c.in-Ok.ensures.cases.0 at c.parse.ensures.value.0 in
+    c.is_ok.ensures.value ∙ parses_small c.args.digits.now c.parse.result c.requires.digits c.requires.some parses
+
+pub returns-in-Err : goal.returns-in-Err
+returns-in-Err c = absurd (c.in-Err.ensures.cases.0 (IsUtf8-digits c.args.digits.now c.requires.digits))

@@ -1,0 +1,18 @@
+//! The tokens of a source, which borrow its bytes, or its first lexical offence.
+#![tactic(auto)]
+
+mod cursor;
+pub mod lexeme;
+pub mod lexer;
+mod piece;
+mod sign;
+mod span;
+pub mod token;
+mod word;
+
+pub use lexeme::{Keyword, Lexeme, Punctuator};
+pub use lexer::one_lexing;
+pub use token::{LexError, Token};
+
+#[cfg(test)]
+mod tests;

@@ -1,0 +1,72 @@
+-- Two kinds of tokens that compare as equal are one.
+use Rattle.std.proofs.Common.{◌≡◌, ◌∙◌, refl, sym, ap, Bool, true, false, not, List, [], ◌∷◌}
+use mathlib.Core.Logic.{inl, inr}
+use denote.Struct.Field.{Field}
+use denote.Struct.Values.{Values}
+use denote.Enum.Bare.{sameb, same_true}
+use denote.Enum.Declared.{Choice}
+use denote.Enum.Compared.{Each, by}
+use Rattle.abs_lexer.specs.contracts.lexeme.Keyword.{the_type as keyword}
+use Rattle.abs_lexer.specs.contracts.lexeme.Lexeme.{enum}
+use Rattle.abs_lexer.specs.contracts.lexeme.LexemePartialEq.TheImpl.{ghosts}
+use Rattle.abs_lexer.specs.contracts.lexeme.Punctuator.{the_type as punctuator}
+use Rattle.abs_lexer.specs.declared.lexeme.Lexeme.{Lexeme}
+
+-- at each variant of an enum, fields that compare as equal are the same
+abbrev AllTell : (parts : List (List Field)) → Each Bool parts → Type 0
+AllTell [] each = Unit {0}
+AllTell (part ∷ parts) each = ((x y : Values part) → each.0 x y ≡ true → x ≡ y) × AllTell parts each.1
+
+-- then so are two choices of a variant and its fields
+choices_same : (parts : List (List Field)) (each : Each Bool parts) → AllTell parts each → (c d : Choice parts) → by false false parts each c d ≡ true → c ≡ d
+choices_same [] each all c d same = absurd c
+choices_same (part ∷ parts) each all (inl x) (inl y) same = ap inl (all.0 x y same)
+choices_same (part ∷ parts) each all (inl x) (inr y) same = cc
+choices_same (part ∷ parts) each all (inr x) (inl y) same = cc
+choices_same (part ∷ parts) each all (inr x) (inr y) same = ap inr (choices_same parts each.1 all.1 x y same)
+
+-- two values of a variant without fields always compare as equal
+abbrev always : Unit {0} → Unit {0} → Bool
+always x y = true
+
+-- and they are the same
+no_field : (x y : Unit {0}) → true ≡ true → x ≡ y
+no_field x y same = refl
+
+-- how the fields of kinds are compared, variant by variant: only words and signs have one
+abbrev compared : Each Bool enum.parts
+compared = (always, (always, (always, (always, (λ x y. sameb keyword x.0 y.0, (always, (λ x y. sameb punctuator x.0 y.0, tt)))))))
+
+-- that comparison tells the fields of kinds
+all_tell : AllTell enum.parts compared
+all_tell = (
+  no_field,
+  (
+    no_field,
+    (
+      no_field,
+      (
+        no_field,
+        (
+          λ x y same. ap (λ word. (word, tt)) (same_true keyword tt x.0 y.0 same),
+          (no_field, (λ x y same. ap (λ sign. (sign, tt)) (same_true punctuator tt x.0 y.0 same), tt)),
+        ),
+      ),
+    ),
+  ),
+)
+
+-- kinds that compare as equal are one
+same_kind : (k l : Lexeme) → ghosts.eq k l ≡ true → k ≡ l
+same_kind k l same =
+    let values : enum.as_values k ≡ enum.as_values l = choices_same enum.parts compared all_tell (enum.as_values k) (enum.as_values l) same in
+    sym (enum.eta k) ∙ (ap enum.make values ∙ enum.eta l)
+
+-- a test that is not false is true
+not_false : (b : Bool) → not b ≡ false → b ≡ true
+not_false true h = refl
+not_false false h = cc
+
+-- kinds that do not compare as different are one
+pub kind_told : (k l : Lexeme) (differ : Bool) → differ ≡ not (ghosts.eq k l) → differ ≡ false → k ≡ l
+kind_told k l differ is same = same_kind k l (not_false (ghosts.eq k l) (sym is ∙ same))
