@@ -1,4 +1,4 @@
--- Two kinds of tokens that compare as equal are one.
+-- Two kinds of tokens that compare as equal are one, and two that do not are different.
 use Rattle.std.proofs.Common.{◌≡◌, ◌∙◌, refl, sym, ap, Bool, true, false, not, List, [], ◌∷◌}
 use mathlib.Core.Logic.{inl, inr}
 use denote.Struct.Field.{Field}
@@ -7,6 +7,11 @@ use denote.Enum.Bare.{sameb, same_true}
 use denote.Enum.Declared.{Choice}
 use denote.Enum.Compared.{Each, by}
 use Rattle.abs_lexer.specs.contracts.lexeme.Keyword.{the_type as keyword}
+use Rattle.abs_lexer.specs.declared.lexeme.Keyword.{Keyword}
+use Rattle.abs_lexer.specs.declared.lexeme.Keyword.TheVariants as word
+use Rattle.abs_lexer.specs.declared.lexeme.Lexeme.TheVariants as lexeme
+use Rattle.abs_lexer.specs.declared.lexeme.Punctuator.{Punctuator}
+use Rattle.abs_lexer.specs.declared.lexeme.Punctuator.TheVariants as sign
 use Rattle.abs_lexer.specs.contracts.lexeme.Lexeme.{enum}
 use Rattle.abs_lexer.specs.contracts.lexeme.LexemePartialEq.TheImpl.{ghosts}
 use Rattle.abs_lexer.specs.contracts.lexeme.Punctuator.{the_type as punctuator}
@@ -70,3 +75,31 @@ not_false false h = cc
 -- kinds that do not compare as different are one
 pub kind_told : (k l : Lexeme) (differ : Bool) → differ ≡ not (ghosts.eq k l) → differ ≡ false → k ≡ l
 kind_told k l differ is same = same_kind k l (not_false (ghosts.eq k l) (sym is ∙ same))
+
+-- kinds whose comparison answers true are one
+pub kind_equal : (k l : Lexeme) (equal : Bool) → equal ≡ ghosts.eq k l → equal ≡ true → k ≡ l
+kind_equal k l equal is same = same_kind k l (sym is ∙ same)
+
+-- a word compares as equal with itself
+same_word : (w : Keyword) → sameb keyword w w ≡ true
+same_word word.Module = refl
+same_word _ = refl
+
+-- so does a sign
+same_sign : (s : Punctuator) → sameb punctuator s s ≡ true
+same_sign sign.OpenParen = refl
+same_sign _ = refl
+
+-- and so does any kind
+kind_self : (k : Lexeme) → ghosts.eq k k ≡ true
+kind_self lexeme.LowerName = refl
+kind_self lexeme.UpperName = refl
+kind_self lexeme.Number = refl
+kind_self lexeme.Text = refl
+kind_self (lexeme.Word w) = same_word w
+kind_self lexeme.Foreign = refl
+kind_self (lexeme.Sign s) = same_sign s
+
+-- so kinds whose comparison answers false are different
+pub kind_other : (k l : Lexeme) (equal : Bool) → equal ≡ ghosts.eq k l → equal ≡ false → k ≡ l → ⊥
+kind_other k l equal is differ same = let clash : true ≡ false = sym (kind_self l) ∙ (ap (λ (j : Lexeme). ghosts.eq j l) (sym same) ∙ (sym is ∙ differ)) in cc

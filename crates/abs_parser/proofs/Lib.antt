@@ -10,3 +10,16 @@ pub mod SizeLemmas
 pub mod PieceLemmas
 pub mod OperandLemmas
 pub mod OpeningLemmas
+pub mod ReadingLemmas
+pub mod MoveLemmas
+pub mod CompletionLemmas
+pub mod DecisionLemmas
+pub mod StopLemmas
+pub mod OutcomeLemmas
+pub mod EndLemmas
+pub mod AskedLemmas
+pub mod BeginningLemmas
+pub mod StepLemmas
+pub mod TypeLemmas
+pub mod PatternLemmas
+pub mod PatternSteps

@@ -3,3 +3,11 @@ pub mod Expressions
 pub mod Grammar
 pub mod Answers
 pub mod Views
+pub mod Kinds
+pub mod Productions
+pub mod Readings
+pub mod Stops
+pub mod StopLaw
+pub mod Refusing
+pub mod TreesOf
+pub mod ReaderAnswers

@@ -1,11 +1,15 @@
 //! A cursor over the tokens of a text: which of them are left, and what the next one is.
-ghost use Rattle.std.specs.Prelude.{◌≡◌, ℕ, ◌^◌, ◌<◌, ◌≤◌, [], length, IfOk, IfErr, IfSome, IfNone, pos, List};
+ghost use Rattle.std.specs.Prelude.{◌≡◌, ℕ, false, ◌^◌, ◌<◌, ◌≤◌, [], length, IfOk, IfErr, IfSome, IfNone, pos, List};
 ghost use Rattle.std.specs.Str.Parse.{digits_value};
 ghost use Rattle.abs_lexer.specs.Forms.{IsNumber};
 
+use crate::ParseError;
 use abs_lexer::token::Tokens;
 use abs_lexer::{Lexeme, Token};
 use abs_tree::{Code, Offence, Place, Refusal};
+
+/// How many counted symbols may be open at once.
+pub(crate) const LIMIT: u32 = 100;
 
 /// A place in a list of tokens: those from there on are left.
 #[derive(Clone, Copy)]
@@ -22,6 +26,11 @@ impl<'a, 'b> Cursor<'a, 'b> {
     ghost use Rattle.abs_parser.specs.Tokens.{Spot, whole, place_of, TakesToken, Takes, TakesWritten, TakesName, TakesNumber};
     ghost use Rattle.abs_parser.specs.Answers.{refused_at, RefusesAt};
     ghost use Rattle.abs_parser.specs.Views.{spot};
+    ghost use Rattle.abs_parser.specs.Kinds.{fits, next};
+    ghost use Rattle.abs_parser.specs.Readings.{Terminal};
+    ghost use Rattle.abs_parser.specs.ReaderAnswers.{asked, left_at, refusal_at, wrong_at, TakesKind, IsRefused};
+    ghost use Rattle.abs_parser.specs.declared.parser.ParseError.TheVariants.{Refused};
+    ghost use Rattle.abs_tree.specs.declared.refusal.Code.TheVariants.{S2};
 
     /// All the tokens.
     pub fn new(tokens: &'b Tokens<'a>) -> Cursor<'a, 'b>
@@ -69,6 +78,52 @@ impl<'a, 'b> Cursor<'a, 'b> {
             place: self.place(),
         };
         offence.refusal()
+    }
+
+    /// The refusal of the token that stands here, where nothing that is read has it there: a word outside the profile has
+    /// a code of its own.
+    pub fn wrong(self) -> ParseError
+        ensures { result ≡ Refused (wrong_at (spot self.entry)) }
+    {
+        let code = match self.next() {
+            Some((token, _)) if token.kind == Lexeme::Foreign => Code::S3,
+            _ => Code::S1,
+        };
+        self.refused(code)
+    }
+
+    /// The refusal of the token that stands here, where it would stand in more than 100 counted symbols.
+    pub fn deep(self) -> ParseError
+        ensures { result ≡ Refused (refusal_at S2 (spot self.entry)) }
+    {
+        self.refused(Code::S2)
+    }
+
+    /// The refusal of the token that stands here, by this code.
+    fn refused(self, code: Code) -> ParseError
+        ensures { result ≡ Refused (refusal_at code (spot self.entry)) }
+    {
+        let offence = Offence {
+            code,
+            place: self.place(),
+        };
+        ParseError::Refused(offence.refusal())
+    }
+
+    /// The token of this kind that is to stand here, and the cursor behind it.
+    ///
+    /// # Errors
+    /// The refusal of the token that stands here, where it is of another kind.
+    pub fn expect(self, kind: Lexeme) -> Result<(Token<'a>, Cursor<'a, 'b>), ParseError>
+        ensures found { IfOk result (λ found. TakesKind kind (lexed found.0) (spot self.entry) (spot found.1)) }
+        ensures well_formed { IfOk result (λ found. IsWellFormed (lexed found.0)) }
+        ensures other { IfErr result (λ error. fits (asked kind) (next (left_at (spot self.entry))) ≡ false) }
+        ensures refused { IfErr result (λ error. (depth : ℕ) → IsRefused (Terminal (asked kind) depth) (spot self.entry) error) }
+    {
+        match self.next() {
+            Some((token, behind)) if token.kind == kind => Ok((token, behind)),
+            _ => Err(self.wrong()),
+        }
     }
 
     /// The token of this kind that is to stand here, and the cursor behind it.
@@ -145,7 +200,7 @@ impl<'a, 'b> Cursor<'a, 'b> {
 }
 
 /// The number that digits write.
-fn numeral(digits: &[u8]) -> i128
+pub(crate) fn numeral(digits: &[u8]) -> i128
     requires number { IsNumber digits.now }
     requires fits { digits_value 10 digits.now < 2 ^ 127 }
     ensures { result ≡ pos (digits_value 10 digits.now) }

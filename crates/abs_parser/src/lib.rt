@@ -3,7 +3,10 @@
 
 mod cursor;
 mod expressions;
+pub mod law;
 pub mod parser;
+mod patterns;
+mod types;
 
 pub use parser::{ParseError, one_tree, parse};
 

@@ -1,3 +1,4 @@
 pub mod TableLemmas
 pub mod TreeLemmas
 pub mod RuleLemmas
+pub mod SyntaxLemmas

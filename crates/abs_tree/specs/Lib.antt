@@ -7,3 +7,5 @@ pub mod Evaluation
 pub mod Rules
 pub mod Refusals
 pub mod Faults
+pub mod Syntax
+pub mod SyntaxViews

@@ -8,6 +8,7 @@ pub mod place;
 pub mod program;
 pub mod refusal;
 pub mod symbol;
+pub mod syntax;
 pub mod text;
 pub mod value;
 

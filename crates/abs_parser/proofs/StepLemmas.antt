@@ -1,0 +1,442 @@
+-- The steps of a reader through what a part of the grammar consists of, generic in the productions. A reader that has come to rest
+-- inside a part has what it read so far (`HasRead`): whatever is read as what is left there completes the part, and whatever refuses
+-- what is left there refuses the part. It begins where the part is opened; it goes on over a token, over a name and over a part that
+-- was found; and it ends with the part found, or refused by what refuses the next item.
+use Rattle.std.proofs.Common.{◌≡◌, ◌≤◌, ◌<◌, ℕ, suc, Bool, true, false, ◌||◌, not, cond, List, [], ◌∷◌, ◌++◌, ◌+◌, length, Option, Some, None, refl, sym, ap, subst, ◌∙◌, fold, map, arith, length-append}
+use Rattle.std.specs.Prelude.{slice_get, unwrap_or}
+use Rattle.std.specs.List.{list_any}
+use Rattle.std.specs.Str.{bytes_eq}
+use Rattle.std.proofs.lemmas.List.{length-map}
+use Rattle.std.proofs.lemmas.List.Folds.{list_any-append}
+use Rattle.std.proofs.lemmas.List.Sums.{fold-append}
+use Rattle.std.proofs.lemmas.Slice.Eq.{bytes_eq-Decides}
+use Rattle.abs_tree.specs.Names.{with_name, number_of_name}
+use Rattle.abs_tree.specs.Trees.{name_of}
+use Rattle.abs_tree.specs.Refusals.{refusal_of}
+use Rattle.abs_tree.specs.declared.symbol.Symbol.{Symbol}
+use Rattle.abs_tree.specs.declared.refusal.Code.{Code}
+use Rattle.abs_tree.specs.declared.refusal.Code.TheVariants.{S2}
+use Rattle.abs_tree.specs.declared.place.Place.{Place}
+use Rattle.abs_lexer.specs.declared.lexeme.Lexeme.{Lexeme}
+use Rattle.abs_lexer.specs.declared.lexeme.Lexeme.TheVariants as lexeme
+use Rattle.abs_lexer.specs.Tokens.{Lexed}
+use Rattle.abs_lexer.specs.Words.{spelling, sign_text}
+use Rattle.abs_parser.specs.Answers.{GoesOn}
+use Rattle.abs_parser.specs.Kinds.{Mark, Token, TextEnd, Kind, LowerName, LocalName, UpperName, AbsName, StdLibName, place_of_mark, kind_of, kind_of_lexeme, fits, next}
+use Rattle.abs_parser.specs.Readings.{Goal, Wanted, Terminal, Nonterminal, opened, Forest, Empty, Leaf, Node, Reads, Nothing, Taken, Opened, depths}
+use Rattle.abs_parser.specs.Refusing.{Refuses, Other, Below, Past, Shut, Open, Cut, AllWithin}
+use Rattle.abs_parser.specs.Stops.{limit, wrong_code}
+use Rattle.abs_parser.specs.Tokens.{Spot, place_of, TakesToken}
+use Rattle.abs_parser.specs.TreesOf.{written}
+use Rattle.abs_parser.specs.ReaderAnswers.{left_at, name_first, names_before, asked, refusal_at, wrong_at, TakesKind, FoundAs, RefusedAt, IsRefused}
+use Rattle.abs_parser.specs.declared.parser.ParseError.{ParseError}
+use Rattle.abs_parser.specs.declared.parser.ParseError.TheVariants.{Refused, Memory}
+use Rattle.abs_parser.proofs.NameLemmas.{goes_on_itself, goes_on_further, goes_on_all, number_stays, few_more}
+use Rattle.abs_parser.proofs.MoveLemmas.{refuses_behind}
+
+-- two lists of tokens within the limit are so together
+pub within_both : (first second : List ℕ) → AllWithin first → AllWithin second → AllWithin (first ++ second)
+within_both [] second here behind = behind
+within_both (depth ∷ first) second here behind = (here.0, within_both first second here.1 behind)
+
+-- a token is one more of those that are left
+pub left_of : {token : Lexed} {from to : Spot} → TakesToken token from to → left_at from ≡ Token token ∷ left_at to
+left_of {token} {from} {to} takes = rw (takes.rest, takes.end) refl
+
+-- how many tokens are left, with the end
+pub left_length : (spot : Spot) → length (left_at spot) ≡ length spot.rest + 1
+left_length spot = length-append (map Token spot.rest) (TextEnd spot.end ∷ []) ∙ ap (λ (n : ℕ). n + 1) (length-map spot.rest Token)
+
+-- a token takes one off what is left
+pub token_shorter : {token : Lexed} {from to : Spot} → TakesToken token from to → length from.rest ≡ suc (length to.rest)
+token_shorter takes = ap length takes.rest
+
+-- whether the grammar asks for tokens of a kind: it does for all but words outside the profile
+abbrev pub is_asked : Lexeme → Bool
+is_asked lexeme.Foreign = false
+is_asked _ = true
+
+-- whether tokens of a kind are names
+abbrev pub is_name : Lexeme → Bool
+is_name lexeme.LowerName = true
+is_name lexeme.UpperName = true
+is_name _ = false
+
+-- a name that begins with a lower-case letter fits, whether it is `local` or not
+lower_fits : (is_local : Bool) → fits LowerName (cond is_local LocalName LowerName) ≡ true
+lower_fits true = refl
+lower_fits false = refl
+
+-- a name that begins with an upper-case letter fits, whichever it is
+upper_fits : (is_abs is_std : Bool) → fits UpperName (cond is_abs AbsName (cond is_std StdLibName UpperName)) ≡ true
+upper_fits true is_std = refl
+upper_fits false true = refl
+upper_fits false false = refl
+
+-- a token of a kind fits where one of it is asked for, however it is written
+pub asked_fits : (kind : Lexeme) (bytes : List ℕ) → is_asked kind ≡ true → fits (asked kind) (kind_of_lexeme kind bytes) ≡ true
+asked_fits lexeme.LowerName bytes is = lower_fits _
+asked_fits lexeme.UpperName bytes is = upper_fits _ _
+asked_fits lexeme.Number bytes is = refl
+asked_fits lexeme.Text bytes is = refl
+asked_fits (lexeme.Word keyword) bytes is = (bytes_eq-Decides (spelling keyword) (spelling keyword)).1 refl
+asked_fits lexeme.Foreign bytes is = absurd cc
+asked_fits (lexeme.Sign punctuator) bytes is = (bytes_eq-Decides (sign_text punctuator) (sign_text punctuator)).1 refl
+
+-- a name that begins with a lower-case letter stands in front of others
+lower_named : (is_local : Bool) (name : List ℕ) (others : List (List ℕ)) → name_first (cond is_local LocalName LowerName) name others ≡ name ∷ others
+lower_named true name others = refl
+lower_named false name others = refl
+
+-- so does one that begins with an upper-case letter
+upper_named : (is_abs is_std : Bool) (name : List ℕ) (others : List (List ℕ)) → name_first (cond is_abs AbsName (cond is_std StdLibName UpperName)) name others ≡ name ∷ others
+upper_named true is_std name others = refl
+upper_named false true name others = refl
+upper_named false false name others = refl
+
+-- a name stands in front of others
+pub named_first : (kind : Lexeme) (bytes : List ℕ) (others : List (List ℕ)) → is_name kind ≡ true → name_first (kind_of_lexeme kind bytes) bytes others ≡ bytes ∷ others
+named_first lexeme.LowerName bytes others is = lower_named _ bytes others
+named_first lexeme.UpperName bytes others is = upper_named _ _ bytes others
+named_first _ bytes others is = absurd cc
+
+-- what is no name leaves the others as they are
+pub unnamed_first : (kind : Lexeme) (bytes : List ℕ) (others : List (List ℕ)) → is_name kind ≡ false → name_first (kind_of_lexeme kind bytes) bytes others ≡ others
+unnamed_first lexeme.LowerName bytes others is = absurd cc
+unnamed_first lexeme.UpperName bytes others is = absurd cc
+unnamed_first _ bytes others is = refl
+
+-- names in front of others in front of more
+name_first_append : (kind : Kind) (name : List ℕ) (others more : List (List ℕ)) → name_first kind name (others ++ more) ≡ name_first kind name others ++ more
+name_first_append LowerName name others more = refl
+name_first_append LocalName name others more = refl
+name_first_append UpperName name others more = refl
+name_first_append AbsName name others more = refl
+name_first_append StdLibName name others more = refl
+name_first_append _ name others more = refl
+
+-- the names in what was read stand in front of all others
+pub names_append : (forest : Forest) (others more : List (List ℕ)) → names_before forest (others ++ more) ≡ names_before forest others ++ more
+names_append Empty others more = refl
+names_append (Leaf mark depth behind) others more =
+    ap (name_first (kind_of mark) (written mark)) (names_append behind others more) ∙ name_first_append (kind_of mark) (written mark) (names_before behind others) more
+names_append (Node goal inside behind) others more =
+    ap (names_before inside) (names_append behind others more) ∙ names_append inside (names_before behind others) more
+
+-- the table goes on with the names in what was read, and then with the others
+pub table_of_both : (table : List (List ℕ)) (forest : Forest) (others : List (List ℕ))
+    → fold with_name table (names_before forest others) ≡ fold with_name (fold with_name table (names_before forest [])) others
+table_of_both table forest others =
+    ap (fold with_name table) (names_append forest [] others) ∙ fold-append with_name table (names_before forest []) others
+
+-- no token is more than one name
+few_first : (kind : Kind) (name : List ℕ) (others : List (List ℕ)) → length (name_first kind name others) ≤ length others + 1
+few_first LowerName name others = omega arith
+few_first LocalName name others = omega arith
+few_first UpperName name others = omega arith
+few_first AbsName name others = omega arith
+few_first StdLibName name others = omega arith
+few_first _ name others = omega arith
+
+-- there are no more names in what was read than tokens that were taken
+few_names : {items : List Wanted} {ts rest : List Mark} {forest : Forest} → Reads items ts forest rest → (others : List (List ℕ))
+    → length (names_before forest others) + length rest ≤ length others + length ts
+few_names Nothing others = omega arith
+few_names (Taken {mark = mark} {forest = forest} e reads) others =
+    omega (arith, few_first (kind_of mark) (written mark) (names_before forest others), few_names reads others)
+few_names (Opened {inside = inside} {forest = forest} e first reads) others =
+    omega (arith, few_names first (names_before forest others), few_names reads others)
+
+-- what is left is no longer than what there was
+pub reads_shorter : {items : List Wanted} {ts rest : List Mark} {forest : Forest} → Reads items ts forest rest → length rest ≤ length ts
+reads_shorter Nothing = omega arith
+reads_shorter (Taken e reads) = omega (arith, reads_shorter reads)
+reads_shorter (Opened e first reads) = omega (arith, reads_shorter first, reads_shorter reads)
+
+-- a part that was found leaves no more tokens than there were
+pub found_shorter : {goal : Goal} {depth : ℕ} {old new : List (List ℕ)} {from to : Spot} {is_read : List (List ℕ) → Forest → Type 0}
+    → FoundAs goal depth old new from to is_read → length to.rest ≤ length from.rest
+found_shorter {from = from} {to = to} found = omega (arith, reads_shorter found.reads, left_length from, left_length to)
+
+-- a part that was found leaves a table and tokens that are no more together than they were
+pub found_few : {goal : Goal} {depth : ℕ} {old new : List (List ℕ)} {from to : Spot} {is_read : List (List ℕ) → Forest → Type 0}
+    → FoundAs goal depth old new from to is_read → length new + length to.rest ≤ length old + length from.rest
+found_few {old = old} {from = from} {to = to} found =
+    omega (arith, few_more old (names_before found.inside []), few_names found.reads [], ap length found.table, left_length from, left_length to)
+
+-- a part that was found leaves a table that goes on with the one before
+pub found_goes_on : {goal : Goal} {depth : ℕ} {old new : List (List ℕ)} {from to : Spot} {is_read : List (List ℕ) → Forest → Type 0}
+    → FoundAs goal depth old new from to is_read → GoesOn old new
+found_goes_on {old = old} found = rw found.table (goes_on_all old (names_before found.inside []))
+
+-- a name stands at its number in front of a table where it does in the table, or is the first itself
+place_by : (here behind : Bool) (k : ℕ) (name x : List ℕ) (xs : List (List ℕ)) → (here ≡ true → x ≡ name) → (behind ≡ true → slice_get xs k ≡ Some name)
+    → (here || behind) ≡ true → slice_get (x ∷ xs) (cond (not here) (1 + k) 0) ≡ Some name
+place_by true behind k name x xs same further found = ap Some (same refl)
+place_by false behind k name x xs same further found =
+    let more : 1 + k ≡ suc k = omega arith in
+    rw more (further found)
+
+-- a name stands at its number in a table that has it
+name_at : (table : List (List ℕ)) (name : List ℕ) → list_any (bytes_eq name) table ≡ true → slice_get table (number_of_name table name) ≡ Some name
+name_at [] name found = absurd cc
+name_at (x ∷ xs) name found = place_by (bytes_eq name x) (list_any (bytes_eq name) xs) (number_of_name xs name) name x xs (λ e. sym ((bytes_eq-Decides name x).0 e)) (name_at xs name) found
+
+-- one of two holds where the second does
+or_right : (b : Bool) → (b || true) ≡ true
+or_right true = refl
+or_right false = refl
+
+-- the name that is put into a table is there, by cases of whether it was before
+is_there_by : (is : Bool) (table : List (List ℕ)) (name : List ℕ) → list_any (bytes_eq name) table ≡ is → list_any (bytes_eq name) (cond is table (table ++ name ∷ [])) ≡ true
+is_there_by true table name e = e
+is_there_by false table name e =
+    list_any-append (bytes_eq name) table (name ∷ []) ∙ (ap (λ (b : Bool). list_any (bytes_eq name) table || (b || false)) ((bytes_eq-Decides name name).1 refl) ∙ or_right _)
+
+-- a table has the name that was put into it
+is_there : (table : List (List ℕ)) (name : List ℕ) → list_any (bytes_eq name) (with_name table name) ≡ true
+is_there table name = is_there_by (list_any (bytes_eq name) table) table name refl
+
+-- so has a table that goes on with it
+is_there_still : (table : List (List ℕ)) (name : List ℕ) (names : List (List ℕ)) → GoesOn (with_name table name) names → list_any (bytes_eq name) names ≡ true
+is_there_still table name names more =
+    ap (list_any (bytes_eq name)) more.is ∙ (list_any-append (bytes_eq name) (with_name table name) more.more ∙ ap (λ (b : Bool). b || list_any (bytes_eq name) more.more) (is_there table name))
+
+-- the symbol of a name that was put into a table has this name in each table that goes on with that
+pub symbol_named : (old : List (List ℕ)) (name : List ℕ) (symbol : Symbol) → symbol.0 ≡ number_of_name old name
+    → (names : List (List ℕ)) → GoesOn (with_name old name) names → name_of names symbol ≡ name
+symbol_named old name symbol is names more =
+    ap (λ (n : ℕ). unwrap_or (slice_get names n) []) (is ∙ sym (number_stays old name names more))
+    ∙ ap (λ (found : Option (List ℕ)). unwrap_or found []) (name_at names name (is_there_still old name names more))
+
+-- A reader of a part has come to rest where these items of what it consists of are left. What is read as them is put into the forest by
+-- `make`; the table of names has come so far; and no more was put into it than there were tokens.
+pub record HasRead (goal : Goal) (depth : ℕ) (old now : List (List ℕ)) (from : Spot) (make : Forest → Forest) (left : List Wanted) (here : Spot) : Type 0 where
+  pub inner : List Wanted
+  pub rule_is : opened goal (next (left_at from)) depth ≡ Some inner
+  pub reads : (rest : Forest) (to : List Mark) → Reads left (left_at here) rest to → Reads inner (left_at from) (make rest) to
+  pub within : (rest : Forest) → AllWithin (depths rest) → AllWithin (depths (make rest))
+  pub refuses : (items : List Wanted) (to : List Mark) (code : Code) → Refuses (left ++ items) (left_at here) to code → Refuses (Nonterminal goal depth ∷ items) (left_at from) to code
+  pub table : (rest : Forest) → fold with_name old (names_before (make rest) []) ≡ fold with_name now (names_before rest [])
+  pub goes_on : GoesOn old now
+  pub few : length now + length here.rest ≤ length old + length from.rest
+  pub shorter : length here.rest ≤ length from.rest
+
+-- a part is opened by the next token
+pub opens : (goal : Goal) (depth : ℕ) (table : List (List ℕ)) (from : Spot) (inner : List Wanted) → opened goal (next (left_at from)) depth ≡ Some inner
+    → HasRead goal depth table table from (λ rest. rest) inner from
+opens goal depth table from inner is = record {
+  inner = inner;
+  rule_is = is;
+  reads = λ rest to reads. reads;
+  within = λ rest within. within;
+  refuses = λ items to code refused. Open is refused;
+  table = λ rest. refl;
+  goes_on = goes_on_itself table;
+  few = omega arith;
+  shorter = omega arith;
+}
+
+-- what a token of a kind is taken for
+kind_fits : {kind : Lexeme} {token : Lexed} {from to : Spot} → is_asked kind ≡ true → TakesKind kind token from to → fits (asked kind) (kind_of (Token token)) ≡ true
+kind_fits {kind} {token} wanted takes = rw takes.kind_is (asked_fits kind token.bytes wanted)
+
+-- the kind of a token that stands at a spot is the next one
+pub next_is : {token : Lexed} {from to : Spot} → TakesToken token from to → next (left_at from) ≡ kind_of (Token token)
+next_is takes = ap next (left_of takes)
+
+-- the next token fits where one of its kind is asked for
+pub fits_next : {kind : Lexeme} {token : Lexed} {from to : Spot} → is_asked kind ≡ true → TakesKind kind token from to → fits (asked kind) (next (left_at from)) ≡ true
+fits_next {kind} wanted takes = ap (fits (asked kind)) (next_is takes.takes) ∙ kind_fits wanted takes
+
+-- a token that fits, and what is read behind it
+taken_in_front : {kind : Lexeme} {depth : ℕ} {left : List Wanted} {token : Lexed} {here behind : Spot} {rest : Forest} {to : List Mark}
+    → is_asked kind ≡ true → TakesKind kind token here behind → Reads left (left_at behind) rest to
+    → Reads (Terminal (asked kind) depth ∷ left) (left_at here) (Leaf (Token token) depth rest) to
+taken_in_front wanted takes reads = rw (left_of takes.takes) (Taken (kind_fits wanted takes) reads)
+
+-- a token that fits and is within the limit is passed by a refusal behind it
+pub refused_past : {kind : Lexeme} {depth : ℕ} {items : List Wanted} {token : Lexed} {here behind : Spot} {to : List Mark} {code : Code}
+    → is_asked kind ≡ true → depth ≤ limit → TakesKind kind token here behind → Refuses items (left_at behind) to code
+    → Refuses (Terminal (asked kind) depth ∷ items) (left_at here) to code
+refused_past wanted within takes refused = rw (left_of takes.takes) (Past (kind_fits wanted takes) within refused)
+
+-- a token that is no name leaves the others as they are
+token_unnamed : {kind : Lexeme} {token : Lexed} {from to : Spot} → TakesKind kind token from to → is_name kind ≡ false → (others : List (List ℕ))
+    → name_first (kind_of (Token token)) token.bytes others ≡ others
+token_unnamed {kind} {token} takes is others = rw takes.kind_is (unnamed_first kind token.bytes others is)
+
+-- a token that is a name stands in front of others
+token_named : {kind : Lexeme} {token : Lexed} {from to : Spot} → TakesKind kind token from to → is_name kind ≡ true → (others : List (List ℕ))
+    → name_first (kind_of (Token token)) token.bytes others ≡ token.bytes ∷ others
+token_named {kind} {token} takes is others = rw takes.kind_is (named_first kind token.bytes others is)
+
+-- over a token that is no name
+pub over_token : {goal : Goal} {depth at : ℕ} {old now : List (List ℕ)} {from here behind : Spot} {make : Forest → Forest} {left : List Wanted} {kind : Lexeme} {token : Lexed}
+    → HasRead goal depth old now from make (Terminal (asked kind) at ∷ left) here → TakesKind kind token here behind → is_asked kind ≡ true → is_name kind ≡ false → at ≤ limit
+    → HasRead goal depth old now from (λ rest. make (Leaf (Token token) at rest)) left behind
+over_token {at = at} {now = now} {kind = kind} {token = token} so takes wanted no_name within = record {
+  inner = so.inner;
+  rule_is = so.rule_is;
+  reads = λ rest to reads. so.reads (Leaf (Token token) at rest) to (taken_in_front wanted takes reads);
+  within = λ rest others. so.within (Leaf (Token token) at rest) (within, others);
+  refuses = λ items to code refused. so.refuses items to code (refused_past wanted within takes refused);
+  table = λ rest. so.table (Leaf (Token token) at rest)
+      ∙ ap (fold with_name now) (token_unnamed takes no_name (names_before rest []));
+  goes_on = so.goes_on;
+  few = omega (arith, so.few, token_shorter takes.takes);
+  shorter = omega (arith, so.shorter, token_shorter takes.takes);
+}
+
+-- over a name, which the table has then
+pub over_name : {goal : Goal} {depth at : ℕ} {old now table : List (List ℕ)} {from here behind : Spot} {make : Forest → Forest} {left : List Wanted} {kind : Lexeme} {token : Lexed}
+    → HasRead goal depth old now from make (Terminal (asked kind) at ∷ left) here → TakesKind kind token here behind → is_asked kind ≡ true → is_name kind ≡ true → at ≤ limit
+    → table ≡ with_name now token.bytes → HasRead goal depth old table from (λ rest. make (Leaf (Token token) at rest)) left behind
+over_name {at = at} {now = now} {table = table} {kind = kind} {token = token} so takes wanted named within is = record {
+  inner = so.inner;
+  rule_is = so.rule_is;
+  reads = λ rest to reads. so.reads (Leaf (Token token) at rest) to (taken_in_front wanted takes reads);
+  within = λ rest others. so.within (Leaf (Token token) at rest) (within, others);
+  refuses = λ items to code refused. so.refuses items to code (refused_past wanted within takes refused);
+  table = λ rest. so.table (Leaf (Token token) at rest)
+      ∙ (ap (fold with_name now) (token_named takes named (names_before rest []))
+      ∙ ap (λ (names : List (List ℕ)). fold with_name names (names_before rest [])) (sym is));
+  goes_on = rw is (goes_on_further so.goes_on (goes_on_all now (token.bytes ∷ [])));
+  few = omega (arith, so.few, token_shorter takes.takes, ap length is, few_more now (token.bytes ∷ []));
+  shorter = omega (arith, so.shorter, token_shorter takes.takes);
+}
+
+-- over a part that was found
+pub over_part : {goal part : Goal} {depth at : ℕ} {old now new : List (List ℕ)} {from here behind : Spot} {make : Forest → Forest} {left : List Wanted} {is_read : List (List ℕ) → Forest → Type 0}
+    → HasRead goal depth old now from make (Nonterminal part at ∷ left) here → (found : FoundAs part at now new here behind is_read)
+    → HasRead goal depth old new from (λ rest. make (Node part found.inside rest)) left behind
+over_part {part = part} {now = now} {left = left} so found = record {
+  inner = so.inner;
+  rule_is = so.rule_is;
+  reads = λ rest to reads. so.reads (Node part found.inside rest) to (Opened found.rule_is found.reads reads);
+  within = λ rest others. so.within (Node part found.inside rest) (within_both (depths found.inside) (depths rest) found.within others);
+  refuses = λ items to code refused. so.refuses items to code (Open found.rule_is (refuses_behind found.reads found.within refused));
+  table = λ rest. so.table (Node part found.inside rest)
+      ∙ (table_of_both now found.inside (names_before rest [])
+      ∙ ap (λ (names : List (List ℕ)). fold with_name names (names_before rest [])) (sym found.table));
+  goes_on = goes_on_further so.goes_on (found_goes_on found);
+  few = omega (arith, so.few, found_few found);
+  shorter = omega (arith, so.shorter, found_shorter found);
+}
+
+-- the reader of the last part in place of what it reads
+pub into_last : {goal last : Goal} {depth at : ℕ} {old now new : List (List ℕ)} {from here behind : Spot} {make make_last : Forest → Forest} {left : List Wanted}
+    → HasRead goal depth old now from make (Nonterminal last at ∷ []) here → HasRead last at now new here make_last left behind
+    → HasRead goal depth old new from (λ rest. make (Node last (make_last rest) Empty)) left behind
+into_last {last = last} {make_last = make_last} so inside = record {
+  inner = so.inner;
+  rule_is = so.rule_is;
+  reads = λ rest to reads. so.reads (Node last (make_last rest) Empty) to (Opened inside.rule_is (inside.reads rest to reads) Nothing);
+  within = λ rest others. so.within (Node last (make_last rest) Empty) (within_both (depths (make_last rest)) [] (inside.within rest others) tt);
+  refuses = λ items to code refused. so.refuses items to code (inside.refuses items to code refused);
+  table = λ rest. so.table (Node last (make_last rest) Empty) ∙ inside.table rest;
+  goes_on = goes_on_further so.goes_on inside.goes_on;
+  few = omega (arith, so.few, inside.few);
+  shorter = omega (arith, so.shorter, inside.shorter);
+}
+
+-- where nothing is left, the part is found
+pub all_read : {goal : Goal} {depth : ℕ} {old now : List (List ℕ)} {from here : Spot} {make : Forest → Forest} {is_read : List (List ℕ) → Forest → Type 0}
+    → HasRead goal depth old now from make [] here → ((names : List (List ℕ)) → GoesOn now names → is_read names (make Empty))
+    → FoundAs goal depth old now from here is_read
+all_read {here = here} {make = make} so is = record {
+  inside = make Empty;
+  inner = so.inner;
+  rule_is = so.rule_is;
+  reads = so.reads Empty (left_at here) Nothing;
+  within = so.within Empty tt;
+  table = sym (so.table Empty);
+  is = is;
+}
+
+-- what refuses the next item, whatever follows it, refuses the part
+pub refused_inside : {goal : Goal} {depth : ℕ} {old now : List (List ℕ)} {from here : Spot} {make : Forest → Forest} {item : Wanted} {left : List Wanted}
+    → HasRead goal depth old now from make (item ∷ left) here → (error : ParseError) → IsRefused item here error → IsRefused (Nonterminal goal depth) from error
+refused_inside {left = left} so (Refused refusal) refused = λ items.
+    let at = refused (left ++ items) in
+    record { mark = at.mark; behind = at.behind; code = at.code; refuses = so.refuses items (at.mark ∷ at.behind) at.code at.refuses; refusal_is = at.refusal_is }
+refused_inside so Memory refused = λ items. tt
+
+-- the token that stands at a spot, and its place; the end of the text counts as one
+record NextMark (spot : Spot) : Type 0 where
+  mark : Mark
+  behind : List Mark
+  is : left_at spot ≡ mark ∷ behind
+  place_is : place_of_mark mark ≡ place_of spot
+
+-- at each spot there stands one, by cases of whether a token is left
+next_by : (rest : List Lexed) (end : Place) → NextMark (record { rest = rest; end = end })
+next_by [] end = record { mark = TextEnd end; behind = []; is = refl; place_is = refl }
+next_by (token ∷ others) end = record { mark = Token token; behind = map Token others ++ TextEnd end ∷ []; is = refl; place_is = refl }
+
+-- so there stands one at each spot
+next_mark : (spot : Spot) → NextMark spot
+next_mark spot = next_by spot.rest spot.end
+
+-- what is refused at the token that stands at a spot, by a code
+pub refused_here : {items : List Wanted} (spot : Spot) (code : Code)
+    → ((mark : Mark) (behind : List Mark) → left_at spot ≡ mark ∷ behind → kind_of mark ≡ next (left_at spot) → Refuses items (mark ∷ behind) (mark ∷ behind) code)
+    → RefusedAt items (left_at spot) (refusal_at code spot)
+refused_here {items} spot code refuses =
+    let here = next_mark spot in
+    record {
+      mark = here.mark;
+      behind = here.behind;
+      code = code;
+      refuses = subst (λ (ts : List Mark). Refuses items ts (here.mark ∷ here.behind) code) (sym here.is) (refuses here.mark here.behind here.is (sym (ap next here.is)));
+      refusal_is = ap (λ (place : Place). refusal_of (record { code = code; place = place })) (sym here.place_is);
+    }
+
+-- a part that the next token does not open is refused there
+pub refused_shut : (goal : Goal) (depth : ℕ) (spot : Spot) → opened goal (next (left_at spot)) depth ≡ None → IsRefused (Nonterminal goal depth) spot (Refused (wrong_at spot))
+refused_shut goal depth spot shut = λ items.
+    refused_here spot (wrong_code (next (left_at spot))) (λ mark behind is same.
+    Shut (ap (λ (kind : Kind). opened goal kind depth) same ∙ shut) (ap wrong_code (sym same)))
+
+-- a part that the next token opens is refused there, if it consists of that token first, and the token stands too deep
+pub refused_deep : (goal : Goal) (depth : ℕ) (spot : Spot) (kind : Kind) (at : ℕ) (inner : List Wanted) → opened goal (next (left_at spot)) depth ≡ Some (Terminal kind at ∷ inner)
+    → fits kind (next (left_at spot)) ≡ true → limit < at → IsRefused (Nonterminal goal depth) spot (Refused (refusal_at S2 spot))
+refused_deep goal depth spot kind at inner is fit deep = λ items.
+    refused_here spot S2 (λ mark behind is_left same.
+    Open (ap (λ (k : Kind). opened goal k depth) same ∙ is) (Below (ap (fits kind) same ∙ fit) deep))
+
+-- a refusal of a token that does not fit is one of a part that it does not open, behind which others stand
+other_by : {kind : Kind} {at : ℕ} {items others : List Wanted} {goal : Goal} {depth : ℕ} {ts rest : List Mark} {code : Code} → fits kind (next ts) ≡ false
+    → opened goal (next ts) depth ≡ None → Refuses (Terminal kind at ∷ items) ts rest code → Refuses (Nonterminal goal depth ∷ others) ts rest code
+other_by differs shut (Other e is) = Shut shut is
+other_by differs shut (Below e deep) = absurd cc
+other_by differs shut (Past e within refused) = absurd cc
+other_by differs shut (Cut is) = Cut is
+
+-- what refuses a token that does not fit refuses a part that it does not open
+pub refused_other : (kind : Kind) (goal : Goal) (depth : ℕ) (spot : Spot) (error : ParseError) → fits kind (next (left_at spot)) ≡ false
+    → opened goal (next (left_at spot)) depth ≡ None → ((at : ℕ) → IsRefused (Terminal kind at) spot error) → IsRefused (Nonterminal goal depth) spot error
+refused_other kind goal depth spot (Refused refusal) differs shut refused = λ items.
+    let at = refused depth items in
+    record { mark = at.mark; behind = at.behind; code = at.code; refuses = other_by differs shut at.refuses; refusal_is = at.refusal_is }
+refused_other kind goal depth spot Memory differs shut refused = λ items. tt
+
+-- a refusal of a part that is not opened is one of another that is not, behind which others stand
+shut_by : {part : Goal} {at : ℕ} {items others : List Wanted} {goal : Goal} {depth : ℕ} {ts rest : List Mark} {code : Code} → opened part (next ts) at ≡ None
+    → opened goal (next ts) depth ≡ None → Refuses (Nonterminal part at ∷ items) ts rest code → Refuses (Nonterminal goal depth ∷ others) ts rest code
+shut_by closed shut (Shut e is) = Shut shut is
+shut_by closed shut (Open e refused) = absurd cc
+shut_by closed shut (Cut is) = Cut is
+
+-- what refuses a part that is not opened refuses another one that is not
+pub refused_alike : (part : Goal) (at : ℕ) (goal : Goal) (depth : ℕ) (spot : Spot) (error : ParseError) → opened part (next (left_at spot)) at ≡ None
+    → opened goal (next (left_at spot)) depth ≡ None → IsRefused (Nonterminal part at) spot error → IsRefused (Nonterminal goal depth) spot error
+refused_alike part at goal depth spot (Refused refusal) closed shut refused = λ items.
+    let found = refused items in
+    record { mark = found.mark; behind = found.behind; code = found.code; refuses = shut_by closed shut found.refuses; refusal_is = found.refusal_is }
+refused_alike part at goal depth spot Memory closed shut refused = λ items. tt
+
+-- the same where the table is given a name of its own
+pub symbol_kept : (old : List (List ℕ)) {table : List (List ℕ)} {name : List ℕ} (symbol : Symbol) → symbol.0 ≡ number_of_name old name → table ≡ with_name old name
+    → (names : List (List ℕ)) → GoesOn table names → name_of names symbol ≡ name
+symbol_kept old {name = name} symbol number is names more = symbol_named old name symbol number names (subst (λ (t : List (List ℕ)). GoesOn t names) is more)

@@ -1,0 +1,75 @@
+-- What the grammar tells apart in a text: its tokens by their kinds, and its end, which is a token behind the last byte.
+-- Three words are names with a text of their own: `local`, `ABS` and `StdLib`. Each is a kind, and stands where a name may, too.
+use Rattle.std.specs.Prelude.{ℕ, ◌++◌, Bool, true, false, List, [], ◌∷◌, map, codes, if◌then◌else◌}
+use Rattle.std.specs.Str.{bytes_eq}
+use Rattle.abs_tree.specs.declared.place.Place.{Place}
+use Rattle.abs_lexer.specs.declared.lexeme.Keyword.{Keyword}
+use Rattle.abs_lexer.specs.declared.lexeme.Lexeme.{Lexeme}
+use Rattle.abs_lexer.specs.declared.lexeme.Lexeme.TheVariants as lexeme
+use Rattle.abs_lexer.specs.declared.lexeme.Punctuator.{Punctuator}
+use Rattle.abs_lexer.specs.Tokens.{Lexed, TokenList}
+use Rattle.abs_lexer.specs.Words.{spelling, sign_text}
+
+-- a token of the text, or its end
+pub data Mark : Type 0 where
+  Token : Lexed → Mark
+  TextEnd : Place → Mark
+
+-- the tokens of a text, and its end behind them
+abbrev pub marks : TokenList → List Mark
+marks list = map Token list.tokens ++ TextEnd list.end ∷ []
+
+-- the place of a token, and of the end
+abbrev pub place_of_mark : Mark → Place
+place_of_mark (Token token) = token.place
+place_of_mark (TextEnd place) = place
+
+-- what the grammar asks for: names, the names with a text of their own, numbers, texts, words, signs, and the end; a word outside
+-- the profile stands nowhere
+pub data Kind : Type 0 where
+  LowerName : Kind
+  LocalName : Kind
+  UpperName : Kind
+  AbsName : Kind
+  StdLibName : Kind
+  Number : Kind
+  Text : Kind
+  Word : Keyword → Kind
+  Foreign : Kind
+  Sign : Punctuator → Kind
+  End : Kind
+
+abbrev pub kind_of_lexeme : Lexeme → List ℕ → Kind
+kind_of_lexeme lexeme.LowerName bytes = if bytes_eq bytes (codes "local") then LocalName else LowerName
+kind_of_lexeme lexeme.UpperName bytes = if bytes_eq bytes (codes "ABS") then AbsName else (if bytes_eq bytes (codes "StdLib") then StdLibName else UpperName)
+kind_of_lexeme lexeme.Number bytes = Number
+kind_of_lexeme lexeme.Text bytes = Text
+kind_of_lexeme (lexeme.Word keyword) bytes = Word keyword
+kind_of_lexeme lexeme.Foreign bytes = Foreign
+kind_of_lexeme (lexeme.Sign punctuator) bytes = Sign punctuator
+
+abbrev pub kind_of : Mark → Kind
+kind_of (Token token) = kind_of_lexeme token.kind token.bytes
+kind_of (TextEnd place) = End
+
+-- whether a token of the second kind may stand where one of the first is asked for
+abbrev pub fits : Kind → Kind → Bool
+fits LowerName LowerName = true
+fits LowerName LocalName = true
+fits LocalName LocalName = true
+fits UpperName UpperName = true
+fits UpperName AbsName = true
+fits UpperName StdLibName = true
+fits AbsName AbsName = true
+fits StdLibName StdLibName = true
+fits Number Number = true
+fits Text Text = true
+fits (Word asked) (Word keyword) = bytes_eq (spelling asked) (spelling keyword)
+fits (Sign asked) (Sign punctuator) = bytes_eq (sign_text asked) (sign_text punctuator)
+fits End End = true
+fits _ _ = false
+
+-- the kind of the next token; behind the end there is none, which no alternative asks for
+abbrev pub next : List Mark → Kind
+next [] = Foreign
+next (mark ∷ others) = kind_of mark

@@ -1,0 +1,333 @@
+-- The grammar: each symbol with its alternatives, each line of it beside its line of the grammar as it is written for people.
+-- A part in brackets may stand once or not (`Opt`), a part in braces any number of times (`Many`); where such a part has more
+-- than one item it is a symbol of its own. Which alternative is read is chosen by the next token (`chosen`): the first one that may
+-- begin with it; and `Opt` and `Many` take a part where one may begin, so an `else` belongs to the nearest `if`.
+use Rattle.std.specs.Prelude.{ℕ, zero, suc, Bool, true, false, ◌||◌, List, [], ◌∷◌, Option}
+use Rattle.std.specs.List.{list_any, find}
+use Rattle.abs_lexer.specs.declared.lexeme.Keyword.{Keyword}
+use Rattle.abs_lexer.specs.declared.lexeme.Keyword.TheVariants as keyword
+use Rattle.abs_lexer.specs.declared.lexeme.Punctuator.{Punctuator}
+use Rattle.abs_lexer.specs.declared.lexeme.Punctuator.TheVariants as punctuator
+use Rattle.abs_parser.specs.Kinds.{Kind, LowerName, LocalName, UpperName, AbsName, StdLibName, Number, Text, Word, Sign, End, fits}
+
+pub data Symbol : Type 0 where
+  Program : Symbol
+  Module : Symbol
+  Import : Symbol
+  Path : Symbol
+  DotName : Symbol
+  Decl : Symbol
+  Constructor : Symbol
+  NextConstructor : Symbol
+  ConstructorTypes : Symbol
+  TypeParameters : Symbol
+  CommaUpper : Symbol
+  Params : Symbol
+  Param : Symbol
+  CommaParam : Symbol
+  Extends : Symbol
+  Implements : Symbol
+  ClassParameters : Symbol
+  Signature : Symbol
+  Member : Symbol
+  MemberTail : Symbol
+  Type' : Symbol
+  TypeArguments : Symbol
+  Types : Symbol
+  CommaType : Symbol
+  Block : Symbol
+  Stmt : Symbol
+  Else : Symbol
+  Initial : Symbol
+  AfterName : Symbol
+  AfterThis : Symbol
+  Rest : Symbol
+  Guard : Symbol
+  AndTest : Symbol
+  Test : Symbol
+  Question : Symbol
+  Rhs : Symbol
+  Where : Symbol
+  RhsTail : Symbol
+  Selected : Symbol
+  Arguments : Symbol
+  Args : Symbol
+  CommaExpr : Symbol
+  Expr : Symbol
+  Or : Symbol
+  OrTail : Symbol
+  And : Symbol
+  AndTail : Symbol
+  Equal : Symbol
+  EqualTail : Symbol
+  Compare : Symbol
+  CompareTail : Symbol
+  Sum : Symbol
+  SumTail : Symbol
+  Mul : Symbol
+  MulTail : Symbol
+  Unary : Symbol
+  Primary : Symbol
+  ThisTail : Symbol
+  Branch : Symbol
+  Pattern : Symbol
+  PatternArguments : Symbol
+  Patterns : Symbol
+  CommaPattern : Symbol
+
+-- what stands in an alternative: a token of a kind; a symbol, which may also be left out or stand any number of times; or one of
+-- these that stands in so many more of the counted symbols than the alternative does
+pub data Item : Type 0 where
+  Of : Kind → Item
+  Part : Symbol → Item
+  Opt : Symbol → Item
+  Many : Symbol → Item
+  Inside : ℕ → Item → Item
+
+abbrev pub word : Keyword → Item
+word keyword = Of (Word keyword)
+
+abbrev pub sign : Punctuator → Item
+sign punctuator = Of (Sign punctuator)
+
+abbrev pub lower : Item
+lower = Of LowerName
+
+abbrev pub upper : Item
+upper = Of UpperName
+
+abbrev pub dot : Item
+dot = sign punctuator.Dot
+
+abbrev pub comma : Item
+comma = sign punctuator.Comma
+
+abbrev pub semicolon : Item
+semicolon = sign punctuator.Semicolon
+
+abbrev pub equals : Item
+equals = sign punctuator.Assign
+
+abbrev pub open_paren : Item
+open_paren = sign punctuator.OpenParen
+
+abbrev pub close_paren : Item
+close_paren = sign punctuator.CloseParen
+
+abbrev pub open_brace : Item
+open_brace = sign punctuator.OpenBrace
+
+abbrev pub close_brace : Item
+close_brace = sign punctuator.CloseBrace
+
+abbrev pub rule : Symbol → List (List Item)
+-- Program = [Module] [Import] {Decl} Block End
+rule Program = (Opt Module ∷ Opt Import ∷ Many Decl ∷ Part Block ∷ Of End ∷ []) ∷ []
+-- Module = "module" Path ";"
+rule Module = (word keyword.Module ∷ Part Path ∷ semicolon ∷ []) ∷ []
+-- Import = "import" "*" "from" "ABS" "." "StdLib" ";"
+rule Import =
+    (word keyword.Import ∷ sign punctuator.Star ∷ word keyword.From ∷ Of AbsName ∷ dot ∷ Of StdLibName ∷ semicolon ∷ []) ∷ []
+-- Path = UName {"." UName}
+rule Path = (upper ∷ Many DotName ∷ []) ∷ []
+rule DotName = (dot ∷ upper ∷ []) ∷ []
+-- Decl = "data" UName [TypeParameters] "=" Constructor {"|" Constructor} ";"
+--      | "def" Type LName [TypeParameters] "(" [Params] ")" "=" Expr ";"
+--      | "interface" UName ["extends" UName {"," UName}] "{" {Signature} "}"
+--      | "class" UName ["(" [Params] ")"] ["implements" UName {"," UName}] "{" {Member} "}"
+rule Decl =
+    (word keyword.Data ∷ upper ∷ Opt TypeParameters ∷ equals ∷ Part Constructor ∷ Many NextConstructor ∷ semicolon ∷ [])
+    ∷ (word keyword.Def ∷ Part Type' ∷ lower ∷ Opt TypeParameters ∷ open_paren ∷ Opt Params ∷ close_paren ∷ equals ∷ Part Expr ∷ semicolon ∷ [])
+    ∷ (word keyword.Interface ∷ upper ∷ Opt Extends ∷ open_brace ∷ Many Signature ∷ close_brace ∷ [])
+    ∷ (word keyword.Class ∷ upper ∷ Opt ClassParameters ∷ Opt Implements ∷ open_brace ∷ Many Member ∷ close_brace ∷ [])
+    ∷ []
+-- Constructor = UName ["(" [Type {"," Type}] ")"]
+rule Constructor = (upper ∷ Opt ConstructorTypes ∷ []) ∷ []
+rule NextConstructor = (sign punctuator.Bar ∷ Part Constructor ∷ []) ∷ []
+rule ConstructorTypes = (open_paren ∷ Opt Types ∷ close_paren ∷ []) ∷ []
+-- TypeParameters = "<" UName {"," UName} ">"
+rule TypeParameters = (sign punctuator.Less ∷ upper ∷ Many CommaUpper ∷ sign punctuator.Greater ∷ []) ∷ []
+rule CommaUpper = (comma ∷ upper ∷ []) ∷ []
+-- Params = Type LName {"," Type LName}
+rule Params = (Part Param ∷ Many CommaParam ∷ []) ∷ []
+rule Param = (Part Type' ∷ lower ∷ []) ∷ []
+rule CommaParam = (comma ∷ Part Param ∷ []) ∷ []
+rule Extends = (word keyword.Extends ∷ upper ∷ Many CommaUpper ∷ []) ∷ []
+rule Implements = (word keyword.Implements ∷ upper ∷ Many CommaUpper ∷ []) ∷ []
+rule ClassParameters = (open_paren ∷ Opt Params ∷ close_paren ∷ []) ∷ []
+-- Signature = Type LName "(" [Params] ")" ";"
+rule Signature = (Part Type' ∷ lower ∷ open_paren ∷ Opt Params ∷ close_paren ∷ semicolon ∷ []) ∷ []
+-- Member = Type LName (";" | "=" Expr ";" | "(" [Params] ")" Block)
+rule Member = (Part Type' ∷ lower ∷ Part MemberTail ∷ []) ∷ []
+rule MemberTail =
+    (semicolon ∷ [])
+    ∷ (equals ∷ Part Expr ∷ semicolon ∷ [])
+    ∷ (open_paren ∷ Opt Params ∷ close_paren ∷ Part Block ∷ [])
+    ∷ []
+-- Type = UName ["<" Type {"," Type} ">"]
+rule Type' = (upper ∷ Opt TypeArguments ∷ []) ∷ []
+rule TypeArguments = (sign punctuator.Less ∷ Part Types ∷ sign punctuator.Greater ∷ []) ∷ []
+rule Types = (Part Type' ∷ Many CommaType ∷ []) ∷ []
+rule CommaType = (comma ∷ Part Type' ∷ []) ∷ []
+-- Block = "{" {Stmt} "}"
+rule Block = (open_brace ∷ Many Stmt ∷ close_brace ∷ []) ∷ []
+-- Stmt = Block | "skip" ";" | "suspend" ";" | "await" Guard ";" | "return" Expr ";" | "println" "(" Expr ")" ";"
+--      | "if" "(" Expr ")" Stmt ["else" Stmt] | "while" "(" Expr ")" Stmt
+--      | Type LName ["=" Rhs] ";" | Rhs ["=" Rhs] ";"
+-- The second "=" may stand only behind a variable, or "this" "." and a field, without parentheses. So what begins with a variable or
+-- with "this" goes on as AfterName or AfterThis say. The variable stands in an Expr and a Unary all the same: it is part of a Rhs.
+rule Stmt =
+    (Part Block ∷ [])
+    ∷ (word keyword.Skip ∷ semicolon ∷ [])
+    ∷ (word keyword.Suspend ∷ semicolon ∷ [])
+    ∷ (word keyword.Await ∷ Part Guard ∷ semicolon ∷ [])
+    ∷ (word keyword.Return ∷ Part Expr ∷ semicolon ∷ [])
+    ∷ (word keyword.Println ∷ open_paren ∷ Part Expr ∷ close_paren ∷ semicolon ∷ [])
+    ∷ (word keyword.If ∷ open_paren ∷ Part Expr ∷ close_paren ∷ Part Stmt ∷ Opt Else ∷ [])
+    ∷ (word keyword.While ∷ open_paren ∷ Part Expr ∷ close_paren ∷ Part Stmt ∷ [])
+    ∷ (Part Type' ∷ lower ∷ Opt Initial ∷ semicolon ∷ [])
+    ∷ (Inside 2 lower ∷ Part AfterName ∷ [])
+    ∷ (Inside 2 (word keyword.This) ∷ Part AfterThis ∷ [])
+    ∷ (Part Rhs ∷ semicolon ∷ [])
+    ∷ []
+rule Else = (word keyword.Else ∷ Part Stmt ∷ []) ∷ []
+rule Initial = (equals ∷ Part Rhs ∷ []) ∷ []
+-- behind the variable or the field of a statement: "=" Rhs ";", or the rest of a Rhs that begins with it
+rule AfterName =
+    (equals ∷ Part Rhs ∷ semicolon ∷ [])
+    ∷ (Inside 2 (Opt Arguments) ∷ Part Rest ∷ [])
+    ∷ []
+-- behind the "this" of a statement: "." and a field or a call, or the rest of a Rhs
+rule AfterThis =
+    (Inside 2 dot ∷ Inside 2 lower ∷ Part AfterName ∷ [])
+    ∷ (Part Rest ∷ [])
+    ∷ []
+-- what may follow the first operand of a Rhs, and ";"
+rule Rest =
+    (Inside 1 (Many MulTail) ∷ Inside 1 (Many SumTail) ∷ Inside 1 (Opt CompareTail) ∷ Inside 1 (Opt EqualTail) ∷ Inside 1 (Many AndTail)
+    ∷ Inside 1 (Many OrTail) ∷ Opt RhsTail ∷ semicolon ∷ [])
+    ∷ []
+-- Guard = Test {"&&" Test}
+rule Guard = (Part Test ∷ Many AndTest ∷ []) ∷ []
+rule AndTest = (sign punctuator.And ∷ Part Test ∷ []) ∷ []
+-- Test = Equal ["?"]
+rule Test = (Part Equal ∷ Opt Question ∷ []) ∷ []
+rule Question = (sign punctuator.Question ∷ []) ∷ []
+-- Rhs = "new" ["cog" | "local"] UName "(" [Args] ")"
+--     | Expr ["!" LName "(" [Args] ")" | "." ("get" | LName "(" [Args] ")")]
+rule Rhs =
+    (word keyword.New ∷ Opt Where ∷ upper ∷ Part Arguments ∷ [])
+    ∷ (Part Expr ∷ Opt RhsTail ∷ [])
+    ∷ []
+rule Where = (word keyword.Cog ∷ []) ∷ (Of LocalName ∷ []) ∷ []
+rule RhsTail =
+    (sign punctuator.Not ∷ lower ∷ Part Arguments ∷ [])
+    ∷ (dot ∷ Part Selected ∷ [])
+    ∷ []
+rule Selected = (word keyword.Get ∷ []) ∷ (lower ∷ Part Arguments ∷ []) ∷ []
+-- Args = Expr {"," Expr}
+rule Arguments = (open_paren ∷ Opt Args ∷ close_paren ∷ []) ∷ []
+rule Args = (Part Expr ∷ Many CommaExpr ∷ []) ∷ []
+rule CommaExpr = (comma ∷ Part Expr ∷ []) ∷ []
+-- Expr = "let" "(" Type LName ")" "=" Expr "in" Expr | "if" Expr "then" Expr "else" Expr | Or
+rule Expr =
+    (word keyword.Let ∷ open_paren ∷ Part Type' ∷ lower ∷ close_paren ∷ equals ∷ Part Expr ∷ word keyword.In ∷ Part Expr ∷ [])
+    ∷ (word keyword.If ∷ Part Expr ∷ word keyword.Then ∷ Part Expr ∷ word keyword.Else ∷ Part Expr ∷ [])
+    ∷ (Part Or ∷ [])
+    ∷ []
+-- Or = And {"||" And}
+rule Or = (Part And ∷ Many OrTail ∷ []) ∷ []
+rule OrTail = (sign punctuator.Or ∷ Part And ∷ []) ∷ []
+-- And = Equal {"&&" Equal}
+rule And = (Part Equal ∷ Many AndTail ∷ []) ∷ []
+rule AndTail = (sign punctuator.And ∷ Part Equal ∷ []) ∷ []
+-- Equal = Compare [("==" | "!=") Compare]
+rule Equal = (Part Compare ∷ Opt EqualTail ∷ []) ∷ []
+rule EqualTail = (sign punctuator.Equal ∷ Part Compare ∷ []) ∷ (sign punctuator.NotEqual ∷ Part Compare ∷ []) ∷ []
+-- Compare = Sum [("<" | "<=" | ">" | ">=") Sum]
+rule Compare = (Part Sum ∷ Opt CompareTail ∷ []) ∷ []
+rule CompareTail =
+    (sign punctuator.Less ∷ Part Sum ∷ [])
+    ∷ (sign punctuator.LessEqual ∷ Part Sum ∷ [])
+    ∷ (sign punctuator.Greater ∷ Part Sum ∷ [])
+    ∷ (sign punctuator.GreaterEqual ∷ Part Sum ∷ [])
+    ∷ []
+-- Sum = Mul {("+" | "-") Mul}
+rule Sum = (Part Mul ∷ Many SumTail ∷ []) ∷ []
+rule SumTail = (sign punctuator.Plus ∷ Part Mul ∷ []) ∷ (sign punctuator.Minus ∷ Part Mul ∷ []) ∷ []
+-- Mul = Unary {("*" | "/" | "%") Unary}
+rule Mul = (Part Unary ∷ Many MulTail ∷ []) ∷ []
+rule MulTail =
+    (sign punctuator.Star ∷ Part Unary ∷ [])
+    ∷ (sign punctuator.Slash ∷ Part Unary ∷ [])
+    ∷ (sign punctuator.Percent ∷ Part Unary ∷ [])
+    ∷ []
+-- Unary = ("!" | "~" | "-") Unary | Primary
+rule Unary =
+    (sign punctuator.Not ∷ Part Unary ∷ [])
+    ∷ (sign punctuator.Tilde ∷ Part Unary ∷ [])
+    ∷ (sign punctuator.Minus ∷ Part Unary ∷ [])
+    ∷ (Part Primary ∷ [])
+    ∷ []
+-- Primary = INT | TEXT | "null" | "destiny" | "this" ["." LName ["(" [Args] ")"]] | LName ["(" [Args] ")"] | UName ["(" [Args] ")"]
+--         | "case" Expr "{" Branch {Branch} "}" | "(" Expr ")"
+rule Primary =
+    (Of Number ∷ [])
+    ∷ (Of Text ∷ [])
+    ∷ (word keyword.Null ∷ [])
+    ∷ (word keyword.Destiny ∷ [])
+    ∷ (word keyword.This ∷ Opt ThisTail ∷ [])
+    ∷ (lower ∷ Opt Arguments ∷ [])
+    ∷ (upper ∷ Opt Arguments ∷ [])
+    ∷ (word keyword.Case ∷ Part Expr ∷ open_brace ∷ Part Branch ∷ Many Branch ∷ close_brace ∷ [])
+    ∷ (open_paren ∷ Part Expr ∷ close_paren ∷ [])
+    ∷ []
+rule ThisTail = (dot ∷ lower ∷ Opt Arguments ∷ []) ∷ []
+-- Branch = Pattern "=>" Expr ";"
+rule Branch = (Part Pattern ∷ sign punctuator.Arrow ∷ Part Expr ∷ semicolon ∷ []) ∷ []
+-- Pattern = "_" | LName | ["-"] INT | TEXT | UName ["(" [Pattern {"," Pattern}] ")"]
+rule Pattern =
+    (sign punctuator.Underscore ∷ [])
+    ∷ (lower ∷ [])
+    ∷ (sign punctuator.Minus ∷ Of Number ∷ [])
+    ∷ (Of Number ∷ [])
+    ∷ (Of Text ∷ [])
+    ∷ (upper ∷ Opt PatternArguments ∷ [])
+    ∷ []
+rule PatternArguments = (open_paren ∷ Opt Patterns ∷ close_paren ∷ []) ∷ []
+rule Patterns = (Part Pattern ∷ Many CommaPattern ∷ []) ∷ []
+rule CommaPattern = (comma ∷ Part Pattern ∷ []) ∷ []
+
+-- the symbols of which at most 100 may be open at once, one inside another
+abbrev pub counts : Symbol → Bool
+counts Stmt = true
+counts Expr = true
+counts Unary = true
+counts Type' = true
+counts Pattern = true
+counts _ = false
+
+-- whether an item may begin with a token of a kind, given which symbols may, and whether what stands behind the item may
+abbrev item_begins : (Symbol → Kind → Bool) → Item → Kind → Bool → Bool
+item_begins first (Of asked) kind behind = fits asked kind
+item_begins first (Part symbol) kind behind = first symbol kind
+item_begins first (Opt symbol) kind behind = first symbol kind || behind
+item_begins first (Many symbol) kind behind = first symbol kind || behind
+item_begins first (Inside more item) kind behind = item_begins first item kind behind
+
+abbrev pub items_begin : (Symbol → Kind → Bool) → List Item → Kind → Bool
+items_begin first [] kind = false
+items_begin first (item ∷ others) kind = item_begins first item kind (items_begin first others kind)
+
+-- whether a symbol may begin with a token of a kind: some alternative of it may. Of the symbols that begin with one another there
+-- are no more than 12 in a row, from Stmt over Rhs to Primary.
+unfoldable pub begins_within : ℕ → Symbol → Kind → Bool
+begins_within zero symbol kind = false
+begins_within (suc rounds) symbol kind = list_any (λ (items : List Item). items_begin (begins_within rounds) items kind) (rule symbol)
+
+unfoldable pub begins : Symbol → Kind → Bool
+begins symbol kind = begins_within 12 symbol kind
+
+-- the alternative that is read: the first that may begin with the next token
+unfoldable pub chosen : Symbol → Kind → Option (List Item)
+chosen symbol kind = find (λ (items : List Item). items_begin begins items kind) (rule symbol)

@@ -1,0 +1,87 @@
+-- What a reader of a part of the grammar answers: what it found, or where the part is refused, whatever is to follow it.
+use Rattle.std.specs.Prelude.{◌≡◌, ⊤, ℕ, List, [], ◌∷◌, ◌++◌, fold, map, Some}
+use Rattle.abs_tree.specs.Names.{with_name}
+use Rattle.abs_tree.specs.Refusals.{refusal_of}
+use Rattle.abs_tree.specs.declared.refusal.Code.{Code}
+use Rattle.abs_tree.specs.declared.refusal.Refusal.{Refusal}
+use Rattle.abs_parser.specs.Answers.{GoesOn}
+use Rattle.abs_lexer.specs.declared.lexeme.Lexeme.{Lexeme}
+use Rattle.abs_lexer.specs.declared.lexeme.Lexeme.TheVariants as lexeme
+use Rattle.abs_lexer.specs.Tokens.{Lexed}
+use Rattle.abs_parser.specs.Kinds.{Mark, Token, TextEnd, Kind, LowerName, LocalName, UpperName, AbsName, StdLibName, Number, Text, Word, Foreign, Sign, place_of_mark, kind_of, next}
+use Rattle.abs_parser.specs.Readings.{Goal, Wanted, opened, Forest, Empty, Leaf, Node, Reads, depths}
+use Rattle.abs_parser.specs.Refusing.{Refuses, AllWithin}
+use Rattle.abs_parser.specs.Stops.{wrong_code}
+use Rattle.abs_parser.specs.Tokens.{Spot, place_of, TakesToken}
+use Rattle.abs_parser.specs.TreesOf.{written}
+use Rattle.abs_parser.specs.declared.parser.ParseError.{ParseError}
+use Rattle.abs_parser.specs.declared.parser.ParseError.TheVariants.{Refused, Memory}
+
+-- the tokens that are left at a spot, and the end behind them
+abbrev pub left_at : Spot → List Mark
+left_at spot = map Token spot.rest ++ TextEnd spot.end ∷ []
+
+-- a name that stands in front of others, where a token is one
+abbrev pub name_first : Kind → List ℕ → List (List ℕ) → List (List ℕ)
+name_first LowerName name others = name ∷ others
+name_first LocalName name others = name ∷ others
+name_first UpperName name others = name ∷ others
+name_first AbsName name others = name ∷ others
+name_first StdLibName name others = name ∷ others
+name_first _ name others = others
+
+-- the names in what was read, in their order, in front of others
+abbrev pub names_before : Forest → List (List ℕ) → List (List ℕ)
+names_before Empty others = others
+names_before (Leaf mark depth behind) others = name_first (kind_of mark) (written mark) (names_before behind others)
+names_before (Node goal inside behind) others = names_before inside (names_before behind others)
+
+-- the kind of the grammar that a kind of token is asked for by
+abbrev pub asked : Lexeme → Kind
+asked lexeme.LowerName = LowerName
+asked lexeme.UpperName = UpperName
+asked lexeme.Number = Number
+asked lexeme.Text = Text
+asked (lexeme.Word keyword) = Word keyword
+asked lexeme.Foreign = Foreign
+asked (lexeme.Sign punctuator) = Sign punctuator
+
+-- the refusal of the next token by this code
+abbrev pub refusal_at : Code → Spot → Refusal
+refusal_at code spot = refusal_of (record { code = code; place = place_of spot })
+
+-- the refusal of the next token where nothing that is read has it there
+abbrev pub wrong_at : Spot → Refusal
+wrong_at spot = refusal_at (wrong_code (next (left_at spot))) spot
+
+-- This token, of this kind, is the next one at `from`, and behind it is `to`.
+pub record TakesKind (kind : Lexeme) (token : Lexed) (from to : Spot) : Type 0 where
+  pub kind_is : token.kind ≡ kind
+  pub takes : TakesToken token from to
+
+-- A part that stands in so many counted symbols was read, no token in it is too deep, the table of names goes on with its names, and
+-- what was read is so, whatever names come to the table behind them.
+pub record FoundAs (goal : Goal) (depth : ℕ) (old new : List (List ℕ)) (from to : Spot) (is_read : List (List ℕ) → Forest → Type 0) : Type 0 where
+  pub inside : Forest
+  pub inner : List Wanted
+  pub rule_is : opened goal (next (left_at from)) depth ≡ Some inner
+  pub reads : Reads inner (left_at from) inside (left_at to)
+  pub within : AllWithin (depths inside)
+  pub table : new ≡ fold with_name old (names_before inside [])
+  pub is : (names : List (List ℕ)) → GoesOn new names → is_read names inside
+
+-- what is wanted is refused at a token, with its code and its place
+pub record RefusedAt (items : List Wanted) (ts : List Mark) (refusal : Refusal) : Type 0 where
+  pub mark : Mark
+  pub behind : List Mark
+  pub code : Code
+  pub refuses : Refuses items ts (mark ∷ behind) code
+  pub refusal_is : refusal ≡ refusal_of (record { code = code; place = place_of_mark mark })
+
+abbrev pub RefusedAs : List Wanted → List Mark → ParseError → Type 0
+RefusedAs items ts (Refused refusal) = RefusedAt items ts refusal
+RefusedAs items ts Memory = ⊤
+
+-- one that is wanted is refused, whatever is to follow it
+abbrev pub IsRefused : Wanted → Spot → ParseError → Type 0
+IsRefused item from error = (items : List Wanted) → RefusedAs (item ∷ items) (left_at from) error

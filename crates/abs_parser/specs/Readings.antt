@@ -1,0 +1,62 @@
+-- Which tokens are read as which symbol, and with what rest: a family over the productions, with no bound on nesting. What is read is
+-- a forest, which has each token with the number of counted symbols that it stands in, one inside another.
+use Rattle.std.specs.Prelude.{◌≡◌, ℕ, ◌+◌, true, List, [], ◌∷◌, ◌++◌, Option, Some, option_map, map, if◌then◌else◌}
+use Rattle.abs_parser.specs.Kinds.{Mark, Kind, kind_of, fits, next}
+use Rattle.abs_parser.specs.Productions.{Symbol, Program, Item, Of, Part, Opt, Many, Inside, counts, begins, chosen}
+
+-- a part that is to be read: a symbol, one that may be left out, or one that may stand any number of times
+pub data Goal : Type 0 where
+  One : Symbol → Goal
+  Optional : Symbol → Goal
+  Repeated : Symbol → Goal
+
+-- what is to be read: a token of a kind, or a part, and in how many counted symbols it stands
+pub data Wanted : Type 0 where
+  Terminal : Kind → ℕ → Wanted
+  Nonterminal : Goal → ℕ → Wanted
+
+-- an item in an alternative that stands in so many
+abbrev pub place_item : ℕ → Item → Wanted
+place_item depth (Of kind) = Terminal kind depth
+place_item depth (Part symbol) = Nonterminal (One symbol) depth
+place_item depth (Opt symbol) = Nonterminal (Optional symbol) depth
+place_item depth (Many symbol) = Nonterminal (Repeated symbol) depth
+place_item depth (Inside more item) = place_item (depth + more) item
+
+abbrev pub place : ℕ → List Item → List Wanted
+place depth items = map (place_item depth) items
+
+-- inside a counted symbol everything stands in one more
+abbrev pub inner_depth : Symbol → ℕ → ℕ
+inner_depth symbol depth = if counts symbol then depth + 1 else depth
+
+-- what a part that stands in so many counted symbols consists of, by the next token
+abbrev pub opened : Goal → Kind → ℕ → Option (List Wanted)
+opened (One symbol) kind depth = option_map (place (inner_depth symbol depth)) (chosen symbol kind)
+opened (Optional symbol) kind depth = if begins symbol kind then Some (Nonterminal (One symbol) depth ∷ []) else Some []
+opened (Repeated symbol) kind depth =
+    if begins symbol kind then Some (Nonterminal (One symbol) depth ∷ Nonterminal (Repeated symbol) depth ∷ []) else Some []
+
+-- Trees side by side: nothing more; a token, in so many counted symbols, and others; or a part with what is inside, and others.
+pub data Forest : Type 0 where
+  Empty : Forest
+  Leaf : Mark → ℕ → Forest → Forest
+  Node : Goal → Forest → Forest → Forest
+
+pub data Reads : List Wanted → List Mark → Forest → List Mark → Type 0 where
+  Nothing : {ts : List Mark} → Reads [] ts Empty ts
+  Taken : {kind : Kind} {depth : ℕ} {items : List Wanted} {mark : Mark} {ts rest : List Mark} {forest : Forest}
+      → fits kind (kind_of mark) ≡ true → Reads items ts forest rest → Reads (Terminal kind depth ∷ items) (mark ∷ ts) (Leaf mark depth forest) rest
+  Opened : {goal : Goal} {depth : ℕ} {inner items : List Wanted} {ts middle rest : List Mark} {inside forest : Forest}
+      → opened goal (next ts) depth ≡ Some inner → Reads inner ts inside middle → Reads items middle forest rest
+      → Reads (Nonterminal goal depth ∷ items) ts (Node goal inside forest) rest
+
+-- in how many counted symbols each token stands
+abbrev pub depths : Forest → List ℕ
+depths Empty = []
+depths (Leaf mark depth others) = depth ∷ depths others
+depths (Node goal inside others) = depths inside ++ depths others
+
+-- the whole list is read as a program
+pub record IsProgram (ts : List Mark) (forest : Forest) : Type 0 where
+  pub reads : Reads (Nonterminal (One Program) 0 ∷ []) ts forest []

@@ -1,0 +1,25 @@
+-- The law of the stop: each text is accepted with just one reading and one tree, or it stops at just one token with one code, and never both.
+use Rattle.std.specs.Prelude.{◌≡◌, List}
+use Rattle.abs_tree.specs.declared.refusal.Code.{Code}
+use Rattle.abs_lexer.specs.Tokens.{TokenList}
+use Rattle.abs_parser.specs.Kinds.{Mark, marks}
+use Rattle.abs_parser.specs.Readings.{Forest, IsProgram}
+use Rattle.abs_parser.specs.Stops.{StopsAt, IsAccepted}
+use Rattle.abs_parser.specs.TreesOf.{tree_of}
+use Rattle.abs_tree.specs.Syntax.{TextTree}
+
+-- the tree is that of a reading of the list
+pub record IsTreeOf (ts : List Mark) (tree : TextTree) : Type 0 where
+  pub forest : Forest
+  pub reads : IsProgram ts forest
+  pub is : tree ≡ tree_of forest
+
+pub data Outcome (ts : List Mark) : Type 0 where
+  accepts : (forest : Forest) → IsAccepted ts forest → ((other : Forest) → IsProgram ts other → other ≡ forest)
+      → ((tree : TextTree) → IsTreeOf ts tree → tree ≡ tree_of forest) → Outcome ts
+  stops : (before : List Mark) (mark : Mark) (code : Code) → StopsAt ts before mark code
+      → ((front : List Mark) (other : Mark) (by : Code) → StopsAt ts front other by → (front ≡ before) × (other ≡ mark) × (by ≡ code))
+      → ((forest : Forest) → IsAccepted ts forest → ⊥) → Outcome ts
+
+abbrev pub EachTextStopsOrIsAccepted : Type 0
+EachTextStopsOrIsAccepted = (list : TokenList) → Outcome (marks list)

@@ -1,0 +1,91 @@
+//! Reads types.
+ghost use Rattle.std.specs.Prelude.{◌≡◌, ◌+◌, ◌<◌, ◌≤◌, ◌^◌, length, IfOk, IfErr};
+ghost use Rattle.abs_tree.specs.SyntaxViews.{type_tree, type_trees};
+ghost use Rattle.abs_parser.specs.Productions.{Type', TypeArguments as ArgumentsOfType, Types};
+ghost use Rattle.abs_parser.specs.Readings.{One, Optional, Nonterminal};
+ghost use Rattle.abs_parser.specs.ReaderAnswers.{FoundAs, IsRefused};
+ghost use Rattle.abs_parser.specs.Stops.{limit};
+ghost use Rattle.abs_parser.specs.TreesOf.{type_in, type_arguments as arguments_in, types_in};
+ghost use Rattle.abs_parser.specs.Views.{spot};
+
+use crate::ParseError;
+use crate::cursor::{Cursor, LIMIT};
+use abs_lexer::{Lexeme, Punctuator};
+use abs_tree::Symbols;
+use abs_tree::syntax::TypeTerm;
+use std::alloc::Global;
+use std::sync::Arc;
+
+/// A type that stands in so many counted symbols, and the cursor behind it.
+///
+/// # Errors
+/// The refusal of the first token that no type has there, or that stands too deep.
+#[cycle(types)]
+pub(crate) fn type_term<'a, 'b>(
+    alloc: Global,
+    symbols: &mut Symbols<'a>,
+    depth: u32,
+    from: Cursor<'a, 'b>,
+) -> Result<(TypeTerm, Cursor<'a, 'b>), ParseError>
+    requires names { length symbols.old + length (spot from).rest < 2 ^ 31 }
+    requires depth { depth ≤ limit }
+    ensures found { IfOk result (λ found. FoundAs (One Type') depth symbols.old symbols.new (spot from.entry) (spot found.1)
+        (λ names inside. type_tree names found.0 ≡ type_in inside)) }
+    ensures refused { IfErr result (λ error. IsRefused (Nonterminal (One Type') depth) (spot from.entry) error) }
+{
+    let (name, behind) = from.expect(Lexeme::UpperName)?;
+    if depth == LIMIT {
+        return Err(from.deep());
+    }
+    let symbol = symbols.intern(name.slice)?;
+    let (arguments, end) = type_arguments(alloc, symbols, depth + 1, behind)?;
+    let term = TypeTerm::Name(name.place, symbol, Arc::new(alloc, arguments)?);
+    Ok((term, end))
+}
+
+/// The types between `<` and `>`, where there are any, and the cursor behind them.
+#[cycle(types)]
+fn type_arguments<'a, 'b>(
+    alloc: Global,
+    symbols: &mut Symbols<'a>,
+    depth: u32,
+    from: Cursor<'a, 'b>,
+) -> Result<(Vec<TypeTerm>, Cursor<'a, 'b>), ParseError>
+    requires names { length symbols.old + length (spot from).rest < 2 ^ 31 }
+    requires depth { depth ≤ limit }
+    ensures found { IfOk result (λ found. FoundAs (Optional ArgumentsOfType) depth symbols.old symbols.new (spot from.entry) (spot found.1)
+        (λ names inside. type_trees names found.0.items ≡ arguments_in inside)) }
+    ensures refused { IfErr result (λ error. IsRefused (Nonterminal (Optional ArgumentsOfType) depth) (spot from.entry) error) }
+{
+    let Ok((_, behind)) = from.expect(Lexeme::Sign(Punctuator::Less)) else {
+        return Ok((Vec::new(alloc), from));
+    };
+    let (types, close) = types(alloc, symbols, depth, behind)?;
+    let (_, end) = close.expect(Lexeme::Sign(Punctuator::Greater))?;
+    Ok((types, end))
+}
+
+/// A type, and others behind commas, and the cursor behind them.
+#[cycle(types)]
+fn types<'a, 'b>(
+    alloc: Global,
+    symbols: &mut Symbols<'a>,
+    depth: u32,
+    from: Cursor<'a, 'b>,
+) -> Result<(Vec<TypeTerm>, Cursor<'a, 'b>), ParseError>
+    requires names { length symbols.old + length (spot from).rest < 2 ^ 31 }
+    requires depth { depth ≤ limit }
+    ensures found { IfOk result (λ found. FoundAs (One Types) depth symbols.old symbols.new (spot from.entry) (spot found.1)
+        (λ names inside. type_trees names found.0.items ≡ types_in inside)) }
+    ensures refused { IfErr result (λ error. IsRefused (Nonterminal (One Types) depth) (spot from.entry) error) }
+{
+    let mut types = Vec::new(alloc);
+    let (first, mut here) = type_term(alloc, symbols, depth, from)?;
+    types.push(first)?;
+    while let Ok((_, behind)) = here.expect(Lexeme::Sign(Punctuator::Comma)) {
+        let (next, end) = type_term(alloc, symbols, depth, behind)?;
+        types.push(next)?;
+        here = end;
+    }
+    Ok((types, here))
+}

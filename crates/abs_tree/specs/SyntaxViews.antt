@@ -1,0 +1,193 @@
+-- The code's trees without their memory: the same with each symbol's name written out, by the table of the names.
+use Rattle.std.specs.Prelude.{List, [], ◌∷◌, map, Option, Some, None}
+use Rattle.abs_tree.specs.Syntax.{Name, VariableTree, Written, AtSlot, TypeTree, TypeName, BottomType, NullType, ClassType, TypeTrees, NoType, NextType, PatternTree, AnyValue, Binds, SameNumber, SameText, Built, PatternTrees, NoPattern, NextPattern, Phrase, LetIn, IfElse, Chain, Prefixed, NumberOf, TextOf, NullOf, DestinyOf, ThisOf, FieldOf, OwnCallOf, VariableOf, ApplyOf, BuildOf, CaseOf, Phrases, NoPhrase, NextPhrase, Links, NoLink, Link, Branches, NoBranch, NextBranch, SideTree, NewOf, ValueOf, SendOf, GetOf, CallOf, Tests, NoTest, NextTest, TargetTree, ToVariable, ToField, MaybeSide, NoSide, SomeSide, Statement, BlockOf, SkipOf, SuspendOf, AwaitOf, ReturnOf, PrintOf, IfOf, WhileOf, DeclareOf, AssignOf, DoOf, MaybeStatements, NoElse, Else, Statements, NoStatement, NextStatement, ParamTree, DeclaredTree, ConstructorTree, SignatureTree, NoValue, Value, MemberTree, FieldTree, MethodTree, DeclTree, DataTree, FunctionTree, InterfaceTree, ClassTree, TextTree}
+use Rattle.abs_tree.specs.Trees.{name_of}
+use Rattle.abs_tree.specs.declared.program.Variable.{Variable}
+use Rattle.abs_tree.specs.declared.program.Variable.TheVariants as variable
+use Rattle.abs_tree.specs.declared.syntax.types.TypeTerm as code_type
+use Rattle.abs_tree.specs.declared.syntax.pattern.Pattern as code_pattern
+use Rattle.abs_tree.specs.declared.syntax.expression.Expr as code_expr
+use Rattle.abs_tree.specs.declared.syntax.statement.RightSide as code_side
+use Rattle.abs_tree.specs.declared.syntax.statement.RightSide.TheVariants as side
+use Rattle.abs_tree.specs.declared.syntax.statement.Target as code_target
+use Rattle.abs_tree.specs.declared.syntax.statement.Target.TheVariants as target
+use Rattle.abs_tree.specs.declared.syntax.statement.Test as code_test
+use Rattle.abs_tree.specs.declared.syntax.statement.Stmt as code_stmt
+use Rattle.abs_tree.specs.declared.syntax.declaration.Declared as code_declared
+use Rattle.abs_tree.specs.declared.syntax.declaration.Param as code_param
+use Rattle.abs_tree.specs.declared.syntax.declaration.Constructor as code_constructor
+use Rattle.abs_tree.specs.declared.syntax.declaration.Signature as code_signature
+use Rattle.abs_tree.specs.declared.syntax.declaration.Member as code_member
+use Rattle.abs_tree.specs.declared.syntax.declaration.Member.TheVariants as member
+use Rattle.abs_tree.specs.declared.syntax.declaration.Decl as code_decl
+use Rattle.abs_tree.specs.declared.syntax.declaration.Decl.TheVariants as decl
+use Rattle.abs_tree.specs.declared.syntax.declaration.Program as code_program
+
+-- the tree of a variable
+abbrev pub variable_tree : List Name → Variable → VariableTree
+variable_tree names (variable.Named symbol) = Written (name_of names symbol)
+variable_tree names (variable.Slot slot) = AtSlot slot
+
+abbrev mutual
+  -- the tree of a type
+  pub type_tree : List Name → code_type.TypeTerm → TypeTree
+  type_tree names (code_type.Name' place symbol shared shape arguments) = TypeName place (name_of names symbol) (type_row names arguments)
+  type_tree names code_type.Bottom = BottomType
+  type_tree names code_type.Null = NullType
+  type_tree names (code_type.Class symbol) = ClassType (name_of names symbol)
+
+  pub type_row : {n : _} → List Name → code_type.Row_of-TypeTerm n → TypeTrees
+  type_row names code_type.end_of-TypeTerm = NoType
+  type_row names (code_type.more_of-TypeTerm type others) = NextType (type_tree names type) (type_row names others)
+
+-- the trees of a list of types
+abbrev pub type_trees : List Name → List code_type.TypeTerm → TypeTrees
+type_trees names [] = NoType
+type_trees names (type ∷ others) = NextType (type_tree names type) (type_trees names others)
+
+abbrev mutual
+  -- the tree of a pattern
+  pub pattern_tree : List Name → code_pattern.Pattern → PatternTree
+  pattern_tree names (code_pattern.Any place) = AnyValue place
+  pattern_tree names (code_pattern.Binds place variable) = Binds place (variable_tree names variable)
+  pattern_tree names (code_pattern.Number place number) = SameNumber place number
+  pattern_tree names (code_pattern.Text place text) = SameText place text
+  pattern_tree names (code_pattern.Built' place symbol shape arguments) = Built place (name_of names symbol) (pattern_row names arguments)
+
+  pub pattern_row : {n : _} → List Name → code_pattern.Row_of-Pattern n → PatternTrees
+  pattern_row names code_pattern.end_of-Pattern = NoPattern
+  pattern_row names (code_pattern.more_of-Pattern pattern others) = NextPattern (pattern_tree names pattern) (pattern_row names others)
+
+-- the trees of a list of patterns
+abbrev pub pattern_trees : List Name → List code_pattern.Pattern → PatternTrees
+pattern_trees names [] = NoPattern
+pattern_trees names (pattern ∷ others) = NextPattern (pattern_tree names pattern) (pattern_trees names others)
+
+abbrev mutual
+  -- the tree of an expression
+  pub phrase : List Name → code_expr.Expr → Phrase
+  phrase names (code_expr.Let' place type variable at_value value at_body body) =
+      LetIn place (type_tree names type) (variable_tree names variable) (phrase names value) (phrase names body)
+  phrase names (code_expr.If' place at_test test at_first first at_second second) = IfElse place (phrase names test) (phrase names first) (phrase names second)
+  phrase names (code_expr.Chain' place at_first first shape operands) = Chain place (phrase names first) (link_row names operands)
+  phrase names (code_expr.Prefixed' place prefix at_operand operand) = Prefixed place prefix (phrase names operand)
+  phrase names (code_expr.Number place number) = NumberOf place number
+  phrase names (code_expr.Text place text) = TextOf place text
+  phrase names (code_expr.Null place) = NullOf place
+  phrase names (code_expr.Destiny place) = DestinyOf place
+  phrase names (code_expr.This place) = ThisOf place
+  phrase names (code_expr.Field place symbol) = FieldOf place (name_of names symbol)
+  phrase names (code_expr.OwnCall' place symbol shape arguments) = OwnCallOf place (name_of names symbol) (phrase_row names arguments)
+  phrase names (code_expr.Local place variable) = VariableOf place (variable_tree names variable)
+  phrase names (code_expr.Apply' place symbol shape arguments) = ApplyOf place (name_of names symbol) (phrase_row names arguments)
+  phrase names (code_expr.Build' place symbol shape arguments) = BuildOf place (name_of names symbol) (phrase_row names arguments)
+  phrase names (code_expr.Case' place at_subject subject shape branches) = CaseOf place (phrase names subject) (branch_row names branches)
+
+  pub phrase_row : {n : _} → List Name → code_expr.Row_of-Expr n → Phrases
+  phrase_row names code_expr.end_of-Expr = NoPhrase
+  phrase_row names (code_expr.more_of-Expr expr others) = NextPhrase (phrase names expr) (phrase_row names others)
+
+  pub link_row : {n : _} → List Name → code_expr.Row_of-Operand n → Links
+  link_row names code_expr.end_of-Operand = NoLink
+  link_row names (code_expr.more_of-Operand operator right others) = Link operator (phrase names right) (link_row names others)
+
+  pub branch_row : {n : _} → List Name → code_expr.Row_of-Branch n → Branches
+  branch_row names code_expr.end_of-Branch = NoBranch
+  branch_row names (code_expr.more_of-Branch pattern value others) = NextBranch (pattern_tree names pattern) (phrase names value) (branch_row names others)
+
+-- the trees of a list of expressions
+abbrev pub phrases : List Name → List code_expr.Expr → Phrases
+phrases names [] = NoPhrase
+phrases names (expr ∷ others) = NextPhrase (phrase names expr) (phrases names others)
+
+-- the tree of a right side
+abbrev pub side_tree : List Name → code_side.RightSide → SideTree
+side_tree names (side.New place mode class arguments) = NewOf place mode (name_of names class) (phrases names arguments.value.items)
+side_tree names (side.Value place value) = ValueOf place (phrase names value.value)
+side_tree names (side.Send place receiver method arguments) =
+    SendOf place (phrase names receiver.value) (name_of names method) (phrases names arguments.value.items)
+side_tree names (side.Get place future) = GetOf place (phrase names future.value)
+side_tree names (side.Call place receiver method arguments) =
+    CallOf place (phrase names receiver.value) (name_of names method) (phrases names arguments.value.items)
+
+abbrev pub maybe_side : List Name → Option code_side.RightSide → MaybeSide
+maybe_side names None = NoSide
+maybe_side names (Some rhs) = SomeSide (side_tree names rhs)
+
+-- the tree of a guard
+abbrev pub tests : List Name → List code_test.Test → Tests
+tests names [] = NoTest
+tests names (test ∷ others) = NextTest test.place (phrase names test.value.value) test.asks (tests names others)
+
+abbrev pub target_tree : List Name → code_target.Target → TargetTree
+target_tree names (target.Local place variable) = ToVariable place (variable_tree names variable)
+target_tree names (target.Field place symbol) = ToField place (name_of names symbol)
+
+abbrev mutual
+  -- the tree of a statement
+  pub statement : List Name → code_stmt.Stmt → Statement
+  statement names (code_stmt.Block' place shape block) = BlockOf place (statement_row names block)
+  statement names (code_stmt.Skip number place) = SkipOf place
+  statement names (code_stmt.Suspend number place) = SuspendOf place
+  statement names (code_stmt.Await number place guard) = AwaitOf place (tests names guard.items)
+  statement names (code_stmt.Return number place value) = ReturnOf place (phrase names value.value)
+  statement names (code_stmt.Print number place value) = PrintOf place (phrase names value.value)
+  statement names (code_stmt.If' number place test shape first second) = IfOf place (phrase names test.value) (statement_row names first) (else_held names second)
+  statement names (code_stmt.While' number place test shape body) = WhileOf place (phrase names test.value) (statement_row names body)
+  statement names (code_stmt.Declare number place type name_place variable initial) =
+      DeclareOf place (type_tree names type) name_place (variable_tree names variable) (maybe_side names initial)
+  statement names (code_stmt.Assign number place target rhs) = AssignOf place (target_tree names target) (side_tree names rhs)
+  statement names (code_stmt.Do number place rhs) = DoOf place (side_tree names rhs)
+
+  pub statement_row : {n : _} → List Name → code_stmt.Row_of-Stmt n → Statements
+  statement_row names code_stmt.end_of-Stmt = NoStatement
+  statement_row names (code_stmt.more_of-Stmt stmt others) = NextStatement (statement names stmt) (statement_row names others)
+
+  else_held : List Name → code_stmt.Held-Stmt-If-4 → MaybeStatements
+  else_held names code_stmt.None' = NoElse
+  else_held names (code_stmt.Some' shape other) = Else (statement_row names other)
+
+-- the trees of a list of statements
+abbrev pub statements : List Name → List code_stmt.Stmt → Statements
+statements names [] = NoStatement
+statements names (stmt ∷ others) = NextStatement (statement names stmt) (statements names others)
+
+-- the trees of a declaration and of its parts
+abbrev pub declared : List Name → code_declared.Declared → DeclaredTree
+declared names item = record { place = item.place; name = name_of names item.name }
+
+abbrev pub param_tree : List Name → code_param.Param → ParamTree
+param_tree names param = record { type_of = type_tree names param.type_of; place = param.place; variable = variable_tree names param.variable }
+
+abbrev pub constructor_tree : List Name → code_constructor.Constructor → ConstructorTree
+constructor_tree names constructor = record { name = declared names constructor.name; types = type_trees names constructor.types.items }
+
+abbrev pub signature_tree : List Name → code_signature.Signature → SignatureTree
+signature_tree names signature = record {
+  result = type_tree names signature.result;
+  name = declared names signature.name;
+  params = map (param_tree names) signature.params.items;
+}
+
+abbrev pub member_tree : List Name → code_member.Member → MemberTree
+member_tree names (member.Field type name None) = FieldTree (type_tree names type) (declared names name) NoValue
+member_tree names (member.Field type name (Some value)) = FieldTree (type_tree names type) (declared names name) (Value (phrase names value.value))
+member_tree names (member.Method signature body) = MethodTree (signature_tree names signature) body.end (statements names body.statements.items)
+
+abbrev pub decl_tree : List Name → code_decl.Decl → DeclTree
+decl_tree names (decl.Data place name parameters constructors) =
+    DataTree place (declared names name) (map (declared names) parameters.items) (map (constructor_tree names) constructors.items)
+decl_tree names (decl.Function place result name parameters params value) =
+    FunctionTree place (type_tree names result) (declared names name) (map (declared names) parameters.items) (map (param_tree names) params.items) (phrase names value.value)
+decl_tree names (decl.Interface place name extended signatures) =
+    InterfaceTree place (declared names name) (map (declared names) extended.items) (map (signature_tree names) signatures.items)
+decl_tree names (decl.Class place name params implemented members) =
+    ClassTree place (declared names name) (map (param_tree names) params.items) (map (declared names) implemented.items) (map (member_tree names) members.items)
+
+-- the tree of a program
+abbrev pub text_tree : code_program.Program → TextTree
+text_tree program = record {
+  declarations = map (decl_tree program.symbols) program.declarations.items;
+  main = statements program.symbols program.main.statements.items;
+  end = program.main.end;
+}

@@ -1,0 +1,14 @@
+//! The tree of a source: a type for each kind of phrase, with a variant for each alternative of its rule, which has a field
+//! for each name, literal, operator and part, in their order, and the place of its first token. Operators of one
+//! precedence stand in one node; parentheses, and a rule with one operand, leave none.
+pub mod declaration;
+pub mod expression;
+pub mod pattern;
+pub mod statement;
+pub mod types;
+
+pub use declaration::{Body, Constructor, Decl, Declared, Member, Param, Program, Signature};
+pub use expression::{Branch, Expr, Operand, Operator, Prefix};
+pub use pattern::Pattern;
+pub use statement::{Mode, RightSide, Stmt, Target, Test};
+pub use types::TypeTerm;

@@ -1,0 +1,71 @@
+//! Declarations, and a source as a whole.
+use crate::syntax::{Expr, Stmt, TypeTerm};
+use crate::{Place, Symbol, Symbols, Variable};
+use std::sync::Arc;
+
+/// A name where it is declared.
+#[derive(Clone, Copy, Debug, PartialEq, Eq)]
+pub struct Declared {
+    pub place: Place,
+    pub name: Symbol,
+}
+
+/// A parameter: `T x`, with the place of the name.
+#[derive(Drop)]
+pub struct Param {
+    pub type_of: TypeTerm,
+    pub place: Place,
+    pub variable: Variable,
+}
+
+/// A constructor of data, with the types of its arguments.
+#[derive(Drop)]
+pub struct Constructor {
+    pub name: Declared,
+    pub types: Vec<TypeTerm>,
+}
+
+/// The head of a method.
+#[derive(Drop)]
+pub struct Signature {
+    pub result: TypeTerm,
+    pub name: Declared,
+    pub params: Vec<Param>,
+}
+
+/// The statements of a method or of the main block, and the place of the brace that closes it.
+#[derive(Drop)]
+pub struct Body {
+    pub statements: Vec<Stmt>,
+    pub end: Place,
+}
+
+/// A member of a class.
+#[derive(Drop)]
+pub enum Member {
+    /// `T x;` or `T x = e;`
+    Field(TypeTerm, Declared, Option<Arc<Expr>>),
+    /// `T m(T x, ..) { s .. }`
+    Method(Signature, Body),
+}
+
+/// A declaration.
+#[derive(Drop)]
+pub enum Decl {
+    /// `data D<A, ..> = C(T, ..) | ..;`
+    Data(Place, Declared, Vec<Declared>, Vec<Constructor>),
+    /// `def T f<A, ..>(T x, ..) = e;`
+    Function(Place, TypeTerm, Declared, Vec<Declared>, Vec<Param>, Arc<Expr>),
+    /// `interface I extends J, .. { T m(T x, ..); .. }`
+    Interface(Place, Declared, Vec<Declared>, Vec<Signature>),
+    /// `class C(T x, ..) implements I, .. { members }`
+    Class(Place, Declared, Vec<Param>, Vec<Declared>, Vec<Member>),
+}
+
+/// A source: its names, its declarations, and its main block.
+#[derive(Drop)]
+pub struct Program<'a> {
+    pub symbols: Symbols<'a>,
+    pub declarations: Vec<Decl>,
+    pub main: Body,
+}

@@ -1,0 +1,78 @@
+//! Statements. Their expressions stand behind shared pointers, so that to take them along costs the same whatever their size.
+use crate::syntax::{Expr, TypeTerm};
+use crate::{Place, Symbol, Variable};
+use std::sync::Arc;
+
+/// Where a new object lives.
+#[derive(Clone, Copy, Debug, PartialEq, Eq)]
+pub enum Mode {
+    /// `new C(es)`
+    Plain,
+    /// `new cog C(es)`
+    Cog,
+    /// `new local C(es)`
+    Local,
+}
+
+/// What stands on the right of `=`, or alone as a statement.
+#[derive(Drop)]
+pub enum RightSide {
+    /// `new C(es)`
+    New(Place, Mode, Symbol, Arc<Vec<Expr>>),
+    /// `e`
+    Value(Place, Arc<Expr>),
+    /// `e!m(es)`
+    Send(Place, Arc<Expr>, Symbol, Arc<Vec<Expr>>),
+    /// `e.get`
+    Get(Place, Arc<Expr>),
+    /// `e.m(es)`
+    Call(Place, Arc<Expr>, Symbol, Arc<Vec<Expr>>),
+}
+
+/// A part of a guard.
+#[derive(Drop)]
+pub struct Test {
+    pub place: Place,
+    pub value: Arc<Expr>,
+    /// Whether a `?` stands behind it.
+    pub asks: bool,
+}
+
+/// Where a value goes.
+#[derive(Clone, Copy, Debug, PartialEq, Eq)]
+pub enum Target {
+    /// `x = ..`
+    Local(Place, Variable),
+    /// `this.x = ..`
+    Field(Place, Symbol),
+}
+
+/// A statement, with the place of its first token. Those that are no block have a number before it: they are numbered from
+/// 0 in the order in which they begin. A block stands for its statements, also as a branch; a branch without braces is
+/// a list of one statement.
+#[derive(Drop)]
+#[cycle(statements)]
+pub enum Stmt {
+    /// `{ s .. }`
+    Block(Place, Vec<Stmt>),
+    /// `skip;`
+    Skip(u32, Place),
+    /// `suspend;`
+    Suspend(u32, Place),
+    /// `await g && ..;`
+    Await(u32, Place, Vec<Test>),
+    /// `return e;`
+    Return(u32, Place, Arc<Expr>),
+    /// `println(e);`
+    Print(u32, Place, Arc<Expr>),
+    /// `if (e) { s .. }`, perhaps with `else { s .. }`
+    If(u32, Place, Arc<Expr>, Vec<Stmt>, Option<Vec<Stmt>>),
+    /// `while (e) { s .. }`
+    While(u32, Place, Arc<Expr>, Vec<Stmt>),
+    /// `T x;` or `T x = r;`, with the place of the name
+    Declare(u32, Place, TypeTerm, Place, Variable, Option<RightSide>),
+    /// `x = r;` or `this.x = r;`
+    Assign(u32, Place, Target, RightSide),
+    /// `r;`
+    Do(u32, Place, RightSide),
+}

@@ -1,0 +1,18 @@
+//! Types.
+use crate::{Place, Symbol};
+use std::sync::Arc;
+
+/// A type, as a text writes it or as checking finds it. Copies of it share its arguments, so that a copy costs the same
+/// whatever its size.
+#[derive(Drop)]
+#[cycle(types)]
+pub enum TypeTerm {
+    /// A name with its arguments, where it stands.
+    Name(Place, Symbol, Arc<Vec<TypeTerm>>),
+    /// The type of no value.
+    Bottom,
+    /// The type of `null`.
+    Null,
+    /// An object of a class.
+    Class(Symbol),
+}
