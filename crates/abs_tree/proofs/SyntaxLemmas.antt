@@ -1,4 +1,4 @@
--- The trees of the types and patterns inside a type or a pattern that stands in memory are those of its list.
+-- The trees of the parts inside a type, a pattern or an expression that stands in memory are those of its list.
 use Rattle.std.proofs.Common.{◌≡◌, ℕ, List, refl, ap, ◌∙◌}
 use Rattle.std.specs.declared.alloc.Global.{Global}
 use Rattle.std.specs.declared.sync.Arc.{Arc}
@@ -9,8 +9,13 @@ use Rattle.abs_tree.specs.declared.syntax.types.TypeTerm as code_type
 use Rattle.abs_tree.specs.declared.syntax.types.TypeTerm.{TypeTerm, Name', Row_of-TypeTerm, end_of-TypeTerm, more_of-TypeTerm, items-the_row-TypeTerm, items_hidden-the_row-TypeTerm-0}
 use Rattle.abs_tree.specs.declared.syntax.pattern.Pattern as code_pattern
 use Rattle.abs_tree.specs.declared.syntax.pattern.Pattern.{Pattern, Built', Row_of-Pattern, end_of-Pattern, more_of-Pattern, items-the_row-Pattern, items_hidden-the_row-Pattern-0}
-use Rattle.abs_tree.specs.Syntax.{TypeName, NextType, Built, NextPattern}
-use Rattle.abs_tree.specs.SyntaxViews.{type_tree, type_row, type_trees, pattern_tree, pattern_row, pattern_trees}
+use Rattle.abs_tree.specs.declared.syntax.expression.Expr as code_expr
+use Rattle.abs_tree.specs.declared.syntax.expression.Expr.{Expr, Chain', OwnCall', Apply', Build', Case', Row_of-Expr, end_of-Expr, more_of-Expr, items-the_row-Expr, items_hidden-the_row-Expr-1, Row_of-Operand, end_of-Operand, more_of-Operand, items-the_row-Operand, items_hidden-the_row-Operand-0, Row_of-Branch, end_of-Branch, more_of-Branch, items-the_row-Branch, items_hidden-the_row-Branch-2}
+use Rattle.abs_tree.specs.declared.syntax.expression.Operand.{Operand}
+use Rattle.abs_tree.specs.declared.syntax.expression.Branch.{Branch}
+use Rattle.std.specs.declared.boxed.Box.{Box}
+use Rattle.abs_tree.specs.Syntax.{TypeName, NextType, Built, NextPattern, Chain, OwnCallOf, ApplyOf, BuildOf, CaseOf, NextPhrase, Link, NextBranch}
+use Rattle.abs_tree.specs.SyntaxViews.{type_tree, type_row, type_trees, pattern_tree, pattern_row, pattern_trees, phrase, phrase_row, phrases, link_row, links, branch_row, branches}
 use Rattle.abs_tree.specs.Trees.{name_of}
 use mathlib.Core.Former.{Count}
 
@@ -47,3 +52,68 @@ pub pattern_tree-built : (names : List (List ℕ)) (place : Place) (symbol : Sym
 pattern_tree-built names place symbol parts =
     let row = parts_of (code_pattern.Built place symbol parts) in
     ap (Built place (name_of names symbol)) (patterns_in_row names row.0 row.1 ∙ ap (pattern_trees names) (items_hidden-the_row-Pattern-0 parts))
+
+-- the expressions in a row in memory
+phrases_in_row : (names : List (List ℕ)) (n : _) (row : Row_of-Expr n) → phrase_row names row ≡ phrases names (items-the_row-Expr n row)
+phrases_in_row names n end_of-Expr = refl
+phrases_in_row names n (more_of-Expr expr others) = ap (NextPhrase (phrase names expr)) (phrases_in_row names _ others)
+
+-- how many arguments an expression has, and the row of them
+abbrev arguments_of : Expr → (n : Count) × Row_of-Expr n
+arguments_of (OwnCall' _ _ _ row) = (_, row)
+arguments_of (Apply' _ _ _ row) = (_, row)
+arguments_of (Build' _ _ _ row) = (_, row)
+arguments_of _ = (_, end_of-Expr)
+
+-- the arguments of a call on `this`, of a function and of a constructor are those of their vector
+pub phrase-own_call : (names : List (List ℕ)) (place : Place) (symbol : Symbol) (arguments : Vec Expr Global)
+    → phrase names (code_expr.OwnCall place symbol arguments) ≡ OwnCallOf place (name_of names symbol) (phrases names arguments.items)
+phrase-own_call names place symbol arguments =
+    let row = arguments_of (code_expr.OwnCall place symbol arguments) in
+    ap (OwnCallOf place (name_of names symbol)) (phrases_in_row names row.0 row.1 ∙ ap (phrases names) (items_hidden-the_row-Expr-1 arguments))
+
+pub phrase-apply : (names : List (List ℕ)) (place : Place) (symbol : Symbol) (arguments : Vec Expr Global)
+    → phrase names (code_expr.Apply place symbol arguments) ≡ ApplyOf place (name_of names symbol) (phrases names arguments.items)
+phrase-apply names place symbol arguments =
+    let row = arguments_of (code_expr.Apply place symbol arguments) in
+    ap (ApplyOf place (name_of names symbol)) (phrases_in_row names row.0 row.1 ∙ ap (phrases names) (items_hidden-the_row-Expr-1 arguments))
+
+pub phrase-build : (names : List (List ℕ)) (place : Place) (symbol : Symbol) (arguments : Vec Expr Global)
+    → phrase names (code_expr.Build place symbol arguments) ≡ BuildOf place (name_of names symbol) (phrases names arguments.items)
+phrase-build names place symbol arguments =
+    let row = arguments_of (code_expr.Build place symbol arguments) in
+    ap (BuildOf place (name_of names symbol)) (phrases_in_row names row.0 row.1 ∙ ap (phrases names) (items_hidden-the_row-Expr-1 arguments))
+
+-- the operators in a row in memory
+links_in_row : (names : List (List ℕ)) (n : _) (row : Row_of-Operand n) → link_row names row ≡ links names (items-the_row-Operand n row)
+links_in_row names n end_of-Operand = refl
+links_in_row names n (more_of-Operand operator right others) = ap (Link operator (phrase names right)) (links_in_row names _ others)
+
+-- how many operators an expression has, and the row of them
+abbrev operands_of : Expr → (n : Count) × Row_of-Operand n
+operands_of (Chain' _ _ _ _ row) = (_, row)
+operands_of _ = (_, end_of-Operand)
+
+-- the operators of one precedence are those of their vector
+pub phrase-chain : (names : List (List ℕ)) (place : Place) (first : Box Expr Global) (operands : Vec Operand Global)
+    → phrase names (code_expr.Chain place first operands) ≡ Chain place (phrase names first.value) (links names operands.items)
+phrase-chain names place first operands =
+    let row = operands_of (code_expr.Chain place first operands) in
+    ap (Chain place (phrase names first.value)) (links_in_row names row.0 row.1 ∙ ap (links names) (items_hidden-the_row-Operand-0 operands))
+
+-- the branches in a row in memory
+branches_in_row : (names : List (List ℕ)) (n : _) (row : Row_of-Branch n) → branch_row names row ≡ branches names (items-the_row-Branch n row)
+branches_in_row names n end_of-Branch = refl
+branches_in_row names n (more_of-Branch pattern value others) = ap (NextBranch (pattern_tree names pattern) (phrase names value)) (branches_in_row names _ others)
+
+-- how many branches an expression has, and the row of them
+abbrev branches_of : Expr → (n : Count) × Row_of-Branch n
+branches_of (Case' _ _ _ _ row) = (_, row)
+branches_of _ = (_, end_of-Branch)
+
+-- the branches of a `case` are those of its vector
+pub phrase-case : (names : List (List ℕ)) (place : Place) (subject : Box Expr Global) (arms : Vec Branch Global)
+    → phrase names (code_expr.Case place subject arms) ≡ CaseOf place (phrase names subject.value) (branches names arms.items)
+phrase-case names place subject arms =
+    let row = branches_of (code_expr.Case place subject arms) in
+    ap (CaseOf place (phrase names subject.value)) (branches_in_row names row.0 row.1 ∙ ap (branches names) (items_hidden-the_row-Branch-2 arms))

@@ -9,3 +9,4 @@ pub mod Refusals
 pub mod Faults
 pub mod Syntax
 pub mod SyntaxViews
+pub mod SyntaxSizes

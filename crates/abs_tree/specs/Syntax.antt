@@ -1,6 +1,13 @@
 -- The tree of a text without its memory, for every kind of phrase: one constructor for each alternative of its rule, with a field for
 -- each name, literal, operator and part, in their order, and the place of its first token. Names are written out. Operators of one
 -- precedence stand in one node, so a long sum is not deep; parentheses, and a rule with one operand, leave no node.
+--
+--   `VariableTree`                                     variables
+--   `TypeTree`, `PatternTree`                          types, patterns
+--   `Phrase`, `Links`, `Branches`                      expressions, operators of one precedence, branches of a `case`
+--   `SideTree`, `Tests`, `TargetTree`                  right sides, guards, where a value goes
+--   `Statement`                                        statements
+--   `MemberTree`, `DeclTree`, `TextTree`               members, declarations, a text
 use Rattle.std.specs.Prelude.{ℕ, ℤ, Bool, List}
 use Rattle.abs_tree.specs.declared.place.Place.{Place}
 use Rattle.abs_tree.specs.declared.syntax.expression.Operator.{Operator}

@@ -1,4 +1,10 @@
 -- The code's trees without their memory: the same with each symbol's name written out, by the table of the names.
+--
+--   `type_tree`, `pattern_tree`, `phrase`              types, patterns, expressions
+--   `side_tree`, `tests`, `statement`                  right sides, guards, statements
+--   `member_tree`, `decl_tree`, `tree_of_parts`        members, declarations, a text from its parts
+--   `.._row`                                           the children inside a tree
+--   `type_trees`, `phrases`, `links`, ..               a list that is still apart
 use Rattle.std.specs.Prelude.{List, [], ◌∷◌, map, Option, Some, None}
 use Rattle.abs_tree.specs.Syntax.{Name, VariableTree, Written, AtSlot, TypeTree, TypeName, BottomType, NullType, ClassType, TypeTrees, NoType, NextType, PatternTree, AnyValue, Binds, SameNumber, SameText, Built, PatternTrees, NoPattern, NextPattern, Phrase, LetIn, IfElse, Chain, Prefixed, NumberOf, TextOf, NullOf, DestinyOf, ThisOf, FieldOf, OwnCallOf, VariableOf, ApplyOf, BuildOf, CaseOf, Phrases, NoPhrase, NextPhrase, Links, NoLink, Link, Branches, NoBranch, NextBranch, SideTree, NewOf, ValueOf, SendOf, GetOf, CallOf, Tests, NoTest, NextTest, TargetTree, ToVariable, ToField, MaybeSide, NoSide, SomeSide, Statement, BlockOf, SkipOf, SuspendOf, AwaitOf, ReturnOf, PrintOf, IfOf, WhileOf, DeclareOf, AssignOf, DoOf, MaybeStatements, NoElse, Else, Statements, NoStatement, NextStatement, ParamTree, DeclaredTree, ConstructorTree, SignatureTree, NoValue, Value, MemberTree, FieldTree, MethodTree, DeclTree, DataTree, FunctionTree, InterfaceTree, ClassTree, TextTree}
 use Rattle.abs_tree.specs.Trees.{name_of}
@@ -7,6 +13,8 @@ use Rattle.abs_tree.specs.declared.program.Variable.TheVariants as variable
 use Rattle.abs_tree.specs.declared.syntax.types.TypeTerm as code_type
 use Rattle.abs_tree.specs.declared.syntax.pattern.Pattern as code_pattern
 use Rattle.abs_tree.specs.declared.syntax.expression.Expr as code_expr
+use Rattle.abs_tree.specs.declared.syntax.expression.Operand as code_operand
+use Rattle.abs_tree.specs.declared.syntax.expression.Branch as code_branch
 use Rattle.abs_tree.specs.declared.syntax.statement.RightSide as code_side
 use Rattle.abs_tree.specs.declared.syntax.statement.RightSide.TheVariants as side
 use Rattle.abs_tree.specs.declared.syntax.statement.Target as code_target
@@ -21,7 +29,7 @@ use Rattle.abs_tree.specs.declared.syntax.declaration.Member as code_member
 use Rattle.abs_tree.specs.declared.syntax.declaration.Member.TheVariants as member
 use Rattle.abs_tree.specs.declared.syntax.declaration.Decl as code_decl
 use Rattle.abs_tree.specs.declared.syntax.declaration.Decl.TheVariants as decl
-use Rattle.abs_tree.specs.declared.syntax.declaration.Program as code_program
+use Rattle.abs_tree.specs.declared.syntax.declaration.Body as code_body
 
 -- the tree of a variable
 abbrev pub variable_tree : List Name → Variable → VariableTree
@@ -99,6 +107,15 @@ abbrev mutual
 abbrev pub phrases : List Name → List code_expr.Expr → Phrases
 phrases names [] = NoPhrase
 phrases names (expr ∷ others) = NextPhrase (phrase names expr) (phrases names others)
+
+-- the trees of a list of operators with their right operands, and of a list of branches
+abbrev pub links : List Name → List code_operand.Operand → Links
+links names [] = NoLink
+links names (operand ∷ others) = Link operand.operator (phrase names operand.right) (links names others)
+
+abbrev pub branches : List Name → List code_branch.Branch → Branches
+branches names [] = NoBranch
+branches names (branch ∷ others) = NextBranch (pattern_tree names branch.pattern) (phrase names branch.value) (branches names others)
 
 -- the tree of a right side
 abbrev pub side_tree : List Name → code_side.RightSide → SideTree
@@ -184,10 +201,10 @@ decl_tree names (decl.Interface place name extended signatures) =
 decl_tree names (decl.Class place name params implemented members) =
     ClassTree place (declared names name) (map (param_tree names) params.items) (map (declared names) implemented.items) (map (member_tree names) members.items)
 
--- the tree of a program
-abbrev pub text_tree : code_program.Program → TextTree
-text_tree program = record {
-  declarations = map (decl_tree program.symbols) program.declarations.items;
-  main = statements program.symbols program.main.statements.items;
-  end = program.main.end;
+-- the tree of a text, from its parts: its names, its declarations and its main block
+abbrev pub tree_of_parts : List Name → List code_decl.Decl → code_body.Body → TextTree
+tree_of_parts names declarations main = record {
+  declarations = map (decl_tree names) declarations;
+  main = statements names main.statements.items;
+  end = main.end;
 }

@@ -1,4 +1,8 @@
 //! Declarations, and a source as a whole.
+ghost use Rattle.std.specs.Prelude.{◌≤◌, All, length};
+ghost use Rattle.abs_tree.specs.SyntaxSizes.{all_statements, body_sizes, class_sizes};
+ghost use Rattle.abs_tree.specs.SyntaxViews.{tree_of_parts};
+
 use crate::syntax::{Expr, Stmt, TypeTerm};
 use crate::{Place, Symbol, Symbols, Variable};
 use std::sync::Arc;
@@ -68,4 +72,8 @@ pub struct Program<'a> {
     pub symbols: Symbols<'a>,
     pub declarations: Vec<Decl>,
     pub main: Body,
+    ghost few_names: { length symbols ≤ 268435456 },
+    ghost few_statements: { all_statements (tree_of_parts symbols declarations.items main) ≤ 268435456 },
+    ghost few_slots: { All (λ variables. variables ≤ 268435456) (body_sizes (tree_of_parts symbols declarations.items main)) },
+    ghost few_fields: { All (λ fields. fields ≤ 268435456) (class_sizes (tree_of_parts symbols declarations.items main)) },
 }

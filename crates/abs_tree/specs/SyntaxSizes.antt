@@ -1,0 +1,142 @@
+-- How large a text is, by its tree.
+--
+--   `all_statements`                                   how many statements it has
+--   `pattern_variables`, `phrase_variables`, ..        how many variables are declared in a part of it
+--   `body_sizes`                                       how many variables each of its bodies has, with its parameters
+--   `class_sizes`                                      how many fields each of its classes has, with its parameters
+use Rattle.std.specs.Prelude.{ℕ, ◌+◌, List, [], ◌∷◌, ◌++◌, length}
+use Rattle.abs_tree.specs.Syntax.{PatternTree, Binds, Built, PatternTrees, NoPattern, NextPattern, Phrase, LetIn, IfElse, Chain, Prefixed, OwnCallOf, ApplyOf, BuildOf, CaseOf, Phrases, NoPhrase, NextPhrase, Links, NoLink, Link, Branches, NoBranch, NextBranch, SideTree, NewOf, ValueOf, SendOf, GetOf, CallOf, Tests, NoTest, NextTest, NoSide, SomeSide, Statement, BlockOf, AwaitOf, ReturnOf, PrintOf, IfOf, WhileOf, DeclareOf, AssignOf, DoOf, MaybeStatements, NoElse, Else, Statements, NoStatement, NextStatement, Value, MemberTree, FieldTree, MethodTree, DeclTree, FunctionTree, ClassTree, TextTree}
+
+-- Statements: a block stands for those in it
+abbrev mutual
+  pub statement_count : Statements → ℕ
+  statement_count NoStatement = 0
+  statement_count (NextStatement first others) = count_of first + statement_count others
+
+  pub count_of : Statement → ℕ
+  count_of (BlockOf _ block) = statement_count block
+  count_of (IfOf _ _ first second) = 1 + statement_count first + count_of_else second
+  count_of (WhileOf _ _ body) = 1 + statement_count body
+  count_of _ = 1
+
+  pub count_of_else : MaybeStatements → ℕ
+  count_of_else NoElse = 0
+  count_of_else (Else other) = statement_count other
+
+-- the statements of the methods of a class, of a declaration, and of a text
+abbrev pub member_statements : List MemberTree → ℕ
+member_statements [] = 0
+member_statements (MethodTree _ _ body ∷ others) = statement_count body + member_statements others
+member_statements (FieldTree _ _ _ ∷ others) = member_statements others
+
+abbrev pub decl_statements : List DeclTree → ℕ
+decl_statements [] = 0
+decl_statements (ClassTree _ _ _ _ members ∷ others) = member_statements members + decl_statements others
+decl_statements (_ ∷ others) = decl_statements others
+
+abbrev pub all_statements : TextTree → ℕ
+all_statements text = decl_statements text.declarations + statement_count text.main
+
+-- Variables: those of patterns
+abbrev mutual
+  pub pattern_variables : PatternTree → ℕ
+  pattern_variables (Binds _ _) = 1
+  pattern_variables (Built _ _ parts) = patterns_variables parts
+  pattern_variables _ = 0
+
+  pub patterns_variables : PatternTrees → ℕ
+  patterns_variables NoPattern = 0
+  patterns_variables (NextPattern first others) = pattern_variables first + patterns_variables others
+
+-- those of `let` and of the patterns in an expression
+abbrev mutual
+  pub phrase_variables : Phrase → ℕ
+  phrase_variables (LetIn _ _ _ value body) = 1 + phrase_variables value + phrase_variables body
+  phrase_variables (IfElse _ test first second) = phrase_variables test + phrase_variables first + phrase_variables second
+  phrase_variables (Chain _ first others) = phrase_variables first + link_variables others
+  phrase_variables (Prefixed _ _ operand) = phrase_variables operand
+  phrase_variables (OwnCallOf _ _ arguments) = phrases_variables arguments
+  phrase_variables (ApplyOf _ _ arguments) = phrases_variables arguments
+  phrase_variables (BuildOf _ _ arguments) = phrases_variables arguments
+  phrase_variables (CaseOf _ subject branches) = phrase_variables subject + branch_variables branches
+  phrase_variables _ = 0
+
+  pub phrases_variables : Phrases → ℕ
+  phrases_variables NoPhrase = 0
+  phrases_variables (NextPhrase first others) = phrase_variables first + phrases_variables others
+
+  pub link_variables : Links → ℕ
+  link_variables NoLink = 0
+  link_variables (Link _ right others) = phrase_variables right + link_variables others
+
+  pub branch_variables : Branches → ℕ
+  branch_variables NoBranch = 0
+  branch_variables (NextBranch pattern value others) = pattern_variables pattern + phrase_variables value + branch_variables others
+
+abbrev pub side_variables : SideTree → ℕ
+side_variables (NewOf _ _ _ arguments) = phrases_variables arguments
+side_variables (ValueOf _ value) = phrase_variables value
+side_variables (SendOf _ receiver _ arguments) = phrase_variables receiver + phrases_variables arguments
+side_variables (GetOf _ future) = phrase_variables future
+side_variables (CallOf _ receiver _ arguments) = phrase_variables receiver + phrases_variables arguments
+
+abbrev pub test_variables : Tests → ℕ
+test_variables NoTest = 0
+test_variables (NextTest _ value _ others) = phrase_variables value + test_variables others
+
+-- those of a statement, with the local that it declares
+abbrev mutual
+  pub statement_variables : Statement → ℕ
+  statement_variables (BlockOf _ block) = statements_variables block
+  statement_variables (AwaitOf _ guard) = test_variables guard
+  statement_variables (ReturnOf _ value) = phrase_variables value
+  statement_variables (PrintOf _ value) = phrase_variables value
+  statement_variables (IfOf _ test first NoElse) = phrase_variables test + statements_variables first
+  statement_variables (IfOf _ test first (Else second)) = phrase_variables test + statements_variables first + statements_variables second
+  statement_variables (WhileOf _ test body) = phrase_variables test + statements_variables body
+  statement_variables (DeclareOf _ _ _ _ NoSide) = 1
+  statement_variables (DeclareOf _ _ _ _ (SomeSide side)) = 1 + side_variables side
+  statement_variables (AssignOf _ _ side) = side_variables side
+  statement_variables (DoOf _ side) = side_variables side
+  statement_variables _ = 0
+
+  pub statements_variables : Statements → ℕ
+  statements_variables NoStatement = 0
+  statements_variables (NextStatement first others) = statement_variables first + statements_variables others
+
+-- those of the initial values of a class, which are evaluated together
+abbrev pub field_variables : List MemberTree → ℕ
+field_variables [] = 0
+field_variables (FieldTree _ _ (Value value) ∷ others) = phrase_variables value + field_variables others
+field_variables (_ ∷ others) = field_variables others
+
+-- Bodies: the methods of a class
+abbrev pub method_sizes : List MemberTree → List ℕ
+method_sizes [] = []
+method_sizes (MethodTree signature _ body ∷ others) = (length signature.params + statements_variables body) ∷ method_sizes others
+method_sizes (FieldTree _ _ _ ∷ others) = method_sizes others
+
+-- functions, and classes with their initial values
+abbrev pub decl_sizes : List DeclTree → List ℕ
+decl_sizes [] = []
+decl_sizes (FunctionTree _ _ _ _ params value ∷ others) = (length params + phrase_variables value) ∷ decl_sizes others
+decl_sizes (ClassTree _ _ _ _ members ∷ others) = field_variables members ∷ method_sizes members ++ decl_sizes others
+decl_sizes (_ ∷ others) = decl_sizes others
+
+-- and the main block
+abbrev pub body_sizes : TextTree → List ℕ
+body_sizes text = statements_variables text.main ∷ decl_sizes text.declarations
+
+-- Fields: the parameters of a class, and those among its members
+abbrev pub fields_among : List MemberTree → ℕ
+fields_among [] = 0
+fields_among (FieldTree _ _ _ ∷ others) = 1 + fields_among others
+fields_among (MethodTree _ _ _ ∷ others) = fields_among others
+
+abbrev pub decl_fields : List DeclTree → List ℕ
+decl_fields [] = []
+decl_fields (ClassTree _ _ params _ members ∷ others) = (length params + fields_among members) ∷ decl_fields others
+decl_fields (_ ∷ others) = decl_fields others
+
+abbrev pub class_sizes : TextTree → List ℕ
+class_sizes text = decl_fields text.declarations
