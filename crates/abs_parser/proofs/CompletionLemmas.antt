@@ -23,10 +23,11 @@ use Rattle.abs_parser.specs.Readings.{Goal, One, Optional, Repeated, Wanted, Ter
 use Rattle.abs_parser.proofs.ReadingLemmas.{a_program, WholeReading, part_closed, token_put}
 use Rattle.abs_parser.proofs.MoveLemmas.{Moves, Stays, Takes, Opens}
 
--- a token of the least place, and one of each kind
+-- a token at the first place
 abbrev token : Lexeme → List ℕ → Mark
 token kind bytes = Token record { kind = kind; place = start; bytes = bytes }
 
+-- a token that fits where this kind is asked for
 abbrev sample : Kind → Mark
 sample LowerName = token lexeme.LowerName (codes "x")
 sample LocalName = token lexeme.LowerName (codes "local")
@@ -40,11 +41,12 @@ sample Foreign = token lexeme.Foreign (codes "try")
 sample (Sign punctuator) = token (lexeme.Sign punctuator) (sign_text punctuator)
 sample End = TextEnd start
 
--- the alternative by which a symbol is read shortly: the first one, except where that leads back to the symbol
+-- the first of some alternatives
 abbrev first_alternative : List (List Item) → List Item
 first_alternative [] = []
 first_alternative (items ∷ others) = items
 
+-- a symbol is read shortly by its first alternative, but where that leads back to it
 abbrev simplest : Symbol → List Item
 simplest Expr = Part Or ∷ []
 simplest Unary = Part Primary ∷ []
@@ -58,6 +60,7 @@ item_tokens tokens (Opt symbol) = []
 item_tokens tokens (Many symbol) = []
 item_tokens tokens (Inside more item) = item_tokens tokens item
 
+-- the tokens of the items of an alternative, one behind the other
 abbrev items_tokens : (Symbol → List Mark) → List Item → List Mark
 items_tokens tokens [] = []
 items_tokens tokens (item ∷ others) = item_tokens tokens item ++ items_tokens tokens others
@@ -67,9 +70,11 @@ unfoldable pub short_within : ℕ → Symbol → List Mark
 short_within zero symbol = []
 short_within (suc rounds) symbol = items_tokens (short_within rounds) (simplest symbol)
 
+-- a short list of tokens that is read as the symbol
 unfoldable pub short : Symbol → List Mark
 short symbol = short_within 12 symbol
 
+-- a short list for a part: a symbol's, and none where it may be left out
 abbrev goal_tokens : Goal → List Mark
 goal_tokens (One symbol) = short symbol
 goal_tokens (Optional symbol) = []
@@ -89,50 +94,63 @@ item_starts first (Opt symbol) behind = first symbol ++ behind
 item_starts first (Many symbol) behind = first symbol ++ behind
 item_starts first (Inside more item) behind = item_starts first item behind
 
+-- the kinds with which the items of an alternative may begin
 abbrev items_start : (Symbol → List Kind) → List Item → List Kind
 items_start first [] = []
 items_start first (item ∷ others) = item_starts first item (items_start first others)
 
+-- the kinds with which one of some alternatives may begin
 abbrev alternatives_start : (Symbol → List Kind) → List (List Item) → List Kind
 alternatives_start first [] = []
 alternatives_start first (items ∷ others) = items_start first items ++ alternatives_start first others
 
+-- the kinds with which a symbol may begin, looking so many symbols deep
 unfoldable pub starts_within : ℕ → Symbol → List Kind
 starts_within zero symbol = []
 starts_within (suc rounds) symbol = alternatives_start (starts_within rounds) (rule symbol)
 
+-- the kinds with which a symbol may begin
 unfoldable pub starts : Symbol → List Kind
 starts symbol = starts_within 12 symbol
 
--- the kinds with which a symbol may go on where it could end, first for the symbols of an expression, each behind its operands
+-- The kinds with which the levels of an expression may go on where they could end: behind a primary
 abbrev after_primary : List Kind
 after_primary = Sign punctuator.Dot ∷ Sign punctuator.OpenParen ∷ []
 
+-- behind a product
 abbrev after_mul : List Kind
 after_mul = Sign punctuator.Star ∷ Sign punctuator.Slash ∷ Sign punctuator.Percent ∷ after_primary
 
+-- behind a sum
 abbrev after_sum : List Kind
 after_sum = Sign punctuator.Plus ∷ Sign punctuator.Minus ∷ after_mul
 
+-- behind a comparison
 abbrev after_compare : List Kind
 after_compare =
     Sign punctuator.Less ∷ Sign punctuator.LessEqual ∷ Sign punctuator.Greater ∷ Sign punctuator.GreaterEqual ∷ after_sum
 
+-- behind an equality
 abbrev after_equal : List Kind
 after_equal = Sign punctuator.Equal ∷ Sign punctuator.NotEqual ∷ after_compare
 
+-- behind a conjunction
 abbrev after_and : List Kind
 after_and = Sign punctuator.And ∷ after_equal
 
+-- behind an expression
 abbrev after_expr : List Kind
 after_expr = Sign punctuator.Or ∷ after_and
 
+-- behind a part of a guard
 abbrev after_test : List Kind
 after_test = Sign punctuator.Question ∷ after_equal
 
+-- behind a right side
 abbrev after_rhs : List Kind
 after_rhs = Sign punctuator.Not ∷ after_expr
 
+-- the kinds with which each symbol may go on where it could end
 abbrev continues : Symbol → List Kind
 continues Path = Sign punctuator.Dot ∷ []
 continues Constructor = Sign punctuator.OpenParen ∷ []
@@ -286,6 +304,7 @@ item_is_fine (Opt symbol) behind = behind (starts symbol ++ continues symbol)
 item_is_fine (Many symbol) behind = behind (starts symbol ++ continues symbol)
 item_is_fine (Inside more item) behind = item_is_fine item behind
 
+-- whether all items of an alternative are, given what its symbol does not go on with
 abbrev items_are_fine : List Kind → List Item → Bool
 items_are_fine last [] = true
 items_are_fine last (item ∷ others) = item_is_fine item (clears last others) && items_are_fine last others
@@ -472,12 +491,13 @@ repeated_finishes symbol depth items fine rest =
     left_out (Repeated symbol) depth items refl
     (ap (λ b. if b then Some (Nonterminal (One symbol) depth ∷ Nonterminal (Repeated symbol) depth ∷ []) else Some []) (begins_not symbol _ fine.0)) rest
 
--- whether each symbol in the short list passes a test, and so whether so many rounds are enough for a symbol's
+-- whether the symbol of an item, where it is one, passes a test
 abbrev item_passes : (Symbol → Bool) → Item → Bool
 item_passes test (Part symbol) = test symbol
 item_passes test (Inside more item) = item_passes test item
 item_passes test item = true
 
+-- whether so many rounds are enough for the short list of a symbol
 unfoldable enough : ℕ → Symbol → Bool
 enough zero symbol = false
 enough (suc rounds) symbol = list_all (λ (item : Item). item_passes (enough rounds) item) (simplest symbol)

@@ -1,5 +1,11 @@
 -- What the grammar tells apart in a text: its tokens by their kinds, and its end, which is a token behind the last byte.
 -- Three words are names with a text of their own: `local`, `ABS` and `StdLib`. Each is a kind, and stands where a name may, too.
+--
+--   `Mark`, `marks`                                    the tokens of a text, and its end behind them
+--   `place_of_mark`                                    where a token stands
+--   `Kind`, `kind_of`                                  what the grammar tells apart, and which of it a token is
+--   `fits`                                             which kind may stand where one is asked for
+--   `next`                                             the kind of the next token
 use Rattle.std.specs.Prelude.{ℕ, ◌++◌, Bool, true, false, List, [], ◌∷◌, map, codes, if◌then◌else◌}
 use Rattle.std.specs.Str.{bytes_eq}
 use Rattle.abs_tree.specs.declared.place.Place.{Place}

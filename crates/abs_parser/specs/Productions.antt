@@ -2,6 +2,12 @@
 -- A part in brackets may stand once or not (`Opt`), a part in braces any number of times (`Many`); where such a part has more
 -- than one item it is a symbol of its own. Which alternative is read is chosen by the next token (`chosen`): the first one that may
 -- begin with it; and `Opt` and `Many` take a part where one may begin, so an `else` belongs to the nearest `if`.
+--
+--   `Symbol`                                           the symbols
+--   `Item`, `Of`, `Part`, `Opt`, `Many`, `Inside`      what stands in an alternative
+--   `rule`                                             the alternatives of each symbol
+--   `counts`                                           the symbols of which at most 100 may be open
+--   `begins`, `chosen`                                 what a symbol may begin with, and the alternative that the next token chooses
 use Rattle.std.specs.Prelude.{ℕ, zero, suc, Bool, true, false, ◌||◌, List, [], ◌∷◌, Option}
 use Rattle.std.specs.List.{list_any, find}
 use Rattle.abs_lexer.specs.declared.lexeme.Keyword.{Keyword}

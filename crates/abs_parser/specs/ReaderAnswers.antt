@@ -1,4 +1,10 @@
 -- What a reader of a part of the grammar answers: what it found, or where the part is refused, whatever is to follow it.
+--
+--   `left_at`, `names_before`                          the tokens that are left, and the names in what was read
+--   `asked`, `TakesKind`                               the next token, where its kind is asked for
+--   `refusal_at`, `wrong_at`                           the refusal of the next token
+--   `FoundAs`                                          what a reader found
+--   `IsRefused`                                        where it refuses, whatever is to follow
 use Rattle.std.specs.Prelude.{◌≡◌, ⊤, ℕ, List, [], ◌∷◌, ◌++◌, fold, map, Some}
 use Rattle.abs_tree.specs.Names.{with_name}
 use Rattle.abs_tree.specs.Refusals.{refusal_of}

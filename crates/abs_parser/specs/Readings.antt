@@ -1,5 +1,11 @@
 -- Which tokens are read as which symbol, and with what rest: a family over the productions, with no bound on nesting. What is read is
 -- a forest, which has each token with the number of counted symbols that it stands in, one inside another.
+--
+--   `Goal`, `Wanted`                                   what is to be read, and how deep it stands
+--   `opened`                                           what a part consists of, by the next token
+--   `Forest`, `depths`                                 what was read, and how deep its tokens stand
+--   `Reads`                                            which tokens are read as what is wanted, and which are left
+--   `IsProgram`                                        a whole list that is read as a program
 use Rattle.std.specs.Prelude.{◌≡◌, ℕ, ◌+◌, true, List, [], ◌∷◌, ◌++◌, Option, Some, option_map, map, if◌then◌else◌}
 use Rattle.abs_parser.specs.Kinds.{Mark, Kind, kind_of, fits, next}
 use Rattle.abs_parser.specs.Productions.{Symbol, Program, Item, Of, Part, Opt, Many, Inside, counts, begins, chosen}

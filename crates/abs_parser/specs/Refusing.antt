@@ -1,4 +1,7 @@
 -- What a reader does with what is still to be read, and where it is refused; and what a reader of a part answers.
+--
+--   `Refuses`                                          at which token what is wanted is refused, and by which code
+--   `AllWithin`                                        that no token is too deep
 use Rattle.std.specs.Prelude.{◌≡◌, ⊤, ◌≤◌, ◌<◌, ℕ, true, false, List, [], ◌∷◌, ◌++◌, Some, None}
 use Rattle.abs_tree.specs.declared.refusal.Code.{Code}
 use Rattle.abs_tree.specs.declared.refusal.Code.TheVariants.{S1, S2}

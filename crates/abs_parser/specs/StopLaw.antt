@@ -1,4 +1,8 @@
 -- The law of the stop: each text is accepted with just one reading and one tree, or it stops at just one token with one code, and never both.
+--
+--   `IsTreeOf`                                         a tree of a list
+--   `Outcome`                                          one reading and one tree, or one stop
+--   `EachTextStopsOrIsAccepted`                        the law
 use Rattle.std.specs.Prelude.{◌≡◌, List}
 use Rattle.abs_tree.specs.declared.refusal.Code.{Code}
 use Rattle.abs_lexer.specs.Tokens.{TokenList}

@@ -1,4 +1,10 @@
 -- Where a list of tokens stops, in terms of all lists that begin as it does.
+--
+--   `limit`                                            how many counted symbols may be open
+--   `IsDeep`, `IsWrong`                                why a token is refused, by all lists that begin so
+--   `wrong_code`, `RefusedBy`                          the code by which it is refused
+--   `StopsAt`                                          the first token that is refused
+--   `IsAccepted`                                       a list that is read and does not stop
 use Rattle.std.specs.Prelude.{◌≡◌, ℕ, ◌<◌, List, ◌∷◌, ◌++◌, length}
 use Rattle.abs_tree.specs.declared.refusal.Code.{Code}
 use Rattle.abs_tree.specs.declared.refusal.Code.TheVariants.{S1, S2, S3}

@@ -1,5 +1,14 @@
 -- Which tree stands for what was read: one clause for each alternative of the grammar. Each function speaks of the inside of one symbol,
 -- or of a part that may be left out or repeated, as a reading has it; what no reading has gives some tree, which nothing asks for.
+--
+--   `type_in`                                          types
+--   `pattern_in`                                       patterns
+--   `expr_in`, `or_in` .. `mul_in`, `unary_in`, `primary_in`  expressions, by the levels of their operators
+--   `rhs_in`, `rest_in`                                right sides, from their beginning or behind the first operand
+--   `guard_in`                                         guards
+--   `statement_in`, `block_in`                         statements
+--   `decls_in`, `members_in`                           declarations and members
+--   `tree_of`                                          a program
 use Rattle.std.specs.Prelude.{ℕ, pos, neg_ℤ, Bool, true, false, List, [], ◌∷◌, drop, ◌==◌, if◌then◌else◌}
 use Rattle.std.specs.Str.Parse.{digits_value}
 use Rattle.abs_tree.specs.declared.place.Place.{Place}
@@ -49,27 +58,27 @@ place_in forest = first_place forest start
 abbrev mutual
   -- Type: a name, and perhaps arguments
   pub type_in : Forest → TypeTree
-  type_in (Leaf name d (Node g arguments f)) = TypeName (place_of_mark name) (written name) (type_arguments arguments)
+  type_in (Leaf name _ (Node _ arguments _)) = TypeName (place_of_mark name) (written name) (type_arguments arguments)
   type_in _ = TypeName start [] NoType
 
   -- perhaps "<", types, ">"
   pub type_arguments : Forest → TypeTrees
-  type_arguments (Node g (Leaf less d (Node h types f)) others) = types_in types
+  type_arguments (Node _ (Leaf less _ (Node _ types _)) others) = types_in types
   type_arguments _ = NoType
 
   -- a type, and others behind commas
   pub types_in : Forest → TypeTrees
-  types_in (Node g first (Node h others f)) = NextType (type_in first) (more_types others)
+  types_in (Node _ first (Node _ others _)) = NextType (type_in first) (more_types others)
   types_in _ = NoType
 
   pub more_types : Forest → TypeTrees
-  more_types (Node g (Leaf comma d (Node h type f)) (Node i others e)) = NextType (type_in type) (more_types others)
+  more_types (Node _ (Leaf comma _ (Node _ type _)) (Node _ others _)) = NextType (type_in type) (more_types others)
   more_types _ = NoType
 
 -- Patterns
 abbrev mutual
   pub pattern_in : Forest → PatternTree
-  pattern_in (Leaf mark d others) = pattern_by (kind_of mark) mark others
+  pattern_in (Leaf mark _ others) = pattern_by (kind_of mark) mark others
   pattern_in _ = AnyValue start
 
   -- by the first token
@@ -77,28 +86,28 @@ abbrev mutual
   pattern_by LowerName mark others = Binds (place_of_mark mark) (Written (written mark))
   pattern_by LocalName mark others = Binds (place_of_mark mark) (Written (written mark))
   pattern_by Number mark others = SameNumber (place_of_mark mark) (pos (number_of mark))
-  pattern_by (Sign punctuator.Minus) mark (Leaf number d f) = SameNumber (place_of_mark mark) (neg_ℤ (pos (number_of number)))
+  pattern_by (Sign punctuator.Minus) mark (Leaf number _ _) = SameNumber (place_of_mark mark) (neg_ℤ (pos (number_of number)))
   pattern_by Text mark others = SameText (place_of_mark mark) (text_of mark)
-  pattern_by UpperName mark (Node g arguments f) = Built (place_of_mark mark) (written mark) (pattern_arguments arguments)
-  pattern_by AbsName mark (Node g arguments f) = Built (place_of_mark mark) (written mark) (pattern_arguments arguments)
-  pattern_by StdLibName mark (Node g arguments f) = Built (place_of_mark mark) (written mark) (pattern_arguments arguments)
+  pattern_by UpperName mark (Node _ arguments _) = Built (place_of_mark mark) (written mark) (pattern_arguments arguments)
+  pattern_by AbsName mark (Node _ arguments _) = Built (place_of_mark mark) (written mark) (pattern_arguments arguments)
+  pattern_by StdLibName mark (Node _ arguments _) = Built (place_of_mark mark) (written mark) (pattern_arguments arguments)
   pattern_by _ mark others = AnyValue (place_of_mark mark)
 
   -- perhaps "(", perhaps patterns, ")"
   pub pattern_arguments : Forest → PatternTrees
-  pattern_arguments (Node g (Leaf opening d (Node h patterns f)) others) = patterns_maybe patterns
+  pattern_arguments (Node _ (Leaf opening _ (Node _ patterns _)) others) = patterns_maybe patterns
   pattern_arguments _ = NoPattern
 
   pub patterns_maybe : Forest → PatternTrees
-  patterns_maybe (Node g patterns f) = patterns_in patterns
+  patterns_maybe (Node _ patterns _) = patterns_in patterns
   patterns_maybe _ = NoPattern
 
   pub patterns_in : Forest → PatternTrees
-  patterns_in (Node g first (Node h others f)) = NextPattern (pattern_in first) (more_patterns others)
+  patterns_in (Node _ first (Node _ others _)) = NextPattern (pattern_in first) (more_patterns others)
   patterns_in _ = NoPattern
 
   pub more_patterns : Forest → PatternTrees
-  more_patterns (Node g (Leaf comma d (Node h pattern f)) (Node i others e)) = NextPattern (pattern_in pattern) (more_patterns others)
+  more_patterns (Node _ (Leaf comma _ (Node _ pattern _)) (Node _ others _)) = NextPattern (pattern_in pattern) (more_patterns others)
   more_patterns _ = NoPattern
 
 -- Expressions
@@ -132,130 +141,130 @@ prefix_of _ = prefix.Not
 abbrev mutual
   -- Expr
   pub expr_in : Forest → Phrase
-  expr_in (Leaf mark d (Leaf opening e (Node g type (Leaf name f (Leaf closing h (Leaf equals i (Node j value (Leaf in_word k (Node l body m))))))))) =
+  expr_in (Leaf mark _ (Leaf opening _ (Node _ type (Leaf name _ (Leaf closing _ (Leaf equals _ (Node _ value (Leaf in_word _ (Node _ body _))))))))) =
       LetIn (place_of_mark mark) (type_in type) (Written (written name)) (expr_in value) (expr_in body)
-  expr_in (Leaf mark d (Node g test (Leaf then_word e (Node h first (Leaf else_word f (Node i second j)))))) =
+  expr_in (Leaf mark _ (Node _ test (Leaf then_word _ (Node _ first (Leaf else_word _ (Node _ second _)))))) =
       IfElse (place_of_mark mark) (expr_in test) (expr_in first) (expr_in second)
-  expr_in (Node g or f) = or_in or
+  expr_in (Node _ or _) = or_in or
   expr_in _ = NullOf start
 
   -- Or, And, Equal, Compare, Sum, Mul: a first operand, and what follows it
   pub or_in : Forest → Phrase
-  or_in (Node g first (Node h others f)) = chain (place_in first) (and_in first) (or_links others)
+  or_in (Node _ first (Node _ others _)) = chain (place_in first) (and_in first) (or_links others)
   or_in _ = NullOf start
 
   pub or_links : Forest → Links
-  or_links (Node g (Leaf mark d (Node h right f)) (Node i others e)) = Link (operator_of (kind_of mark)) (and_in right) (or_links others)
+  or_links (Node _ (Leaf mark _ (Node _ right _)) (Node _ others _)) = Link (operator_of (kind_of mark)) (and_in right) (or_links others)
   or_links _ = NoLink
 
   pub and_in : Forest → Phrase
-  and_in (Node g first (Node h others f)) = chain (place_in first) (equal_in first) (and_links others)
+  and_in (Node _ first (Node _ others _)) = chain (place_in first) (equal_in first) (and_links others)
   and_in _ = NullOf start
 
   pub and_links : Forest → Links
-  and_links (Node g (Leaf mark d (Node h right f)) (Node i others e)) = Link (operator_of (kind_of mark)) (equal_in right) (and_links others)
+  and_links (Node _ (Leaf mark _ (Node _ right _)) (Node _ others _)) = Link (operator_of (kind_of mark)) (equal_in right) (and_links others)
   and_links _ = NoLink
 
   pub equal_in : Forest → Phrase
-  equal_in (Node g first (Node h other f)) = chain (place_in first) (compare_in first) (equal_link other)
+  equal_in (Node _ first (Node _ other _)) = chain (place_in first) (compare_in first) (equal_link other)
   equal_in _ = NullOf start
 
   pub equal_link : Forest → Links
-  equal_link (Node g (Leaf mark d (Node h right f)) e) = Link (operator_of (kind_of mark)) (compare_in right) NoLink
+  equal_link (Node _ (Leaf mark _ (Node _ right _)) _) = Link (operator_of (kind_of mark)) (compare_in right) NoLink
   equal_link _ = NoLink
 
   pub compare_in : Forest → Phrase
-  compare_in (Node g first (Node h other f)) = chain (place_in first) (sum_in first) (compare_link other)
+  compare_in (Node _ first (Node _ other _)) = chain (place_in first) (sum_in first) (compare_link other)
   compare_in _ = NullOf start
 
   pub compare_link : Forest → Links
-  compare_link (Node g (Leaf mark d (Node h right f)) e) = Link (operator_of (kind_of mark)) (sum_in right) NoLink
+  compare_link (Node _ (Leaf mark _ (Node _ right _)) _) = Link (operator_of (kind_of mark)) (sum_in right) NoLink
   compare_link _ = NoLink
 
   pub sum_in : Forest → Phrase
-  sum_in (Node g first (Node h others f)) = chain (place_in first) (mul_in first) (sum_links others)
+  sum_in (Node _ first (Node _ others _)) = chain (place_in first) (mul_in first) (sum_links others)
   sum_in _ = NullOf start
 
   pub sum_links : Forest → Links
-  sum_links (Node g (Leaf mark d (Node h right f)) (Node i others e)) = Link (operator_of (kind_of mark)) (mul_in right) (sum_links others)
+  sum_links (Node _ (Leaf mark _ (Node _ right _)) (Node _ others _)) = Link (operator_of (kind_of mark)) (mul_in right) (sum_links others)
   sum_links _ = NoLink
 
   pub mul_in : Forest → Phrase
-  mul_in (Node g first (Node h others f)) = chain (place_in first) (unary_in first) (mul_links others)
+  mul_in (Node _ first (Node _ others _)) = chain (place_in first) (unary_in first) (mul_links others)
   mul_in _ = NullOf start
 
   pub mul_links : Forest → Links
-  mul_links (Node g (Leaf mark d (Node h right f)) (Node i others e)) = Link (operator_of (kind_of mark)) (unary_in right) (mul_links others)
+  mul_links (Node _ (Leaf mark _ (Node _ right _)) (Node _ others _)) = Link (operator_of (kind_of mark)) (unary_in right) (mul_links others)
   mul_links _ = NoLink
 
   -- Unary
   pub unary_in : Forest → Phrase
-  unary_in (Leaf mark d (Node g operand f)) = Prefixed (place_of_mark mark) (prefix_of (kind_of mark)) (unary_in operand)
-  unary_in (Node g primary f) = primary_in primary
+  unary_in (Leaf mark _ (Node _ operand _)) = Prefixed (place_of_mark mark) (prefix_of (kind_of mark)) (unary_in operand)
+  unary_in (Node _ primary _) = primary_in primary
   unary_in _ = NullOf start
 
   -- Primary, by its first token
   pub primary_in : Forest → Phrase
-  primary_in (Leaf mark d others) = primary_by (kind_of mark) mark others
+  primary_in (Leaf mark _ others) = primary_by (kind_of mark) mark others
   primary_in _ = NullOf start
 
   pub primary_by : Kind → Mark → Forest → Phrase
   primary_by Number mark others = NumberOf (place_of_mark mark) (pos (number_of mark))
   primary_by Text mark others = TextOf (place_of_mark mark) (text_of mark)
   primary_by (Word keyword.Destiny) mark others = DestinyOf (place_of_mark mark)
-  primary_by (Word keyword.This) mark (Node g tail f) = this_in (place_of_mark mark) tail
-  primary_by LowerName mark (Node g arguments f) = named_in (place_of_mark mark) (written mark) arguments
-  primary_by LocalName mark (Node g arguments f) = named_in (place_of_mark mark) (written mark) arguments
-  primary_by UpperName mark (Node g arguments f) = BuildOf (place_of_mark mark) (written mark) (arguments_maybe arguments)
-  primary_by AbsName mark (Node g arguments f) = BuildOf (place_of_mark mark) (written mark) (arguments_maybe arguments)
-  primary_by StdLibName mark (Node g arguments f) = BuildOf (place_of_mark mark) (written mark) (arguments_maybe arguments)
-  primary_by (Word keyword.Case) mark (Node g subject (Leaf opening d (Node h first (Node i others (Leaf closing e f))))) =
+  primary_by (Word keyword.This) mark (Node _ tail _) = this_in (place_of_mark mark) tail
+  primary_by LowerName mark (Node _ arguments _) = named_in (place_of_mark mark) (written mark) arguments
+  primary_by LocalName mark (Node _ arguments _) = named_in (place_of_mark mark) (written mark) arguments
+  primary_by UpperName mark (Node _ arguments _) = BuildOf (place_of_mark mark) (written mark) (arguments_maybe arguments)
+  primary_by AbsName mark (Node _ arguments _) = BuildOf (place_of_mark mark) (written mark) (arguments_maybe arguments)
+  primary_by StdLibName mark (Node _ arguments _) = BuildOf (place_of_mark mark) (written mark) (arguments_maybe arguments)
+  primary_by (Word keyword.Case) mark (Node _ subject (Leaf opening _ (Node _ first (Node _ others (Leaf closing _ _))))) =
       CaseOf (place_of_mark mark) (expr_in subject) (branch_in first (branches_in others))
-  primary_by (Sign punctuator.OpenParen) mark (Node g inside f) = expr_in inside
+  primary_by (Sign punctuator.OpenParen) mark (Node _ inside _) = expr_in inside
   primary_by _ mark others = NullOf (place_of_mark mark)
 
   -- behind "this": perhaps ".", a name, and perhaps arguments
   pub this_in : Place → Forest → Phrase
-  this_in place (Node g (Leaf dot d (Leaf name e (Node h arguments f))) others) = member_in place (written name) arguments
+  this_in place (Node _ (Leaf dot _ (Leaf name _ (Node _ arguments _))) others) = member_in place (written name) arguments
   this_in place _ = ThisOf place
 
   pub member_in : Place → Name → Forest → Phrase
-  member_in place name (Node g arguments f) = OwnCallOf place name (arguments_in arguments)
+  member_in place name (Node _ arguments _) = OwnCallOf place name (arguments_in arguments)
   member_in place name _ = FieldOf place name
 
   -- behind a name: perhaps arguments
   pub named_in : Place → Name → Forest → Phrase
-  named_in place name (Node g arguments f) = ApplyOf place name (arguments_in arguments)
+  named_in place name (Node _ arguments _) = ApplyOf place name (arguments_in arguments)
   named_in place name _ = VariableOf place (Written name)
 
   pub arguments_maybe : Forest → Phrases
-  arguments_maybe (Node g arguments f) = arguments_in arguments
+  arguments_maybe (Node _ arguments _) = arguments_in arguments
   arguments_maybe _ = NoPhrase
 
   -- "(", perhaps expressions, ")"
   pub arguments_in : Forest → Phrases
-  arguments_in (Leaf opening d (Node g args f)) = args_maybe args
+  arguments_in (Leaf opening _ (Node _ args _)) = args_maybe args
   arguments_in _ = NoPhrase
 
   pub args_maybe : Forest → Phrases
-  args_maybe (Node g args f) = args_in args
+  args_maybe (Node _ args _) = args_in args
   args_maybe _ = NoPhrase
 
   pub args_in : Forest → Phrases
-  args_in (Node g first (Node h others f)) = NextPhrase (expr_in first) (more_args others)
+  args_in (Node _ first (Node _ others _)) = NextPhrase (expr_in first) (more_args others)
   args_in _ = NoPhrase
 
   pub more_args : Forest → Phrases
-  more_args (Node g (Leaf comma d (Node h expr f)) (Node i others e)) = NextPhrase (expr_in expr) (more_args others)
+  more_args (Node _ (Leaf comma _ (Node _ expr _)) (Node _ others _)) = NextPhrase (expr_in expr) (more_args others)
   more_args _ = NoPhrase
 
   -- Branch, in front of others
   pub branch_in : Forest → Branches → Branches
-  branch_in (Node g pattern (Leaf arrow d (Node h expr (Leaf semicolon e f)))) others = NextBranch (pattern_in pattern) (expr_in expr) others
+  branch_in (Node _ pattern (Leaf arrow _ (Node _ expr (Leaf semicolon _ _)))) others = NextBranch (pattern_in pattern) (expr_in expr) others
   branch_in _ others = others
 
   pub branches_in : Forest → Branches
-  branches_in (Node g branch (Node h others f)) = branch_in branch (branches_in others)
+  branches_in (Node _ branch (Node _ others _)) = branch_in branch (branches_in others)
   branches_in _ = NoBranch
 
 -- Right sides
@@ -266,28 +275,28 @@ mode_by (Word keyword.Cog) = mode.Cog
 mode_by _ = mode.Local
 
 abbrev pub mode_in : Forest → Mode
-mode_in (Node g (Leaf mark d e) f) = mode_by (kind_of mark)
+mode_in (Node _ (Leaf mark _ _) _) = mode_by (kind_of mark)
 mode_in _ = mode.Plain
 
 -- behind the ".": "get", or a name and arguments
 abbrev pub selected_in : Place → Phrase → Forest → SideTree
-selected_in place first (Leaf name d (Node g arguments f)) = CallOf place first (written name) (arguments_in arguments)
+selected_in place first (Leaf name _ (Node _ arguments _)) = CallOf place first (written name) (arguments_in arguments)
 selected_in place first _ = GetOf place first
 
 -- behind an expression: perhaps "!", a name and arguments; perhaps "."
 abbrev pub tail_in : Place → Phrase → Forest → SideTree
-tail_in place first (Node g (Leaf bang d (Leaf name e (Node h arguments f))) i) = SendOf place first (written name) (arguments_in arguments)
-tail_in place first (Node g (Leaf dot d (Node h selected f)) i) = selected_in place first selected
+tail_in place first (Node _ (Leaf bang _ (Leaf name _ (Node _ arguments _))) _) = SendOf place first (written name) (arguments_in arguments)
+tail_in place first (Node _ (Leaf dot _ (Node _ selected _)) _) = selected_in place first selected
 tail_in place first _ = ValueOf place first
 
 abbrev pub rhs_in : Forest → SideTree
-rhs_in (Leaf mark d (Node g where_made (Leaf name e (Node h arguments f)))) = NewOf (place_of_mark mark) (mode_in where_made) (written name) (arguments_in arguments)
-rhs_in (Node g expr (Node h tail f)) = tail_in (place_in expr) (expr_in expr) tail
+rhs_in (Leaf mark _ (Node _ where_made (Leaf name _ (Node _ arguments _)))) = NewOf (place_of_mark mark) (mode_in where_made) (written name) (arguments_in arguments)
+rhs_in (Node _ expr (Node _ tail _)) = tail_in (place_in expr) (expr_in expr) tail
 rhs_in _ = ValueOf start (NullOf start)
 
 -- the rest of a right side whose first operand this is
 abbrev pub rest_in : Place → Phrase → Forest → SideTree
-rest_in place first (Node g muls (Node h sums (Node i compared (Node j equal (Node k ands (Node l ors (Node m tail f))))))) =
+rest_in place first (Node _ muls (Node _ sums (Node _ compared (Node _ equal (Node _ ands (Node _ ors (Node _ tail _))))))) =
     let product = chain place first (mul_links muls) in
     let sum = chain place product (sum_links sums) in
     let comparison = chain place sum (compare_link compared) in
@@ -304,39 +313,39 @@ is_asked Empty = false
 is_asked _ = true
 
 abbrev pub test_in : Forest → Tests → Tests
-test_in (Node g equal (Node h question f)) others = NextTest (place_in equal) (equal_in equal) (is_asked question) others
+test_in (Node _ equal (Node _ question _)) others = NextTest (place_in equal) (equal_in equal) (is_asked question) others
 test_in _ others = others
 
 abbrev pub more_tests : Forest → Tests
-more_tests (Node g (Leaf mark d (Node h test f)) (Node i others e)) = test_in test (more_tests others)
+more_tests (Node _ (Leaf mark _ (Node _ test _)) (Node _ others _)) = test_in test (more_tests others)
 more_tests _ = NoTest
 
 abbrev pub guard_in : Forest → Tests
-guard_in (Node g first (Node h others f)) = test_in first (more_tests others)
+guard_in (Node _ first (Node _ others _)) = test_in first (more_tests others)
 guard_in _ = NoTest
 
 -- Statements
 
 -- perhaps "=" and a right side
 abbrev pub initial_in : Forest → MaybeSide
-initial_in (Node g (Leaf equals d (Node h rhs f)) i) = SomeSide (rhs_in rhs)
+initial_in (Node _ (Leaf equals _ (Node _ rhs _)) _) = SomeSide (rhs_in rhs)
 initial_in _ = NoSide
 
 -- behind a variable that begins a statement: "=" and a right side, or the rest of one
 abbrev pub after_variable : Place → Name → Forest → Statement
-after_variable place name (Leaf equals d (Node g rhs f)) = AssignOf place (ToVariable place (Written name)) (rhs_in rhs)
-after_variable place name (Node g arguments (Node h rest f)) = DoOf place (rest_in place (named_in place name arguments) rest)
+after_variable place name (Leaf equals _ (Node _ rhs _)) = AssignOf place (ToVariable place (Written name)) (rhs_in rhs)
+after_variable place name (Node _ arguments (Node _ rest _)) = DoOf place (rest_in place (named_in place name arguments) rest)
 after_variable place name _ = SkipOf place
 
 -- the same behind "this", "." and a name
 abbrev pub after_field : Place → Name → Forest → Statement
-after_field place name (Leaf equals d (Node g rhs f)) = AssignOf place (ToField place name) (rhs_in rhs)
-after_field place name (Node g arguments (Node h rest f)) = DoOf place (rest_in place (member_in place name arguments) rest)
+after_field place name (Leaf equals _ (Node _ rhs _)) = AssignOf place (ToField place name) (rhs_in rhs)
+after_field place name (Node _ arguments (Node _ rest _)) = DoOf place (rest_in place (member_in place name arguments) rest)
 after_field place name _ = SkipOf place
 
 abbrev pub after_this : Place → Forest → Statement
-after_this place (Leaf dot d (Leaf name e (Node g after f))) = after_field place (written name) after
-after_this place (Node g rest f) = DoOf place (rest_in place (ThisOf place) rest)
+after_this place (Leaf dot _ (Leaf name _ (Node _ after _))) = after_field place (written name) after
+after_this place (Node _ rest _) = DoOf place (rest_in place (ThisOf place) rest)
 after_this place _ = SkipOf place
 
 -- the statements of a branch: those of a block, or the one that it is
@@ -346,43 +355,43 @@ branch_of statement = NextStatement statement NoStatement
 
 abbrev mutual
   pub statement_in : Forest → Statement
-  statement_in (Leaf mark d others) = statement_by (kind_of mark) mark others
-  statement_in (Node g block Empty) = BlockOf (place_in block) (block_in block)
-  statement_in (Node g type (Leaf name d (Node h initial f))) = DeclareOf (place_in type) (type_in type) (place_of_mark name) (Written (written name)) (initial_in initial)
-  statement_in (Node g rhs f) = DoOf (place_in rhs) (rhs_in rhs)
+  statement_in (Leaf mark _ others) = statement_by (kind_of mark) mark others
+  statement_in (Node _ block Empty) = BlockOf (place_in block) (block_in block)
+  statement_in (Node _ type (Leaf name _ (Node _ initial _))) = DeclareOf (place_in type) (type_in type) (place_of_mark name) (Written (written name)) (initial_in initial)
+  statement_in (Node _ rhs _) = DoOf (place_in rhs) (rhs_in rhs)
   statement_in Empty = SkipOf start
 
   -- by the first token
   pub statement_by : Kind → Mark → Forest → Statement
   statement_by (Word keyword.Suspend) mark others = SuspendOf (place_of_mark mark)
-  statement_by (Word keyword.Await) mark (Node g guard f) = AwaitOf (place_of_mark mark) (guard_in guard)
-  statement_by (Word keyword.Return) mark (Node g expr f) = ReturnOf (place_of_mark mark) (expr_in expr)
-  statement_by (Word keyword.Println) mark (Leaf opening d (Node g expr f)) = PrintOf (place_of_mark mark) (expr_in expr)
-  statement_by (Word keyword.If) mark (Leaf opening d (Node g test (Leaf closing e (Node h first (Node i other f))))) =
+  statement_by (Word keyword.Await) mark (Node _ guard _) = AwaitOf (place_of_mark mark) (guard_in guard)
+  statement_by (Word keyword.Return) mark (Node _ expr _) = ReturnOf (place_of_mark mark) (expr_in expr)
+  statement_by (Word keyword.Println) mark (Leaf opening _ (Node _ expr _)) = PrintOf (place_of_mark mark) (expr_in expr)
+  statement_by (Word keyword.If) mark (Leaf opening _ (Node _ test (Leaf closing _ (Node _ first (Node _ other _))))) =
       IfOf (place_of_mark mark) (expr_in test) (branch_of (statement_in first)) (else_in other)
-  statement_by (Word keyword.While) mark (Leaf opening d (Node g test (Leaf closing e (Node h body f)))) =
+  statement_by (Word keyword.While) mark (Leaf opening _ (Node _ test (Leaf closing _ (Node _ body _)))) =
       WhileOf (place_of_mark mark) (expr_in test) (branch_of (statement_in body))
-  statement_by (Word keyword.This) mark (Node g after f) = after_this (place_of_mark mark) after
-  statement_by LowerName mark (Node g after f) = after_variable (place_of_mark mark) (written mark) after
-  statement_by LocalName mark (Node g after f) = after_variable (place_of_mark mark) (written mark) after
+  statement_by (Word keyword.This) mark (Node _ after _) = after_this (place_of_mark mark) after
+  statement_by LowerName mark (Node _ after _) = after_variable (place_of_mark mark) (written mark) after
+  statement_by LocalName mark (Node _ after _) = after_variable (place_of_mark mark) (written mark) after
   statement_by _ mark others = SkipOf (place_of_mark mark)
 
   -- perhaps "else" and a statement
   pub else_in : Forest → MaybeStatements
-  else_in (Node g (Leaf mark d (Node h other f)) i) = Else (branch_of (statement_in other))
+  else_in (Node _ (Leaf mark _ (Node _ other _)) _) = Else (branch_of (statement_in other))
   else_in _ = NoElse
 
   pub block_in : Forest → Statements
-  block_in (Leaf opening d (Node g statements f)) = statements_in statements
+  block_in (Leaf opening _ (Node _ statements _)) = statements_in statements
   block_in _ = NoStatement
 
   pub statements_in : Forest → Statements
-  statements_in (Node g statement (Node h others f)) = NextStatement (statement_in statement) (statements_in others)
+  statements_in (Node _ statement (Node _ others _)) = NextStatement (statement_in statement) (statements_in others)
   statements_in _ = NoStatement
 
 -- the place of the brace that closes a block
 abbrev pub block_end : Forest → Place
-block_end (Leaf opening d (Node g statements (Leaf closing e f))) = place_of_mark closing
+block_end (Leaf opening _ (Node _ statements (Leaf closing _ _))) = place_of_mark closing
 block_end _ = start
 
 -- Declarations
@@ -391,85 +400,85 @@ declared mark = record { place = place_of_mark mark; name = written mark }
 
 -- names behind commas
 abbrev pub more_names : Forest → List DeclaredTree
-more_names (Node g (Leaf comma d (Leaf name e f)) (Node h others i)) = declared name ∷ more_names others
+more_names (Node _ (Leaf comma _ (Leaf name _ _)) (Node _ others _)) = declared name ∷ more_names others
 more_names _ = []
 
 -- perhaps a word or a sign, a name, and others behind commas
 abbrev pub names_maybe : Forest → List DeclaredTree
-names_maybe (Node g (Leaf first d (Leaf name e (Node h others f))) i) = declared name ∷ more_names others
+names_maybe (Node _ (Leaf first _ (Leaf name _ (Node _ others _))) _) = declared name ∷ more_names others
 names_maybe _ = []
 
 -- a parameter, in front of others
 abbrev pub param_in : Forest → List ParamTree → List ParamTree
-param_in (Node g type (Leaf name d f)) others = record { type_of = type_in type; place = place_of_mark name; variable = Written (written name) } ∷ others
+param_in (Node _ type (Leaf name _ _)) others = record { type_of = type_in type; place = place_of_mark name; variable = Written (written name) } ∷ others
 param_in _ others = others
 
 abbrev pub more_params : Forest → List ParamTree
-more_params (Node g (Leaf comma d (Node h param f)) (Node i others e)) = param_in param (more_params others)
+more_params (Node _ (Leaf comma _ (Node _ param _)) (Node _ others _)) = param_in param (more_params others)
 more_params _ = []
 
 -- perhaps parameters
 abbrev pub params_maybe : Forest → List ParamTree
-params_maybe (Node g (Node h first (Node i others f)) e) = param_in first (more_params others)
+params_maybe (Node _ (Node _ first (Node _ others _)) _) = param_in first (more_params others)
 params_maybe _ = []
 
 -- perhaps "(", perhaps parameters, ")"
 abbrev pub class_params_maybe : Forest → List ParamTree
-class_params_maybe (Node g (Leaf opening d (Node h params f)) e) = params_maybe params
+class_params_maybe (Node _ (Leaf opening _ (Node _ params _)) _) = params_maybe params
 class_params_maybe _ = []
 
 -- perhaps "(", perhaps types, ")"
 abbrev pub constructor_types : Forest → TypeTrees
-constructor_types (Node g (Leaf opening d (Node h (Node i types e) f)) k) = types_in types
+constructor_types (Node _ (Leaf opening _ (Node _ (Node _ types _) _)) _) = types_in types
 constructor_types _ = NoType
 
 -- a constructor, in front of others
 abbrev pub constructor_in : Forest → List ConstructorTree → List ConstructorTree
-constructor_in (Leaf name d (Node g types f)) others = record { name = declared name; types = constructor_types types } ∷ others
+constructor_in (Leaf name _ (Node _ types _)) others = record { name = declared name; types = constructor_types types } ∷ others
 constructor_in _ others = others
 
 abbrev pub more_constructors : Forest → List ConstructorTree
-more_constructors (Node g (Leaf bar d (Node h constructor f)) (Node i others e)) = constructor_in constructor (more_constructors others)
+more_constructors (Node _ (Leaf bar _ (Node _ constructor _)) (Node _ others _)) = constructor_in constructor (more_constructors others)
 more_constructors _ = []
 
 abbrev pub signatures_in : Forest → List SignatureTree
-signatures_in (Node g (Node h type (Leaf name d (Leaf opening e (Node i params f)))) (Node j others k)) =
+signatures_in (Node _ (Node _ type (Leaf name _ (Leaf opening _ (Node _ params _)))) (Node _ others _)) =
     record { result = type_in type; name = declared name; params = params_maybe params } ∷ signatures_in others
 signatures_in _ = []
 
 -- behind the type and the name of a member: ";", a value, or parameters and a body
 abbrev pub member_by : TypeTree → DeclaredTree → Forest → MemberTree
-member_by type name (Leaf opening d (Node g params (Leaf closing e (Node h block f)))) =
+member_by type name (Leaf opening _ (Node _ params (Leaf closing _ (Node _ block _)))) =
     MethodTree (record { result = type; name = name; params = params_maybe params }) (block_end block) (block_in block)
-member_by type name (Leaf equals d (Node g expr (Leaf semicolon e f))) = FieldTree type name (Value (expr_in expr))
+member_by type name (Leaf equals _ (Node _ expr (Leaf semicolon _ _))) = FieldTree type name (Value (expr_in expr))
 member_by type name _ = FieldTree type name NoValue
 
 abbrev pub members_in : Forest → List MemberTree
-members_in (Node g (Node h type (Leaf name d (Node i tail f))) (Node j others k)) = member_by (type_in type) (declared name) tail ∷ members_in others
+members_in (Node _ (Node _ type (Leaf name _ (Node _ tail _))) (Node _ others _)) = member_by (type_in type) (declared name) tail ∷ members_in others
 members_in _ = []
 
 -- a declaration by its first token, in front of others
 abbrev pub decl_by : Kind → Place → Forest → List DeclTree → List DeclTree
-decl_by (Word keyword.Data) place (Leaf name d (Node g parameters (Leaf equals e (Node h first (Node i more f))))) others =
+decl_by (Word keyword.Data) place (Leaf name _ (Node _ parameters (Leaf equals _ (Node _ first (Node _ more _))))) others =
     DataTree place (declared name) (names_maybe parameters) (constructor_in first (more_constructors more)) ∷ others
-decl_by (Word keyword.Def) place (Node g type (Leaf name d (Node h parameters (Leaf opening e (Node i params (Leaf closing f (Leaf equals j (Node k expr l)))))))) others =
+decl_by (Word keyword.Def) place (Node _ type (Leaf name _ (Node _ parameters (Leaf opening _ (Node _ params (Leaf closing _ (Leaf equals _ (Node _ expr _)))))))) others =
     FunctionTree place (type_in type) (declared name) (names_maybe parameters) (params_maybe params) (expr_in expr) ∷ others
-decl_by (Word keyword.Interface) place (Leaf name d (Node g extended (Leaf opening e (Node h signatures f)))) others =
+decl_by (Word keyword.Interface) place (Leaf name _ (Node _ extended (Leaf opening _ (Node _ signatures _)))) others =
     InterfaceTree place (declared name) (names_maybe extended) (signatures_in signatures) ∷ others
-decl_by (Word keyword.Class) place (Leaf name d (Node g params (Node h implemented (Leaf opening e (Node i members f))))) others =
+decl_by (Word keyword.Class) place (Leaf name _ (Node _ params (Node _ implemented (Leaf opening _ (Node _ members _))))) others =
     ClassTree place (declared name) (class_params_maybe params) (names_maybe implemented) (members_in members) ∷ others
 decl_by _ place forest others = others
 
 abbrev pub decls_in : Forest → List DeclTree
-decls_in (Node g (Leaf mark d others) (Node h more f)) = decl_by (kind_of mark) (place_of_mark mark) others (decls_in more)
+decls_in (Node _ (Leaf mark _ others) (Node _ more _)) = decl_by (kind_of mark) (place_of_mark mark) others (decls_in more)
 decls_in _ = []
 
 -- Program: "module" and "import" lines are read and leave nothing
 abbrev pub text_in : Forest → TextTree
-text_in (Node g heading (Node h imported (Node i decls (Node j block f)))) = record { declarations = decls_in decls; main = block_in block; end = block_end block }
+text_in (Node _ heading (Node _ imported (Node _ decls (Node _ block _)))) = record { declarations = decls_in decls; main = block_in block; end = block_end block }
 text_in _ = record { declarations = []; main = NoStatement; end = start }
 
 -- the tree of a text, from its one reading
 abbrev pub tree_of : Forest → TextTree
-tree_of (Node g program f) = text_in program
+tree_of (Node _ program _) = text_in program
 tree_of _ = text_in Empty

@@ -118,6 +118,7 @@ impl<'a, 'b> Cursor<'a, 'b> {
         ensures found { IfOk result (λ found. TakesKind kind (lexed found.0) (spot self.entry) (spot found.1)) }
         ensures well_formed { IfOk result (λ found. IsWellFormed (lexed found.0)) }
         ensures other { IfErr result (λ error. fits (asked kind) (next (left_at (spot self.entry))) ≡ false) }
+        ensures refusal { IfErr result (λ error. error ≡ Refused (wrong_at (spot self.entry))) }
         ensures refused { IfErr result (λ error. (depth : ℕ) → IsRefused (Terminal (asked kind) depth) (spot self.entry) error) }
     {
         match self.next() {

@@ -1,5 +1,5 @@
-//! What no clause says of lexical offences: that each is refused by its code, at its line and column, in the words that were
-//! meant.
+//! That the definition of lexical offences says what was meant: texts worked out by hand, each with the code, the line and
+//! column, and the words by which it is refused.
 use super::{Want, call_and_read, source_of};
 use abs_tree::Code;
 use std::test::Fail;
