@@ -8,8 +8,8 @@ use Rattle.abs_tree.specs.declared.operator.Operator.{Operator}
 use Rattle.abs_tree.specs.declared.operator.Operator.TheVariants.{Plus, Minus, Times}
 use Rattle.abs_tree.specs.declared.program.Variable.TheVariants.{Named}
 use Rattle.abs_tree.specs.Trees.{ExprTree, OperandTrees, Number, Local, Negate, Then}
-use Rattle.abs_parser.specs.declared.expressions.Rule.{Rule}
-use Rattle.abs_parser.specs.declared.expressions.Rule.TheVariants.{Sum, Product}
+use Rattle.abs_parser.specs.declared.sums.Rule.{Rule}
+use Rattle.abs_parser.specs.declared.sums.Rule.TheVariants.{Sum, Product}
 use Rattle.abs_parser.specs.Tokens.{Spot, place_of, TakesSign, TakesNumber, TakesName}
 use Rattle.abs_parser.specs.Expressions.{Reading, symbol_of, ReadsPrimary, number, local, sign_of, ReadsOperator, ReadsOperands, last, operand, node_of, ReadsOperators, ReadsUnaryOver, negate, group, primary, reads_unary, reads_sum, reads_part}
 use Rattle.abs_parser.proofs.SpotLemmas.{takes_at, takes_written, written_once, kind_once, kinds_differ}

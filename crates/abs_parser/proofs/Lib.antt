@@ -23,3 +23,14 @@ pub mod StepLemmas
 pub mod TypeLemmas
 pub mod PatternLemmas
 pub mod PatternSteps
+pub mod PrimaryLemmas
+pub mod SymbolLemmas
+pub mod InFrontSteps
+pub mod ListSteps
+pub mod ListLemmas
+pub mod OperatorLemmas
+pub mod RepeatSteps
+pub mod FirstPlaceLemmas
+pub mod PrimarySteps
+pub mod ExpressionSteps
+pub mod CaseSteps

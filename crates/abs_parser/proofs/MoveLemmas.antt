@@ -81,12 +81,12 @@ refuses_moved (Takes fit within moves) refused = Past fit within (refuses_moved 
 refuses_moved (Opens opens moves) refused = Open opens (refuses_moved moves refused)
 
 -- Where all tokens are within the limit, the first ones are.
-within_first : (first second : List ℕ) → AllWithin (first ++ second) → AllWithin first
+pub within_first : (first second : List ℕ) → AllWithin (first ++ second) → AllWithin first
 within_first [] second within = tt
 within_first (depth ∷ first) second within = (within.0, within_first first second within.1)
 
 -- And so are those behind them.
-within_second : (first second : List ℕ) → AllWithin (first ++ second) → AllWithin second
+pub within_second : (first second : List ℕ) → AllWithin (first ++ second) → AllWithin second
 within_second [] second within = within
 within_second (depth ∷ first) second within = within_second first second within.1
 

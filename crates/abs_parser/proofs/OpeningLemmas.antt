@@ -3,7 +3,7 @@ use Rattle.std.proofs.Common.{◌≡◌, ℕ, zero, suc, List, refl, sym, subst}
 use Rattle.abs_lexer.specs.declared.lexeme.Punctuator.TheVariants as punctuator
 use Rattle.abs_tree.specs.declared.place.Place.{Place}
 use Rattle.abs_tree.specs.Trees.{ExprTree, Negate}
-use Rattle.abs_parser.specs.declared.expressions.Rule.TheVariants.{Sum, Product}
+use Rattle.abs_parser.specs.declared.sums.Rule.TheVariants.{Sum, Product}
 use Rattle.abs_parser.specs.Tokens.{Spot, place_of, TakesSign}
 use Rattle.abs_parser.specs.Expressions.{Reading, ReadsPrimary, ReadsOperators, ReadsUnaryOver, negate, group, primary, reads_unary, reads_sum}
 use Rattle.abs_parser.proofs.SpotLemmas.{takes_once}

@@ -7,7 +7,7 @@ use Rattle.abs_tree.specs.declared.operator.Operator.{Operator}
 use Rattle.abs_tree.specs.declared.place.Place.{Place}
 use Rattle.abs_tree.specs.declared.program.Operand.{Operand}
 use Rattle.abs_tree.specs.Trees.{ExprTree, OperandTrees, Operators, NoOperand, Then, expr_tree, operands_of}
-use Rattle.abs_parser.specs.declared.expressions.Rule.{Rule}
+use Rattle.abs_parser.specs.declared.sums.Rule.{Rule}
 use Rattle.abs_parser.specs.Tokens.{Spot, place_of}
 use Rattle.abs_parser.specs.Expressions.{Reading, ReadsOperator, NoOperator, ReadsOperands, last, operand, node_of, ReadsOperators}
 use Rattle.abs_parser.proofs.ExpressionLemmas.{Once, operator_once, operator_from}

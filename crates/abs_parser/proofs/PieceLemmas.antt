@@ -9,8 +9,8 @@ use Rattle.abs_tree.specs.declared.symbol.Symbol.{Symbol}
 use Rattle.abs_tree.specs.Names.{by_first_appearance}
 use Rattle.abs_tree.specs.Trees.{ExprTree, OperandTrees, StmtTree, ProgramTree}
 use Rattle.abs_parser.specs.Tokens.{Spot, Takes, TakesWritten}
-use Rattle.abs_parser.specs.declared.expressions.Rule.{Rule}
-use Rattle.abs_parser.specs.declared.expressions.Rule.TheVariants.{Sum, Product}
+use Rattle.abs_parser.specs.declared.sums.Rule.{Rule}
+use Rattle.abs_parser.specs.declared.sums.Rule.TheVariants.{Sum, Product}
 use Rattle.abs_parser.specs.Expressions.{Reading, ReadsPrimary, number, local, ReadsOperands, last, operand, ReadsOperators, ReadsUnaryOver, negate, group, primary, reads_unary, reads_sum}
 use Rattle.abs_parser.specs.Grammar.{expression_room, ReadsBinding, ReadsPrinted, ReadsStmt, declare, assign, print, ReadsStmts, none, some, ReadsProgram}
 use Rattle.abs_parser.specs.Answers.{IsWritten}

@@ -5,8 +5,8 @@ use Rattle.abs_tree.specs.declared.symbol.Symbol.{Symbol}
 use Rattle.abs_tree.specs.declared.operator.Operator.{Operator}
 use Rattle.abs_tree.specs.Trees.{ExprTree, OperandTrees, StmtTree}
 use Rattle.abs_parser.specs.Tokens.{Spot}
-use Rattle.abs_parser.specs.declared.expressions.Rule.{Rule}
-use Rattle.abs_parser.specs.declared.expressions.Rule.TheVariants.{Sum, Product}
+use Rattle.abs_parser.specs.declared.sums.Rule.{Rule}
+use Rattle.abs_parser.specs.declared.sums.Rule.TheVariants.{Sum, Product}
 use Rattle.abs_parser.specs.Expressions.{Reading, ReadsPrimary, number, local, ReadsOperator, ReadsOperands, last, operand, ReadsOperators, ReadsUnaryOver, negate, group, primary, reads_unary, reads_sum, reads_part}
 use Rattle.abs_parser.specs.Grammar.{expression_room, ReadsBinding, ReadsPrinted, ReadsStmt, declare, assign, print, ReadsStmts, none, some, ReadsBlock}
 use Rattle.abs_parser.specs.Answers.{Finds}

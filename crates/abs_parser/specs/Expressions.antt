@@ -1,5 +1,5 @@
--- The grammar of expressions, as a relation between what is read and its tree. Each rule says what it reads of the tokens of
--- a text, given what its parts read.
+-- The grammar of the expressions that are read today, as a relation between what is read and its tree. Each rule says what it reads
+-- of the tokens of a text, given what its parts read.
 --   Sum     = Mul {("+" | "-") Mul}
 --   Mul     = Unary {"*" Unary}
 --   Unary   = "-" Unary | "(" Sum ")" | Primary
@@ -15,8 +15,8 @@ use Rattle.abs_tree.specs.declared.symbol.Symbol.{Symbol}
 use Rattle.abs_tree.specs.declared.program.Variable.TheVariants.{Named}
 use Rattle.abs_tree.specs.Names.{number_of_name}
 use Rattle.abs_tree.specs.Trees.{ExprTree, OperandTrees, Number, Local, Negate, Operators, NoOperand, Then}
-use Rattle.abs_parser.specs.declared.expressions.Rule.{Rule}
-use Rattle.abs_parser.specs.declared.expressions.Rule.TheVariants.{Sum, Product}
+use Rattle.abs_parser.specs.declared.sums.Rule.{Rule}
+use Rattle.abs_parser.specs.declared.sums.Rule.TheVariants.{Sum, Product}
 use Rattle.abs_parser.specs.Tokens.{Spot, place_of, TakesSign, TakesNumber, TakesName}
 
 -- What is read of some tokens, in a program with these names: what stands from a spot on, its tree, the names in it, and the spot

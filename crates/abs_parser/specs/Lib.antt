@@ -11,3 +11,4 @@ pub mod StopLaw
 pub mod Refusing
 pub mod TreesOf
 pub mod ReaderAnswers
+pub mod Levels

@@ -1,11 +1,17 @@
 -- What a reader of a part of the grammar answers: what it found, or where the part is refused, whatever is to follow it.
 --
 --   `left_at`, `names_before`                          the tokens that are left, and the names in what was read
---   `asked`, `TakesKind`                               the next token, where its kind is asked for
+--   `asked`, `TakesKind`, `Passes`                     the next token, where its kind is asked for
+--   `maybe_phrases`                                    the trees of arguments that may be left out
 --   `refusal_at`, `wrong_at`                           the refusal of the next token
 --   `FoundAs`                                          what a reader found
 --   `IsRefused`                                        where it refuses, whatever is to follow
-use Rattle.std.specs.Prelude.{◌≡◌, ⊤, ℕ, List, [], ◌∷◌, ◌++◌, fold, map, Some}
+use Rattle.std.specs.Prelude.{◌≡◌, ⊤, ℕ, List, [], ◌∷◌, ◌++◌, fold, map, Option, Some, None}
+use Rattle.std.specs.declared.alloc.Global.{Global}
+use Rattle.std.specs.declared.vec.Vec.{Vec}
+use Rattle.abs_tree.specs.Syntax.{Name, Phrases}
+use Rattle.abs_tree.specs.SyntaxViews.{phrases}
+use Rattle.abs_tree.specs.declared.syntax.expression.Expr.{Expr}
 use Rattle.abs_tree.specs.Names.{with_name}
 use Rattle.abs_tree.specs.Refusals.{refusal_of}
 use Rattle.abs_tree.specs.declared.refusal.Code.{Code}
@@ -64,6 +70,16 @@ wrong_at spot = refusal_at (wrong_code (next (left_at spot))) spot
 pub record TakesKind (kind : Lexeme) (token : Lexed) (from to : Spot) : Type 0 where
   pub kind_is : token.kind ≡ kind
   pub takes : TakesToken token from to
+
+-- some token of this kind is
+pub record Passes (kind : Lexeme) (from to : Spot) : Type 0 where
+  pub token : Lexed
+  pub takes : TakesKind kind token from to
+
+-- the trees of arguments that may be left out
+abbrev pub maybe_phrases : List Name → Option (Vec Expr Global) → Option Phrases
+maybe_phrases names None = None
+maybe_phrases names (Some arguments) = Some (phrases names arguments.items)
 
 -- A part that stands in so many counted symbols was read, no token in it is too deep, the table of names goes on with its names, and
 -- what was read is so, whatever names come to the table behind them.

@@ -9,7 +9,7 @@
 --   `statement_in`, `block_in`                         statements
 --   `decls_in`, `members_in`                           declarations and members
 --   `tree_of`                                          a program
-use Rattle.std.specs.Prelude.{ℕ, pos, neg_ℤ, Bool, true, false, List, [], ◌∷◌, drop, ◌==◌, if◌then◌else◌}
+use Rattle.std.specs.Prelude.{ℕ, pos, neg_ℤ, Bool, true, false, List, [], ◌∷◌, Option, Some, None, drop, ◌==◌, if◌then◌else◌}
 use Rattle.std.specs.Str.Parse.{digits_value}
 use Rattle.abs_tree.specs.declared.place.Place.{Place}
 use Rattle.abs_tree.specs.Places.{start}
@@ -138,6 +138,21 @@ prefix_of (Sign punctuator.Tilde) = prefix.Tilde
 prefix_of (Sign punctuator.Minus) = prefix.Minus
 prefix_of _ = prefix.Not
 
+-- a name that begins with a lower-case letter: with arguments a function, without a variable
+abbrev pub named : Place → Name → Option Phrases → Phrase
+named place name None = VariableOf place (Written name)
+named place name (Some arguments) = ApplyOf place name arguments
+
+-- the same behind "this" and ".": a method, and a field
+abbrev pub member : Place → Name → Option Phrases → Phrase
+member place name None = FieldOf place name
+member place name (Some arguments) = OwnCallOf place name arguments
+
+-- a constructor, which may have arguments
+abbrev pub built : Place → Name → Option Phrases → Phrase
+built place name None = BuildOf place name NoPhrase
+built place name (Some arguments) = BuildOf place name arguments
+
 abbrev mutual
   -- Expr
   pub expr_in : Forest → Phrase
@@ -213,11 +228,11 @@ abbrev mutual
   primary_by Text mark others = TextOf (place_of_mark mark) (text_of mark)
   primary_by (Word keyword.Destiny) mark others = DestinyOf (place_of_mark mark)
   primary_by (Word keyword.This) mark (Node _ tail _) = this_in (place_of_mark mark) tail
-  primary_by LowerName mark (Node _ arguments _) = named_in (place_of_mark mark) (written mark) arguments
-  primary_by LocalName mark (Node _ arguments _) = named_in (place_of_mark mark) (written mark) arguments
-  primary_by UpperName mark (Node _ arguments _) = BuildOf (place_of_mark mark) (written mark) (arguments_maybe arguments)
-  primary_by AbsName mark (Node _ arguments _) = BuildOf (place_of_mark mark) (written mark) (arguments_maybe arguments)
-  primary_by StdLibName mark (Node _ arguments _) = BuildOf (place_of_mark mark) (written mark) (arguments_maybe arguments)
+  primary_by LowerName mark (Node _ arguments _) = named (place_of_mark mark) (written mark) (arguments_maybe arguments)
+  primary_by LocalName mark (Node _ arguments _) = named (place_of_mark mark) (written mark) (arguments_maybe arguments)
+  primary_by UpperName mark (Node _ arguments _) = built (place_of_mark mark) (written mark) (arguments_maybe arguments)
+  primary_by AbsName mark (Node _ arguments _) = built (place_of_mark mark) (written mark) (arguments_maybe arguments)
+  primary_by StdLibName mark (Node _ arguments _) = built (place_of_mark mark) (written mark) (arguments_maybe arguments)
   primary_by (Word keyword.Case) mark (Node _ subject (Leaf opening _ (Node _ first (Node _ others (Leaf closing _ _))))) =
       CaseOf (place_of_mark mark) (expr_in subject) (branch_in first (branches_in others))
   primary_by (Sign punctuator.OpenParen) mark (Node _ inside _) = expr_in inside
@@ -225,21 +240,13 @@ abbrev mutual
 
   -- behind "this": perhaps ".", a name, and perhaps arguments
   pub this_in : Place → Forest → Phrase
-  this_in place (Node _ (Leaf dot _ (Leaf name _ (Node _ arguments _))) others) = member_in place (written name) arguments
+  this_in place (Node _ (Leaf dot _ (Leaf name _ (Node _ arguments _))) _) = member place (written name) (arguments_maybe arguments)
   this_in place _ = ThisOf place
 
-  pub member_in : Place → Name → Forest → Phrase
-  member_in place name (Node _ arguments _) = OwnCallOf place name (arguments_in arguments)
-  member_in place name _ = FieldOf place name
-
-  -- behind a name: perhaps arguments
-  pub named_in : Place → Name → Forest → Phrase
-  named_in place name (Node _ arguments _) = ApplyOf place name (arguments_in arguments)
-  named_in place name _ = VariableOf place (Written name)
-
-  pub arguments_maybe : Forest → Phrases
-  arguments_maybe (Node _ arguments _) = arguments_in arguments
-  arguments_maybe _ = NoPhrase
+  -- perhaps arguments
+  pub arguments_maybe : Forest → Option Phrases
+  arguments_maybe (Node _ arguments _) = Some (arguments_in arguments)
+  arguments_maybe _ = None
 
   -- "(", perhaps expressions, ")"
   pub arguments_in : Forest → Phrases
@@ -334,13 +341,13 @@ initial_in _ = NoSide
 -- behind a variable that begins a statement: "=" and a right side, or the rest of one
 abbrev pub after_variable : Place → Name → Forest → Statement
 after_variable place name (Leaf equals _ (Node _ rhs _)) = AssignOf place (ToVariable place (Written name)) (rhs_in rhs)
-after_variable place name (Node _ arguments (Node _ rest _)) = DoOf place (rest_in place (named_in place name arguments) rest)
+after_variable place name (Node _ arguments (Node _ rest _)) = DoOf place (rest_in place (named place name (arguments_maybe arguments)) rest)
 after_variable place name _ = SkipOf place
 
 -- the same behind "this", "." and a name
 abbrev pub after_field : Place → Name → Forest → Statement
 after_field place name (Leaf equals _ (Node _ rhs _)) = AssignOf place (ToField place name) (rhs_in rhs)
-after_field place name (Node _ arguments (Node _ rest _)) = DoOf place (rest_in place (member_in place name arguments) rest)
+after_field place name (Node _ arguments (Node _ rest _)) = DoOf place (rest_in place (member place name (arguments_maybe arguments)) rest)
 after_field place name _ = SkipOf place
 
 abbrev pub after_this : Place → Forest → Statement

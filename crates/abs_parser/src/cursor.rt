@@ -1,9 +1,8 @@
 //! A cursor over the tokens of a text: which of them are left, and what the next one is.
 ghost use Rattle.std.specs.Prelude.{◌≡◌, ℕ, false, ◌^◌, ◌<◌, ◌≤◌, [], length, IfOk, IfErr, IfSome, IfNone, pos, List};
-ghost use Rattle.std.specs.Str.Parse.{digits_value};
-ghost use Rattle.abs_lexer.specs.Forms.{IsNumber};
 
 use crate::ParseError;
+use crate::literals::numeral;
 use abs_lexer::token::Tokens;
 use abs_lexer::{Lexeme, Token};
 use abs_tree::{Code, Offence, Place, Refusal};
@@ -197,20 +196,5 @@ impl<'a, 'b> Cursor<'a, 'b> {
     {
         let (token, behind) = self.token(Lexeme::Number)?;
         Ok((numeral(token.slice), behind))
-    }
-}
-
-/// The number that digits write.
-pub(crate) fn numeral(digits: &[u8]) -> i128
-    requires number { IsNumber digits.now }
-    requires fits { digits_value 10 digits.now < 2 ^ 127 }
-    ensures { result ≡ pos (digits_value 10 digits.now) }
-{
-    match str::from_utf8(digits) {
-        Ok(text) => match text.parse::<i128>() {
-            Ok(number) => number,
-            Err(_) => unreachable!(),
-        },
-        Err(_) => unreachable!(),
     }
 }

@@ -10,7 +10,7 @@ ghost use Rattle.abs_parser.specs.Views.{spot};
 ghost use Rattle.abs_parser.specs.declared.parser.ParseError.TheVariants.{Memory, Refused};
 
 use crate::cursor::Cursor;
-use crate::expressions::expression;
+use crate::sums::expression;
 use abs_lexer::token::Tokens;
 use abs_lexer::{Keyword, Lexeme, Punctuator};
 use abs_tree::{Expr, Place, Program, Refusal, Stmt, Symbol, Symbols, Variable};

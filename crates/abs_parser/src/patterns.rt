@@ -1,20 +1,21 @@
 //! Reads patterns.
-ghost use Rattle.std.specs.Prelude.{◌≡◌, ℕ, List, ◌+◌, ◌<◌, ◌≤◌, ◌^◌, drop, length, IfOk, IfErr};
+ghost use Rattle.std.specs.Prelude.{◌≡◌, ℕ, List, ◌+◌, ◌<◌, ◌≤◌, ◌^◌, length, IfOk, IfErr};
 ghost use Rattle.abs_tree.specs.SyntaxViews.{pattern_tree, pattern_trees};
-ghost use Rattle.abs_parser.specs.Kinds.{kind_of_lexeme};
+ghost use Rattle.abs_parser.specs.Kinds.{kind_of_lexeme, next};
 ghost use Rattle.abs_parser.specs.Productions.{begins, Pattern as PatternSymbol, PatternArguments, Patterns};
 ghost use Rattle.abs_parser.specs.Readings.{One, Optional, Nonterminal};
-ghost use Rattle.abs_parser.specs.ReaderAnswers.{FoundAs, IsRefused};
+ghost use Rattle.abs_parser.specs.ReaderAnswers.{FoundAs, IsRefused, left_at};
 ghost use Rattle.abs_parser.specs.Stops.{limit};
-ghost use Rattle.abs_parser.specs.TreesOf.{pattern_in, pattern_arguments as arguments_in, patterns_in, unescaped, escaped_byte as byte_of_escape};
+ghost use Rattle.abs_parser.specs.TreesOf.{pattern_in, pattern_arguments as arguments_in, patterns_in};
 ghost use Rattle.abs_parser.specs.Views.{spot};
 
 use crate::ParseError;
-use crate::cursor::{Cursor, LIMIT, numeral};
-use abs_lexer::{Lexeme, Punctuator, Token};
+use crate::cursor::{Cursor, LIMIT};
+use crate::literals::{numeral, text};
+use abs_lexer::{Lexeme, Punctuator};
 use abs_tree::syntax::Pattern;
-use abs_tree::{Symbols, Text, Variable};
-use std::alloc::{AllocError, Global};
+use abs_tree::{Symbols, Variable};
+use std::alloc::Global;
 
 /// Whether a pattern may begin with a token of this kind, however it is written.
 fn begins_pattern(kind: Lexeme) -> bool
@@ -24,6 +25,16 @@ fn begins_pattern(kind: Lexeme) -> bool
         Lexeme::LowerName | Lexeme::UpperName | Lexeme::Number | Lexeme::Text => true,
         Lexeme::Sign(sign) => sign == Punctuator::Underscore || sign == Punctuator::Minus,
         Lexeme::Word(_) | Lexeme::Foreign => false,
+    }
+}
+
+/// Whether a pattern may begin with the token that stands here.
+pub(crate) fn pattern_begins(from: Cursor<'_, '_>) -> bool
+    ensures { result ≡ begins PatternSymbol (next (left_at (spot from.entry))) }
+{
+    match from.next() {
+        Some((token, _)) => begins_pattern(token.kind),
+        None => false,
     }
 }
 
@@ -131,37 +142,4 @@ fn patterns<'a, 'b>(
         here = end;
     }
     Ok((patterns, here))
-}
-
-/// What the literal of a text stands for: its bytes between the quotes, with a byte for each escape.
-fn text(alloc: Global, literal: &[u8]) -> Result<Text, AllocError>
-    ensures { IfOk result (λ text. text ≡ unescaped (drop 1 literal.now)) }
-{
-    let mut bytes = Vec::new(alloc);
-    let mut rest = literal.get(1..).unwrap_or(&[]);
-    while let Some((byte, behind)) = rest.split_first() {
-        rest = behind;
-        let plain = match (*byte, behind.split_first()) {
-            (b'\\', Some((escape, others))) => {
-                rest = others;
-                escaped_byte(*escape)
-            }
-            (b'"', _) => break,
-            (byte, _) => byte,
-        };
-        bytes.push(plain)?;
-    }
-    Text::new(alloc, bytes)
-}
-
-/// The byte that an escape stands for, by the byte behind its backslash.
-fn escaped_byte(escape: u8) -> u8
-    ensures { result ≡ byte_of_escape escape }
-{
-    match escape {
-        b'n' => b'\n',
-        b't' => b'\t',
-        b'r' => b'\r',
-        other => other,
-    }
 }

@@ -6,7 +6,9 @@ use abs_tree::{Code, Expr, Place, Refusal, Stmt, Symbol, Variable};
 use std::alloc::{AllocError, Global};
 use std::test::Fail;
 
+mod expressions;
 mod phrases;
+mod sizes;
 
 /// A text is refused at the first token that can't stand where it does; the end of the text counts as a token.
 #[test]

@@ -11,7 +11,11 @@ use std::alloc::{AllocError, Global};
 use std::test::Fail;
 
 /// A type as text: each name behind its column, and its arguments.
-fn shown_type(alloc: Global, symbols: &Symbols, term: &TypeTerm) -> Result<String, AllocError> {
+pub(super) fn shown_type(
+    alloc: Global,
+    symbols: &Symbols,
+    term: &TypeTerm,
+) -> Result<String, AllocError> {
     match term {
         TypeTerm::Name(at, symbol, arguments) => {
             let name = str::from_utf8(symbols.name(*symbol)).unwrap_or("?");
@@ -29,7 +33,7 @@ fn shown_type(alloc: Global, symbols: &Symbols, term: &TypeTerm) -> Result<Strin
 }
 
 /// A pattern as text: each part behind its column.
-fn shown_pattern(
+pub(super) fn shown_pattern(
     alloc: Global,
     symbols: &Symbols,
     pattern: &Pattern,
@@ -59,7 +63,7 @@ fn shown_pattern(
 }
 
 /// A refusal as text: its code, line and column.
-fn shown_refusal(alloc: Global, error: ParseError) -> Result<String, AllocError> {
+pub(super) fn shown_refusal(alloc: Global, error: ParseError) -> Result<String, AllocError> {
     match error {
         ParseError::Refused(Refusal { code, line, column }) => {
             format!(in alloc; "{code:?} {line}:{column}")

@@ -1,4 +1,4 @@
-use Rattle.std.proofs.Common.{◌≡◌, ◌≤◌, ℕ, ◌∙◌, ◌+◌, ◌∷◌, ◌++◌, [], List, refl, ap, sym, subst, arith, rules}
+use Rattle.std.proofs.Common.{◌≤◌, ℕ, ◌∙◌, ◌+◌, ◌∷◌, ◌++◌, [], List, refl, ap, sym, arith, rules}
 use Rattle.std.proofs.lemmas.Result.{err_from_is_err_and}
 use Rattle.abs_lexer.specs.declared.lexeme.Lexeme.TheVariants as lexeme
 use Rattle.abs_lexer.specs.declared.lexeme.Punctuator.TheVariants as punctuator
@@ -6,20 +6,21 @@ use Rattle.abs_lexer.specs.Views.{lexed}
 use Rattle.abs_tree.specs.Syntax.{Written, Binds, SameNumber, SameText, Built}
 use Rattle.abs_tree.specs.SyntaxViews.{pattern_trees}
 use Rattle.abs_tree.specs.declared.syntax.pattern.Pattern as code
-use Rattle.abs_parser.specs.Kinds.{Kind}
-use Rattle.abs_parser.specs.Readings.{Optional, Repeated, Forest, opened}
-use Rattle.abs_parser.specs.TreesOf.{patterns_maybe, more_patterns}
+use Rattle.abs_parser.specs.Readings.{Optional}
+use Rattle.abs_parser.specs.TreesOf.{patterns_maybe}
 use Rattle.abs_parser.specs.ReaderAnswers.{TakesKind}
-use Rattle.abs_parser.specs.Productions.{PatternArguments, Patterns, CommaPattern}
+use Rattle.abs_parser.specs.Productions.{PatternArguments}
 use Rattle.abs_parser.specs.Stops.{limit}
 use Rattle.abs_parser.specs.Views.{spot}
 use Rattle.abs_parser.proofs.BeginningLemmas.{words_do_not}
 use Rattle.abs_parser.proofs.DigitLemmas.{number_digits, number_fits, narrowed}
+use Rattle.abs_parser.proofs.ListLemmas.{list_of_patterns, trees_of_patterns, pattern_arguments}
+use Rattle.abs_parser.proofs.ListSteps.{first_so_far, next_so_far, all_so_far, refused_first, refused_next, maybe_found, refused_between, parentheses_left_out, parenthesis_read_maybe, nothing_between}
 use Rattle.abs_parser.proofs.StepLemmas.{opens, over_token, over_name, over_part, all_read, refused_inside, token_shorter, found_shorter, found_goes_on, symbol_kept}
 use Rattle.abs_parser.proofs.NameLemmas.{goes_on_further}
 use Rattle.abs_tree.proofs.SyntaxLemmas.{pattern_tree-built}
-use Rattle.abs_parser.proofs.PatternLemmas.{binds_tree, built_tree, number_tree, minus_tree, text_tree, any_tree, arguments_left_out, close_left_out, commas_end, patterns_before, all_before}
-use Rattle.abs_parser.proofs.PatternSteps.{pattern_begins, refused_at_end, refused_no_pattern, refused_pattern_deep, nothing_found, arguments_begin, maybe_found, refused_between, refused_first, refused_next, one_so_far, more_so_far, narrowed_minus, ReadsSoFar, next_taken, sign_is, sign_is_no_other, sign_begins_none}
+use Rattle.abs_parser.proofs.PatternLemmas.{binds_tree, built_tree, number_tree, minus_tree, text_tree, any_tree}
+use Rattle.abs_parser.proofs.PatternSteps.{pattern_begins, refused_at_end, refused_no_pattern, refused_pattern_deep, narrowed_minus, sign_is, sign_is_no_other, sign_begins_none}
 use Rattle.abs_parser.proofs.patterns.+patterns.Goals.{pattern-then-begins_pattern, pattern-else-begins_pattern}
 use Rattle.abs_parser.proofs.patterns.+patterns.Goals as goal
 
@@ -76,38 +77,41 @@ pattern-returns-in_ok-arguments-in-UpperName-clause-found t c =
 
 pub pattern_arguments-returns-in_default-clause-found : goal.pattern_arguments-returns-in_default-clause-found
 pattern_arguments-returns-in_default-clause-found t c =
-    all_read (opens (Optional PatternArguments) c.args.depth c.args.symbols.now (spot c.args.from) _ (arguments_left_out _ c.args.depth c.in_default.ensures.other))
+    all_read (opens (Optional PatternArguments) c.args.depth c.args.symbols.now (spot c.args.from) _ (parentheses_left_out pattern_arguments _ c.args.depth c.in_default.ensures.other))
     (λ names more. ap (pattern_trees names) c.new.ensures.items)
 
 pub pattern_arguments-returns-in-Ok-expect-clause-found : goal.pattern_arguments-returns-in-Ok-expect-clause-found
 pattern_arguments-returns-in-Ok-expect-clause-found t c =
-    let empty = nothing_found (Optional Patterns) c.args.depth c.args.symbols.now (spot c.in-Ok.behind) (ap (λ (k : Kind). opened (Optional Patterns) k c.args.depth) (next_taken c.in-Ok-expect.ensures.found) ∙ close_left_out c.args.depth) in
-    let so = over_part (arguments_begin c.args.depth c.args.symbols.now c.in-Ok.ensures.found c.requires.depth) empty in
-    all_read (over_token {kind = lexeme.Sign punctuator.CloseParen} so c.in-Ok-expect.ensures.found refl refl c.requires.depth)
-    (λ names more. ap (pattern_trees names) c.new-in-Ok-expect.ensures.items ∙ sym (ap patterns_maybe (empty.is names more)))
+    let close = c.in-Ok-expect.ensures.found in
+    let none = nothing_between pattern_arguments c.args.depth c.args.symbols.now close in
+    let so = over_part (parenthesis_read_maybe pattern_arguments c.args.depth c.args.symbols.now c.in-Ok.ensures.found c.requires.depth) none in
+    all_read (over_token {kind = lexeme.Sign punctuator.CloseParen} so close refl refl c.requires.depth)
+    (λ names more. ap (pattern_trees names) c.new-in-Ok-expect.ensures.items ∙ sym (ap patterns_maybe (none.is names more)))
 
 pub pattern_arguments-returns-in_err-patterns-clause-refused : goal.pattern_arguments-returns-in_err-patterns-clause-refused
 pattern_arguments-returns-in_err-patterns-clause-refused t c =
     let p = err_from_is_err_and c.from_residual.result c.from_residual.ensures.1 in
-    rw (p.1, p.2) (refused_between _ (arguments_begin c.args.depth c.args.symbols.now c.in-Ok.ensures.found c.requires.depth) c.in_default-expect.ensures.other c.in_err-patterns.ensures.refused)
+    rw (p.1, p.2) (refused_between list_of_patterns _ (parenthesis_read_maybe pattern_arguments c.args.depth c.args.symbols.now c.in-Ok.ensures.found c.requires.depth) c.in_default-expect.ensures.other c.in_err-patterns.ensures.refused)
 
 pub pattern_arguments-returns-in_err-end-clause-refused : goal.pattern_arguments-returns-in_err-end-clause-refused
 pattern_arguments-returns-in_err-end-clause-refused t c =
     let p = err_from_is_err_and c.from_residual-in_err-end.result c.from_residual-in_err-end.ensures.1 in
-    rw (p.1, p.2) (refused_inside (over_part (arguments_begin c.args.depth c.args.symbols.now c.in-Ok.ensures.found c.requires.depth) (maybe_found c.in_ok-patterns.ensures.found)) _ (c.in_err-end.ensures.refused c.args.depth))
+    rw (p.1, p.2) (refused_inside
+    (over_part (parenthesis_read_maybe pattern_arguments c.args.depth c.args.symbols.now c.in-Ok.ensures.found c.requires.depth) (maybe_found list_of_patterns c.in_ok-patterns.ensures.found)) _
+    (c.in_err-end.ensures.refused c.args.depth))
 
 pub pattern_arguments-returns-clause-found : goal.pattern_arguments-returns-clause-found
 pattern_arguments-returns-clause-found t c =
     let patterns = c.in_ok-patterns.ensures.found in
-    let maybe = maybe_found patterns in
-    let so = over_part (arguments_begin c.args.depth c.args.symbols.now c.in-Ok.ensures.found c.requires.depth) maybe in
+    let maybe = maybe_found list_of_patterns patterns in
+    let so = over_part (parenthesis_read_maybe pattern_arguments c.args.depth c.args.symbols.now c.in-Ok.ensures.found c.requires.depth) maybe in
     all_read (over_token {kind = lexeme.Sign punctuator.CloseParen} so c.in_ok-end.ensures.found refl refl c.requires.depth)
     (λ names more. patterns.is names more ∙ sym (ap patterns_maybe (maybe.is names more)))
 
 pub patterns-returns-in_err-first-clause-refused : goal.patterns-returns-in_err-first-clause-refused
 patterns-returns-in_err-first-clause-refused t c =
     let p = err_from_is_err_and c.from_residual.result c.from_residual.ensures.1 in
-    rw (p.1, p.2) (refused_first c.args.depth c.args.symbols.now (spot c.args.from) _ c.in_err-first.ensures.refused)
+    rw (p.1, p.2) (refused_first list_of_patterns c.args.depth (spot c.args.from) _ c.in_err-first.ensures.refused)
 
 pub patterns-pattern-requires-in-Ok : goal.patterns-pattern-requires-in-Ok
 patterns-pattern-requires-in-Ok t c =
@@ -119,7 +123,7 @@ patterns-pattern-requires-in-Ok t c =
 pub patterns-returns-in_err-next-clause-refused : goal.patterns-returns-in_err-next-clause-refused
 patterns-returns-in_err-next-clause-refused t c =
     let p = err_from_is_err_and c.from_residual-in_err-next.result c.from_residual-in_err-next.ensures.1 in
-    rw (p.1, p.2) (refused_next _ c.loop-behind.invariant.read.read c.in-Ok.ensures.found c.requires.depth c.in_err-next.ensures.refused)
+    rw (p.1, p.2) (refused_next c.loop-behind.invariant.read c.in-Ok.ensures.found c.requires.depth _ c.in_err-next.ensures.refused)
 
 pub patterns-loop-behind-smaller : goal.patterns-loop-behind-smaller
 patterns-loop-behind-smaller t c =
@@ -128,27 +132,15 @@ patterns-loop-behind-smaller t c =
     omega arith
 
 pub patterns-loop-behind-init : goal.patterns-loop-behind-init
-patterns-loop-behind-init t c =
-    let items : c.push.new.self.items ≡ c.in_ok-first.first ∷ [] = c.in_ok-push.ensures.items ∙ ap (λ (patterns : List code.Pattern). patterns ++ c.in_ok-first.first ∷ []) c.new-patterns.ensures.items in
-    record {
-      read = subst (λ (patterns : List code.Pattern). ReadsSoFar c.args.depth c.args.symbols.now c.pattern.new.symbols (spot c.args.from) (spot c.in_ok-first.here) patterns) (sym items)
-          (one_so_far c.in_ok-first.first c.in_ok-first.ensures.found);
-    }
-
-pub patterns-loop-behind-preserved : goal.patterns-loop-behind-preserved
-patterns-loop-behind-preserved t c = record {
-  read = subst (λ (patterns : List code.Pattern). ReadsSoFar c.args.depth c.args.symbols.now c.pattern-in-Ok.new.symbols (spot c.args.from) (spot c.in_ok-next.end) patterns) (sym c.in_ok-push-2.ensures.items)
-      (more_so_far c.loop-behind.patterns.items c.in_ok-next.next c.loop-behind.invariant.read c.in-Ok.ensures.found c.requires.depth c.in_ok-next.ensures.found);
+patterns-loop-behind-init t c = record {
+  read = first_so_far list_of_patterns trees_of_patterns (c.in_ok-push.ensures.items ∙ ap (λ (l : List code.Pattern). l ++ c.in_ok-first.first ∷ []) c.new-patterns.ensures.items) c.in_ok-first.ensures.found;
 }
 
+pub patterns-loop-behind-preserved : goal.patterns-loop-behind-preserved
+patterns-loop-behind-preserved t c = record { read = next_so_far c.loop-behind.invariant.read c.in_ok-push-2.ensures.items c.in-Ok.ensures.found c.requires.depth c.in_ok-next.ensures.found }
+
 pub patterns-returns-clause-found : goal.patterns-returns-clause-found
-patterns-returns-clause-found t c =
-    let read = c.loop-behind.invariant.read in
-    let empty = nothing_found (Repeated CommaPattern) c.args.depth c.loop-behind.symbols (spot c.loop-behind.here) (commas_end _ c.args.depth c.in_default.ensures.other) in
-    all_read (over_part read.read empty)
-    (λ names more.
-    sym (all_before names c.loop-behind.patterns.items)
-    ∙ sym (read.is names more empty.inside ∙ ap (λ (inside : Forest). patterns_before names c.loop-behind.patterns.items (more_patterns inside)) (empty.is names more)))
+patterns-returns-clause-found t c = all_so_far c.loop-behind.invariant.read c.in_default.ensures.other
 
 pub pattern-returns-then-depth-eq-LIMIT-clause-refused : goal.pattern-returns-then-depth-eq-LIMIT-clause-refused
 pattern-returns-then-depth-eq-LIMIT-clause-refused t c =

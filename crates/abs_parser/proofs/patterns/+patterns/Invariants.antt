@@ -1,6 +1,7 @@
 use Rattle.std.proofs.Common.{◌+◌, ◌*◌, length}
 use Rattle.abs_parser.specs.Views.{spot}
-use Rattle.abs_parser.proofs.PatternSteps.{ReadsSoFar}
+use Rattle.abs_parser.proofs.ListLemmas.{list_of_patterns, trees_of_patterns}
+use Rattle.abs_parser.proofs.ListSteps.{ReadsSoFar}
 use Rattle.abs_parser.proofs.patterns.+patterns.Given as goal
 
 abbrev pub decreases-pattern : goal.decreases-pattern
@@ -14,7 +15,7 @@ decreases-patterns l = 2 * length (spot l.from).rest + 1
 
 -- what was read so far
 abbrev pub invariant-patterns-loop-behind : goal.invariant-patterns-loop-behind
-invariant-patterns-loop-behind l = record { read : ReadsSoFar l.depth l.fn.symbols l.symbols (spot l.from) (spot l.here) l.patterns.items }
+invariant-patterns-loop-behind l = record { read : ReadsSoFar list_of_patterns trees_of_patterns l.depth l.fn.symbols l.symbols (spot l.from) (spot l.here) l.patterns.items }
 
 abbrev pub decreases-patterns-loop-behind : goal.decreases-patterns-loop-behind
 decreases-patterns-loop-behind l = length (spot l.here).rest

@@ -1,20 +1,20 @@
-use Rattle.std.proofs.Common.{◌≡◌, ◌∙◌, ◌+◌, ◌∷◌, ◌++◌, [], List, refl, ap, sym, arith}
+use Rattle.std.proofs.Common.{◌∙◌, ◌+◌, ◌∷◌, ◌++◌, [], List, refl, ap, arith, rules}
 use Rattle.std.proofs.lemmas.Result.{err_from_is_err_and}
 use Rattle.abs_lexer.specs.declared.lexeme.Lexeme.TheVariants as lexeme
 use Rattle.abs_lexer.specs.declared.lexeme.Punctuator.TheVariants as punctuator
 use Rattle.std.specs.declared.alloc.Global.{Global}
 use Rattle.std.specs.declared.vec.Vec.{Vec}
-use Rattle.abs_tree.specs.Syntax.{TypeTree, NextType}
 use Rattle.abs_tree.specs.SyntaxViews.{type_trees}
 use Rattle.abs_tree.specs.declared.syntax.types.TypeTerm.{TypeTerm}
 use Rattle.abs_parser.specs.Kinds.{UpperName}
-use Rattle.abs_parser.specs.Productions.{Type', TypeArguments, Types, CommaType}
-use Rattle.abs_parser.specs.Readings.{One, Optional, Repeated, Empty, Node}
-use Rattle.abs_parser.specs.TreesOf.{more_types}
+use Rattle.abs_parser.specs.Productions.{Type', TypeArguments}
+use Rattle.abs_parser.specs.Readings.{One, Optional}
 use Rattle.abs_parser.specs.Views.{spot}
+use Rattle.abs_parser.proofs.ListLemmas.{list_of_types, trees_of_types}
+use Rattle.abs_parser.proofs.ListSteps.{first_so_far, next_so_far, all_so_far, refused_first, refused_next}
 use Rattle.abs_parser.proofs.NameLemmas.{goes_on_further}
 use Rattle.abs_parser.proofs.StepLemmas.{opens, over_token, over_name, over_part, into_last, all_read, refused_inside, refused_deep, refused_other, fits_next, token_shorter, found_shorter, found_goes_on, symbol_kept}
-use Rattle.abs_parser.proofs.TypeLemmas.{type_opened, type_shut, type_begins, arguments_follow, no_arguments, arguments_opened, types_opened, no_type_follows, refused_first, type_to_come, behind_comma, IsNextType, types_before, types_before_last, types_before_none, type_named}
+use Rattle.abs_parser.proofs.TypeLemmas.{type_opened, type_shut, arguments_follow, no_arguments, arguments_opened, type_named}
 use Rattle.abs_parser.proofs.types.+types.Goals as goal
 
 pub type_arguments-returns-in_default-clause-found : goal.type_arguments-returns-in_default-clause-found
@@ -83,26 +83,24 @@ type_term-returns-clause-found t c =
 pub types-returns-in_err-first-clause-refused : goal.types-returns-in_err-first-clause-refused
 types-returns-in_err-first-clause-refused t c =
     let p = err_from_is_err_and c.from_residual.result c.from_residual.ensures.1 in
-    rw (p.1, p.2) (refused_first c.args.depth (spot c.args.from) _ c.in_err-first.ensures.refused)
+    rw (p.1, p.2) (refused_first list_of_types c.args.depth (spot c.args.from) _ c.in_err-first.ensures.refused)
 
 pub types-loop-behind-init : goal.types-loop-behind-init
-types-loop-behind-init t c =
-    let first = c.in_ok-first.ensures.found in
-    let start = opens (One Types) c.args.depth c.args.symbols.now (spot c.args.from) _ (types_opened c.args.depth _ (type_begins c.args.depth _ _ first.rule_is)) in
-    let items : c.push.new.self.items ≡ c.in_ok-first.first ∷ [] = c.in_ok-push.ensures.items ∙ ap (λ (l : List TypeTerm). l ++ c.in_ok-first.first ∷ []) c.new-types.ensures.items in
-    record {
-      make = Node (One Type') first.inside;
-      so = over_part start first;
-      is = λ others names more. ap (λ (l : List TypeTerm). types_before names l (more_types others)) items
-          ∙ ap (λ (tree : TypeTree). NextType tree (more_types others)) (first.is names more);
-    }
+types-loop-behind-init t c = record {
+  read = first_so_far list_of_types trees_of_types (c.in_ok-push.ensures.items ∙ ap (λ (l : List TypeTerm). l ++ c.in_ok-first.first ∷ []) c.new-types.ensures.items) c.in_ok-first.ensures.found;
+}
+
+pub types-type_term-requires-in-Ok : goal.types-type_term-requires-in-Ok
+types-type_term-requires-in-Ok t c =
+    let few = c.loop-behind.invariant.read.read.few in
+    let shorter = c.loop-behind.invariant.read.read.shorter in
+    let comma = token_shorter c.in-Ok.ensures.found.takes in
+    (search rules, (omega arith, c.requires.depth))
 
 pub types-returns-in_err-next-clause-refused : goal.types-returns-in_err-next-clause-refused
 types-returns-in_err-next-clause-refused t c =
     let p = err_from_is_err_and c.from_residual-in_err-next.result c.from_residual-in_err-next.ensures.1 in
-    let comma = c.in-Ok.ensures.found in
-    rw (p.1, p.2) (refused_inside (type_to_come c.loop-behind.invariant.so comma) _
-    (refused_inside (behind_comma c.args.depth c.loop-behind.symbols comma c.requires.depth) _ c.in_err-next.ensures.refused))
+    rw (p.1, p.2) (refused_next c.loop-behind.invariant.read c.in-Ok.ensures.found c.requires.depth _ c.in_err-next.ensures.refused)
 
 pub types-loop-behind-smaller : goal.types-loop-behind-smaller
 types-loop-behind-smaller t c =
@@ -111,22 +109,7 @@ types-loop-behind-smaller t c =
     omega arith
 
 pub types-loop-behind-preserved : goal.types-loop-behind-preserved
-types-loop-behind-preserved t c =
-    let comma = c.in-Ok.ensures.found in
-    let type = c.in_ok-next.ensures.found in
-    let next = all_read {is_read = IsNextType c.in_ok-next.next} (over_part (behind_comma c.args.depth c.loop-behind.symbols comma c.requires.depth) type)
-    (λ names more others. ap (λ (tree : TypeTree). NextType tree (more_types others)) (type.is names more)) in
-    record {
-      make = λ rest. c.loop-behind.invariant.make (Node (Repeated CommaType) (Node (One CommaType) next.inside rest) Empty);
-      so = over_part (type_to_come c.loop-behind.invariant.so comma) next;
-      is = λ others names more. ap (λ (l : List TypeTerm). types_before names l (more_types others)) c.in_ok-push-2.ensures.items
-          ∙ (types_before_last names c.loop-behind.types.items c.in_ok-next.next (more_types others)
-          ∙ (ap (types_before names c.loop-behind.types.items) (next.is names more others)
-          ∙ c.loop-behind.invariant.is (Node (One CommaType) next.inside (Node (Repeated CommaType) others Empty)) names (goes_on_further (found_goes_on type) more)));
-    }
+types-loop-behind-preserved t c = record { read = next_so_far c.loop-behind.invariant.read c.in_ok-push-2.ensures.items c.in-Ok.ensures.found c.requires.depth c.in_ok-next.ensures.found }
 
 pub types-returns-clause-found : goal.types-returns-clause-found
-types-returns-clause-found t c =
-    let invariant = c.loop-behind.invariant in
-    let none = opens (Repeated CommaType) c.args.depth c.loop-behind.symbols (spot c.loop-behind.here) _ (no_type_follows c.args.depth _ c.in_default.ensures.other) in
-    all_read (into_last invariant.so none) (λ names more. sym (types_before_none names c.loop-behind.types.items) ∙ invariant.is Empty names more)
+types-returns-clause-found t c = all_so_far c.loop-behind.invariant.read c.in_default.ensures.other

@@ -4,7 +4,7 @@ use Rattle.abs_tree.specs.declared.program.Expr.{Expr}
 use Rattle.abs_tree.specs.Trees.{Operators, expr_tree, operands_of}
 use Rattle.abs_tree.proofs.TreeLemmas.{expr_tree-operators}
 use Rattle.abs_parser.proofs.OperandLemmas.{node_is}
-use Rattle.abs_parser.proofs.expressions.node.Goals as goal
+use Rattle.abs_parser.proofs.sums.node.Goals as goal
 
 pub returns : goal.returns
 returns c =

@@ -10,7 +10,7 @@ use Rattle.abs_parser.proofs.RefusalLemmas.{refused_by_token, refuses_weaker}
 use Rattle.abs_parser.proofs.SizeLemmas.{operator_shorter, part_shorter, few_found}
 use Rattle.abs_parser.proofs.OperandLemmas.{front_first, front_more, front_whole, front_shorter, no_operators}
 use Rattle.abs_parser.proofs.OpeningLemmas.{no_sum, no_unary, sum_opened, sum_closed, reads_negation, reads_group, reads_single, no_negation, no_group, no_end, no_single}
-use Rattle.abs_parser.proofs.expressions.+expressions.Goals as goal
+use Rattle.abs_parser.proofs.sums.+sums.Goals as goal
 
 pub operators-loop-operator-init : goal.operators-loop-operator-init
 operators-loop-operator-init t c = record { read = finds_whole c.in_ok-first.ensures.found (λ names words x. front_first (ap operands_of c.new-operands.ensures.items) x) }

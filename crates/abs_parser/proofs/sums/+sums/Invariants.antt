@@ -1,12 +1,12 @@
 use Rattle.std.proofs.Common.{ℕ, ◌+◌, ◌*◌, length}
 use Rattle.abs_tree.specs.Trees.{expr_tree, operands_of}
-use Rattle.abs_parser.specs.declared.expressions.Rule.{Rule}
-use Rattle.abs_parser.specs.declared.expressions.Rule.TheVariants.{Sum, Product}
+use Rattle.abs_parser.specs.declared.sums.Rule.{Rule}
+use Rattle.abs_parser.specs.declared.sums.Rule.TheVariants.{Sum, Product}
 use Rattle.abs_parser.specs.Expressions.{reads_part}
 use Rattle.abs_parser.specs.Answers.{Finds}
 use Rattle.abs_parser.specs.Views.{spot}
 use Rattle.abs_parser.proofs.OperandLemmas.{ReadsFront}
-use Rattle.abs_parser.proofs.expressions.+expressions.Given as goal
+use Rattle.abs_parser.proofs.sums.+sums.Given as goal
 
 -- where a rule comes among those that are read with the same room: a operators of it comes before its parts, and a sum before a
 -- product

@@ -1,7 +1,7 @@
 use Rattle.std.proofs.lemmas.Result.{err_from_is_err_and}
 use Rattle.abs_parser.proofs.FindLemmas.{finds_name, finds_number, finds_whole, reads_local}
 use Rattle.abs_parser.proofs.RefusalLemmas.{refused_by_token, no_primary}
-use Rattle.abs_parser.proofs.expressions.primary.Goals as goal
+use Rattle.abs_parser.proofs.sums.primary.Goals as goal
 
 pub returns-in-Ok-clause-found : goal.returns-in-Ok-clause-found
 returns-in-Ok-clause-found c = finds_number c.in-Ok.number c.in-Ok.ensures.found.0 c.place.ensures c.in-Ok.ensures.found.1 c.in-Ok.ensures.found.2 c.in-Ok.ensures.found.3

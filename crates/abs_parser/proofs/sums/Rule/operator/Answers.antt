@@ -2,11 +2,11 @@ use Rattle.std.proofs.Common.{◌≡◌}
 use Rattle.std.specs.Prelude.{Option, Some, None, IfNone}
 use Rattle.abs_tree.specs.declared.operator.Operator.TheVariants.{Plus, Minus, Times}
 use Rattle.abs_lexer.specs.declared.lexeme.Punctuator.TheVariants as punctuator
-use Rattle.abs_parser.specs.declared.expressions.Rule.{Rule}
-use Rattle.abs_parser.specs.declared.expressions.Rule.TheVariants.{Sum, Product}
+use Rattle.abs_parser.specs.declared.sums.Rule.{Rule}
+use Rattle.abs_parser.specs.declared.sums.Rule.TheVariants.{Sum, Product}
 use Rattle.abs_parser.specs.Tokens.{Spot, TakesSign}
 use Rattle.abs_parser.specs.Expressions.{NoOperator}
-use Rattle.abs_parser.proofs.expressions.Rule.operator.Goals as goal
+use Rattle.abs_parser.proofs.sums.Rule.operator.Goals as goal
 
 -- where nothing is found for one cause, nothing is for a weaker one
 none_weaker : {T A B : Type 0} (found : Option T) → (A → B) → IfNone found A → IfNone found B

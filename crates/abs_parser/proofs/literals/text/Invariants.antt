@@ -1,6 +1,6 @@
 use Rattle.std.proofs.Common.{◌≡◌, ◌++◌, drop, length}
 use Rattle.abs_parser.specs.TreesOf.{unescaped}
-use Rattle.abs_parser.proofs.patterns.text.Given as goal
+use Rattle.abs_parser.proofs.literals.text.Given as goal
 
 -- what was read so far, and what is to be read, is what the literal stands for
 abbrev pub invariant-loop-byte : goal.invariant-loop-byte

@@ -1,0 +1,78 @@
+use Rattle.std.proofs.Common.{◌+◌, ◌*◌, length}
+use Rattle.abs_parser.specs.Views.{spot}
+use Rattle.abs_parser.proofs.OperatorLemmas.{rank, LevelSoFar}
+use Rattle.abs_parser.proofs.CaseSteps.{ReadsCase}
+use Rattle.abs_parser.proofs.ListLemmas.{list_of_expressions, trees_of_expressions}
+use Rattle.abs_parser.proofs.ListSteps.{ReadsSoFar}
+use Rattle.abs_parser.proofs.+phrases.Given as goal
+
+-- each call reads fewer tokens than its caller, or as many and less of the grammar
+abbrev pub decreases-expressions::expression : goal.decreases-expressions::expression
+decreases-expressions::expression l = 24 * length (spot l.from).rest + 20
+
+abbrev pub decreases-expressions::let_in : goal.decreases-expressions::let_in
+decreases-expressions::let_in l = 24 * length (spot l.from).rest + 19
+
+abbrev pub decreases-expressions::if_else : goal.decreases-expressions::if_else
+decreases-expressions::if_else l = 24 * length (spot l.from).rest + 19
+
+abbrev pub decreases-operators::operators : goal.decreases-operators::operators
+decreases-operators::operators l = 24 * length (spot l.from).rest + (2 * rank l.level + 7)
+
+abbrev pub decreases-operators::operand : goal.decreases-operators::operand
+decreases-operators::operand l = 24 * length (spot l.from).rest + (2 * rank l.level + 6)
+
+abbrev pub decreases-primaries::unary : goal.decreases-primaries::unary
+decreases-primaries::unary l = 24 * length (spot l.from).rest + 5
+
+abbrev pub decreases-primaries::primary : goal.decreases-primaries::primary
+decreases-primaries::primary l = 24 * length (spot l.from).rest + 4
+
+abbrev pub decreases-primaries::worded : goal.decreases-primaries::worded
+decreases-primaries::worded l = 24 * length (spot l.from).rest + 3
+
+abbrev pub decreases-primaries::this_of : goal.decreases-primaries::this_of
+decreases-primaries::this_of l = 24 * length (spot l.from).rest + 2
+
+abbrev pub decreases-primaries::named : goal.decreases-primaries::named
+decreases-primaries::named l = 24 * length (spot l.from).rest + 2
+
+abbrev pub decreases-primaries::built : goal.decreases-primaries::built
+decreases-primaries::built l = 24 * length (spot l.from).rest + 2
+
+abbrev pub decreases-primaries::group : goal.decreases-primaries::group
+decreases-primaries::group l = 24 * length (spot l.from).rest + 2
+
+abbrev pub decreases-cases::case_of : goal.decreases-cases::case_of
+decreases-cases::case_of l = 24 * length (spot l.from).rest + 2
+
+abbrev pub decreases-cases::branch : goal.decreases-cases::branch
+decreases-cases::branch l = 24 * length (spot l.from).rest + 22
+
+abbrev pub decreases-arguments::arguments_maybe : goal.decreases-arguments::arguments_maybe
+decreases-arguments::arguments_maybe l = 24 * length (spot l.from).rest + 23
+
+abbrev pub decreases-arguments::arguments : goal.decreases-arguments::arguments
+decreases-arguments::arguments l = 24 * length (spot l.from).rest + 22
+
+abbrev pub decreases-arguments::expressions : goal.decreases-arguments::expressions
+decreases-arguments::expressions l = 24 * length (spot l.from).rest + 21
+
+-- what was read so far
+abbrev pub invariant-operators::operators-loop-operator : goal.invariant-operators::operators-loop-operator
+invariant-operators::operators-loop-operator l = record { read : LevelSoFar l.level l.depth l.fn.symbols l.symbols (spot l.from) (spot l.here) l.first l.operands.items }
+
+abbrev pub decreases-operators::operators-loop-operator : goal.decreases-operators::operators-loop-operator
+decreases-operators::operators-loop-operator l = length (spot l.here).rest
+
+abbrev pub invariant-cases::case_of-loop-symbols : goal.invariant-cases::case_of-loop-symbols
+invariant-cases::case_of-loop-symbols l = record { read : ReadsCase l.depth l.fn.symbols l.symbols (spot l.from) (spot l.here) l.word.place l.subject l.branches.items }
+
+abbrev pub decreases-cases::case_of-loop-symbols : goal.decreases-cases::case_of-loop-symbols
+decreases-cases::case_of-loop-symbols l = length (spot l.here).rest
+
+abbrev pub invariant-arguments::expressions-loop-behind : goal.invariant-arguments::expressions-loop-behind
+invariant-arguments::expressions-loop-behind l = record { read : ReadsSoFar list_of_expressions trees_of_expressions l.depth l.fn.symbols l.symbols (spot l.from) (spot l.here) l.expressions.items }
+
+abbrev pub decreases-arguments::expressions-loop-behind : goal.decreases-arguments::expressions-loop-behind
+decreases-arguments::expressions-loop-behind l = length (spot l.here).rest

@@ -1,0 +1,137 @@
+-- The steps of the readers of unaries and primaries: over the token that begins one, and over what stands behind `this`; where they are
+-- refused; and how a unary is the primary that it consists of.
+use Rattle.std.proofs.Common.{◌≡◌, ◌≤◌, ◌<◌, ℕ, ◌+◌, true, false, List, [], ◌∷◌, Option, Some, refl, ap, ◌∙◌}
+use Rattle.std.specs.declared.alloc.Global.{Global}
+use Rattle.std.specs.declared.vec.Vec.{Vec}
+use Rattle.abs_lexer.specs.declared.lexeme.Lexeme.{Lexeme}
+use Rattle.abs_lexer.specs.declared.lexeme.Lexeme.TheVariants as lexeme
+use Rattle.abs_lexer.specs.declared.lexeme.Keyword.TheVariants as keyword
+use Rattle.abs_lexer.specs.declared.lexeme.Punctuator.TheVariants as punctuator
+use Rattle.abs_lexer.specs.Tokens.{Lexed}
+use Rattle.abs_tree.specs.declared.refusal.Code.TheVariants.{S2}
+use Rattle.abs_tree.specs.declared.symbol.Symbol.{Symbol}
+use Rattle.abs_tree.specs.declared.syntax.expression.Expr.{Expr}
+use Rattle.abs_tree.specs.declared.syntax.expression.Prefix.{Prefix}
+use Rattle.abs_tree.specs.Names.{with_name, number_of_name}
+use Rattle.abs_tree.specs.SyntaxViews.{phrase}
+use Rattle.abs_tree.specs.Trees.{name_of}
+use Rattle.abs_parser.specs.Kinds.{Token, Kind, kind_of_lexeme, LowerName, Sign, fits, next}
+use Rattle.abs_parser.specs.Levels.{prefix_sign}
+use Rattle.abs_parser.specs.Productions.{begins, Unary, Primary, ThisTail, Arguments}
+use Rattle.abs_parser.specs.Readings.{One, Optional, Terminal, Nonterminal, opened, Forest, Empty, Leaf, Node}
+use Rattle.abs_parser.specs.ReaderAnswers.{left_at, asked, maybe_phrases, refusal_at, wrong_at, TakesKind, FoundAs, IsRefused}
+use Rattle.abs_parser.specs.Stops.{limit}
+use Rattle.abs_parser.specs.Tokens.{Spot, TakesToken}
+use Rattle.abs_parser.specs.TreesOf.{unary_in, primary_in, arguments_maybe}
+use Rattle.abs_parser.specs.declared.parser.ParseError.{ParseError}
+use Rattle.abs_parser.specs.declared.parser.ParseError.TheVariants.{Refused}
+use Rattle.abs_parser.proofs.NameLemmas.{goes_on_further}
+use Rattle.abs_parser.proofs.StepLemmas.{HasRead, opens, over_token, over_name, over_part, into_last, all_read, refused_inside, refused_deep, refused_shut, fits_next, next_is, asked_fits, is_name, found_goes_on, symbol_kept}
+use Rattle.abs_parser.proofs.PatternSteps.{next_taken, next_end}
+use Rattle.abs_parser.proofs.PrimaryLemmas.{may_begin, begins_by_kind, behind_first, primary_opened, first_asked, primary_shut, primary_end, operand_opened, prefix_opened, unary_shut, unary_end, tail_follows, tail_opened}
+
+-- the next token is one of a kind, where its kind is known
+pub stands : {kind : Lexeme} {token : Lexed} {from behind : Spot} → TakesToken token from behind → token.kind ≡ kind → TakesKind kind token from behind
+stands takes is = record { kind_is = is; takes = takes }
+
+-- a primary is opened by the token that begins it
+primary_begins : {kind : Lexeme} {token : Lexed} {from behind : Spot} (depth : ℕ) → TakesKind kind token from behind → may_begin kind ≡ true
+    → opened (One Primary) (next (left_at from)) depth ≡ Some (Terminal (asked kind) depth ∷ behind_first kind depth)
+primary_begins {kind} {token} depth takes is =
+    ap (λ (k : Kind). opened (One Primary) k depth) (next_taken takes) ∙ primary_opened kind token.bytes depth is
+
+-- over the token that begins it, where that is no name
+pub first_read : {kind : Lexeme} {token : Lexed} {from behind : Spot} (depth : ℕ) (table : List (List ℕ)) → TakesKind kind token from behind → may_begin kind ≡ true → is_name kind ≡ false
+    → depth ≤ limit → HasRead (One Primary) depth table table from (λ rest. Leaf (Token token) depth rest) (behind_first kind depth) behind
+first_read {kind} {from = from} depth table takes is no_name within =
+    over_token {kind = kind} (opens (One Primary) depth table from _ (primary_begins depth takes is)) takes (first_asked kind is) no_name within
+
+-- over the name that begins it, which the table has then
+pub name_read : {kind : Lexeme} {token : Lexed} {from behind : Spot} {names : List (List ℕ)} (depth : ℕ) (table : List (List ℕ)) → TakesKind kind token from behind → may_begin kind ≡ true
+    → is_name kind ≡ true → depth ≤ limit → names ≡ with_name table token.bytes
+    → HasRead (One Primary) depth table names from (λ rest. Leaf (Token token) depth rest) (behind_first kind depth) behind
+name_read {kind} {from = from} depth table takes is named within more =
+    over_name {kind = kind} (opens (One Primary) depth table from _ (primary_begins depth takes is)) takes (first_asked kind is) named within more
+
+-- over `this` and a dot, behind which a name is to stand
+pub member_begins : {this dot : Lexed} {from behind name_at : Spot} (depth : ℕ) (table : List (List ℕ))
+    → TakesKind (lexeme.Word keyword.This) this from behind → TakesKind (lexeme.Sign punctuator.Dot) dot behind name_at → depth ≤ limit
+    → HasRead (One Primary) depth table table from (λ rest. Leaf (Token this) depth (Node (Optional ThisTail) (Node (One ThisTail) (Leaf (Token dot) depth rest) Empty) Empty))
+    (Terminal LowerName depth ∷ Nonterminal (Optional Arguments) depth ∷ []) name_at
+member_begins {behind = behind} depth table takes dotted within =
+    let fit = fits_next refl dotted in
+    into_last (first_read depth table takes refl refl within)
+    (into_last (opens (Optional ThisTail) depth table behind _ (tail_follows depth _ fit))
+    (over_token {kind = lexeme.Sign punctuator.Dot} (opens (One ThisTail) depth table behind _ (tail_opened depth _ fit)) dotted refl refl within))
+
+-- a name with the arguments behind it, where there are any, is found
+pub call_found : {depth : ℕ} {old table new : List (List ℕ)} {from here to : Spot} {make : Forest → Forest} {name : List ℕ} (now : List (List ℕ)) (symbol : Symbol) (given : Option (Vec Expr Global)) (expr : Expr)
+    → HasRead (One Primary) depth old table from make (Nonterminal (Optional Arguments) depth ∷ []) here → symbol.0 ≡ number_of_name now name → table ≡ with_name now name
+    → (found : FoundAs (Optional Arguments) depth table new here to (λ names inside. maybe_phrases names given ≡ arguments_maybe inside))
+    → ((names : List (List ℕ)) → name_of names symbol ≡ name → maybe_phrases names given ≡ arguments_maybe found.inside
+    → phrase names expr ≡ primary_in (make (Node (Optional Arguments) found.inside Empty)))
+    → FoundAs (One Primary) depth old new from to (λ names inside. phrase names expr ≡ primary_in inside)
+call_found now symbol given expr so number more found is =
+    all_read (over_part so found) (λ names further. is names (symbol_kept now symbol number more names (goes_on_further (found_goes_on found) further)) (found.is names further))
+
+-- over an operator before an operand
+pub prefix_read : {token : Lexed} {from behind : Spot} (operation : Prefix) (depth : ℕ) (table : List (List ℕ)) → TakesKind (lexeme.Sign (prefix_sign operation)) token from behind → depth + 1 ≤ limit
+    → HasRead (One Unary) depth table table from (λ rest. Leaf (Token token) (depth + 1) rest) (Nonterminal (One Unary) (depth + 1) ∷ []) behind
+prefix_read {from = from} operation depth table takes within =
+    over_token {kind = lexeme.Sign (prefix_sign operation)}
+    (opens (One Unary) depth table from _ (ap (λ (k : Kind). opened (One Unary) k depth) (next_taken takes) ∙ prefix_opened operation depth)) takes refl refl within
+
+-- at the limit an operator before an operand is refused
+pub prefix_deep : {token : Lexed} {from behind : Spot} (operation : Prefix) (depth : ℕ) (error : ParseError) → error ≡ Refused (refusal_at S2 from)
+    → TakesKind (lexeme.Sign (prefix_sign operation)) token from behind → limit < depth + 1 → IsRefused (Nonterminal (One Unary) depth) from error
+prefix_deep {from = from} operation depth error is takes deep =
+    rw is (refused_deep (One Unary) depth from (Sign (prefix_sign operation)) (depth + 1) _
+    (ap (λ (k : Kind). opened (One Unary) k depth) (next_taken takes) ∙ prefix_opened operation depth) (fits_next refl takes) deep)
+
+-- where a primary may begin, a unary is opened as one
+operand_begins : {token : Lexed} {from behind : Spot} (depth : ℕ) (table : List (List ℕ)) → TakesToken token from behind → begins Primary (kind_of_lexeme token.kind token.bytes) ≡ true
+    → HasRead (One Unary) depth table table from (λ rest. rest) (Nonterminal (One Primary) (depth + 1) ∷ []) from
+operand_begins {from = from} depth table takes is = opens (One Unary) depth table from _ (operand_opened _ depth (ap (begins Primary) (next_is takes) ∙ is))
+
+-- at the limit a token that begins a primary is refused where a unary is to stand
+pub operand_deep : {token : Lexed} {from behind : Spot} (depth : ℕ) (error : ParseError) → error ≡ Refused (refusal_at S2 from) → TakesToken token from behind
+    → begins Primary (kind_of_lexeme token.kind token.bytes) ≡ true → limit < depth + 1 → IsRefused (Nonterminal (One Unary) depth) from error
+operand_deep {token} {from} depth error is takes begun deep =
+    let first = begins_by_kind token.kind token.bytes ∙ begun in
+    refused_inside (operand_begins depth [] takes begun) error
+    (rw is (refused_deep (One Primary) (depth + 1) from (asked token.kind) (depth + 1) _
+    (ap (λ (k : Kind). opened (One Primary) k (depth + 1)) (next_is takes) ∙ primary_opened token.kind token.bytes (depth + 1) first)
+    (ap (fits (asked token.kind)) (next_is takes) ∙ asked_fits token.kind token.bytes (first_asked token.kind first)) deep))
+
+-- a unary is the primary that was found
+pub operand_found : {token : Lexed} {from behind to : Spot} {old new : List (List ℕ)} (depth : ℕ) (expr : Expr) → TakesToken token from behind → begins Primary (kind_of_lexeme token.kind token.bytes) ≡ true
+    → FoundAs (One Primary) (depth + 1) old new from to (λ names inside. phrase names expr ≡ primary_in inside)
+    → FoundAs (One Unary) depth old new from to (λ names inside. phrase names expr ≡ unary_in inside)
+operand_found {old = old} depth expr takes begun found = all_read (over_part (operand_begins depth old takes begun) found) found.is
+
+-- and where that is refused, so is the unary
+pub operand_refused : {token : Lexed} {from behind : Spot} (depth : ℕ) (error : ParseError) → TakesToken token from behind → begins Primary (kind_of_lexeme token.kind token.bytes) ≡ true
+    → IsRefused (Nonterminal (One Primary) (depth + 1)) from error → IsRefused (Nonterminal (One Unary) depth) from error
+operand_refused depth error takes begun refused = refused_inside (operand_begins depth [] takes begun) error refused
+
+-- at the end of the text a unary is refused
+pub unary_refused_at_end : (depth : ℕ) (from : Spot) (error : ParseError) → error ≡ Refused (wrong_at from) → from.rest ≡ [] → IsRefused (Nonterminal (One Unary) depth) from error
+unary_refused_at_end depth from error is none = rw is (refused_shut (One Unary) depth from (ap (λ (k : Kind). opened (One Unary) k depth) (next_end from none) ∙ unary_end depth))
+
+-- and so is a primary
+pub primary_refused_at_end : (depth : ℕ) (from : Spot) (error : ParseError) → error ≡ Refused (wrong_at from) → from.rest ≡ [] → IsRefused (Nonterminal (One Primary) depth) from error
+primary_refused_at_end depth from error is none = rw is (refused_shut (One Primary) depth from (ap (λ (k : Kind). opened (One Primary) k depth) (next_end from none) ∙ primary_end depth))
+
+-- a token that is no operator before an operand and begins no primary is refused where a unary is to stand
+pub refused_no_unary : {token : Lexed} {from behind : Spot} (depth : ℕ) (error : ParseError) → error ≡ Refused (wrong_at from) → TakesToken token from behind
+    → begins Primary (kind_of_lexeme token.kind token.bytes) ≡ false → ((operation : Prefix) → token.kind ≡ lexeme.Sign (prefix_sign operation) → ⊥)
+    → IsRefused (Nonterminal (One Unary) depth) from error
+refused_no_unary {token} {from} depth error is takes none no_prefix =
+    rw is (refused_shut (One Unary) depth from
+    (ap (λ (k : Kind). opened (One Unary) k depth) (next_is takes) ∙ unary_shut token.kind token.bytes depth (begins_by_kind token.kind token.bytes ∙ none) no_prefix))
+
+-- a token of a kind that may begin no primary is refused where one is to stand
+pub refused_no_primary : (kind : Lexeme) (bytes : List ℕ) (depth : ℕ) (from : Spot) (error : ParseError) → error ≡ Refused (wrong_at from) → next (left_at from) ≡ kind_of_lexeme kind bytes
+    → may_begin kind ≡ false → IsRefused (Nonterminal (One Primary) depth) from error
+refused_no_primary kind bytes depth from error is stands none =
+    rw is (refused_shut (One Primary) depth from (ap (λ (k : Kind). opened (One Primary) k depth) stands ∙ primary_shut kind bytes depth none))

@@ -1,0 +1,61 @@
+-- The step of a reader over one more of the parts that may stand any number of times, where something stands behind them: what was read of
+-- the part comes in front of what is read as the further ones.
+use Rattle.std.proofs.Common.{◌≡◌, ℕ, List, [], ◌∷◌, ◌++◌, Some, refl, sym, ap, ◌∙◌, fold, arith}
+use Rattle.abs_tree.specs.Names.{with_name}
+use Rattle.abs_parser.specs.Kinds.{Mark, next}
+use Rattle.abs_parser.specs.Productions.{Symbol}
+use Rattle.abs_parser.specs.Readings.{Goal, One, Repeated, Wanted, Nonterminal, opened, Forest, Empty, Leaf, Node, Reads, Nothing, Opened, depths}
+use Rattle.abs_parser.specs.ReaderAnswers.{left_at, names_before, FoundAs}
+use Rattle.abs_parser.specs.Refusing.{AllWithin, Open}
+use Rattle.abs_parser.specs.Tokens.{Spot}
+use Rattle.abs_parser.proofs.MoveLemmas.{refuses_behind, within_first, within_second}
+use Rattle.abs_parser.proofs.NameLemmas.{goes_on_further}
+use Rattle.abs_parser.proofs.StepLemmas.{HasRead, within_both, table_of_both, found_goes_on, found_few, found_shorter}
+
+-- one part in front of what was read as further ones, with what stands behind them
+abbrev pub in_front : Symbol → Forest → Forest → Forest
+in_front symbol inside (Node goal others behind) = Node (Repeated symbol) (Node (One symbol) inside (Node goal others Empty)) behind
+in_front symbol inside others = Node (One symbol) inside others
+
+-- the part is read, then the further ones, and then what stands behind them
+front_reads : {symbol : Symbol} {at : ℕ} {inner left : List Wanted} {ts middle to : List Mark} {inside rest : Forest}
+    → opened (Repeated symbol) (next ts) at ≡ Some (Nonterminal (One symbol) at ∷ Nonterminal (Repeated symbol) at ∷ []) → opened (One symbol) (next ts) at ≡ Some inner
+    → Reads inner ts inside middle → Reads (Nonterminal (Repeated symbol) at ∷ left) middle rest to
+    → Reads (Nonterminal (Repeated symbol) at ∷ left) ts (in_front symbol inside rest) to
+front_reads more is reads (Opened e first behind) = Opened more (Opened is reads (Opened e first Nothing)) behind
+
+-- no token is too deep where none is in the part and in the others
+front_within : (symbol : Symbol) (inside rest : Forest) → AllWithin (depths inside) → AllWithin (depths rest) → AllWithin (depths (in_front symbol inside rest))
+front_within symbol inside Empty here behind = within_both (depths inside) [] here behind
+front_within symbol inside (Leaf mark depth others) here behind = within_both (depths inside) (depth ∷ depths others) here behind
+front_within symbol inside (Node goal others after) here behind =
+    within_both (depths inside ++ (depths others ++ [])) (depths after)
+    (within_both (depths inside) (depths others ++ []) here (within_both (depths others) [] (within_first (depths others) (depths after) behind) tt))
+    (within_second (depths others) (depths after) behind)
+
+-- the names in the part stand in front of those in the others
+front_names : (symbol : Symbol) (inside rest : Forest) (names : List (List ℕ)) → names_before (in_front symbol inside rest) names ≡ names_before inside (names_before rest names)
+front_names symbol inside Empty names = refl
+front_names symbol inside (Leaf mark depth others) names = refl
+front_names symbol inside (Node goal others behind) names = refl
+
+-- over one more of the parts that repeat, in front of what stands behind them
+pub over_one_more : {goal : Goal} {symbol : Symbol} {depth at : ℕ} {old now new : List (List ℕ)} {from here behind : Spot} {make : Forest → Forest} {left : List Wanted}
+    {is_read : List (List ℕ) → Forest → Type 0} → HasRead goal depth old now from make (Nonterminal (Repeated symbol) at ∷ left) here
+    → opened (Repeated symbol) (next (left_at here)) at ≡ Some (Nonterminal (One symbol) at ∷ Nonterminal (Repeated symbol) at ∷ [])
+    → (found : FoundAs (One symbol) at now new here behind is_read)
+    → HasRead goal depth old new from (λ rest. make (in_front symbol found.inside rest)) (Nonterminal (Repeated symbol) at ∷ left) behind
+over_one_more {symbol = symbol} {now = now} so more found = record {
+  inner = so.inner;
+  rule_is = so.rule_is;
+  reads = λ rest to reads. so.reads (in_front symbol found.inside rest) to (front_reads more found.rule_is found.reads reads);
+  within = λ rest others. so.within (in_front symbol found.inside rest) (front_within symbol found.inside rest found.within others);
+  refuses = λ items to code refused. so.refuses items to code (Open more (Open found.rule_is (refuses_behind found.reads found.within refused)));
+  table = λ rest. so.table (in_front symbol found.inside rest)
+      ∙ (ap (fold with_name now) (front_names symbol found.inside rest [])
+      ∙ (table_of_both now found.inside (names_before rest [])
+      ∙ ap (λ (names : List (List ℕ)). fold with_name names (names_before rest [])) (sym found.table)));
+  goes_on = goes_on_further so.goes_on (found_goes_on found);
+  few = omega (arith, so.few, found_few found);
+  shorter = omega (arith, so.shorter, found_shorter found);
+}

@@ -1,0 +1,92 @@
+//! Reads the arguments of functions, constructors and methods.
+ghost use Rattle.std.specs.Prelude.{◌≡◌, ◌+◌, ◌<◌, ◌≤◌, ◌^◌, length, IfOk, IfErr};
+ghost use Rattle.abs_tree.specs.SyntaxViews.{phrases};
+ghost use Rattle.abs_parser.specs.Productions.{Arguments, Args};
+ghost use Rattle.abs_parser.specs.Readings.{One, Optional, Nonterminal};
+ghost use Rattle.abs_parser.specs.ReaderAnswers.{FoundAs, IsRefused, maybe_phrases};
+ghost use Rattle.abs_parser.specs.Stops.{limit};
+ghost use Rattle.abs_parser.specs.TreesOf.{arguments_in, arguments_maybe as maybe_arguments_in, args_in};
+ghost use Rattle.abs_parser.specs.Views.{spot};
+
+use crate::ParseError;
+use crate::cursor::Cursor;
+use crate::expressions::expression;
+use abs_lexer::{Lexeme, Punctuator};
+use abs_tree::Symbols;
+use abs_tree::syntax::Expr;
+use std::alloc::Global;
+
+/// The expressions between `(` and `)`, where there are parentheses, and the cursor behind them.
+///
+/// # Errors
+/// The refusal of the first token that no arguments have there, or that stands too deep.
+#[cycle(phrases)]
+pub(crate) fn arguments_maybe<'a, 'b>(
+    alloc: Global,
+    symbols: &mut Symbols<'a>,
+    depth: u32,
+    from: Cursor<'a, 'b>,
+) -> Result<(Option<Vec<Expr>>, Cursor<'a, 'b>), ParseError>
+    requires names { length symbols.old + length (spot from).rest < 2 ^ 31 }
+    requires depth { depth ≤ limit }
+    ensures found { IfOk result (λ found. FoundAs (Optional Arguments) depth symbols.old symbols.new (spot from.entry) (spot found.1)
+        (λ names inside. maybe_phrases names found.0 ≡ maybe_arguments_in inside)) }
+    ensures refused { IfErr result (λ error. IsRefused (Nonterminal (Optional Arguments) depth) (spot from.entry) error) }
+{
+    let Ok(_) = from.expect(Lexeme::Sign(Punctuator::OpenParen)) else {
+        return Ok((None, from));
+    };
+    let (expressions, end) = arguments(alloc, symbols, depth, from)?;
+    Ok((Some(expressions), end))
+}
+
+/// The expressions between `(` and `)`, and the cursor behind them.
+///
+/// # Errors
+/// The refusal of the first token that no arguments have there, or that stands too deep.
+#[cycle(phrases)]
+pub(crate) fn arguments<'a, 'b>(
+    alloc: Global,
+    symbols: &mut Symbols<'a>,
+    depth: u32,
+    from: Cursor<'a, 'b>,
+) -> Result<(Vec<Expr>, Cursor<'a, 'b>), ParseError>
+    requires names { length symbols.old + length (spot from).rest < 2 ^ 31 }
+    requires depth { depth ≤ limit }
+    ensures found { IfOk result (λ found. FoundAs (One Arguments) depth symbols.old symbols.new (spot from.entry) (spot found.1)
+        (λ names inside. phrases names found.0.items ≡ arguments_in inside)) }
+    ensures refused { IfErr result (λ error. IsRefused (Nonterminal (One Arguments) depth) (spot from.entry) error) }
+{
+    let (_, behind) = from.expect(Lexeme::Sign(Punctuator::OpenParen))?;
+    if let Ok((_, end)) = behind.expect(Lexeme::Sign(Punctuator::CloseParen)) {
+        return Ok((Vec::new(alloc), end));
+    }
+    let (expressions, close) = expressions(alloc, symbols, depth, behind)?;
+    let (_, end) = close.expect(Lexeme::Sign(Punctuator::CloseParen))?;
+    Ok((expressions, end))
+}
+
+/// An expression, and others behind commas, and the cursor behind them.
+#[cycle(phrases)]
+fn expressions<'a, 'b>(
+    alloc: Global,
+    symbols: &mut Symbols<'a>,
+    depth: u32,
+    from: Cursor<'a, 'b>,
+) -> Result<(Vec<Expr>, Cursor<'a, 'b>), ParseError>
+    requires names { length symbols.old + length (spot from).rest < 2 ^ 31 }
+    requires depth { depth ≤ limit }
+    ensures found { IfOk result (λ found. FoundAs (One Args) depth symbols.old symbols.new (spot from.entry) (spot found.1)
+        (λ names inside. phrases names found.0.items ≡ args_in inside)) }
+    ensures refused { IfErr result (λ error. IsRefused (Nonterminal (One Args) depth) (spot from.entry) error) }
+{
+    let mut expressions = Vec::new(alloc);
+    let (first, mut here) = expression(alloc, symbols, depth, from)?;
+    expressions.push(first)?;
+    while let Ok((_, behind)) = here.expect(Lexeme::Sign(Punctuator::Comma)) {
+        let (next, end) = expression(alloc, symbols, depth, behind)?;
+        expressions.push(next)?;
+        here = end;
+    }
+    Ok((expressions, here))
+}

@@ -1,0 +1,75 @@
+//! Reads `case` with its branches.
+ghost use Rattle.std.specs.Prelude.{◌≡◌, true, ◌+◌, ◌<◌, ◌≤◌, ◌^◌, length, IfOk, IfErr};
+ghost use Rattle.abs_lexer.specs.declared.lexeme.Keyword.TheVariants as keyword;
+ghost use Rattle.abs_tree.specs.Syntax.{Branches, NextBranch};
+ghost use Rattle.abs_tree.specs.SyntaxViews.{phrase, pattern_tree};
+ghost use Rattle.abs_parser.specs.Kinds.{Word, fits, next};
+ghost use Rattle.abs_parser.specs.Productions.{Primary, Branch as BranchSymbol};
+ghost use Rattle.abs_parser.specs.Readings.{One, Nonterminal};
+ghost use Rattle.abs_parser.specs.ReaderAnswers.{FoundAs, IsRefused, left_at};
+ghost use Rattle.abs_parser.specs.Stops.{limit};
+ghost use Rattle.abs_parser.specs.TreesOf.{primary_in, branch_in};
+ghost use Rattle.abs_parser.specs.Views.{spot};
+
+use crate::ParseError;
+use crate::cursor::Cursor;
+use crate::expressions::expression;
+use crate::patterns::{pattern, pattern_begins};
+use abs_lexer::{Keyword, Lexeme, Punctuator};
+use abs_tree::Symbols;
+use abs_tree::syntax::{Branch, Expr};
+use std::alloc::Global;
+
+/// `case e { p => e; .. }`, and the cursor behind it.
+///
+/// # Errors
+/// The refusal of the first token that no `case` has there, or that stands too deep.
+#[cycle(phrases)]
+pub(crate) fn case_of<'a, 'b>(
+    alloc: Global,
+    symbols: &mut Symbols<'a>,
+    depth: u32,
+    from: Cursor<'a, 'b>,
+) -> Result<(Expr, Cursor<'a, 'b>), ParseError>
+    requires begins { fits (Word keyword.Case) (next (left_at (spot from))) ≡ true }
+    requires names { length symbols.old + length (spot from).rest < 2 ^ 31 }
+    requires depth { depth ≤ limit }
+    ensures found { IfOk result (λ found. FoundAs (One Primary) depth symbols.old symbols.new (spot from.entry) (spot found.1)
+        (λ names inside. phrase names found.0 ≡ primary_in inside)) }
+    ensures refused { IfErr result (λ error. IsRefused (Nonterminal (One Primary) depth) (spot from.entry) error) }
+{
+    let (word, subject_at) = from.expect(Lexeme::Word(Keyword::Case))?;
+    let (subject, open) = expression(alloc, symbols, depth, subject_at)?;
+    let (_, first_at) = open.expect(Lexeme::Sign(Punctuator::OpenBrace))?;
+    let (first, mut here) = branch(alloc, symbols, depth, first_at)?;
+    let mut branches = vec![in alloc; first]?;
+    while pattern_begins(here) {
+        let (next, end) = branch(alloc, symbols, depth, here)?;
+        branches.push(next)?;
+        here = end;
+    }
+    let (_, end) = here.expect(Lexeme::Sign(Punctuator::CloseBrace))?;
+    let subject = Box::new(alloc, subject)?;
+    Ok((Expr::Case(word.place, subject, branches), end))
+}
+
+/// `p => e;`, and the cursor behind it.
+#[cycle(phrases)]
+fn branch<'a, 'b>(
+    alloc: Global,
+    symbols: &mut Symbols<'a>,
+    depth: u32,
+    from: Cursor<'a, 'b>,
+) -> Result<(Branch, Cursor<'a, 'b>), ParseError>
+    requires names { length symbols.old + length (spot from).rest < 2 ^ 31 }
+    requires depth { depth ≤ limit }
+    ensures found { IfOk result (λ found. FoundAs (One BranchSymbol) depth symbols.old symbols.new (spot from.entry) (spot found.1)
+        (λ names inside. (others : Branches) → NextBranch (pattern_tree names found.0.pattern) (phrase names found.0.value) others ≡ branch_in inside others)) }
+    ensures refused { IfErr result (λ error. IsRefused (Nonterminal (One BranchSymbol) depth) (spot from.entry) error) }
+{
+    let (pattern, arrow) = pattern(alloc, symbols, depth, from)?;
+    let (_, value_at) = arrow.expect(Lexeme::Sign(Punctuator::Arrow))?;
+    let (value, close) = expression(alloc, symbols, depth, value_at)?;
+    let (_, end) = close.expect(Lexeme::Sign(Punctuator::Semicolon))?;
+    Ok((Branch { pattern, value }, end))
+}
