@@ -133,9 +133,9 @@ refused_at_first kind depth items (token ∷ others) end unfit = record {
 }
 
 -- where the next token does not fit the kind that is asked for, a token of that kind is refused, whatever is to follow it
-pub other_refused : (kind : Lexeme) (from : Spot) (error : ParseError) → error ≡ Refused (wrong_at from) → fits (asked kind) (next (left_at from)) ≡ false
-    → (depth : ℕ) → IsRefused (Terminal (asked kind) depth) from error
-other_refused kind from error is unfit depth = λ items. rw is (refused_at_first (asked kind) depth items from.rest from.end unfit)
+pub other_refused : (kind : Kind) (from : Spot) (error : ParseError) → error ≡ Refused (wrong_at from) → fits kind (next (left_at from)) ≡ false
+    → (depth : ℕ) → IsRefused (Terminal kind depth) from error
+other_refused kind from error is unfit depth = λ items. rw is (refused_at_first kind depth items from.rest from.end unfit)
 
 -- the next token does not fit where it is of another kind
 pub unfit_token : (kind : Lexeme) (token : Lexed) (from to : Spot) → TakesToken token from to → (token.kind ≡ kind → ⊥) → fits (asked kind) (next (left_at from)) ≡ false
@@ -144,3 +144,13 @@ unfit_token kind token from to takes differs = rw takes.rest (other_kind kind to
 -- nor does it where the text ends
 pub unfit_end : (kind : Lexeme) (from : Spot) → from.rest ≡ [] → fits (asked kind) (next (left_at from)) ≡ false
 unfit_end kind from ends = rw ends (end_is_other kind)
+
+-- what is of a kind of tokens does not fit where the end is asked for
+other_than_end : (found : Kind) {kind : Lexeme} → lexeme_of found ≡ Some kind → fits End found ≡ false
+unfolding lexeme_of
+other_than_end End is = cc
+other_than_end _ is = refl
+
+-- so a token does not fit there
+pub unfit_for_end : {token : Lexed} {from to : Spot} → TakesToken token from to → fits End (next (left_at from)) ≡ false
+unfit_for_end {token} takes = rw takes.rest (other_than_end (kind_of_lexeme token.kind token.bytes) (of_token token.kind token.bytes))

@@ -1,7 +1,6 @@
 -- The steps of the readers of `case` and of its branches: what a `case`, a branch and further branches consist of, by the next token;
 -- over their tokens and parts; and the branches that were read so far, with the trees of them.
-use Rattle.std.proofs.Common.{◌≡◌, ◌≤◌, ◌<◌, ℕ, ◌+◌, true, false, List, [], ◌∷◌, ◌++◌, length, Option, Some, None, refl, sym, ap, subst, ◌∙◌, arith}
-use Rattle.std.specs.Prelude.{unwrap_or}
+use Rattle.std.proofs.Common.{◌≡◌, ◌≤◌, ◌<◌, ℕ, true, false, List, [], ◌∷◌, ◌++◌, length, Some, None, refl, sym, ap, ◌∙◌, arith}
 use Rattle.std.specs.declared.alloc.Global.{Global}
 use Rattle.std.specs.declared.boxed.Box.{Box}
 use Rattle.std.specs.declared.vec.Vec.{Vec}
@@ -20,18 +19,18 @@ use Rattle.abs_lexer.specs.Tokens.{Lexed}
 use Rattle.abs_parser.specs.Answers.{GoesOn}
 use Rattle.abs_parser.specs.Kinds.{Mark, Token, Kind, Word, Sign, kind_of_lexeme, next}
 use Rattle.abs_parser.specs.Productions.{Expr as ExprSymbol, Primary, Branch, Pattern, begins, begins_within, chosen}
-use Rattle.abs_parser.specs.Readings.{Goal, One, Repeated, Wanted, Terminal, Nonterminal, opened, Forest, Empty, Leaf, Node, Reads, Taken, Opened}
+use Rattle.abs_parser.specs.Readings.{One, Repeated, Wanted, Terminal, Nonterminal, opened, Forest, Empty, Leaf, Node}
 use Rattle.abs_parser.specs.ReaderAnswers.{left_at, TakesKind, FoundAs, IsRefused}
 use Rattle.abs_parser.specs.Stops.{limit}
 use Rattle.abs_parser.specs.Tokens.{Spot}
 use Rattle.abs_parser.specs.TreesOf.{pattern_in, primary_in, primary_by, branch_in, branches_in}
 use Rattle.abs_parser.specs.declared.parser.ParseError.{ParseError}
 use Rattle.abs_parser.proofs.NameLemmas.{goes_on_further}
-use Rattle.abs_parser.proofs.StepLemmas.{HasRead, opens, over_token, over_part, all_read, refused_inside, found_goes_on, found_shorter, reads_shorter, token_shorter, left_length}
+use Rattle.abs_parser.proofs.StepLemmas.{HasRead, opens, over_token, over_part, all_read, refused_inside, found_goes_on, found_shorter, token_shorter}
 use Rattle.abs_parser.proofs.SymbolLemmas.{begins_with_part, part_shut, part_begun, part_opened, repeated_opened, repeated_ends}
 use Rattle.abs_parser.proofs.InFrontSteps.{refused_in_front}
 use Rattle.abs_parser.proofs.PatternSteps.{next_taken, nothing_found}
-use Rattle.abs_parser.proofs.RepeatSteps.{in_front, over_one_more}
+use Rattle.abs_parser.proofs.RepeatSteps.{in_front, over_one_more, row_shorter}
 use Rattle.abs_parser.proofs.ExpressionSteps.{IsExpression}
 
 -- Branches
@@ -62,17 +61,10 @@ branches_opened kind depth may = repeated_opened Branch kind depth (branch_begin
 branches_end : (kind : Kind) (depth : ℕ) → begins Pattern kind ≡ false → opened (Repeated Branch) kind depth ≡ Some []
 branches_end kind depth none = repeated_ends Branch kind depth (branch_begins kind ∙ none)
 
--- what is read as a part, a token and others has a token
-token_read : {goal : Goal} {at depth : ℕ} {kind : Kind} {items : List Wanted} {ts to : List Mark} {forest : Forest} → Reads (Nonterminal goal at ∷ Terminal kind depth ∷ items) ts forest to → length to + 1 ≤ length ts
-token_read (Opened e first (Taken fit reads)) = omega (arith, reads_shorter first, reads_shorter reads)
-
 -- a branch that was found leaves fewer tokens than there were
 pub branch_shorter : {depth : ℕ} {old new : List (List ℕ)} {from to : Spot} {is_read : List (List ℕ) → Forest → Type 0} → begins Pattern (next (left_at from)) ≡ true
     → FoundAs (One Branch) depth old new from to is_read → length to.rest < length from.rest
-branch_shorter {depth} {from = from} {to} begun found =
-    let row = ap (λ (row : Option (List Wanted)). unwrap_or row []) (sym (branch_opened _ depth begun) ∙ found.rule_is) in
-    let less = token_read (subst (λ (row : List Wanted). Reads row (left_at from) found.inside (left_at to)) (sym row) found.reads) in
-    omega (arith, less, left_length from, left_length to)
+branch_shorter {depth} begun found = row_shorter (branch_opened _ depth begun) found
 
 -- over the pattern of a branch
 pub pattern_read : {depth : ℕ} {old new : List (List ℕ)} {from to : Spot} {is_read : List (List ℕ) → Forest → Type 0} → (found : FoundAs (One Pattern) depth old new from to is_read)

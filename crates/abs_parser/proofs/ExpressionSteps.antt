@@ -143,7 +143,7 @@ pub let_valued : {in_word : Lexed} {from value_at in_at body_at : Spot} {depth a
 let_valued so value in_word within = over_token (over_part so value) in_word refl refl within
 
 -- a table goes on with one that has one more name
-goes_on_name : {table : List (List ℕ)} (names : List (List ℕ)) (name : List ℕ) → table ≡ with_name names name → GoesOn names table
+pub goes_on_name : {table : List (List ℕ)} (names : List (List ℕ)) (name : List ℕ) → table ≡ with_name names name → GoesOn names table
 goes_on_name names name is = rw is (goes_on_all names (name ∷ []))
 
 -- the tree of a `let` is made of those of its parts

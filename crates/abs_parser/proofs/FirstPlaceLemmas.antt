@@ -1,6 +1,7 @@
--- The first token of what was read as a symbol: the tree has its place, which is that of the spot where the reader began, and it stands
--- in no fewer counted symbols than the part does. For this goes what was wanted, up to the first of it that is not left out.
-use Rattle.std.proofs.Common.{◌≡◌, ◌≤◌, ℕ, ◌+◌, Bool, true, false, ◌||◌, cond, List, [], ◌∷◌, Option, Some, None, option_map, refl, sym, ap, subst, ◌∙◌, arith}
+-- The first token of what was read as a symbol: the tree has its place, which is that of the spot where the reader began, it stands in no
+-- fewer counted symbols than the part does, and without it fewer tokens are left. For this goes what was wanted, up to the first of it that
+-- is not left out.
+use Rattle.std.proofs.Common.{◌≡◌, ◌≤◌, ◌<◌, ℕ, ◌+◌, length, Bool, true, false, ◌||◌, cond, List, [], ◌∷◌, Option, Some, None, option_map, refl, sym, ap, subst, ◌∙◌, arith}
 use mathlib.Core.Logic.{◌⊎◌, inl, inr}
 use Rattle.std.specs.List.{find}
 use Rattle.std.specs.Prelude.{⊤}
@@ -17,6 +18,7 @@ use Rattle.abs_parser.specs.Stops.{limit}
 use Rattle.abs_parser.specs.Tokens.{Spot, place_of}
 use Rattle.abs_parser.specs.TreesOf.{first_place, place_in}
 use Rattle.abs_parser.proofs.MoveLemmas.{within_first}
+use Rattle.abs_parser.proofs.StepLemmas.{reads_shorter, left_length}
 
 -- what is found passes the test by which it is found
 found_fits : {X : Type 0} (test : X → Bool) (list : List X) (one : X) → find test list ≡ Some one → test one ≡ true
@@ -31,14 +33,14 @@ found_fits test (x ∷ others) one e = at (cases_Bool (test x)) (found_fits test
     at (inr is_not) behind = behind (sym (cond-false (test x) (Some x) (find test others) is_not) ∙ e)
 
 -- whether what is wanted may begin with a token of a kind, given whether what stands behind it may
-abbrev one_may : Wanted → Kind → Bool → Bool
+abbrev pub one_may : Wanted → Kind → Bool → Bool
 one_may (Terminal asked depth) kind behind = fits asked kind
 one_may (Nonterminal (One symbol) depth) kind behind = begins symbol kind
 one_may (Nonterminal (Optional symbol) depth) kind behind = begins symbol kind || behind
 one_may (Nonterminal (Repeated symbol) depth) kind behind = begins symbol kind || behind
 
 -- the same of a list
-abbrev may : List Wanted → Kind → Bool
+abbrev pub may : List Wanted → Kind → Bool
 may [] kind = false
 may (item ∷ others) kind = one_may item kind (may others kind)
 
@@ -56,12 +58,12 @@ items_may [] depth kind = refl
 items_may (item ∷ others) depth kind = ap (one_may (place_item depth item) kind) (items_may others depth kind) ∙ item_may item others depth kind
 
 -- in how many counted symbols what is wanted stands
-abbrev depth_of : Wanted → ℕ
+abbrev pub depth_of : Wanted → ℕ
 depth_of (Terminal kind depth) = depth
 depth_of (Nonterminal goal depth) = depth
 
 -- all that is wanted stands in so many or more
-abbrev AllBelow : ℕ → List Wanted → Type 0
+abbrev pub AllBelow : ℕ → List Wanted → Type 0
 AllBelow least [] = ⊤
 AllBelow least (item ∷ others) = (least ≤ depth_of item) × AllBelow least others
 
@@ -84,7 +86,7 @@ inner_below true least depth below = omega (arith, below)
 inner_below false least depth below = below
 
 -- a symbol is opened to what may begin with the next token, and stands no higher
-one_opened : (symbol : Symbol) (kind : Kind) (least depth : ℕ) (inner : List Wanted) → least ≤ depth → opened (One symbol) kind depth ≡ Some inner
+pub one_opened : (symbol : Symbol) (kind : Kind) (least depth : ℕ) (inner : List Wanted) → least ≤ depth → opened (One symbol) kind depth ≡ Some inner
     → (may inner kind ≡ true) × AllBelow least inner
 unfolding chosen
 one_opened symbol kind least depth inner below is = at (chosen symbol kind) refl
@@ -98,7 +100,7 @@ one_opened symbol kind least depth inner below is = at (chosen symbol kind) refl
         rw same (items_may items deeper kind ∙ found_fits (λ (list : List Item). items_begin begins list kind) (rule symbol) items some, items_below items least deeper (inner_below (counts symbol) least depth below))
 
 -- A part is opened to what may begin with the next token, or it is left out, and then what stands behind it may.
-data OpenedTo (least : ℕ) (kind : Kind) (behind : Bool) (inner : List Wanted) : Type 0 where
+pub data OpenedTo (least : ℕ) (kind : Kind) (behind : Bool) (inner : List Wanted) : Type 0 where
   Standing : may inner kind ≡ true → AllBelow least inner → OpenedTo least kind behind inner
   LeftOut : inner ≡ [] → behind ≡ true → OpenedTo least kind behind inner
 
@@ -118,7 +120,7 @@ maybe_opened {inner} symbol kind least depth behind others below all is starts =
         LeftOut same (rw missing at starts)
 
 -- each part is opened so
-part_opened : (goal : Goal) (kind : Kind) (least depth : ℕ) (behind : Bool) (inner : List Wanted) → least ≤ depth → opened goal kind depth ≡ Some inner
+pub part_opened : (goal : Goal) (kind : Kind) (least depth : ℕ) (behind : Bool) (inner : List Wanted) → least ≤ depth → opened goal kind depth ≡ Some inner
     → one_may (Nonterminal goal depth) kind behind ≡ true → OpenedTo least kind behind inner
 part_opened (One symbol) kind least depth behind inner below is starts = let inside = one_opened symbol kind least depth inner below is in Standing inside.0 inside.1
 part_opened (Optional symbol) kind least depth behind inner below is starts = maybe_opened symbol kind least depth behind [] below tt is starts
@@ -129,31 +131,34 @@ abbrev place_first : List Mark → Place
 place_first [] = start
 place_first (mark ∷ others) = place_of_mark mark
 
--- What was read begins with the first of the tokens, which stands in no fewer counted symbols than this.
-record BeginsWith (least : ℕ) (ts : List Mark) (forest : Forest) : Type 0 where
-  place_is : (behind : Place) → first_place forest behind ≡ place_first ts
-  within : AllWithin (depths forest) → least ≤ limit
+-- What was read begins with the first of the tokens, which stands in no fewer counted symbols than this, and fewer of them are left.
+pub record BeginsWith (least : ℕ) (ts rest : List Mark) (forest : Forest) : Type 0 where
+  pub place_is : (behind : Place) → first_place forest behind ≡ place_first ts
+  pub within : AllWithin (depths forest) → least ≤ limit
+  pub fewer : length rest < length ts
 
 -- with a part that is left out in front it begins so too
-left_out : (items : List Wanted) {least : ℕ} {goal : Goal} {ts middle : List Mark} {inside forest : Forest} → Reads [] ts inside middle → may items (next ts) ≡ true
-    → (may items (next middle) ≡ true → BeginsWith least middle forest) → BeginsWith least ts (Node goal inside forest)
-left_out items Nothing starts behind = record { place_is = λ place. (behind starts).place_is place; within = λ all. (behind starts).within all }
+left_out : (items : List Wanted) {least : ℕ} {goal : Goal} {ts middle rest : List Mark} {inside forest : Forest} → Reads [] ts inside middle → may items (next ts) ≡ true
+    → (may items (next middle) ≡ true → BeginsWith least middle rest forest) → BeginsWith least ts rest (Node goal inside forest)
+left_out items Nothing starts behind = record { place_is = λ place. (behind starts).place_is place; within = λ all. (behind starts).within all; fewer = (behind starts).fewer }
 
 -- so does a part with what stands behind it
-part_first : (items : List Wanted) {least : ℕ} {goal : Goal} {inner : List Wanted} {ts middle : List Mark} {inside forest : Forest} → OpenedTo least (next ts) (may items (next ts)) inner → Reads inner ts inside middle
-    → (may inner (next ts) ≡ true → AllBelow least inner → BeginsWith least ts inside) → (may items (next middle) ≡ true → BeginsWith least middle forest) → BeginsWith least ts (Node goal inside forest)
-part_first items {inside = inside} {forest = forest} (Standing starts below) reads first behind = record {
+part_first : (items : List Wanted) {least : ℕ} {goal : Goal} {inner : List Wanted} {ts middle rest : List Mark} {inside forest : Forest} → OpenedTo least (next ts) (may items (next ts)) inner
+    → Reads inner ts inside middle → Reads items middle forest rest → (may inner (next ts) ≡ true → AllBelow least inner → BeginsWith least ts middle inside)
+    → (may items (next middle) ≡ true → BeginsWith least middle rest forest) → BeginsWith least ts rest (Node goal inside forest)
+part_first items {inside = inside} {forest = forest} (Standing starts below) reads others first behind = record {
   place_is = λ place. (first starts below).place_is (first_place forest place);
   within = λ all. (first starts below).within (within_first (depths inside) (depths forest) all);
+  fewer = omega (arith, (first starts below).fewer, reads_shorter others);
 }
-part_first items (LeftOut none starts) reads first behind = left_out items (rw none at reads) starts behind
+part_first items (LeftOut none starts) reads others first behind = left_out items (rw none at reads) starts behind
 
 -- what may begin with the next token begins with it
-first_read : {wanted : List Wanted} {ts rest : List Mark} {forest : Forest} (least : ℕ) → may wanted (next ts) ≡ true → AllBelow least wanted → Reads wanted ts forest rest → BeginsWith least ts forest
+pub first_read : {wanted : List Wanted} {ts rest : List Mark} {forest : Forest} (least : ℕ) → may wanted (next ts) ≡ true → AllBelow least wanted → Reads wanted ts forest rest → BeginsWith least ts rest forest
 first_read least starts below Nothing = absurd cc
-first_read least starts below (Taken fit reads) = record { place_is = λ place. refl; within = λ all. omega (arith, below.0, all.0) }
+first_read least starts below (Taken fit reads) = record { place_is = λ place. refl; within = λ all. omega (arith, below.0, all.0); fewer = omega (arith, reads_shorter reads) }
 first_read least starts below (Opened {goal = goal} {depth = depth} {inner = inner} {items = items} {ts = ts} is inside reads) =
-    part_first items (part_opened goal (next ts) least depth _ inner below.0 is starts) inside (λ begun all. first_read least begun all inside) (λ begun. first_read least begun below.1 reads)
+    part_first items (part_opened goal (next ts) least depth _ inner below.0 is starts) inside reads (λ begun all. first_read least begun all inside) (λ begun. first_read least begun below.1 reads)
 
 -- the tokens that are left at a spot begin at its place; the end of the text counts as one
 left_first : (rest : List Lexed) (end : Place) → place_first (left_at (record { rest = rest; end = end })) ≡ place_of (record { rest = rest; end = end })
@@ -162,7 +167,7 @@ left_first (token ∷ others) end = refl
 
 -- a symbol that was found begins with the token that stands where its reader began
 found_first : {symbol : Symbol} {depth : ℕ} {old new : List (List ℕ)} {from to : Spot} {is_read : List (List ℕ) → Forest → Type 0} → (found : FoundAs (One symbol) depth old new from to is_read)
-    → BeginsWith depth (left_at from) found.inside
+    → BeginsWith depth (left_at from) (left_at to) found.inside
 found_first {symbol} {depth} {from = from} found =
     let inside = one_opened symbol (next (left_at from)) depth depth found.inner (omega arith) found.rule_is in
     first_read depth inside.0 inside.1 found.reads
@@ -176,3 +181,8 @@ first_place_found {from = from} found = (found_first found).place_is start ∙ l
 pub found_within : {symbol : Symbol} {depth : ℕ} {old new : List (List ℕ)} {from to : Spot} {is_read : List (List ℕ) → Forest → Type 0} → FoundAs (One symbol) depth old new from to is_read
     → depth ≤ limit
 found_within found = (found_first found).within found.within
+
+-- and fewer tokens are left
+pub found_fewer : {symbol : Symbol} {depth : ℕ} {old new : List (List ℕ)} {from to : Spot} {is_read : List (List ℕ) → Forest → Type 0} → FoundAs (One symbol) depth old new from to is_read
+    → length to.rest < length from.rest
+found_fewer {from = from} {to} found = omega (arith, (found_first found).fewer, left_length from, left_length to)

@@ -1,6 +1,7 @@
 -- What the readers of operators rest on: what a level and the operators behind its first operand consist of, by the next token; which trees
--- stand for what was read of them; and the steps of a reader over an operand, and over an operator with its operand.
-use Rattle.std.proofs.Common.{◌≡◌, ◌≤◌, ◌<◌, ℕ, true, false, cond, List, [], ◌∷◌, ◌++◌, length, Some, None, refl, sym, ap, ◌∙◌, arith}
+-- stand for what was read of them; and the steps of a reader, behind a first operand over each operator with its operand, and over a first
+-- operand and what stands behind it.
+use Rattle.std.proofs.Common.{◌≡◌, ◌≤◌, ◌<◌, ℕ, Bool, true, false, cond, List, [], ◌∷◌, ◌++◌, length, Some, None, refl, sym, ap, ◌∙◌, arith}
 use Rattle.std.proofs.lemmas.List.{append-nil}
 use Rattle.std.proofs.lemmas.Bool.{cond-true, cond-false}
 use Rattle.abs_tree.specs.Syntax.{Name, Phrase, Chain, Links, NoLink, Link}
@@ -16,7 +17,7 @@ use Rattle.abs_lexer.specs.Tokens.{Lexed}
 use Rattle.abs_parser.specs.Answers.{GoesOn}
 use Rattle.abs_parser.specs.Kinds.{Mark, Token, Kind, Sign, kind_of, kind_of_lexeme, fits, next}
 use Rattle.abs_parser.specs.Levels.{symbol_of, operand_symbol, tail_symbol, repeats, rest_of, level_in, operand_in, links_in, level_of, sign_of}
-use Rattle.abs_parser.specs.Productions.{Or, And, Equal, Compare, Sum, Mul, begins, chosen, begins_within}
+use Rattle.abs_parser.specs.Productions.{Or, OrTail, And, AndTail, Equal, EqualTail, Compare, CompareTail, Sum, SumTail, Mul, MulTail, begins, chosen, begins_within}
 use Rattle.abs_parser.specs.Readings.{Goal, One, Wanted, Terminal, Nonterminal, opened, Forest, Empty, Leaf, Node}
 use Rattle.abs_parser.specs.ReaderAnswers.{left_at, TakesKind, FoundAs, IsRefused}
 use Rattle.abs_parser.specs.Stops.{limit}
@@ -25,10 +26,10 @@ use Rattle.abs_parser.specs.TreesOf.{chain, operator_of, place_in}
 use Rattle.abs_parser.specs.declared.operators.Level.{Level}
 use Rattle.abs_parser.specs.declared.operators.Level.TheVariants as level
 use Rattle.abs_parser.specs.declared.parser.ParseError.{ParseError}
-use Rattle.abs_parser.proofs.FirstPlaceLemmas.{first_place_found, found_within}
+use Rattle.abs_parser.proofs.FirstPlaceLemmas.{first_place_found}
 use Rattle.abs_parser.proofs.NameLemmas.{goes_on_further}
 use Rattle.abs_parser.proofs.PatternSteps.{next_taken}
-use Rattle.abs_parser.proofs.StepLemmas.{HasRead, opens, over_token, over_part, into_last, all_read, refused_inside, found_goes_on}
+use Rattle.abs_parser.proofs.StepLemmas.{HasRead, opens, inside_alone, left_whole, over_token, over_part, into_last, all_read, refused_inside, found_goes_on}
 use Rattle.abs_parser.proofs.SymbolLemmas.{begins_with_part, part_shut, part_begun}
 use Rattle.abs_parser.proofs.InFrontSteps.{refused_in_front}
 
@@ -101,6 +102,21 @@ rest_ends level.Compare kind depth none = rw (none operator.Less refl, none oper
 rest_ends level.Sum kind depth none = rw (none operator.Plus refl, none operator.Minus refl) refl
 rest_ends level.Mul kind depth none = rw (none operator.Times refl, none operator.Divide refl, none operator.Remainder refl) refl
 
+-- one of two that is there is there
+some_of_either : {A : Type 0} (is : Bool) (x y : A) → cond is (Some x) (Some y) ≡ Some (cond is x y)
+some_of_either true x y = refl
+some_of_either false x y = refl
+
+-- what stands behind a first operand is opened by each token: to an operator with its operand, or to nothing
+rest_is_opened : (level : Level) (kind : Kind) (depth : ℕ)
+    → opened (rest_of level) kind depth ≡ Some (cond (begins (tail_symbol level) kind) (Nonterminal (One (tail_symbol level)) depth ∷ further level depth) [])
+rest_is_opened level.Or kind depth = some_of_either (begins OrTail kind) _ _
+rest_is_opened level.And kind depth = some_of_either (begins AndTail kind) _ _
+rest_is_opened level.Equal kind depth = some_of_either (begins EqualTail kind) _ _
+rest_is_opened level.Compare kind depth = some_of_either (begins CompareTail kind) _ _
+rest_is_opened level.Sum kind depth = some_of_either (begins SumTail kind) _ _
+rest_is_opened level.Mul kind depth = some_of_either (begins MulTail kind) _ _
+
 -- The trees
 
 -- the tree of a level is that of its first operand with the operators behind it
@@ -172,35 +188,28 @@ operator_read {here = here} operator depth table is takes within =
     (opens (One (tail_symbol (level_of operator))) depth table here _ (ap (λ (kind : Kind). opened (One (tail_symbol (level_of operator))) kind depth) (next_taken takes) ∙ tail_opened operator depth))
     takes refl refl within)
 
--- What was read of a level up to here, with its first operand and the operators and operands behind it: whatever else is read completes it.
-pub record LevelSoFar (level : Level) (depth : ℕ) (old now : List (List ℕ)) (from here : Spot) (first : Expr) (operands : List Operand) : Type 0 where
+-- What was read up to here of what stands behind a first operand, with the operators and operands that the code has of it: whatever else is
+-- read completes it.
+pub record OperatorsSoFar (level : Level) (depth : ℕ) (old now : List (List ℕ)) (from here : Spot) (operands : List Operand) : Type 0 where
   pub make : Forest → Forest
-  pub read : HasRead (One (symbol_of level)) depth old now from make (Nonterminal (rest_of level) depth ∷ []) here
-  pub within : depth ≤ limit
+  pub read : HasRead (rest_of level) depth old now from make (Nonterminal (rest_of level) depth ∷ []) here
   pub is : (names : List (List ℕ)) → GoesOn now names → (inside : Forest)
-      → level_in level (make (Node (rest_of level) inside Empty)) ≡ chain (place_of from) (phrase names first) (links_before names operands (links_in level inside))
+      → links_in level (make (Node (rest_of level) inside Empty)) ≡ links_before names operands (links_in level inside)
 
--- so far the first operand
-pub first_operand_read : {depth : ℕ} {old new : List (List ℕ)} {from to : Spot} (level : Level) (first : Expr)
-    → FoundAs (One (operand_symbol level)) depth old new from to (λ names inside. phrase names first ≡ operand_in level inside) → LevelSoFar level depth old new from to first []
-first_operand_read {depth} {old} {from = from} level first found =
-    let begun = part_begun (operand_symbol level) _ depth found.rule_is in
-    record {
-      make = λ rest. Node (One (operand_symbol level)) found.inside rest;
-      read = over_part (opens (One (symbol_of level)) depth old from _ (level_opened level _ depth begun)) found;
-      within = found_within found;
-      is = λ names more inside.
-          level_tree level (One (operand_symbol level)) (rest_of level) found.inside inside
-          ∙ (ap (λ (place : Place). chain place (operand_in level found.inside) (links_in level inside)) (first_place_found found)
-          ∙ ap (λ (tree : Phrase). chain (place_of from) tree (links_in level inside)) (sym (found.is names more)));
-    }
+-- so far no operator
+pub no_operand_read : (level : Level) (depth : ℕ) (table : List (List ℕ)) (from : Spot) {operands : List Operand} → operands ≡ [] → OperatorsSoFar level depth table table from from operands
+no_operand_read level depth table from none = rw none (record {
+  make = inside_alone;
+  read = left_whole (rest_of level) depth table from _ (rest_is_opened level _ depth);
+  is = λ names more inside. refl;
+})
 
--- behind an operator a level is refused where the next operand is
-pub next_operand_refused : {level : Level} {depth : ℕ} {old now : List (List ℕ)} {from here behind : Spot} {first : Expr} {operands : List Operand} {token : Lexed} (operator : Operator) (error : ParseError)
-    → LevelSoFar level depth old now from here first operands → level_of operator ≡ level → TakesKind (lexeme.Sign (sign_of operator)) token here behind
-    → IsRefused (Nonterminal (One (operand_symbol level)) depth) behind error → IsRefused (Nonterminal (One (symbol_of level)) depth) from error
-next_operand_refused {level} {depth} {now = now} operator error so is takes refused =
-    refused_inside so.read error (refused_inside (rest_begins operator depth now (further level depth) is takes refl) error (refused_inside (operator_read operator depth now is takes so.within) error refused))
+-- behind an operator, what stands behind a first operand is refused where the next one is
+pub next_operand_refused : {level : Level} {depth : ℕ} {old now : List (List ℕ)} {from here behind : Spot} {operands : List Operand} {token : Lexed} (operator : Operator) (error : ParseError)
+    → OperatorsSoFar level depth old now from here operands → level_of operator ≡ level → TakesKind (lexeme.Sign (sign_of operator)) token here behind → depth ≤ limit
+    → IsRefused (Nonterminal (One (operand_symbol level)) depth) behind error → IsRefused (Nonterminal (rest_of level) depth) from error
+next_operand_refused {level} {depth} {now = now} operator error so is takes within refused =
+    refused_inside so.read error (refused_inside (rest_begins operator depth now (further level depth) is takes refl) error (refused_inside (operator_read operator depth now is takes within) error refused))
 
 -- the link of an operator and its operand, in front of further ones where operators of the level repeat, and alone where they do not
 abbrev IsLink : Level → Operand → List (List ℕ) → Forest → Type 0
@@ -223,51 +232,70 @@ operand_found {level} {depth} {now} {new} {token = token} operand is takes withi
     ))
 
 -- and one more operator with its operand, where operators of the level repeat
-pub next_operand_read : {level : Level} {depth : ℕ} {old now new : List (List ℕ)} {from here behind to : Spot} {first : Expr} {token : Lexed} (operands : List Operand) (operand : Operand)
-    → LevelSoFar level depth old now from here first operands → level_of operand.operator ≡ level → TakesKind (lexeme.Sign (sign_of operand.operator)) token here behind
+pub next_operand_read : {level : Level} {depth : ℕ} {old now new : List (List ℕ)} {from here behind to : Spot} {token : Lexed} (operands : List Operand) (operand : Operand)
+    → OperatorsSoFar level depth old now from here operands → level_of operand.operator ≡ level → TakesKind (lexeme.Sign (sign_of operand.operator)) token here behind → depth ≤ limit
     → FoundAs (One (operand_symbol level)) depth now new behind to (λ names inside. phrase names operand.right ≡ operand_in level inside) → repeats level ≡ true
-    → LevelSoFar level depth old new from to first (operands ++ operand ∷ [])
-next_operand_read {level} {depth} {now = now} {from = from} {first = first} operands operand so is takes found again =
-    let one = operand_found operand is takes so.within found in
+    → OperatorsSoFar level depth old new from to (operands ++ operand ∷ [])
+next_operand_read {level} {depth} {now = now} operands operand so is takes within found again =
+    let one = operand_found operand is takes within found in
     let tail = Node (One (tail_symbol level)) one.inside in
     record {
       make = λ rest. so.make (Node (rest_of level) (tail rest) Empty);
       read = into_last so.read (over_part (rest_begins operand.operator depth now _ is takes (cond-true (repeats level) (Nonterminal (rest_of level) depth ∷ []) [] again)) one);
-      within = so.within;
       is = λ names more inside.
           so.is names (goes_on_further (found_goes_on found) more) (tail (Node (rest_of level) inside Empty))
-          ∙ ap (chain (place_of from) (phrase names first))
-          (ap (links_before names operands) ((one.is names more).0 again inside) ∙ sym (one_before names operands operand (links_in level inside)));
+          ∙ (ap (links_before names operands) ((one.is names more).0 again inside) ∙ sym (one_before names operands operand (links_in level inside)));
     }
 
 -- this is the expression of a first operand and of the operators and operands behind it
 abbrev IsNode : Place → Expr → List Operand → Expr → Type 0
 IsNode place first operands expr = (names : List (List ℕ)) → phrase names expr ≡ chain place (phrase names first) (links names operands)
 
--- a level is found with what is read behind the operands so far
-level_found : {level : Level} {depth : ℕ} {old now new : List (List ℕ)} {from here to : Spot} {first : Expr} {at : Place} {items operands : List Operand} (expr : Expr) (others : List Operand)
-    → LevelSoFar level depth old now from here first operands → FoundAs (rest_of level) depth now new here to (λ names inside. links_in level inside ≡ links names others)
-    → at ≡ place_of from → items ≡ operands ++ others → IsNode at first items expr → FoundAs (One (symbol_of level)) depth old new from to (λ names inside. phrase names expr ≡ level_in level inside)
-level_found {from = from} {first = first} {items = items} {operands = operands} expr others so found here are is =
+-- what stands behind a first operand was read so: with it, it is this expression
+abbrev IsBehind : Level → Place → Expr → Expr → List (List ℕ) → Forest → Type 0
+IsBehind level place first expr names inside = phrase names expr ≡ chain place (phrase names first) (links_in level inside)
+
+-- what stands behind a first operand is found with what is read behind the operands so far
+operators_found : {level : Level} {depth : ℕ} {old now new : List (List ℕ)} {from here to : Spot} {items operands : List Operand} (place : Place) (first expr : Expr) (others : List Operand)
+    → OperatorsSoFar level depth old now from here operands → FoundAs (rest_of level) depth now new here to (λ names inside. links_in level inside ≡ links names others)
+    → items ≡ operands ++ others → IsNode place first items expr → FoundAs (rest_of level) depth old new from to (IsBehind level place first expr)
+operators_found {operands = operands} place first expr others so found are is =
     all_read (over_part so.read found) (λ names more.
     is names
-    ∙ (ap (λ (place : Place). chain place (phrase names first) (links names items)) here
-    ∙ ap (chain (place_of from) (phrase names first)) (ap (links names) are ∙ (sym (links_of_both names operands others) ∙ sym (ap (links_before names operands) (found.is names more))))
-    ∙ sym (so.is names (goes_on_further (found_goes_on found) more) found.inside)))
+    ∙ ap (chain place (phrase names first))
+    (ap (links names) are ∙ (sym (links_of_both names operands others) ∙ (sym (ap (links_before names operands) (found.is names more)) ∙ sym (so.is names (goes_on_further (found_goes_on found) more) found.inside)))))
 
 -- so it is with one more operator and its operand, where operators of the level do not repeat
-pub last_operand_found : {level : Level} {depth : ℕ} {old now new : List (List ℕ)} {from here behind to : Spot} {first : Expr} {at : Place} {items operands : List Operand} {token : Lexed} (expr : Expr) (operand : Operand)
-    → LevelSoFar level depth old now from here first operands → level_of operand.operator ≡ level → TakesKind (lexeme.Sign (sign_of operand.operator)) token here behind
+pub last_operand_found : {level : Level} {depth : ℕ} {old now new : List (List ℕ)} {from here behind to : Spot} {items operands : List Operand} {token : Lexed} (place : Place) (first expr : Expr) (operand : Operand)
+    → OperatorsSoFar level depth old now from here operands → level_of operand.operator ≡ level → TakesKind (lexeme.Sign (sign_of operand.operator)) token here behind → depth ≤ limit
     → FoundAs (One (operand_symbol level)) depth now new behind to (λ names inside. phrase names operand.right ≡ operand_in level inside) → repeats level ≡ false
-    → at ≡ place_of from → items ≡ operands ++ operand ∷ [] → IsNode at first items expr → FoundAs (One (symbol_of level)) depth old new from to (λ names inside. phrase names expr ≡ level_in level inside)
-last_operand_found {level} {depth} {now = now} expr operand so is takes found once =
-    let one = operand_found operand is takes so.within found in
-    level_found expr (operand ∷ []) so
+    → items ≡ operands ++ operand ∷ [] → IsNode place first items expr → FoundAs (rest_of level) depth old new from to (IsBehind level place first expr)
+last_operand_found {level} {depth} {now = now} place first expr operand so is takes within found once =
+    let one = operand_found operand is takes within found in
+    operators_found place first expr (operand ∷ []) so
     (all_read (over_part (rest_begins operand.operator depth now [] is takes (cond-false (repeats level) (Nonterminal (rest_of level) depth ∷ []) [] once)) one) (λ names more. (one.is names more).1 once))
 
 -- and with nothing more, where no operator of the level stands
-pub level_ends : {level : Level} {depth : ℕ} {old now : List (List ℕ)} {from here : Spot} {first : Expr} {at : Place} {items operands : List Operand} (expr : Expr)
-    → LevelSoFar level depth old now from here first operands → ((operator : Operator) → level_of operator ≡ level → fits (Sign (sign_of operator)) (next (left_at here)) ≡ false)
-    → at ≡ place_of from → items ≡ operands → IsNode at first items expr → FoundAs (One (symbol_of level)) depth old now from here (λ names inside. phrase names expr ≡ level_in level inside)
-level_ends {level} {depth} {now = now} {here = here} {operands = operands} expr so none at are =
-    level_found expr [] so (all_read (opens (rest_of level) depth now here [] (rest_ends level _ depth none)) (λ names more. no_links level)) at (are ∙ sym (append-nil operands))
+pub operators_end : {level : Level} {depth : ℕ} {old now : List (List ℕ)} {from here : Spot} {items operands : List Operand} (place : Place) (first expr : Expr)
+    → OperatorsSoFar level depth old now from here operands → ((operator : Operator) → level_of operator ≡ level → fits (Sign (sign_of operator)) (next (left_at here)) ≡ false)
+    → items ≡ operands → IsNode place first items expr → FoundAs (rest_of level) depth old now from here (IsBehind level place first expr)
+operators_end {level} {depth} {now = now} {here = here} {operands = operands} place first expr so none are =
+    operators_found place first expr [] so (all_read (opens (rest_of level) depth now here [] (rest_ends level _ depth none)) (λ names more. no_links level)) (are ∙ sym (append-nil operands))
+
+-- over the first operand of a level
+pub first_operand_read : {depth : ℕ} {old now : List (List ℕ)} {from here : Spot} {is_read : List (List ℕ) → Forest → Type 0} (level : Level) → (found : FoundAs (One (operand_symbol level)) depth old now from here is_read)
+    → HasRead (One (symbol_of level)) depth old now from (λ rest. Node (One (operand_symbol level)) found.inside rest) (Nonterminal (rest_of level) depth ∷ []) here
+first_operand_read {depth} {old} {from = from} level found =
+    over_part (opens (One (symbol_of level)) depth old from _ (level_opened level _ depth (part_begun (operand_symbol level) _ depth found.rule_is))) found
+
+-- with what stands behind it that is the level
+pub level_found : {depth : ℕ} {old now new : List (List ℕ)} {from here to : Spot} (level : Level) (place : Place) (first expr : Expr)
+    → FoundAs (One (operand_symbol level)) depth old now from here (λ names inside. phrase names first ≡ operand_in level inside) → place ≡ place_of from
+    → FoundAs (rest_of level) depth now new here to (IsBehind level place first expr)
+    → FoundAs (One (symbol_of level)) depth old new from to (λ names inside. phrase names expr ≡ level_in level inside)
+level_found level place first expr found at behind =
+    all_read (over_part (first_operand_read level found) behind) (λ names more.
+    behind.is names more
+    ∙ (ap (λ (tree : Phrase). chain place tree (links_in level behind.inside)) (found.is names (goes_on_further (found_goes_on behind) more))
+    ∙ (ap (λ (p : Place). chain p (operand_in level found.inside) (links_in level behind.inside)) (at ∙ sym (first_place_found found))
+    ∙ sym (level_tree level (One (operand_symbol level)) (rest_of level) found.inside behind.inside))))

@@ -23,8 +23,9 @@ use Rattle.abs_parser.specs.Stops.{limit}
 use Rattle.abs_parser.specs.Tokens.{Spot, TakesToken}
 use Rattle.abs_parser.specs.declared.parser.ParseError.{ParseError}
 use Rattle.abs_parser.specs.declared.parser.ParseError.TheVariants.{Refused, Memory}
-use Rattle.abs_parser.proofs.BeginningLemmas.{may_begin, begins_by_kind, other_sign}
+use Rattle.abs_parser.proofs.BeginningLemmas.{may_begin, first_kinds, other_sign}
 use Rattle.abs_parser.proofs.DigitLemmas.{narrowed}
+use Rattle.abs_parser.proofs.FirstTokens.{begins_by_kind}
 use Rattle.abs_parser.proofs.StepLemmas.{HasRead, opens, all_read, refused_deep, refused_shut, next_is, asked_fits}
 use Rattle.abs_parser.proofs.PatternLemmas.{behind_first, pattern_opened, first_asked, end_shut}
 use Rattle.abs_parser.proofs.SymbolLemmas.{part_shut}
@@ -42,7 +43,7 @@ pub pattern_begins : {kind : Lexeme} {token : Lexed} {from behind : Spot} (depth
     → HasRead (One Pattern) depth table table from (λ rest. rest) (Terminal (asked kind) (depth + 1) ∷ behind_first kind (depth + 1)) from
 pattern_begins {kind} {token} {from} depth table takes is =
     opens (One Pattern) depth table from _
-    (ap (λ (k : Kind). opened (One Pattern) k depth) (next_taken takes) ∙ pattern_opened kind token.bytes depth (sym (begins_by_kind kind token.bytes) ∙ is))
+    (ap (λ (k : Kind). opened (One Pattern) k depth) (next_taken takes) ∙ pattern_opened kind token.bytes depth (sym (begins_by_kind first_kinds kind token.bytes) ∙ is))
 
 -- a test that is not false is true
 not_false : (is : Bool) → not is ≡ false → is ≡ true

@@ -1,13 +1,14 @@
 -- What a unary and a primary consist of, by the next token; which kinds of tokens a primary may begin with, by the kind of the token
 -- alone; and which trees stand for what was read of them.
 use Rattle.std.proofs.Common.{◌≡◌, ℕ, ◌+◌, Bool, true, false, List, [], ◌∷◌, Option, Some, None, cond, refl, sym, ap, ◌∙◌}
+use Rattle.std.specs.List.{list_any}
 use Rattle.std.specs.Prelude.{codes}
 use Rattle.std.specs.Str.{bytes_eq}
 use Rattle.std.specs.declared.alloc.Global.{Global}
 use Rattle.std.specs.declared.vec.Vec.{Vec}
-use mathlib.Core.Logic.{◌⊎◌, inl, inr}
 use denote.Enum.Bare.{sameb}
-use Rattle.abs_lexer.specs.contracts.lexeme.Punctuator.{the_type}
+use Rattle.abs_lexer.specs.contracts.lexeme.Keyword.{the_type as keywords}
+use Rattle.abs_lexer.specs.contracts.lexeme.Punctuator.{the_type as punctuators}
 use Rattle.abs_lexer.specs.declared.lexeme.Keyword.{Keyword}
 use Rattle.abs_lexer.specs.declared.lexeme.Keyword.TheVariants as keyword
 use Rattle.abs_lexer.specs.declared.lexeme.Lexeme.{Lexeme}
@@ -31,86 +32,43 @@ use Rattle.abs_parser.specs.Productions.{begins, begins_within, chosen, Unary, P
 use Rattle.abs_parser.specs.Readings.{One, Optional, Repeated, Wanted, Terminal, Nonterminal, opened, Forest, Empty, Leaf, Node}
 use Rattle.abs_parser.specs.ReaderAnswers.{asked, maybe_phrases}
 use Rattle.abs_parser.specs.TreesOf.{written, prefix_of, named, member, built, unary_in, primary_in, primary_by, arguments_maybe, expr_in}
+use Rattle.abs_parser.proofs.FirstTokens.{BeginsBy, begins_as, plain_kinds, IsOneOf, one_passes, none_found}
 use Rattle.abs_parser.proofs.StepLemmas.{is_asked}
 
--- any lower-case name begins a primary
-lower_begins : (is_local : Bool) → true ≡ begins Primary (cond is_local LocalName LowerName)
-unfolding begins begins_within
-lower_begins true = refl
-lower_begins false = refl
-
--- and so does any upper-case name
-upper_begins : (is_abs is_library : Bool) → true ≡ begins Primary (cond is_abs AbsName (cond is_library StdLibName UpperName))
-unfolding begins begins_within
-upper_begins true is_library = refl
-upper_begins false true = refl
-upper_begins false false = refl
-
--- of the words these do
-abbrev word_begins : Keyword → Bool
-word_begins keyword.Null = true
-word_begins keyword.Destiny = true
-word_begins keyword.This = true
-word_begins keyword.Case = true
-word_begins _ = false
+-- these words begin a primary
+abbrev first_words : List Keyword
+first_words = keyword.Null ∷ keyword.Destiny ∷ keyword.This ∷ keyword.Case ∷ []
 
 -- whether a primary may begin with a token of a kind
 abbrev pub may_begin : Lexeme → Bool
-may_begin (lexeme.Word word) = word_begins word
+may_begin (lexeme.Word word) = list_any (sameb keywords word) first_words
 may_begin lexeme.Foreign = false
-may_begin (lexeme.Sign sign) = sameb the_type sign punctuator.OpenParen
+may_begin (lexeme.Sign sign) = sameb punctuators sign punctuator.OpenParen
 may_begin _ = true
 
--- that is so for each word
-word_begins_is : (word : Keyword) → word_begins word ≡ begins Primary (Word word)
+-- that is so for each kind
+may_begin_told : (kind : Lexeme) → may_begin kind ≡ begins Primary (asked kind)
 unfolding begins begins_within
-word_begins_is keyword.Null = refl
-word_begins_is _ = refl
+may_begin_told (lexeme.Word keyword.Null) = refl
+may_begin_told (lexeme.Sign punctuator.OpenParen) = refl
+may_begin_told _ = refl
 
--- and for each sign
-sign_begins_is : (sign : Punctuator) → sameb the_type sign punctuator.OpenParen ≡ begins Primary (Sign sign)
+-- and for each name
+pub first_kinds : BeginsBy Primary may_begin
 unfolding begins begins_within
-sign_begins_is punctuator.OpenParen = refl
-sign_begins_is _ = refl
-
--- so it is, however the token is written
-pub begins_by_kind : (kind : Lexeme) (bytes : List ℕ) → may_begin kind ≡ begins Primary (kind_of_lexeme kind bytes)
-unfolding begins begins_within
-begins_by_kind lexeme.LowerName bytes = lower_begins (bytes_eq bytes (codes "local"))
-begins_by_kind lexeme.UpperName bytes = upper_begins (bytes_eq bytes (codes "ABS")) (bytes_eq bytes (codes "StdLib"))
-begins_by_kind lexeme.Number bytes = refl
-begins_by_kind lexeme.Text bytes = refl
-begins_by_kind (lexeme.Word word) bytes = word_begins_is word
-begins_by_kind lexeme.Foreign bytes = refl
-begins_by_kind (lexeme.Sign sign) bytes = sign_begins_is sign
-
--- a token of a kind that is known is told
-pub begins_as : {kind : Lexeme} (known : Lexeme) {answer : Bool} → kind ≡ known → answer ≡ may_begin known → (bytes : List ℕ) → answer ≡ begins Primary (kind_of_lexeme kind bytes)
-begins_as known is answers bytes = answers ∙ (ap may_begin (sym is) ∙ begins_by_kind _ bytes)
+first_kinds = record { told = may_begin_told; local_too = refl; abs_too = refl; library_too = refl }
 
 -- no other word begins one
 pub other_word : (word : Keyword) → (word ≡ keyword.Null → ⊥) → (word ≡ keyword.Destiny → ⊥) → (word ≡ keyword.This → ⊥) → (word ≡ keyword.Case → ⊥) → false ≡ may_begin (lexeme.Word word)
-other_word keyword.Null not_null not_destiny not_this not_case = absurd (not_null refl)
-other_word keyword.Destiny not_null not_destiny not_this not_case = absurd (not_destiny refl)
-other_word keyword.This not_null not_destiny not_this not_case = absurd (not_this refl)
-other_word keyword.Case not_null not_destiny not_this not_case = absurd (not_case refl)
-other_word _ not_null not_destiny not_this not_case = refl
+other_word word not_null not_destiny not_this not_case = none_found keywords tt first_words word (not_null, (not_destiny, (not_this, (not_case, tt))))
 
 -- numbers, texts and names do
-pub plain_begins : {kind : Lexeme} → (kind ≡ lexeme.Number) ⊎ ((kind ≡ lexeme.Text) ⊎ ((kind ≡ lexeme.LowerName) ⊎ (kind ≡ lexeme.UpperName)))
-    → (bytes : List ℕ) → true ≡ begins Primary (kind_of_lexeme kind bytes)
-plain_begins (inl e) = begins_as lexeme.Number e refl
-plain_begins (inr (inl e)) = begins_as lexeme.Text e refl
-plain_begins (inr (inr (inl e))) = begins_as lexeme.LowerName e refl
-plain_begins (inr (inr (inr e))) = begins_as lexeme.UpperName e refl
+pub plain_begins : {kind : Lexeme} → IsOneOf plain_kinds kind → (bytes : List ℕ) → true ≡ begins Primary (kind_of_lexeme kind bytes)
+plain_begins {kind} one = begins_as first_kinds kind refl (one_passes may_begin plain_kinds refl one)
 
 -- so do four of the words
-pub first_word : {kind : Lexeme} (word : Keyword) → kind ≡ lexeme.Word word
-    → (word ≡ keyword.Null) ⊎ ((word ≡ keyword.Destiny) ⊎ ((word ≡ keyword.This) ⊎ (word ≡ keyword.Case))) → (bytes : List ℕ) → true ≡ begins Primary (kind_of_lexeme kind bytes)
-first_word word is (inl e) = begins_as (lexeme.Word keyword.Null) (is ∙ ap lexeme.Word e) refl
-first_word word is (inr (inl e)) = begins_as (lexeme.Word keyword.Destiny) (is ∙ ap lexeme.Word e) refl
-first_word word is (inr (inr (inl e))) = begins_as (lexeme.Word keyword.This) (is ∙ ap lexeme.Word e) refl
-first_word word is (inr (inr (inr e))) = begins_as (lexeme.Word keyword.Case) (is ∙ ap lexeme.Word e) refl
+pub first_word : {kind : Lexeme} (word : Keyword) → kind ≡ lexeme.Word word → IsOneOf first_words word → (bytes : List ℕ) → true ≡ begins Primary (kind_of_lexeme kind bytes)
+first_word word is one = begins_as first_kinds (lexeme.Word word) is (one_passes (λ (w : Keyword). may_begin (lexeme.Word w)) first_words refl one)
 
 -- What they consist of, by the next token
 

@@ -25,10 +25,11 @@ use Rattle.abs_parser.specs.Tokens.{Spot, TakesToken}
 use Rattle.abs_parser.specs.TreesOf.{unary_in, primary_in, arguments_maybe}
 use Rattle.abs_parser.specs.declared.parser.ParseError.{ParseError}
 use Rattle.abs_parser.specs.declared.parser.ParseError.TheVariants.{Refused}
+use Rattle.abs_parser.proofs.FirstTokens.{begins_by_kind}
 use Rattle.abs_parser.proofs.NameLemmas.{goes_on_further}
 use Rattle.abs_parser.proofs.StepLemmas.{HasRead, opens, over_token, over_name, over_part, into_last, all_read, refused_inside, refused_deep, refused_shut, fits_next, next_is, asked_fits, is_name, found_goes_on, symbol_kept}
 use Rattle.abs_parser.proofs.PatternSteps.{next_taken, next_end}
-use Rattle.abs_parser.proofs.PrimaryLemmas.{may_begin, begins_by_kind, behind_first, primary_opened, first_asked, primary_shut, primary_end, operand_opened, prefix_opened, unary_shut, unary_end, tail_follows, tail_opened}
+use Rattle.abs_parser.proofs.PrimaryLemmas.{may_begin, first_kinds, behind_first, primary_opened, first_asked, primary_shut, primary_end, operand_opened, prefix_opened, unary_shut, unary_end, tail_follows, tail_opened}
 
 -- the next token is one of a kind, where its kind is known
 pub stands : {kind : Lexeme} {token : Lexed} {from behind : Spot} → TakesToken token from behind → token.kind ≡ kind → TakesKind kind token from behind
@@ -97,7 +98,7 @@ operand_begins {from = from} depth table takes is = opens (One Unary) depth tabl
 pub operand_deep : {token : Lexed} {from behind : Spot} (depth : ℕ) (error : ParseError) → error ≡ Refused (refusal_at S2 from) → TakesToken token from behind
     → begins Primary (kind_of_lexeme token.kind token.bytes) ≡ true → limit < depth + 1 → IsRefused (Nonterminal (One Unary) depth) from error
 operand_deep {token} {from} depth error is takes begun deep =
-    let first = begins_by_kind token.kind token.bytes ∙ begun in
+    let first = begins_by_kind first_kinds token.kind token.bytes ∙ begun in
     refused_inside (operand_begins depth [] takes begun) error
     (rw is (refused_deep (One Primary) (depth + 1) from (asked token.kind) (depth + 1) _
     (ap (λ (k : Kind). opened (One Primary) k (depth + 1)) (next_is takes) ∙ primary_opened token.kind token.bytes (depth + 1) first)
@@ -128,7 +129,7 @@ pub refused_no_unary : {token : Lexed} {from behind : Spot} (depth : ℕ) (error
     → IsRefused (Nonterminal (One Unary) depth) from error
 refused_no_unary {token} {from} depth error is takes none no_prefix =
     rw is (refused_shut (One Unary) depth from
-    (ap (λ (k : Kind). opened (One Unary) k depth) (next_is takes) ∙ unary_shut token.kind token.bytes depth (begins_by_kind token.kind token.bytes ∙ none) no_prefix))
+    (ap (λ (k : Kind). opened (One Unary) k depth) (next_is takes) ∙ unary_shut token.kind token.bytes depth (begins_by_kind first_kinds token.kind token.bytes ∙ none) no_prefix))
 
 -- a token of a kind that may begin no primary is refused where one is to stand
 pub refused_no_primary : (kind : Lexeme) (bytes : List ℕ) (depth : ℕ) (from : Spot) (error : ParseError) → error ≡ Refused (wrong_at from) → next (left_at from) ≡ kind_of_lexeme kind bytes

@@ -1,16 +1,17 @@
 -- The step of a reader over one more of the parts that may stand any number of times, where something stands behind them: what was read of
--- the part comes in front of what is read as the further ones.
-use Rattle.std.proofs.Common.{◌≡◌, ℕ, List, [], ◌∷◌, ◌++◌, Some, refl, sym, ap, ◌∙◌, fold, arith}
+-- the part comes in front of what is read as the further ones. And a part that has a token behind its first part leaves fewer tokens.
+use Rattle.std.proofs.Common.{◌≡◌, ◌≤◌, ◌<◌, ℕ, ◌+◌, List, [], ◌∷◌, ◌++◌, length, Option, Some, refl, sym, ap, subst, ◌∙◌, fold, arith}
+use Rattle.std.specs.Prelude.{unwrap_or}
 use Rattle.abs_tree.specs.Names.{with_name}
-use Rattle.abs_parser.specs.Kinds.{Mark, next}
+use Rattle.abs_parser.specs.Kinds.{Mark, Kind, next}
 use Rattle.abs_parser.specs.Productions.{Symbol}
-use Rattle.abs_parser.specs.Readings.{Goal, One, Repeated, Wanted, Nonterminal, opened, Forest, Empty, Leaf, Node, Reads, Nothing, Opened, depths}
+use Rattle.abs_parser.specs.Readings.{Goal, One, Repeated, Wanted, Terminal, Nonterminal, opened, Forest, Empty, Leaf, Node, Reads, Nothing, Taken, Opened, depths}
 use Rattle.abs_parser.specs.ReaderAnswers.{left_at, names_before, FoundAs}
 use Rattle.abs_parser.specs.Refusing.{AllWithin, Open}
 use Rattle.abs_parser.specs.Tokens.{Spot}
 use Rattle.abs_parser.proofs.MoveLemmas.{refuses_behind, within_first, within_second}
 use Rattle.abs_parser.proofs.NameLemmas.{goes_on_further}
-use Rattle.abs_parser.proofs.StepLemmas.{HasRead, within_both, table_of_both, found_goes_on, found_few, found_shorter}
+use Rattle.abs_parser.proofs.StepLemmas.{HasRead, within_both, table_of_both, found_goes_on, found_few, found_shorter, reads_shorter, left_length}
 
 -- one part in front of what was read as further ones, with what stands behind them
 abbrev pub in_front : Symbol → Forest → Forest → Forest
@@ -59,3 +60,15 @@ over_one_more {symbol = symbol} {now = now} so more found = record {
   few = omega (arith, so.few, found_few found);
   shorter = omega (arith, so.shorter, found_shorter found);
 }
+
+-- what is read as a part, a token and others has a token
+token_read : {goal : Goal} {at depth : ℕ} {kind : Kind} {items : List Wanted} {ts to : List Mark} {forest : Forest} → Reads (Nonterminal goal at ∷ Terminal kind depth ∷ items) ts forest to → length to + 1 ≤ length ts
+token_read (Opened e first (Taken fit reads)) = omega (arith, reads_shorter first, reads_shorter reads)
+
+-- a part that consists of another one, a token and others leaves fewer tokens than there were
+pub row_shorter : {goal part : Goal} {depth at token_at : ℕ} {kind : Kind} {items : List Wanted} {old new : List (List ℕ)} {from to : Spot} {is_read : List (List ℕ) → Forest → Type 0}
+    → opened goal (next (left_at from)) depth ≡ Some (Nonterminal part at ∷ Terminal kind token_at ∷ items) → FoundAs goal depth old new from to is_read → length to.rest < length from.rest
+row_shorter {from = from} {to} is found =
+    let row = ap (λ (row : Option (List Wanted)). unwrap_or row []) (sym is ∙ found.rule_is) in
+    let less = token_read (subst (λ (row : List Wanted). Reads row (left_at from) found.inside (left_at to)) (sym row) found.reads) in
+    omega (arith, less, left_length from, left_length to)

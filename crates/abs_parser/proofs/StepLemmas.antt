@@ -9,6 +9,7 @@ use Rattle.std.specs.Str.{bytes_eq}
 use Rattle.std.proofs.lemmas.List.{length-map}
 use Rattle.std.proofs.lemmas.List.Folds.{list_any-append}
 use Rattle.std.proofs.lemmas.List.Sums.{fold-append}
+use Rattle.std.proofs.lemmas.Option.{same_Some}
 use Rattle.std.proofs.lemmas.Slice.Eq.{bytes_eq-Decides}
 use Rattle.abs_tree.specs.Names.{with_name, number_of_name}
 use Rattle.abs_tree.specs.Trees.{name_of}
@@ -28,11 +29,13 @@ use Rattle.abs_parser.specs.Refusing.{Refuses, Other, Below, Past, Shut, Open, C
 use Rattle.abs_parser.specs.Stops.{limit, wrong_code}
 use Rattle.abs_parser.specs.Tokens.{Spot, place_of, TakesToken}
 use Rattle.abs_parser.specs.TreesOf.{written}
-use Rattle.abs_parser.specs.ReaderAnswers.{left_at, name_first, names_before, asked, refusal_at, wrong_at, TakesKind, FoundAs, RefusedAt, IsRefused}
+use Rattle.abs_parser.specs.ReaderAnswers.{left_at, name_first, names_before, asked, fixed_kind, refusal_at, wrong_at, TakesKind, TakesFixed, FoundAs, RefusedAt, IsRefused}
+use Rattle.abs_parser.specs.declared.cursor.FixedName.{FixedName}
+use Rattle.abs_parser.specs.declared.cursor.FixedName.TheVariants as fixed
 use Rattle.abs_parser.specs.declared.parser.ParseError.{ParseError}
 use Rattle.abs_parser.specs.declared.parser.ParseError.TheVariants.{Refused, Memory}
 use Rattle.abs_parser.proofs.NameLemmas.{goes_on_itself, goes_on_further, goes_on_all, number_stays, few_more}
-use Rattle.abs_parser.proofs.MoveLemmas.{refuses_behind}
+use Rattle.abs_parser.proofs.MoveLemmas.{refuses_behind, within_first}
 
 -- two lists of tokens within the limit are so together
 pub within_both : (first second : List ℕ) → AllWithin first → AllWithin second → AllWithin (first ++ second)
@@ -237,6 +240,47 @@ opens goal depth table from inner is = record {
   shorter = omega arith;
 }
 
+-- what was read inside a part, where it stands alone
+abbrev pub inside_alone : Forest → Forest
+inside_alone (Node part inside Empty) = inside
+inside_alone forest = forest
+
+-- what is read as a part alone is read as what it is opened to
+alone_reads : {goal : Goal} {depth : ℕ} {inner : List Wanted} {ts to : List Mark} {rest : Forest} → opened goal (next ts) depth ≡ Some inner
+    → Reads (Nonterminal goal depth ∷ []) ts rest to → Reads inner ts (inside_alone rest) to
+alone_reads is (Opened e first Nothing) = rw (same_Some _ _ (sym is ∙ e)) first
+
+-- no token is too deep inside it
+alone_within : (rest : Forest) → AllWithin (depths rest) → AllWithin (depths (inside_alone rest))
+alone_within (Node part inside Empty) within = within_first (depths inside) [] within
+alone_within Empty within = within
+alone_within (Leaf mark depth others) within = within
+alone_within (Node part inside (Leaf mark depth others)) within = within
+alone_within (Node part inside (Node goal first others)) within = within
+
+-- and it has the same names
+alone_names : (rest : Forest) → names_before (inside_alone rest) [] ≡ names_before rest []
+alone_names Empty = refl
+alone_names (Leaf mark depth others) = refl
+alone_names (Node part inside Empty) = refl
+alone_names (Node part inside (Leaf mark depth others)) = refl
+alone_names (Node part inside (Node goal first others)) = refl
+
+-- a part that the next token opens is left whole where nothing of it was read
+pub left_whole : (goal : Goal) (depth : ℕ) (table : List (List ℕ)) (from : Spot) (inner : List Wanted) → opened goal (next (left_at from)) depth ≡ Some inner
+    → HasRead goal depth table table from inside_alone (Nonterminal goal depth ∷ []) from
+left_whole goal depth table from inner is = record {
+  inner = inner;
+  rule_is = is;
+  reads = λ rest to reads. alone_reads is reads;
+  within = λ rest within. alone_within rest within;
+  refuses = λ items to code refused. refused;
+  table = λ rest. ap (fold with_name table) (alone_names rest);
+  goes_on = goes_on_itself table;
+  few = omega arith;
+  shorter = omega arith;
+}
+
 -- what a token of a kind is taken for
 kind_fits : {kind : Lexeme} {token : Lexed} {from to : Spot} → is_asked kind ≡ true → TakesKind kind token from to → fits (asked kind) (kind_of (Token token)) ≡ true
 kind_fits {kind} {token} wanted takes = rw takes.kind_is (asked_fits kind token.bytes wanted)
@@ -249,17 +293,19 @@ next_is takes = ap next (left_of takes)
 pub fits_next : {kind : Lexeme} {token : Lexed} {from to : Spot} → is_asked kind ≡ true → TakesKind kind token from to → fits (asked kind) (next (left_at from)) ≡ true
 fits_next {kind} wanted takes = ap (fits (asked kind)) (next_is takes.takes) ∙ kind_fits wanted takes
 
--- a token that fits, and what is read behind it
-taken_in_front : {kind : Lexeme} {depth : ℕ} {left : List Wanted} {token : Lexed} {here behind : Spot} {rest : Forest} {to : List Mark}
-    → is_asked kind ≡ true → TakesKind kind token here behind → Reads left (left_at behind) rest to
-    → Reads (Terminal (asked kind) depth ∷ left) (left_at here) (Leaf (Token token) depth rest) to
-taken_in_front wanted takes reads = rw (left_of takes.takes) (Taken (kind_fits wanted takes) reads)
+-- a name with a text of its own fits where it is asked for
+fits_itself : (name : FixedName) → fits (fixed_kind name) (fixed_kind name) ≡ true
+fits_itself fixed.Local = refl
+fits_itself fixed.Abs = refl
+fits_itself fixed.StdLib = refl
 
--- a token that fits and is within the limit is passed by a refusal behind it
-pub refused_past : {kind : Lexeme} {depth : ℕ} {items : List Wanted} {token : Lexed} {here behind : Spot} {to : List Mark} {code : Code}
-    → is_asked kind ≡ true → depth ≤ limit → TakesKind kind token here behind → Refuses items (left_at behind) to code
-    → Refuses (Terminal (asked kind) depth ∷ items) (left_at here) to code
-refused_past wanted within takes refused = rw (left_of takes.takes) (Past (kind_fits wanted takes) within refused)
+-- and so does the token that is it
+fixed_fits : {name : FixedName} {token : Lexed} {from to : Spot} → TakesFixed name token from to → fits (fixed_kind name) (kind_of (Token token)) ≡ true
+fixed_fits {name} takes = ap (fits (fixed_kind name)) takes.kind_is ∙ fits_itself name
+
+-- the next token is such a name
+pub next_fixed : {name : FixedName} {token : Lexed} {from to : Spot} → TakesFixed name token from to → next (left_at from) ≡ fixed_kind name
+next_fixed takes = next_is takes.takes ∙ takes.kind_is
 
 -- a token that is no name leaves the others as they are
 token_unnamed : {kind : Lexeme} {token : Lexed} {from to : Spot} → TakesKind kind token from to → is_name kind ≡ false → (others : List (List ℕ))
@@ -271,40 +317,61 @@ token_named : {kind : Lexeme} {token : Lexed} {from to : Spot} → TakesKind kin
     → name_first (kind_of (Token token)) token.bytes others ≡ token.bytes ∷ others
 token_named {kind} {token} takes is others = rw takes.kind_is (named_first kind token.bytes others is)
 
+-- a name with a text of its own stands in front of others
+fixed_first : (name : FixedName) (bytes : List ℕ) (others : List (List ℕ)) → name_first (fixed_kind name) bytes others ≡ bytes ∷ others
+fixed_first fixed.Local bytes others = refl
+fixed_first fixed.Abs bytes others = refl
+fixed_first fixed.StdLib bytes others = refl
+
+-- and so does the token that is it
+fixed_named : {name : FixedName} {token : Lexed} {from to : Spot} → TakesFixed name token from to → (others : List (List ℕ))
+    → name_first (kind_of (Token token)) token.bytes others ≡ token.bytes ∷ others
+fixed_named {name} {token} takes others = ap (λ (kind : Kind). name_first kind token.bytes others) takes.kind_is ∙ fixed_first name token.bytes others
+
+-- over a token that fits, with what it does to the table
+over_fitting : {goal : Goal} {depth at : ℕ} {old now table : List (List ℕ)} {from here behind : Spot} {make : Forest → Forest} {left : List Wanted} {kind : Kind} {token : Lexed}
+    → HasRead goal depth old now from make (Terminal kind at ∷ left) here → TakesToken token here behind → fits kind (kind_of (Token token)) ≡ true → at ≤ limit
+    → ((others : List (List ℕ)) → fold with_name now (name_first (kind_of (Token token)) token.bytes others) ≡ fold with_name table others)
+    → GoesOn now table → length table ≤ length now + 1 → HasRead goal depth old table from (λ rest. make (Leaf (Token token) at rest)) left behind
+over_fitting {at = at} {token = token} so takes fit within is goes_on few = record {
+  inner = so.inner;
+  rule_is = so.rule_is;
+  reads = λ rest to reads. so.reads (Leaf (Token token) at rest) to (rw (left_of takes) (Taken fit reads));
+  within = λ rest others. so.within (Leaf (Token token) at rest) (within, others);
+  refuses = λ items to code refused. so.refuses items to code (rw (left_of takes) (Past fit within refused));
+  table = λ rest. so.table (Leaf (Token token) at rest) ∙ is (names_before rest []);
+  goes_on = goes_on_further so.goes_on goes_on;
+  few = omega (arith, so.few, token_shorter takes, few);
+  shorter = omega (arith, so.shorter, token_shorter takes);
+}
+
 -- over a token that is no name
 pub over_token : {goal : Goal} {depth at : ℕ} {old now : List (List ℕ)} {from here behind : Spot} {make : Forest → Forest} {left : List Wanted} {kind : Lexeme} {token : Lexed}
     → HasRead goal depth old now from make (Terminal (asked kind) at ∷ left) here → TakesKind kind token here behind → is_asked kind ≡ true → is_name kind ≡ false → at ≤ limit
     → HasRead goal depth old now from (λ rest. make (Leaf (Token token) at rest)) left behind
-over_token {at = at} {now = now} {kind = kind} {token = token} so takes wanted no_name within = record {
-  inner = so.inner;
-  rule_is = so.rule_is;
-  reads = λ rest to reads. so.reads (Leaf (Token token) at rest) to (taken_in_front wanted takes reads);
-  within = λ rest others. so.within (Leaf (Token token) at rest) (within, others);
-  refuses = λ items to code refused. so.refuses items to code (refused_past wanted within takes refused);
-  table = λ rest. so.table (Leaf (Token token) at rest)
-      ∙ ap (fold with_name now) (token_unnamed takes no_name (names_before rest []));
-  goes_on = so.goes_on;
-  few = omega (arith, so.few, token_shorter takes.takes);
-  shorter = omega (arith, so.shorter, token_shorter takes.takes);
-}
+over_token {now = now} so takes wanted no_name within =
+    over_fitting so takes.takes (kind_fits wanted takes) within (λ others. ap (fold with_name now) (token_unnamed takes no_name others)) (goes_on_itself now) (omega arith)
+
+-- over a token that fits and is a name, which the table has then
+over_named : {goal : Goal} {depth at : ℕ} {old now table : List (List ℕ)} {from here behind : Spot} {make : Forest → Forest} {left : List Wanted} {kind : Kind} {token : Lexed}
+    → HasRead goal depth old now from make (Terminal kind at ∷ left) here → TakesToken token here behind → fits kind (kind_of (Token token)) ≡ true
+    → ((others : List (List ℕ)) → name_first (kind_of (Token token)) token.bytes others ≡ token.bytes ∷ others) → at ≤ limit → table ≡ with_name now token.bytes
+    → HasRead goal depth old table from (λ rest. make (Leaf (Token token) at rest)) left behind
+over_named {now = now} {token = token} so takes fit named within is =
+    over_fitting so takes fit within (λ others. ap (fold with_name now) (named others) ∙ ap (λ (names : List (List ℕ)). fold with_name names others) (sym is))
+    (rw is (goes_on_all now (token.bytes ∷ []))) (omega (arith, ap length is, few_more now (token.bytes ∷ [])))
 
 -- over a name, which the table has then
 pub over_name : {goal : Goal} {depth at : ℕ} {old now table : List (List ℕ)} {from here behind : Spot} {make : Forest → Forest} {left : List Wanted} {kind : Lexeme} {token : Lexed}
     → HasRead goal depth old now from make (Terminal (asked kind) at ∷ left) here → TakesKind kind token here behind → is_asked kind ≡ true → is_name kind ≡ true → at ≤ limit
     → table ≡ with_name now token.bytes → HasRead goal depth old table from (λ rest. make (Leaf (Token token) at rest)) left behind
-over_name {at = at} {now = now} {table = table} {kind = kind} {token = token} so takes wanted named within is = record {
-  inner = so.inner;
-  rule_is = so.rule_is;
-  reads = λ rest to reads. so.reads (Leaf (Token token) at rest) to (taken_in_front wanted takes reads);
-  within = λ rest others. so.within (Leaf (Token token) at rest) (within, others);
-  refuses = λ items to code refused. so.refuses items to code (refused_past wanted within takes refused);
-  table = λ rest. so.table (Leaf (Token token) at rest)
-      ∙ (ap (fold with_name now) (token_named takes named (names_before rest []))
-      ∙ ap (λ (names : List (List ℕ)). fold with_name names (names_before rest [])) (sym is));
-  goes_on = rw is (goes_on_further so.goes_on (goes_on_all now (token.bytes ∷ [])));
-  few = omega (arith, so.few, token_shorter takes.takes, ap length is, few_more now (token.bytes ∷ []));
-  shorter = omega (arith, so.shorter, token_shorter takes.takes);
-}
+over_name so takes wanted named within is = over_named so takes.takes (kind_fits wanted takes) (token_named takes named) within is
+
+-- over a name with a text of its own, which the table has then, too
+pub over_fixed : {goal : Goal} {depth at : ℕ} {old now table : List (List ℕ)} {from here behind : Spot} {make : Forest → Forest} {left : List Wanted} {name : FixedName} {token : Lexed}
+    → HasRead goal depth old now from make (Terminal (fixed_kind name) at ∷ left) here → TakesFixed name token here behind → at ≤ limit → table ≡ with_name now token.bytes
+    → HasRead goal depth old table from (λ rest. make (Leaf (Token token) at rest)) left behind
+over_fixed so takes within is = over_named so takes.takes (fixed_fits takes) (fixed_named takes) within is
 
 -- over a part that was found
 pub over_part : {goal part : Goal} {depth at : ℕ} {old now new : List (List ℕ)} {from here behind : Spot} {make : Forest → Forest} {left : List Wanted} {is_read : List (List ℕ) → Forest → Type 0}
@@ -440,3 +507,16 @@ refused_alike part at goal depth spot Memory closed shut refused = λ items. tt
 pub symbol_kept : (old : List (List ℕ)) {table : List (List ℕ)} {name : List ℕ} (symbol : Symbol) → symbol.0 ≡ number_of_name old name → table ≡ with_name old name
     → (names : List (List ℕ)) → GoesOn table names → name_of names symbol ≡ name
 symbol_kept old {name = name} symbol number is names more = symbol_named old name symbol number names (subst (λ (t : List (List ℕ)). GoesOn t names) is more)
+
+-- what was found is so, where it follows from how it was found
+pub found_weaker : {goal : Goal} {depth : ℕ} {old new : List (List ℕ)} {from to : Spot} {is_read is_too : List (List ℕ) → Forest → Type 0} → (found : FoundAs goal depth old new from to is_read)
+    → ((names : List (List ℕ)) → GoesOn new names → is_read names found.inside → is_too names found.inside) → FoundAs goal depth old new from to is_too
+found_weaker found so = record {
+  inside = found.inside;
+  inner = found.inner;
+  rule_is = found.rule_is;
+  reads = found.reads;
+  within = found.within;
+  table = found.table;
+  is = λ names more. so names more (found.is names more);
+}

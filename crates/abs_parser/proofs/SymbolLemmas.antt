@@ -9,13 +9,13 @@ use Rattle.abs_parser.specs.Productions.{Symbol, Program, Item, Of, Part, rule, 
 use Rattle.abs_parser.specs.Readings.{One, Optional, Repeated, Wanted, Nonterminal, place, inner_depth, opened}
 
 -- a symbol begins where one of its alternatives does
-begins_by_rule : (symbol : Symbol) (kind : Kind) → begins symbol kind ≡ list_any (λ (items : List Item). items_begin begins items kind) (rule symbol)
+pub begins_by_rule : (symbol : Symbol) (kind : Kind) → begins symbol kind ≡ list_any (λ (items : List Item). items_begin begins items kind) (rule symbol)
 unfolding begins begins_within
 begins_by_rule Program kind = refl
 begins_by_rule _ kind = refl
 
 -- with one alternative it begins where that does
-begins_by : (symbol : Symbol) {items : List Item} (kind : Kind) → rule symbol ≡ items ∷ [] → begins symbol kind ≡ items_begin begins items kind
+pub begins_by : (symbol : Symbol) {items : List Item} (kind : Kind) → rule symbol ≡ items ∷ [] → begins symbol kind ≡ items_begin begins items kind
 begins_by symbol {items} kind is = begins_by_rule symbol kind ∙ (ap (λ (a : List (List Item)). list_any (λ (i : List Item). items_begin begins i kind) a) is ∙ or-false (items_begin begins items kind))
 
 -- which is with a token

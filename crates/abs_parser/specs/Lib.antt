@@ -12,3 +12,6 @@ pub mod Refusing
 pub mod TreesOf
 pub mod ReaderAnswers
 pub mod Levels
+pub mod Headings
+pub mod Firsts
+pub mod Texts

@@ -2,6 +2,7 @@
 --
 --   `left_at`, `names_before`                          the tokens that are left, and the names in what was read
 --   `asked`, `TakesKind`, `Passes`                     the next token, where its kind is asked for
+--   `fixed_kind`, `TakesFixed`                         the next token, where a name with a text of its own is asked for
 --   `maybe_phrases`                                    the trees of arguments that may be left out
 --   `refusal_at`, `wrong_at`                           the refusal of the next token
 --   `FoundAs`                                          what a reader found
@@ -20,6 +21,8 @@ use Rattle.abs_parser.specs.Answers.{GoesOn}
 use Rattle.abs_lexer.specs.declared.lexeme.Lexeme.{Lexeme}
 use Rattle.abs_lexer.specs.declared.lexeme.Lexeme.TheVariants as lexeme
 use Rattle.abs_lexer.specs.Tokens.{Lexed}
+use Rattle.abs_parser.specs.declared.cursor.FixedName.{FixedName}
+use Rattle.abs_parser.specs.declared.cursor.FixedName.TheVariants as fixed
 use Rattle.abs_parser.specs.Kinds.{Mark, Token, TextEnd, Kind, LowerName, LocalName, UpperName, AbsName, StdLibName, Number, Text, Word, Foreign, Sign, place_of_mark, kind_of, next}
 use Rattle.abs_parser.specs.Readings.{Goal, Wanted, opened, Forest, Empty, Leaf, Node, Reads, depths}
 use Rattle.abs_parser.specs.Refusing.{Refuses, AllWithin}
@@ -58,6 +61,12 @@ asked (lexeme.Word keyword) = Word keyword
 asked lexeme.Foreign = Foreign
 asked (lexeme.Sign punctuator) = Sign punctuator
 
+-- the kind of a name with a text of its own
+abbrev pub fixed_kind : FixedName → Kind
+fixed_kind fixed.Local = LocalName
+fixed_kind fixed.Abs = AbsName
+fixed_kind fixed.StdLib = StdLibName
+
 -- the refusal of the next token by this code
 abbrev pub refusal_at : Code → Spot → Refusal
 refusal_at code spot = refusal_of (record { code = code; place = place_of spot })
@@ -69,6 +78,11 @@ wrong_at spot = refusal_at (wrong_code (next (left_at spot))) spot
 -- This token, of this kind, is the next one at `from`, and behind it is `to`.
 pub record TakesKind (kind : Lexeme) (token : Lexed) (from to : Spot) : Type 0 where
   pub kind_is : token.kind ≡ kind
+  pub takes : TakesToken token from to
+
+-- This token, which is this name with a text of its own, is the next one at `from`, and behind it is `to`.
+pub record TakesFixed (name : FixedName) (token : Lexed) (from to : Spot) : Type 0 where
+  pub kind_is : kind_of (Token token) ≡ fixed_kind name
   pub takes : TakesToken token from to
 
 -- some token of this kind is

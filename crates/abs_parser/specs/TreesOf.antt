@@ -4,6 +4,7 @@
 --   `type_in`                                          types
 --   `pattern_in`                                       patterns
 --   `expr_in`, `or_in` .. `mul_in`, `unary_in`, `primary_in`  expressions, by the levels of their operators
+--   `named`, `member`, `built`                         names with the arguments behind them, or without
 --   `rhs_in`, `rest_in`                                right sides, from their beginning or behind the first operand
 --   `guard_in`                                         guards
 --   `statement_in`, `block_in`                         statements
@@ -424,9 +425,14 @@ abbrev pub more_params : Forest → List ParamTree
 more_params (Node _ (Leaf comma _ (Node _ param _)) (Node _ others _)) = param_in param (more_params others)
 more_params _ = []
 
+-- a parameter, and others behind commas
+abbrev pub params_in : Forest → List ParamTree
+params_in (Node _ first (Node _ others _)) = param_in first (more_params others)
+params_in _ = []
+
 -- perhaps parameters
 abbrev pub params_maybe : Forest → List ParamTree
-params_maybe (Node _ (Node _ first (Node _ others _)) _) = param_in first (more_params others)
+params_maybe (Node _ params _) = params_in params
 params_maybe _ = []
 
 -- perhaps "(", perhaps parameters, ")"
@@ -434,9 +440,14 @@ abbrev pub class_params_maybe : Forest → List ParamTree
 class_params_maybe (Node _ (Leaf opening _ (Node _ params _)) _) = params_maybe params
 class_params_maybe _ = []
 
+-- perhaps types
+abbrev pub types_maybe : Forest → TypeTrees
+types_maybe (Node _ types _) = types_in types
+types_maybe _ = NoType
+
 -- perhaps "(", perhaps types, ")"
 abbrev pub constructor_types : Forest → TypeTrees
-constructor_types (Node _ (Leaf opening _ (Node _ (Node _ types _) _)) _) = types_in types
+constructor_types (Node _ (Leaf opening _ (Node _ types _)) _) = types_maybe types
 constructor_types _ = NoType
 
 -- a constructor, in front of others
@@ -448,9 +459,14 @@ abbrev pub more_constructors : Forest → List ConstructorTree
 more_constructors (Node _ (Leaf bar _ (Node _ constructor _)) (Node _ others _)) = constructor_in constructor (more_constructors others)
 more_constructors _ = []
 
+-- a method of an interface, in front of others
+abbrev pub signature_in : Forest → List SignatureTree → List SignatureTree
+signature_in (Node _ type (Leaf name _ (Leaf opening _ (Node _ params _)))) others =
+    record { result = type_in type; name = declared name; params = params_maybe params } ∷ others
+signature_in _ others = others
+
 abbrev pub signatures_in : Forest → List SignatureTree
-signatures_in (Node _ (Node _ type (Leaf name _ (Leaf opening _ (Node _ params _)))) (Node _ others _)) =
-    record { result = type_in type; name = declared name; params = params_maybe params } ∷ signatures_in others
+signatures_in (Node _ signature (Node _ others _)) = signature_in signature (signatures_in others)
 signatures_in _ = []
 
 -- behind the type and the name of a member: ";", a value, or parameters and a body
@@ -460,8 +476,13 @@ member_by type name (Leaf opening _ (Node _ params (Leaf closing _ (Node _ block
 member_by type name (Leaf equals _ (Node _ expr (Leaf semicolon _ _))) = FieldTree type name (Value (expr_in expr))
 member_by type name _ = FieldTree type name NoValue
 
+-- a member, in front of others
+abbrev pub member_in : Forest → List MemberTree → List MemberTree
+member_in (Node _ type (Leaf name _ (Node _ tail _))) others = member_by (type_in type) (declared name) tail ∷ others
+member_in _ others = others
+
 abbrev pub members_in : Forest → List MemberTree
-members_in (Node _ (Node _ type (Leaf name _ (Node _ tail _))) (Node _ others _)) = member_by (type_in type) (declared name) tail ∷ members_in others
+members_in (Node _ member (Node _ others _)) = member_in member (members_in others)
 members_in _ = []
 
 -- a declaration by its first token, in front of others
@@ -476,8 +497,13 @@ decl_by (Word keyword.Class) place (Leaf name _ (Node _ params (Node _ implement
     ClassTree place (declared name) (class_params_maybe params) (names_maybe implemented) (members_in members) ∷ others
 decl_by _ place forest others = others
 
+-- a declaration, in front of others
+abbrev pub decl_in : Forest → List DeclTree → List DeclTree
+decl_in (Leaf mark _ inside) others = decl_by (kind_of mark) (place_of_mark mark) inside others
+decl_in _ others = others
+
 abbrev pub decls_in : Forest → List DeclTree
-decls_in (Node _ (Leaf mark _ others) (Node _ more _)) = decl_by (kind_of mark) (place_of_mark mark) others (decls_in more)
+decls_in (Node _ decl (Node _ more _)) = decl_in decl (decls_in more)
 decls_in _ = []
 
 -- Program: "module" and "import" lines are read and leave nothing

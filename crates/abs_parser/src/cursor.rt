@@ -1,5 +1,5 @@
 //! A cursor over the tokens of a text: which of them are left, and what the next one is.
-ghost use Rattle.std.specs.Prelude.{◌≡◌, ℕ, false, ◌^◌, ◌<◌, ◌≤◌, [], length, IfOk, IfErr, IfSome, IfNone, pos, List};
+ghost use Rattle.std.specs.Prelude.{◌≡◌, ℕ, false, ◌^◌, ◌<◌, ◌≤◌, [], length, IfOk, OnOk, IfErr, IfSome, IfNone, pos, List};
 
 use crate::ParseError;
 use crate::literals::numeral;
@@ -9,6 +9,17 @@ use abs_tree::{Code, Offence, Place, Refusal};
 
 /// How many counted symbols may be open at once.
 pub(crate) const LIMIT: u32 = 100;
+
+/// A name with a text of its own, for which the grammar asks in one place.
+#[derive(Clone, Copy, Debug, PartialEq, Eq)]
+pub(crate) enum FixedName {
+    /// `local`
+    Local,
+    /// `ABS`
+    Abs,
+    /// `StdLib`
+    StdLib,
+}
 
 /// A place in a list of tokens: those from there on are left.
 #[derive(Clone, Copy)]
@@ -25,9 +36,9 @@ impl<'a, 'b> Cursor<'a, 'b> {
     ghost use Rattle.abs_parser.specs.Tokens.{Spot, whole, place_of, TakesToken, Takes, TakesWritten, TakesName, TakesNumber};
     ghost use Rattle.abs_parser.specs.Answers.{refused_at, RefusesAt};
     ghost use Rattle.abs_parser.specs.Views.{spot};
-    ghost use Rattle.abs_parser.specs.Kinds.{fits, next};
+    ghost use Rattle.abs_parser.specs.Kinds.{End, fits, next};
     ghost use Rattle.abs_parser.specs.Readings.{Terminal};
-    ghost use Rattle.abs_parser.specs.ReaderAnswers.{asked, left_at, refusal_at, wrong_at, TakesKind, IsRefused};
+    ghost use Rattle.abs_parser.specs.ReaderAnswers.{asked, fixed_kind, left_at, refusal_at, wrong_at, TakesKind, TakesFixed, IsRefused};
     ghost use Rattle.abs_parser.specs.declared.parser.ParseError.TheVariants.{Refused};
     ghost use Rattle.abs_tree.specs.declared.refusal.Code.TheVariants.{S2};
 
@@ -123,6 +134,46 @@ impl<'a, 'b> Cursor<'a, 'b> {
         match self.next() {
             Some((token, behind)) if token.kind == kind => Ok((token, behind)),
             _ => Err(self.wrong()),
+        }
+    }
+
+    /// The name with this text that is to stand here, and the cursor behind it.
+    ///
+    /// # Errors
+    /// The refusal of the token that stands here, where it is another one.
+    pub fn expect_name(self, name: FixedName) -> Result<(Token<'a>, Cursor<'a, 'b>), ParseError>
+        ensures found { IfOk result (λ found. TakesFixed name (lexed found.0) (spot self.entry) (spot found.1)) }
+        ensures other { IfErr result (λ error. fits (fixed_kind name) (next (left_at (spot self.entry))) ≡ false) }
+        ensures refused { IfErr result (λ error. (depth : ℕ) → IsRefused (Terminal (fixed_kind name) depth) (spot self.entry) error) }
+    {
+        let text: &[u8] = match name {
+            FixedName::Local => b"local",
+            FixedName::Abs => b"ABS",
+            FixedName::StdLib => b"StdLib",
+        };
+        let kind = match name {
+            FixedName::Local => Lexeme::LowerName,
+            FixedName::Abs | FixedName::StdLib => Lexeme::UpperName,
+        };
+        match self.next() {
+            Some((token, behind)) if token.kind == kind && token.slice == text => Ok((
+                token, behind,
+            )),
+            _ => Err(self.wrong()),
+        }
+    }
+
+    /// That the text ends here.
+    ///
+    /// # Errors
+    /// The refusal of the token that stands here, where there is one.
+    pub fn finish(self) -> Result<(), ParseError>
+        ensures found { OnOk result ((spot self.entry).rest ≡ []) }
+        ensures refused { IfErr result (λ error. (depth : ℕ) → IsRefused (Terminal End depth) (spot self.entry) error) }
+    {
+        match self.next() {
+            Some(_) => Err(self.wrong()),
+            None => Ok(()),
         }
     }
 

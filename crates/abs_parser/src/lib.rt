@@ -3,16 +3,27 @@
 
 mod arguments;
 mod cases;
+mod classes;
 mod cursor;
+mod declarations;
 mod expressions;
+mod guards;
 pub mod law;
 mod literals;
+mod names;
 mod operators;
+mod parameters;
 pub mod parser;
 mod patterns;
+mod preamble;
 mod primaries;
+mod programs;
+mod right_sides;
+mod simple_statements;
+mod statements;
 mod sums;
 mod types;
+mod whole;
 
 pub use parser::{ParseError, one_tree, parse};
 

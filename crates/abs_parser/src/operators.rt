@@ -5,7 +5,7 @@ ghost use Rattle.abs_tree.specs.SyntaxViews.{phrase, links};
 ghost use Rattle.abs_lexer.specs.declared.lexeme.Lexeme.TheVariants as lexeme;
 ghost use Rattle.abs_tree.specs.declared.syntax.expression.Operator as operator_type;
 ghost use Rattle.abs_parser.specs.Kinds.{Sign, fits, next};
-ghost use Rattle.abs_parser.specs.Levels.{symbol_of, operand_symbol, level_in, operand_in, level_of as on_level, sign_of, repeats as may_repeat};
+ghost use Rattle.abs_parser.specs.Levels.{symbol_of, operand_symbol, rest_of, level_in, operand_in, links_in, level_of as on_level, sign_of, repeats as may_repeat};
 ghost use Rattle.abs_parser.specs.Readings.{One, Nonterminal};
 ghost use Rattle.abs_parser.specs.ReaderAnswers.{FoundAs, IsRefused, Passes, left_at};
 ghost use Rattle.abs_parser.specs.Stops.{limit};
@@ -123,8 +123,33 @@ pub(crate) fn operators<'a, 'b>(
         (λ names inside. phrase names found.0 ≡ level_in level inside)) }
     ensures refused { IfErr result (λ error. IsRefused (Nonterminal (One (symbol_of level)) depth) (spot from.entry) error) }
 {
-    let (first, mut here) = operand(alloc, symbols, level, depth, from)?;
+    let (first, here) = operand(alloc, symbols, level, depth, from)?;
+    operators_behind(alloc, symbols, level, depth, from.place(), first, here)
+}
+
+/// A first operand of a level, which begins at `place`, with the operators and operands that stand behind it; and the cursor
+/// behind them.
+///
+/// # Errors
+/// The refusal of the first token that stands in nothing of this form, or that stands too deep.
+#[cycle(phrases)]
+pub(crate) fn operators_behind<'a, 'b>(
+    alloc: Global,
+    symbols: &mut Symbols<'a>,
+    level: Level,
+    depth: u32,
+    place: Place,
+    first: Expr,
+    from: Cursor<'a, 'b>,
+) -> Result<(Expr, Cursor<'a, 'b>), ParseError>
+    requires names { length symbols.old + length (spot from).rest < 2 ^ 31 }
+    requires depth { depth ≤ limit }
+    ensures found { IfOk result (λ found. FoundAs (rest_of level) depth symbols.old symbols.new (spot from.entry) (spot found.1)
+        (λ names inside. phrase names found.0 ≡ chain place (phrase names first) (links_in level inside))) }
+    ensures refused { IfErr result (λ error. IsRefused (Nonterminal (rest_of level) depth) (spot from.entry) error) }
+{
     let mut operands = Vec::new(alloc);
+    let mut here = from;
     while let Some((operator, behind)) = operator_at(level, here) {
         let (right, end) = operand(alloc, symbols, level, depth, behind)?;
         operands.push(Operand { operator, right })?;
@@ -133,7 +158,7 @@ pub(crate) fn operators<'a, 'b>(
             break;
         }
     }
-    Ok((node(alloc, from.place(), first, operands)?, here))
+    Ok((node(alloc, place, first, operands)?, here))
 }
 
 /// An operand of a level, and the cursor behind it.

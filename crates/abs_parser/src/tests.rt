@@ -8,7 +8,9 @@ use std::test::Fail;
 
 mod expressions;
 mod phrases;
+mod right_sides;
 mod sizes;
+mod texts;
 
 /// A text is refused at the first token that can't stand where it does; the end of the text counts as a token.
 #[test]

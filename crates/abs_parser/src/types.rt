@@ -67,7 +67,7 @@ fn type_arguments<'a, 'b>(
 
 /// A type, and others behind commas, and the cursor behind them.
 #[cycle(types)]
-fn types<'a, 'b>(
+pub(crate) fn types<'a, 'b>(
     alloc: Global,
     symbols: &mut Symbols<'a>,
     depth: u32,

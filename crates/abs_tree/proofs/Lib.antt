@@ -2,3 +2,4 @@ pub mod TableLemmas
 pub mod TreeLemmas
 pub mod RuleLemmas
 pub mod SyntaxLemmas
+pub mod StatementLemmas

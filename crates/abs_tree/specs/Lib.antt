@@ -10,3 +10,7 @@ pub mod Faults
 pub mod Syntax
 pub mod SyntaxViews
 pub mod SyntaxSizes
+pub mod SyntaxNumbers
+pub mod TextNumbers
+pub mod TextSizes
+pub mod TextViews

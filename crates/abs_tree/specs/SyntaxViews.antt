@@ -6,6 +6,8 @@
 --   `.._row`                                           the children inside a tree
 --   `type_trees`, `phrases`, `links`, ..               a list that is still apart
 use Rattle.std.specs.Prelude.{List, [], ◌∷◌, map, Option, Some, None}
+use Rattle.std.specs.declared.alloc.Global.{Global}
+use Rattle.std.specs.declared.vec.Vec.{Vec}
 use Rattle.abs_tree.specs.Syntax.{Name, VariableTree, Written, AtSlot, TypeTree, TypeName, BottomType, NullType, ClassType, TypeTrees, NoType, NextType, PatternTree, AnyValue, Binds, SameNumber, SameText, Built, PatternTrees, NoPattern, NextPattern, Phrase, LetIn, IfElse, Chain, Prefixed, NumberOf, TextOf, NullOf, DestinyOf, ThisOf, FieldOf, OwnCallOf, VariableOf, ApplyOf, BuildOf, CaseOf, Phrases, NoPhrase, NextPhrase, Links, NoLink, Link, Branches, NoBranch, NextBranch, SideTree, NewOf, ValueOf, SendOf, GetOf, CallOf, Tests, NoTest, NextTest, TargetTree, ToVariable, ToField, MaybeSide, NoSide, SomeSide, Statement, BlockOf, SkipOf, SuspendOf, AwaitOf, ReturnOf, PrintOf, IfOf, WhileOf, DeclareOf, AssignOf, DoOf, MaybeStatements, NoElse, Else, Statements, NoStatement, NextStatement, ParamTree, DeclaredTree, ConstructorTree, SignatureTree, NoValue, Value, MemberTree, FieldTree, MethodTree, DeclTree, DataTree, FunctionTree, InterfaceTree, ClassTree, TextTree}
 use Rattle.abs_tree.specs.Trees.{name_of}
 use Rattle.abs_tree.specs.declared.program.Variable.{Variable}
@@ -168,6 +170,11 @@ abbrev mutual
 abbrev pub statements : List Name → List code_stmt.Stmt → Statements
 statements names [] = NoStatement
 statements names (stmt ∷ others) = NextStatement (statement names stmt) (statements names others)
+
+-- the trees of a branch that may be missing
+abbrev pub maybe_statements : List Name → Option (Vec code_stmt.Stmt Global) → MaybeStatements
+maybe_statements names None = NoElse
+maybe_statements names (Some branch) = Else (statements names branch.items)
 
 -- the trees of a declaration and of its parts
 abbrev pub declared : List Name → code_declared.Declared → DeclaredTree

@@ -1,11 +1,12 @@
 use Rattle.abs_lexer.specs.Views.{lexed}
-use Rattle.abs_parser.proofs.+phrases.Goals.{operators::operators-in-Some+in_ok-right+in_ok-push+then-not-repeats, operators::operators-in_default, primaries::built-in-Some, primaries::built-in-None, primaries::named-in-Some, primaries::named-in-None, primaries::this_of-in-Some, primaries::this_of-in-None}
+use Rattle.abs_parser.proofs.+phrases.Goals.{operators::operators_behind-in-Some+in_ok-right+in_ok-push+then-not-repeats, operators::operators_behind-in_default, primaries::built-in-Some, primaries::built-in-None, primaries::named-in-Some, primaries::named-in-None, primaries::this_of-in-Some, primaries::this_of-in-None}
 use Rattle.abs_parser.proofs.CaseSteps.{case_begins, case_asked, refused_branch, refused_brace, branch_shorter, first_branch, next_branch, case_found, pattern_read, refused_pattern, branch_found}
 use Rattle.abs_parser.proofs.DigitLemmas.{number_digits, number_fits, narrowed}
 use Rattle.abs_parser.proofs.ExpressionSteps.{or_found, or_refused, if_opened, if_begins, if_tested, if_chosen, if_found, let_opened, let_begins, let_named, let_assigned, let_valued, let_found}
+use Rattle.abs_parser.proofs.FirstPlaceLemmas.{found_within}
 use Rattle.abs_parser.proofs.ListLemmas.{list_of_expressions, trees_of_expressions, arguments}
 use Rattle.abs_parser.proofs.ListSteps.{first_so_far, next_so_far, all_so_far, refused_first, refused_next, maybe_found, refused_between, parentheses_left_out, parentheses_follow, parentheses_shut, parenthesis_read, nothing_between}
-use Rattle.abs_parser.proofs.OperatorLemmas.{first_operand_refused, first_operand_read, next_operand_refused, next_operand_read, last_operand_found, level_ends}
+use Rattle.abs_parser.proofs.OperatorLemmas.{first_operand_refused, no_operand_read, next_operand_refused, next_operand_read, last_operand_found, operators_end, first_operand_read, level_found}
 use Rattle.abs_parser.proofs.PatternSteps.{next_taken}
 use Rattle.abs_parser.proofs.PrimaryLemmas.{other_word, group_shut, no_tail, tree_by, named_tree, built_tree, member_tree, this_tree, group_tree, prefixed_tree, apply_phrase, local_phrase, call_phrase, field_phrase, build_phrase, constant_phrase}
 use Rattle.abs_parser.proofs.PrimarySteps.{stands, first_read, name_read, member_begins, call_found, prefix_read, prefix_deep, operand_deep, operand_found, operand_refused, unary_refused_at_end, primary_refused_at_end, refused_no_unary, refused_no_primary}
@@ -182,43 +183,58 @@ operators::operators-returns-in_err-first-clause-refused t c =
     let p = err_from_is_err_and c.from_residual.result c.from_residual.ensures.1 in
     rw (p.1, p.2) (first_operand_refused c.args.level c.args.depth (spot c.args.from) _ c.in_err-first.ensures.refused)
 
-pub operators::operators-loop-operator-init : goal.operators::operators-loop-operator-init
-operators::operators-loop-operator-init t c = record { read = rw c.new-operands.ensures.items (first_operand_read c.args.level c.in_ok-first.first c.in_ok-first.ensures.found) }
+pub operators::operators-operators_behind-requires : goal.operators::operators-operators_behind-requires
+operators::operators-operators_behind-requires t c =
+    let few = found_few c.in_ok-first.ensures.found in
+    let shorter = found_shorter c.in_ok-first.ensures.found in
+    (search rules, (omega arith, found_within c.in_ok-first.ensures.found))
 
-pub operators::operators-operand-requires-in-Some : goal.operators::operators-operand-requires-in-Some
-operators::operators-operand-requires-in-Some t c =
+pub operators::operators-returns-clause-found : goal.operators::operators-returns-clause-found
+operators::operators-returns-clause-found t c =
+    IfOk-weaker c.operators_behind.result _ _ (λ found. level_found c.args.level _ c.in_ok-first.first found.0 c.in_ok-first.ensures.found c.place.ensures) c.operators_behind.ensures.found
+
+pub operators::operators-returns-clause-refused : goal.operators::operators-returns-clause-refused
+operators::operators-returns-clause-refused t c =
+    IfErr-weaker c.operators_behind.result _ _ (refused_inside (first_operand_read c.args.level c.in_ok-first.ensures.found)) c.operators_behind.ensures.refused
+
+pub operators::operators_behind-loop-operator-init : goal.operators::operators_behind-loop-operator-init
+operators::operators_behind-loop-operator-init t c = record { read = no_operand_read c.args.level c.args.depth c.args.symbols.now (spot c.args.from) c.new-operands.ensures.items; first_is = refl }
+
+pub operators::operators_behind-operand-requires : goal.operators::operators_behind-operand-requires
+operators::operators_behind-operand-requires t c =
     let few = c.loop-operator.invariant.read.read.few in
     let sign = token_shorter c.in-Some.ensures.some.takes.takes in
     let shorter = c.loop-operator.invariant.read.read.shorter in
+    let depth = c.requires.depth in
     (search rules, omega arith)
 
-pub operators::operators-returns-in_err-right-clause-refused : goal.operators::operators-returns-in_err-right-clause-refused
-operators::operators-returns-in_err-right-clause-refused t c =
-    let p = err_from_is_err_and c.from_residual-in_err-right.result c.from_residual-in_err-right.ensures.1 in
-    rw (p.1, p.2) (next_operand_refused c.in-Some.operator _ c.loop-operator.invariant.read c.in-Some.ensures.level c.in-Some.ensures.some.takes c.in_err-right.ensures.refused)
+pub operators::operators_behind-returns-in_err-right-clause-refused : goal.operators::operators_behind-returns-in_err-right-clause-refused
+operators::operators_behind-returns-in_err-right-clause-refused t c =
+    let p = err_from_is_err_and c.from_residual.result c.from_residual.ensures.1 in
+    rw (p.1, p.2) (next_operand_refused c.in-Some.operator _ c.loop-operator.invariant.read c.in-Some.ensures.level c.in-Some.ensures.some.takes c.requires.depth c.in_err-right.ensures.refused)
 
-pub operators::operators-loop-operator-smaller : goal.operators::operators-loop-operator-smaller
-operators::operators-loop-operator-smaller t c =
+pub operators::operators_behind-loop-operator-smaller : goal.operators::operators_behind-loop-operator-smaller
+operators::operators_behind-loop-operator-smaller t c =
     let sign = token_shorter c.in-Some.ensures.some.takes.takes in
     let right = found_shorter c.in_ok-right.ensures.found in
     omega arith
 
-pub operators::operators-loop-operator-preserved : goal.operators::operators-loop-operator-preserved
-operators::operators-loop-operator-preserved t c =
+pub operators::operators_behind-loop-operator-preserved : goal.operators::operators_behind-loop-operator-preserved
+operators::operators_behind-loop-operator-preserved t c =
     let operand : Operand = record { operator = c.in-Some.operator; right = c.in_ok-right.right } in
-    let more = next_operand_read c.loop-operator.operands.items operand c.loop-operator.invariant.read c.in-Some.ensures.level c.in-Some.ensures.some.takes c.in_ok-right.ensures.found in
-    record { read = rw c.in_ok-push.ensures.items (more (sym c.repeats.ensures ∙ c.if-not-repeats.false)) }
+    let more = next_operand_read c.loop-operator.operands.items operand c.loop-operator.invariant.read c.in-Some.ensures.level c.in-Some.ensures.some.takes c.requires.depth c.in_ok-right.ensures.found in
+    record { read = rw c.in_ok-push.ensures.items (more (sym c.repeats.ensures ∙ c.if-not-repeats.false)); first_is = c.loop-operator.invariant.first_is }
 
-pub operators::operators-returns-clause-found : goal.operators::operators-returns-clause-found
-operators::operators-returns-clause-found t c =
+pub operators::operators_behind-returns-clause-found : goal.operators::operators_behind-returns-clause-found
+operators::operators_behind-returns-clause-found t c =
     elim c.match-operator_at.branch [
-      | operators::operators-in-Some+in_ok-right+in_ok-push+then-not-repeats w ↦
+      | operators::operators_behind-in-Some+in_ok-right+in_ok-push+then-not-repeats w ↦
           let operand : Operand = record { operator = w.in-Some.operator; right = w.in_ok-right.right } in
-          let last = last_operand_found _ operand c.loop-operator.invariant.read w.in-Some.ensures.level w.in-Some.ensures.some.takes w.in_ok-right.ensures.found (sym w.repeats.ensures ∙ w.if-not-repeats.true) in
-          rw (w.symbols-is, w.here-is) (last c.place.ensures (ap (λ (operands : Vec Operand Global). operands.items) w.operands-is ∙ w.in_ok-push.ensures.items) c.in_ok-node.ensures)
-      | operators::operators-in_default w ↦
-          let ended = level_ends _ c.loop-operator.invariant.read w.in_default.ensures.none in
-          rw (w.symbols-is, w.here-is) (ended c.place.ensures (ap (λ (operands : Vec Operand Global). operands.items) w.operands-is) c.in_ok-node.ensures)
+          let last = last_operand_found c.args.place _ _ operand c.loop-operator.invariant.read w.in-Some.ensures.level w.in-Some.ensures.some.takes c.requires.depth w.in_ok-right.ensures.found (sym w.repeats.ensures ∙ w.if-not-repeats.true) in
+          rw (w.symbols-is, w.here-is, ← c.loop-operator.invariant.first_is) (last (ap (λ (operands : Vec Operand Global). operands.items) w.operands-is ∙ w.in_ok-push.ensures.items) c.in_ok-node.ensures)
+      | operators::operators_behind-in_default w ↦
+          let ended = operators_end c.args.place _ _ c.loop-operator.invariant.read w.in_default.ensures.none in
+          rw (w.symbols-is, w.here-is, ← c.loop-operator.invariant.first_is) (ended (ap (λ (operands : Vec Operand Global). operands.items) w.operands-is) c.in_ok-node.ensures)
     ]
 
 pub primaries::built-returns-in_err-arguments-clause-refused : goal.primaries::built-returns-in_err-arguments-clause-refused

@@ -1,6 +1,6 @@
-use Rattle.std.proofs.Common.{◌+◌, ◌*◌, length}
+use Rattle.std.proofs.Common.{◌≡◌, ◌+◌, ◌*◌, length}
 use Rattle.abs_parser.specs.Views.{spot}
-use Rattle.abs_parser.proofs.OperatorLemmas.{rank, LevelSoFar}
+use Rattle.abs_parser.proofs.OperatorLemmas.{rank, OperatorsSoFar}
 use Rattle.abs_parser.proofs.CaseSteps.{ReadsCase}
 use Rattle.abs_parser.proofs.ListLemmas.{list_of_expressions, trees_of_expressions}
 use Rattle.abs_parser.proofs.ListSteps.{ReadsSoFar}
@@ -18,6 +18,9 @@ decreases-expressions::if_else l = 24 * length (spot l.from).rest + 19
 
 abbrev pub decreases-operators::operators : goal.decreases-operators::operators
 decreases-operators::operators l = 24 * length (spot l.from).rest + (2 * rank l.level + 7)
+
+abbrev pub decreases-operators::operators_behind : goal.decreases-operators::operators_behind
+decreases-operators::operators_behind l = 24 * length (spot l.from).rest + (2 * rank l.level + 6)
 
 abbrev pub decreases-operators::operand : goal.decreases-operators::operand
 decreases-operators::operand l = 24 * length (spot l.from).rest + (2 * rank l.level + 6)
@@ -59,11 +62,14 @@ abbrev pub decreases-arguments::expressions : goal.decreases-arguments::expressi
 decreases-arguments::expressions l = 24 * length (spot l.from).rest + 21
 
 -- what was read so far
-abbrev pub invariant-operators::operators-loop-operator : goal.invariant-operators::operators-loop-operator
-invariant-operators::operators-loop-operator l = record { read : LevelSoFar l.level l.depth l.fn.symbols l.symbols (spot l.from) (spot l.here) l.first l.operands.items }
+abbrev pub invariant-operators::operators_behind-loop-operator : goal.invariant-operators::operators_behind-loop-operator
+invariant-operators::operators_behind-loop-operator l = record {
+  read : OperatorsSoFar l.level l.depth l.fn.symbols l.symbols (spot l.from) (spot l.here) l.operands.items;
+  first_is : l.first ≡ l.fn.first;
+}
 
-abbrev pub decreases-operators::operators-loop-operator : goal.decreases-operators::operators-loop-operator
-decreases-operators::operators-loop-operator l = length (spot l.here).rest
+abbrev pub decreases-operators::operators_behind-loop-operator : goal.decreases-operators::operators_behind-loop-operator
+decreases-operators::operators_behind-loop-operator l = length (spot l.here).rest
 
 abbrev pub invariant-cases::case_of-loop-symbols : goal.invariant-cases::case_of-loop-symbols
 invariant-cases::case_of-loop-symbols l = record { read : ReadsCase l.depth l.fn.symbols l.symbols (spot l.from) (spot l.here) l.word.place l.subject l.branches.items }

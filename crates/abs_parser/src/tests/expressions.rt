@@ -10,14 +10,14 @@ use std::alloc::{AllocError, Global};
 use std::test::Fail;
 
 /// The name of a symbol.
-fn name<'a>(symbols: &Symbols<'a>, symbol: Symbol) -> &'a str {
+pub(super) fn name<'a>(symbols: &Symbols<'a>, symbol: Symbol) -> &'a str {
     str::from_utf8(symbols.name(symbol)).unwrap_or("?")
 }
 
 /// An expression as text: each node behind its column, operators of one level in brackets, and what stands in another node behind
 /// its name.
 #[cycle(shown)]
-fn shown(alloc: Global, symbols: &Symbols, expr: &Expr) -> Result<String, AllocError> {
+pub(super) fn shown(alloc: Global, symbols: &Symbols, expr: &Expr) -> Result<String, AllocError> {
     match expr {
         Expr::Let(at, type_of, variable, value, body) => {
             let type_of = shown_type(alloc, symbols, type_of)?;
@@ -104,7 +104,7 @@ fn shown_variable(
 
 /// Arguments, each behind a space.
 #[cycle(shown)]
-fn shown_arguments(
+pub(super) fn shown_arguments(
     alloc: Global,
     symbols: &Symbols,
     arguments: &Vec<Expr>,

@@ -1,4 +1,5 @@
 use Rattle.abs_lexer.specs.Views.{lexed}
+use Rattle.abs_parser.specs.ReaderAnswers.{asked}
 use Rattle.abs_parser.specs.Views.{spot}
 use Rattle.abs_parser.proofs.KindLemmas.{kind_equal, kind_other}
 use Rattle.abs_parser.proofs.AskedLemmas.{other_refused, unfit_token, unfit_end}
@@ -16,4 +17,4 @@ returns-in_default-clause-other c = elim c.in_default.branch [
 ]
 
 pub returns-in_default-clause-refused : goal.returns-in_default-clause-refused
-returns-in_default-clause-refused c = other_refused c.args.kind (spot c.args.self) c.wrong.result c.wrong.ensures (returns-in_default-clause-other c)
+returns-in_default-clause-refused c = other_refused (asked c.args.kind) (spot c.args.self) c.wrong.result c.wrong.ensures (returns-in_default-clause-other c)

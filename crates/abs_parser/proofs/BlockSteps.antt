@@ -1,0 +1,105 @@
+-- The statements of a block, up to the "}" that closes it: those that were read so far, with the trees of them; and where the block is
+-- refused.
+use Rattle.std.proofs.Common.{◌≡◌, ◌≤◌, ◌<◌, ℕ, true, false, List, [], ◌∷◌, ◌++◌, length, refl, sym, ap, ◌∙◌, arith}
+use Rattle.abs_tree.specs.declared.syntax.declaration.Body.{Body}
+use Rattle.abs_tree.specs.declared.syntax.statement.Stmt.{Stmt as CodeStmt}
+use Rattle.abs_tree.specs.Syntax.{Name, Statement, Statements, NoStatement, NextStatement}
+use Rattle.abs_tree.specs.SyntaxViews.{statement, statements}
+use Rattle.abs_lexer.specs.declared.lexeme.Lexeme.TheVariants as lexeme
+use Rattle.abs_lexer.specs.declared.lexeme.Punctuator.TheVariants as punctuator
+use Rattle.abs_lexer.specs.Tokens.{Lexed}
+use Rattle.abs_parser.specs.Answers.{GoesOn}
+use Rattle.abs_parser.specs.Firsts.{IsBlock}
+use Rattle.abs_parser.specs.Kinds.{Mark, Token, Sign, place_of_mark, next}
+use Rattle.abs_parser.specs.Productions.{Stmt, Block, begins}
+use Rattle.abs_parser.specs.Readings.{One, Repeated, Terminal, Nonterminal, Forest, Empty, Leaf, Node}
+use Rattle.abs_parser.specs.ReaderAnswers.{left_at, TakesKind, FoundAs, IsRefused}
+use Rattle.abs_parser.specs.Stops.{limit}
+use Rattle.abs_parser.specs.Tokens.{Spot}
+use Rattle.abs_parser.specs.TreesOf.{statements_in, block_in, block_end}
+use Rattle.abs_parser.specs.declared.parser.ParseError.{ParseError}
+use Rattle.abs_parser.proofs.FirstPlaceLemmas.{found_fewer}
+use Rattle.abs_parser.proofs.NameLemmas.{goes_on_further}
+use Rattle.abs_parser.proofs.PatternSteps.{nothing_found}
+use Rattle.abs_parser.proofs.RepeatSteps.{in_front, over_one_more}
+use Rattle.abs_parser.proofs.StatementSteps.{IsStatement, block_opened}
+use Rattle.abs_parser.proofs.StepLemmas.{HasRead, opens, over_token, over_part, all_read, refused_inside, fits_next, token_shorter, found_goes_on}
+use Rattle.abs_parser.proofs.SymbolLemmas.{repeated_opened, repeated_ends}
+
+-- the trees of statements, in front of others
+abbrev pub statements_before : List Name → List CodeStmt → Statements → Statements
+statements_before names [] behind = behind
+statements_before names (stmt ∷ others) behind = NextStatement (statement names stmt) (statements_before names others behind)
+
+-- with nothing behind them they are the trees of the statements
+all_statements : (names : List Name) (listed : List CodeStmt) → statements_before names listed NoStatement ≡ statements names listed
+all_statements names [] = refl
+all_statements names (stmt ∷ others) = ap (NextStatement (statement names stmt)) (all_statements names others)
+
+-- one more statement stands in front of the others
+one_statement : (names : List Name) (listed : List CodeStmt) (stmt : CodeStmt) (behind : Statements)
+    → statements_before names (listed ++ stmt ∷ []) behind ≡ statements_before names listed (NextStatement (statement names stmt) behind)
+one_statement names [] stmt behind = refl
+one_statement names (first ∷ others) stmt behind = ap (NextStatement (statement names first)) (one_statement names others stmt behind)
+
+-- What was read of a block up to here, with the trees of its statements: whatever further statements are read, and the "}" behind them,
+-- complete it.
+pub record ReadsBlock (depth : ℕ) (old now : List (List ℕ)) (from here : Spot) (listed : List CodeStmt) : Type 0 where
+  pub make : Forest → Forest
+  pub read : HasRead (One Block) depth old now from make (Nonterminal (Repeated Stmt) depth ∷ Terminal (Sign punctuator.CloseBrace) depth ∷ []) here
+  pub shorter : length here.rest < length from.rest
+  pub statements_are : (names : List Name) → GoesOn now names → (inside : Forest) (mark : Mark) (at : ℕ)
+      → statements_before names listed (statements_in inside) ≡ block_in (make (Node (Repeated Stmt) inside (Leaf mark at Empty)))
+  pub end_is : (inside : Forest) (mark : Mark) (at : ℕ) → place_of_mark mark ≡ block_end (make (Node (Repeated Stmt) inside (Leaf mark at Empty)))
+
+-- up to the first statement
+pub first_statement : {brace : Lexed} {from here : Spot} {depth : ℕ} {listed : List CodeStmt} (table : List (List ℕ)) → listed ≡ [] → TakesKind (lexeme.Sign punctuator.OpenBrace) brace from here → depth ≤ limit
+    → ReadsBlock depth table table from here listed
+first_statement {brace} {from} {depth = depth} table same takes within = rw same (record {
+  make = λ rest. Leaf (Token brace) depth rest;
+  read = over_token (opens (One Block) depth table from _ (block_opened _ depth (fits_next refl takes))) takes refl refl within;
+  shorter = omega (arith, token_shorter takes.takes);
+  statements_are = λ names more inside mark at. refl;
+  end_is = λ inside mark at. refl;
+})
+
+-- and over one more
+pub next_statement : {depth : ℕ} {old now new : List (List ℕ)} {from here to : Spot} {listed longer : List CodeStmt} (stmt : CodeStmt) → longer ≡ listed ++ stmt ∷ []
+    → ReadsBlock depth old now from here listed → begins Stmt (next (left_at here)) ≡ true → FoundAs (One Stmt) depth now new here to (IsStatement stmt) → ReadsBlock depth old new from to longer
+next_statement {depth} {listed = listed} stmt same so begun found = rw same (record {
+  make = λ rest. so.make (in_front Stmt found.inside rest);
+  read = over_one_more so.read (repeated_opened Stmt _ depth begun) found;
+  shorter = omega (arith, so.shorter, found_fewer found);
+  statements_are = λ names more inside mark at.
+      one_statement names listed stmt (statements_in inside)
+      ∙ (ap (λ (tree : Statement). statements_before names listed (NextStatement tree (statements_in inside))) (found.is names more)
+      ∙ so.statements_are names (goes_on_further (found_goes_on found) more) (Node (One Stmt) found.inside (Node (Repeated Stmt) inside Empty)) mark at);
+  end_is = λ inside mark at. so.end_is (Node (One Stmt) found.inside (Node (Repeated Stmt) inside Empty)) mark at;
+})
+
+-- where a further statement begins, the block is refused where that is
+pub refused_statement : {depth : ℕ} {old now : List (List ℕ)} {from here : Spot} {listed : List CodeStmt} (error : ParseError) → ReadsBlock depth old now from here listed → begins Stmt (next (left_at here)) ≡ true
+    → IsRefused (Nonterminal (One Stmt) depth) here error → IsRefused (Nonterminal (One Block) depth) from error
+refused_statement {depth} {now = now} {here = here} error so begun refused =
+    refused_inside so.read error (refused_inside (opens (Repeated Stmt) depth now here _ (repeated_opened Stmt _ depth begun)) error refused)
+
+-- where no further one begins, there is none
+no_statement : (depth : ℕ) (table : List (List ℕ)) (here : Spot) → begins Stmt (next (left_at here)) ≡ false → FoundAs (Repeated Stmt) depth table table here here (λ names inside. inside ≡ Empty)
+no_statement depth table here ends = nothing_found (Repeated Stmt) depth table here (repeated_ends Stmt _ depth ends)
+
+-- and the block is refused where its "}" is
+pub refused_brace : {depth : ℕ} {old now : List (List ℕ)} {from here : Spot} {listed : List CodeStmt} (error : ParseError) → ReadsBlock depth old now from here listed → begins Stmt (next (left_at here)) ≡ false
+    → IsRefused (Terminal (Sign punctuator.CloseBrace) depth) here error → IsRefused (Nonterminal (One Block) depth) from error
+refused_brace {depth} {now = now} {here = here} error so ends refused = refused_inside (over_part so.read (no_statement depth now here ends)) error refused
+
+-- behind its "}" the block is found
+pub block_found : {brace : Lexed} {depth : ℕ} {old now : List (List ℕ)} {from here end : Spot} (body : Body) → body.end ≡ brace.place → ReadsBlock depth old now from here body.statements.items
+    → begins Stmt (next (left_at here)) ≡ false → TakesKind (lexeme.Sign punctuator.CloseBrace) brace here end → depth ≤ limit
+    → FoundAs (One Block) depth old now from end (λ names inside. IsBlock names body inside)
+block_found {brace} {depth} {now = now} {here = here} body closed so ends takes within =
+    let none = no_statement depth now here ends in
+    all_read (over_token (over_part so.read none) takes refl refl within) (λ names more. record {
+      statements_are = sym (all_statements names body.statements.items)
+          ∙ (sym (ap (λ (inside : Forest). statements_before names body.statements.items (statements_in inside)) (none.is names more)) ∙ so.statements_are names more none.inside (Token brace) depth);
+      end_is = closed ∙ so.end_is none.inside (Token brace) depth;
+    })

@@ -1,0 +1,208 @@
+-- The steps of the readers of declarations, one behind another: which tokens begin one; that only a class has statements to number; and what
+-- was read up to a next one, with the trees and the numbers of those that the code has.
+use Rattle.std.proofs.Common.{◌≡◌, ◌≤◌, ◌<◌, ℕ, ◌+◌, Bool, true, false, List, [], ◌∷◌, ◌++◌, length, map, refl, sym, ap, ◌∙◌, arith}
+use Rattle.std.proofs.lemmas.List.{append-nil}
+use Rattle.std.specs.List.{list_any}
+use denote.Enum.Bare.{sameb}
+use Rattle.abs_lexer.specs.contracts.lexeme.Keyword.{the_type as keywords}
+use Rattle.abs_lexer.specs.declared.lexeme.Keyword.{Keyword}
+use Rattle.abs_lexer.specs.declared.lexeme.Keyword.TheVariants as keyword
+use Rattle.abs_lexer.specs.declared.lexeme.Lexeme.{Lexeme}
+use Rattle.abs_lexer.specs.declared.lexeme.Lexeme.TheVariants as lexeme
+use Rattle.abs_lexer.specs.Tokens.{Lexed}
+use Rattle.abs_tree.specs.Syntax.{DeclTree, ClassTree}
+use Rattle.abs_tree.specs.SyntaxViews.{decl_tree}
+use Rattle.abs_tree.specs.TextNumbers.{DeclNumbered, DeclsNumbered}
+use Rattle.abs_tree.specs.declared.place.Place.{Place}
+use Rattle.abs_tree.specs.declared.syntax.declaration.Decl.{Decl as CodeDecl}
+use Rattle.abs_tree.specs.declared.syntax.declaration.Decl.TheVariants as code_decl
+use Rattle.abs_parser.specs.Answers.{GoesOn}
+use Rattle.abs_parser.specs.Kinds.{Mark, Kind, Word, place_of_mark, kind_of, fits, next}
+use Rattle.abs_parser.specs.Productions.{Decl, begins, begins_within}
+use Rattle.abs_parser.specs.Readings.{One, Repeated, Wanted, Nonterminal, Forest, Empty, Leaf, Node, Reads, Taken}
+use Rattle.abs_parser.specs.ReaderAnswers.{left_at, asked, wrong_at, TakesKind, FoundAs, IsRefused}
+use Rattle.abs_parser.specs.Tokens.{Spot, TakesToken}
+use Rattle.abs_parser.specs.TreesOf.{decl_in, decl_by, decls_in}
+use Rattle.abs_parser.specs.declared.parser.ParseError.{ParseError}
+use Rattle.abs_parser.specs.declared.parser.ParseError.TheVariants.{Refused}
+use Rattle.abs_parser.proofs.DeclarationSteps.{one_more, no_part}
+use Rattle.abs_parser.proofs.FirstTokens.{BeginsBy, begins_next, IsOneOf, IsNoneOf, one_passes, none_found}
+use Rattle.abs_parser.proofs.NameLemmas.{goes_on_itself, goes_on_further}
+use Rattle.abs_parser.proofs.NumberLemmas.{decls_more}
+use Rattle.abs_parser.proofs.PatternSteps.{next_taken, next_end}
+use Rattle.abs_parser.proofs.RepeatSteps.{in_front, over_one_more}
+use Rattle.abs_parser.proofs.StepLemmas.{HasRead, inside_alone, left_whole, opens, over_part, all_read, refused_inside, refused_shut, reads_shorter, left_length, found_goes_on}
+use Rattle.abs_parser.proofs.SymbolLemmas.{part_shut, repeated_opened, repeated_ends}
+
+-- The first token
+
+-- these words begin a declaration
+abbrev pub declaration_words : List Keyword
+declaration_words = keyword.Data ∷ keyword.Def ∷ keyword.Interface ∷ keyword.Class ∷ []
+
+-- whether a declaration may begin with a token of a kind
+abbrev begins_declaration : Lexeme → Bool
+begins_declaration (lexeme.Word word) = list_any (sameb keywords word) declaration_words
+begins_declaration _ = false
+
+-- that is so for each kind
+declaration_told : (kind : Lexeme) → begins_declaration kind ≡ begins Decl (asked kind)
+unfolding begins begins_within
+declaration_told (lexeme.Word keyword.Data) = refl
+declaration_told _ = refl
+
+-- and for each name
+declaration_kinds : BeginsBy Decl begins_declaration
+unfolding begins begins_within
+declaration_kinds = record { told = declaration_told; local_too = refl; abs_too = refl; library_too = refl }
+
+-- so a declaration begins with one of the words
+pub declaration_word : {token : Lexed} {from behind : Spot} (word : Keyword) → TakesToken token from behind → token.kind ≡ lexeme.Word word → IsOneOf declaration_words word
+    → true ≡ begins Decl (next (left_at from))
+declaration_word word takes is one =
+    begins_next declaration_kinds (lexeme.Word word) takes is (one_passes (λ (w : Keyword). begins_declaration (lexeme.Word w)) declaration_words refl one)
+
+-- with another word none begins
+pub no_declaration_word : {token : Lexed} {from behind : Spot} (word : Keyword) → TakesToken token from behind → token.kind ≡ lexeme.Word word → IsNoneOf declaration_words word
+    → false ≡ begins Decl (next (left_at from))
+no_declaration_word word takes is none = begins_next declaration_kinds (lexeme.Word word) takes is (none_found keywords tt declaration_words word none)
+
+-- what is no word begins none
+no_word_begins : (kind : Lexeme) → ((word : Keyword) → kind ≡ lexeme.Word word → ⊥) → false ≡ begins_declaration kind
+no_word_begins (lexeme.Word word) no_word = absurd (no_word word refl)
+no_word_begins _ no_word = refl
+
+-- nor does a token that is none
+pub no_declaration_kind : {token : Lexed} {from behind : Spot} → TakesToken token from behind → ((word : Keyword) → token.kind ≡ lexeme.Word word → ⊥)
+    → false ≡ begins Decl (next (left_at from))
+no_declaration_kind {token} takes no_word = begins_next declaration_kinds token.kind takes refl (no_word_begins token.kind no_word)
+
+-- nor with the end of the text
+pub no_declaration_at_end : (from : Spot) → from.rest ≡ [] → false ≡ begins Decl (next (left_at from))
+unfolding begins begins_within
+no_declaration_at_end from ended = rw (next_end from ended) refl
+
+-- where none begins, it is refused
+pub refused_no_declaration : (from : Spot) (error : ParseError) → error ≡ Refused (wrong_at from) → false ≡ begins Decl (next (left_at from))
+    → IsRefused (Nonterminal (One Decl) 0) from error
+refused_no_declaration from error is none = rw is (refused_shut (One Decl) 0 from (part_shut Decl _ 0 (sym none)))
+
+-- a word other than `class` stands next
+pub no_class_next : {token : Lexed} {from behind : Spot} {word : Keyword} (other : Keyword) → TakesToken token from behind → token.kind ≡ lexeme.Word word → word ≡ other
+    → fits (Word keyword.Class) (Word other) ≡ false → fits (Word keyword.Class) (next (left_at from)) ≡ false
+no_class_next {token} {from} {behind} other takes is same differs =
+    let taken : TakesKind (lexeme.Word other) token from behind = record { kind_is = is ∙ ap lexeme.Word same; takes = takes } in
+    ap (fits (Word keyword.Class)) (next_taken taken) ∙ differs
+
+-- One declaration
+
+-- this declaration was read, in front of others
+abbrev pub IsDeclaration : CodeDecl → List (List ℕ) → Forest → Type 0
+IsDeclaration decl names inside = (others : List DeclTree) → decl_tree names decl ∷ others ≡ decl_in inside others
+
+-- whether a first tree is that of a class
+abbrev class_first : List DeclTree → Bool
+class_first [] = false
+class_first (ClassTree place name params implemented members ∷ others) = true
+class_first (tree ∷ others) = false
+
+-- behind a word other than `class` there is none
+no_class_by : (kind : Kind) (place : Place) (inside : Forest) → fits (Word keyword.Class) kind ≡ false → class_first (decl_by kind place inside []) ≡ false
+no_class_by (Word keyword.Data) place (Leaf name _ (Node _ parameters (Leaf equals _ (Node _ first (Node _ more _))))) other = refl
+no_class_by (Word keyword.Def) place (Node _ type (Leaf name _ (Node _ parameters (Leaf opening _ (Node _ params (Leaf closing _ (Leaf equals _ (Node _ expr _)))))))) other = refl
+no_class_by (Word keyword.Interface) place (Leaf name _ (Node _ extended (Leaf opening _ (Node _ signatures _)))) other = refl
+no_class_by (Word keyword.Class) place inside other = absurd cc
+no_class_by _ place inside other = refl
+
+-- so it is for what was read
+no_class_read : {items : List Wanted} {ts to : List Mark} {inside : Forest} → Reads items ts inside to → fits (Word keyword.Class) (next ts) ≡ false
+    → class_first (decl_in inside []) ≡ false
+no_class_read {inside = Empty} reads other = refl
+no_class_read {inside = Leaf mark depth behind} (Taken fit reads) other = no_class_by (kind_of mark) (place_of_mark mark) behind other
+no_class_read {inside = Node goal first behind} reads other = refl
+
+-- a declaration whose tree is not that of a class has no statements
+no_statements : (names : List (List ℕ)) (number : ℕ) (decl : CodeDecl) → class_first (decl_tree names decl ∷ []) ≡ false → DeclNumbered number decl number
+no_statements names number (code_decl.Data place name parameters constructors) other = refl
+no_statements names number (code_decl.Function place result name parameters params value) other = refl
+no_statements names number (code_decl.Interface place name extended signatures) other = refl
+no_statements names number (code_decl.Class place name params implemented members) other = absurd cc
+
+-- so one that was found behind another word than `class` has none
+pub plain_numbered : {from to : Spot} {old new : List (List ℕ)} (number : ℕ) (decl : CodeDecl) → fits (Word keyword.Class) (next (left_at from)) ≡ false
+    → FoundAs (One Decl) 0 old new from to (IsDeclaration decl) → DeclNumbered number decl number
+plain_numbered {new = new} number decl other found =
+    no_statements new number decl (ap class_first (found.is new (goes_on_itself new) []) ∙ no_class_read found.reads other)
+
+-- what is read with a tree has a token
+token_read : {items : List Wanted} {ts to : List Mark} {inside : Forest} {tree : DeclTree} → Reads items ts inside to → tree ∷ [] ≡ decl_in inside [] → length to < length ts
+token_read {inside = Empty} reads is = absurd cc
+token_read {inside = Leaf mark depth behind} (Taken fit reads) is = omega (arith, reads_shorter reads)
+token_read {inside = Node goal first behind} reads is = absurd cc
+
+-- so a declaration leaves fewer tokens than there were
+pub declaration_shorter : {from to : Spot} {old new : List (List ℕ)} (decl : CodeDecl) → FoundAs (One Decl) 0 old new from to (IsDeclaration decl) → length to.rest < length from.rest
+declaration_shorter {from} {to} {new = new} decl found =
+    let less = token_read found.reads (found.is new (goes_on_itself new) []) in
+    omega (arith, less, left_length from, left_length to)
+
+-- Declarations
+
+-- Declarations were read up to here, with the trees and the numbers of those that the code has: what is read as further ones has its trees
+-- behind these.
+pub record DeclsSoFar (old now : List (List ℕ)) (number free : ℕ) (from here : Spot) (listed : List CodeDecl) : Type 0 where
+  pub make : Forest → Forest
+  pub read : HasRead (Repeated Decl) 0 old now from make (Nonterminal (Repeated Decl) 0 ∷ []) here
+  pub is : (names : List (List ℕ)) → GoesOn now names → (inside : Forest) → decls_in (make (Node (Repeated Decl) inside Empty)) ≡ map (decl_tree names) listed ++ decls_in inside
+  pub numbered : DeclsNumbered number listed free
+  pub few : free + length here.rest ≤ number + length from.rest
+
+-- none was at first, as the repeated part is left whole
+none_so_far : (table : List (List ℕ)) (number : ℕ) (from : Spot) → HasRead (Repeated Decl) 0 table table from inside_alone (Nonterminal (Repeated Decl) 0 ∷ []) from
+    → DeclsSoFar table table number number from from []
+none_so_far table number from read = record {
+  make = inside_alone;
+  read = read;
+  is = λ names more inside. refl;
+  numbered = refl;
+  few = omega arith;
+}
+
+-- which it is whether a declaration begins there or not
+none_by : (may : Bool) (table : List (List ℕ)) (number : ℕ) (from : Spot) → begins Decl (next (left_at from)) ≡ may → DeclsSoFar table table number number from from []
+none_by true table number from is = none_so_far table number from (left_whole (Repeated Decl) 0 table from _ (repeated_opened Decl _ 0 is))
+none_by false table number from is = none_so_far table number from (left_whole (Repeated Decl) 0 table from _ (repeated_ends Decl _ 0 is))
+
+-- so at first no declaration was read
+pub no_declaration_yet : (table : List (List ℕ)) (number : ℕ) (from : Spot) {listed : List CodeDecl} → listed ≡ [] → DeclsSoFar table table number number from from listed
+no_declaration_yet table number from none = rw none (none_by (begins Decl (next (left_at from))) table number from refl)
+
+-- over one more declaration
+pub next_declaration : {old now new : List (List ℕ)} {number free behind : ℕ} {from here to : Spot} {listed longer : List CodeDecl} (decl : CodeDecl) → longer ≡ listed ++ decl ∷ []
+    → DeclsSoFar old now number free from here listed → true ≡ begins Decl (next (left_at here)) → FoundAs (One Decl) 0 now new here to (IsDeclaration decl)
+    → DeclNumbered free decl behind → behind + length to.rest ≤ free + length here.rest → DeclsSoFar old new number behind from to longer
+next_declaration {number = number} {free} {behind} {listed = listed} decl same so begun found numbered few = rw same (record {
+  make = λ rest. so.make (in_front Decl found.inside rest);
+  read = over_one_more so.read (repeated_opened Decl _ 0 (sym begun)) found;
+  is = λ names more inside.
+      so.is names (goes_on_further (found_goes_on found) more) (Node (One Decl) found.inside (Node (Repeated Decl) inside Empty))
+      ∙ (ap (λ (trees : List DeclTree). map (decl_tree names) listed ++ trees) (sym (found.is names more (decls_in inside)))
+      ∙ sym (one_more (decl_tree names) listed decl (decls_in inside)));
+  numbered = decls_more number listed free decl behind so.numbered numbered;
+  few = omega (arith, so.few, few);
+})
+
+-- where one more begins and is refused, all are refused there
+pub refused_declaration : {old now : List (List ℕ)} {number free : ℕ} {from here : Spot} {listed : List CodeDecl} (error : ParseError)
+    → DeclsSoFar old now number free from here listed
+    → true ≡ begins Decl (next (left_at here)) → IsRefused (Nonterminal (One Decl) 0) here error → IsRefused (Nonterminal (Repeated Decl) 0) from error
+refused_declaration {now = now} {here = here} error so begun refused =
+    refused_inside so.read error (refused_inside (opens (Repeated Decl) 0 now here _ (repeated_opened Decl _ 0 (sym begun))) error refused)
+
+-- where none begins, that is all of them
+pub declarations_found : {old now : List (List ℕ)} {number free : ℕ} {from here : Spot} {listed : List CodeDecl} → DeclsSoFar old now number free from here listed
+    → false ≡ begins Decl (next (left_at here)) → FoundAs (Repeated Decl) 0 old now from here (λ names inside. map (decl_tree names) listed ≡ decls_in inside)
+declarations_found {now = now} {here = here} {listed = listed} so ended =
+    let none = no_part Decl 0 now here (sym ended) in
+    all_read (over_part so.read none) (λ names more.
+    sym (so.is names more none.inside ∙ (ap (λ (inside : Forest). map (decl_tree names) listed ++ decls_in inside) (none.is names more) ∙ append-nil (map (decl_tree names) listed))))

@@ -1,0 +1,286 @@
+-- The steps of the reader of a whole text: over what may stand in front of its main block, which may be left out, over the block, and over the
+-- end of the text. So the text is accepted, with the tree of what was read; or it stops where the next part is refused.
+use Rattle.std.proofs.Common.{◌≡◌, ◌≤◌, ℕ, ◌+◌, false, List, [], ◌∷◌, Some, fold, map, length, refl, sym, ap, subst, ◌∙◌, arith, length-drop}
+use Rattle.std.specs.Prelude.{⊤, All}
+use Rattle.std.proofs.lemmas.Bool.{or_parts}
+use Rattle.std.proofs.lemmas.List.Elements.{All-same, All-weaker}
+use Rattle.abs_tree.specs.Syntax.{TextTree}
+use Rattle.abs_tree.specs.Names.{with_name}
+use Rattle.abs_tree.specs.SyntaxSizes.{all_statements, body_sizes, class_sizes}
+use Rattle.abs_tree.specs.TextNumbers.{IsNumberedWhole}
+use Rattle.abs_tree.specs.TextSizes.{all_variables}
+use Rattle.abs_tree.specs.SyntaxViews.{decl_tree, tree_of_parts}
+use Rattle.abs_tree.specs.Refusals.{refusal_of}
+use Rattle.abs_tree.specs.declared.refusal.Refusal.{Refusal}
+use Rattle.abs_tree.specs.declared.syntax.declaration.Body.{Body}
+use Rattle.abs_tree.specs.declared.syntax.declaration.Decl as code_decl
+use Rattle.abs_lexer.specs.Tokens.{Lexed, TokenList}
+use Rattle.abs_parser.specs.Answers.{IsWritten}
+use Rattle.abs_parser.specs.Firsts.{IsBlock}
+use Rattle.abs_parser.specs.Kinds.{Mark, TextEnd, marks, Kind, End, place_of_mark, next}
+use Rattle.abs_parser.specs.Productions.{Symbol, Program, Module, Import, Decl, Block, begins}
+use Rattle.abs_parser.specs.Readings.{One, Optional, Repeated, Wanted, Terminal, Nonterminal, opened, Forest, Empty, Leaf, Node, Reads, Nothing, Taken, Opened, depths}
+use Rattle.abs_parser.specs.Refusing.{AllWithin}
+use Rattle.abs_parser.specs.ReaderAnswers.{left_at, names_before, FoundAs, RefusedAt, IsRefused}
+use Rattle.abs_parser.specs.Texts.{IsTextOf, StopsWith, RefusesText}
+use Rattle.abs_parser.specs.Tokens.{Spot, whole}
+use Rattle.abs_parser.specs.TreesOf.{decls_in, tree_of}
+use Rattle.abs_parser.specs.Views.{spot}
+use Rattle.abs_parser.specs.declared.cursor.Cursor.{Cursor}
+use Rattle.abs_parser.specs.declared.parser.ParseError.{ParseError}
+use Rattle.abs_parser.specs.declared.parser.ParseError.TheVariants.{Refused, Memory}
+use Rattle.abs_parser.proofs.CountLemmas.{text_counted}
+use Rattle.abs_parser.proofs.DeclarationSizes.{variables_of_text, bodies_of_text, fields_of_text}
+use Rattle.abs_parser.proofs.EndLemmas.{text_refused}
+use Rattle.abs_parser.proofs.LeafLemmas.{leaves, leaves_taken}
+use Rattle.abs_parser.proofs.NameLemmas.{goes_on_itself}
+use Rattle.abs_parser.proofs.ReadingLemmas.{a_program}
+use Rattle.abs_parser.proofs.RestSteps.{MayHaveRead, may_open, over_left_out, has_read, refused_left_out, refused_either_way, refused_there}
+use Rattle.abs_parser.proofs.StepLemmas.{HasRead, left_length, within_both, over_part, found_shorter, found_goes_on, refused_alike}
+use Rattle.abs_parser.proofs.StopLemmas.{accepted, stopped}
+use Rattle.abs_parser.proofs.SymbolLemmas.{begins_by, part_begun, part_opened, part_shut, optional_left_out, repeated_ends}
+use Rattle.abs_parser.proofs.WordLemmas.{table_written}
+
+-- What begins nothing that a text may begin with: no line in front of the program, no declaration and no block.
+record BeginsNone (kind : Kind) : Type 0 where
+  heading : begins Module kind ≡ false
+  imported : begins Import kind ≡ false
+  decl : begins Decl kind ≡ false
+  block : begins Block kind ≡ false
+
+-- what begins no program begins none of it
+begins_none : (kind : Kind) → begins Program kind ≡ false → BeginsNone kind
+begins_none kind none =
+    let headings = or_parts _ _ (sym (begins_by Program kind refl) ∙ none) in
+    let imports = or_parts _ _ headings.1 in
+    let decls = or_parts _ _ imports.1 in
+    record { heading = headings.0; imported = imports.0; decl = decls.0; block = decls.1 }
+
+-- The reader of a text has come to rest where these items are left.
+abbrev pub ProgramRead : List (List ℕ) → List (List ℕ) → Spot → (Forest → Forest) → List Wanted → Spot → Type 0
+ProgramRead old now from make left here = MayHaveRead (begins Program (next (left_at from))) (One Program) 0 old now from make left here
+
+-- what is wanted behind the declarations
+abbrev pub behind_declarations : List Wanted
+behind_declarations = Nonterminal (One Block) 0 ∷ Terminal End 0 ∷ []
+
+-- a text begins with the lines in front of its declarations
+pub program_begins : (table : List (List ℕ)) (from : Spot)
+    → ProgramRead table table from (λ rest. rest) (Nonterminal (Optional Module) 0 ∷ Nonterminal (Optional Import) 0 ∷ Nonterminal (Repeated Decl) 0 ∷ behind_declarations) from
+program_begins table from = may_open (One Program) 0 table from _ (λ begun. part_opened Program _ 0 refl refl begun)
+
+-- where nothing of a text begins, no `module` line is read
+heading_left_out : (kind : Kind) → begins Program kind ≡ false → opened (Optional Module) kind 0 ≡ Some []
+heading_left_out kind none = optional_left_out Module kind 0 (begins_none kind none).heading
+
+-- nor is an `import` line
+import_left_out : (kind : Kind) → begins Program kind ≡ false → opened (Optional Import) kind 0 ≡ Some []
+import_left_out kind none = optional_left_out Import kind 0 (begins_none kind none).imported
+
+-- nor a declaration
+decls_left_out : (kind : Kind) → begins Program kind ≡ false → opened (Repeated Decl) kind 0 ≡ Some []
+decls_left_out kind none = repeated_ends Decl kind 0 (begins_none kind none).decl
+
+-- over the `module` line, which may be left out
+pub over_heading : {old now new : List (List ℕ)} {from here behind : Spot} {make : Forest → Forest} {left : List Wanted} {is_read : List (List ℕ) → Forest → Type 0}
+    → ProgramRead old now from make (Nonterminal (Optional Module) 0 ∷ left) here → (found : FoundAs (Optional Module) 0 now new here behind is_read)
+    → ProgramRead old new from (λ rest. make (Node (Optional Module) found.inside rest)) left behind
+over_heading so found = over_left_out so (heading_left_out _) found
+
+-- over the `import` line, which may be left out, too
+pub over_import : {old now new : List (List ℕ)} {from here behind : Spot} {make : Forest → Forest} {left : List Wanted} {is_read : List (List ℕ) → Forest → Type 0}
+    → ProgramRead old now from make (Nonterminal (Optional Import) 0 ∷ left) here → (found : FoundAs (Optional Import) 0 now new here behind is_read)
+    → ProgramRead old new from (λ rest. make (Node (Optional Import) found.inside rest)) left behind
+over_import so found = over_left_out so (import_left_out _) found
+
+-- over the declarations
+pub over_declarations : {old now new : List (List ℕ)} {from here behind : Spot} {make : Forest → Forest} {left : List Wanted} {is_read : List (List ℕ) → Forest → Type 0}
+    → ProgramRead old now from make (Nonterminal (Repeated Decl) 0 ∷ left) here → (found : FoundAs (Repeated Decl) 0 now new here behind is_read)
+    → ProgramRead old new from (λ rest. make (Node (Repeated Decl) found.inside rest)) left behind
+over_declarations so found = over_left_out so (decls_left_out _) found
+
+-- over the main block, which must stand there
+pub over_block : {old now new : List (List ℕ)} {from here behind : Spot} {make : Forest → Forest} {left : List Wanted} {is_read : List (List ℕ) → Forest → Type 0}
+    → ProgramRead old now from make (Nonterminal (One Block) 0 ∷ left) here → (found : FoundAs (One Block) 0 now new here behind is_read)
+    → HasRead (One Program) 0 old new from (λ rest. make (Node (One Block) found.inside rest)) left behind
+over_block so found =
+    over_part (has_read so (λ none same.
+    let block = part_begun Block _ 0 found.rule_is in
+    let none_there = (begins_none _ none).block in
+    let there = ap (λ (ts : List Mark). begins Block (next ts)) same in
+    cc)) found
+
+-- the text is refused where the `module` line is
+pub heading_refused : {old now : List (List ℕ)} {from here : Spot} {make : Forest → Forest} {left : List Wanted} (error : ParseError)
+    → ProgramRead old now from make (Nonterminal (Optional Module) 0 ∷ left) here → IsRefused (Nonterminal (Optional Module) 0) here error
+    → IsRefused (Nonterminal (One Program) 0) from error
+heading_refused error so refused = refused_left_out so (heading_left_out _) error refused
+
+-- and where the `import` line is
+pub import_refused : {old now : List (List ℕ)} {from here : Spot} {make : Forest → Forest} {left : List Wanted} (error : ParseError)
+    → ProgramRead old now from make (Nonterminal (Optional Import) 0 ∷ left) here → IsRefused (Nonterminal (Optional Import) 0) here error
+    → IsRefused (Nonterminal (One Program) 0) from error
+import_refused error so refused = refused_left_out so (import_left_out _) error refused
+
+-- and where the declarations are
+pub declarations_refused : {old now : List (List ℕ)} {from here : Spot} {make : Forest → Forest} {left : List Wanted} (error : ParseError)
+    → ProgramRead old now from make (Nonterminal (Repeated Decl) 0 ∷ left) here → IsRefused (Nonterminal (Repeated Decl) 0) here error
+    → IsRefused (Nonterminal (One Program) 0) from error
+declarations_refused error so refused = refused_left_out so (decls_left_out _) error refused
+
+-- and where the main block is
+pub block_refused : {old now : List (List ℕ)} {from here : Spot} {make : Forest → Forest} {left : List Wanted} (error : ParseError)
+    → ProgramRead old now from make (Nonterminal (One Block) 0 ∷ left) here → IsRefused (Nonterminal (One Block) 0) here error
+    → IsRefused (Nonterminal (One Program) 0) from error
+block_refused {from = from} error so refused =
+    refused_either_way so error refused (λ none same.
+    refused_alike (One Block) 0 (One Program) 0 from error (part_shut Block _ 0 (begins_none _ none).block) (part_shut Program _ 0 none)
+    (refused_there (Nonterminal (One Block) 0) _ from error same refused))
+
+-- a refusal with a code and a place is that of the token at which the text stops
+stops_with : (list : TokenList) (refusal : Refusal) → RefusedAt a_program (marks list) refusal → StopsWith list refusal
+stops_with list refusal at =
+    let stop = stopped (text_refused list (at.mark ∷ at.behind) at.code at.refuses) in
+    let same : at.mark ≡ stop.mark = cc (stop.is) in
+    record {
+      before = stop.before;
+      mark = stop.mark;
+      code = at.code;
+      stops = stop.stops;
+      refusal_is = at.refusal_is ∙ ap (λ (mark : Mark). refusal_of (record { code = at.code; place = place_of_mark mark })) same;
+    }
+
+-- where a program is refused, its text stops
+text_stops : (list : TokenList) (error : ParseError) → IsRefused (Nonterminal (One Program) 0) (whole list) error → RefusesText error list
+text_stops list (Refused refusal) refused = stops_with list refusal (refused [])
+text_stops list Memory refused = tt
+
+-- the same where its first spot is given a name of its own
+pub stops_from : {list : TokenList} {from : Spot} (error : ParseError) → from ≡ whole list → IsRefused (Nonterminal (One Program) 0) from error → RefusesText error list
+stops_from {list} error is refused = text_stops list error (subst (λ (spot : Spot). IsRefused (Nonterminal (One Program) 0) spot error) is refused)
+
+-- A whole text was read as a program that consists of this, and these are its names.
+pub record TextRead (list : TokenList) (names : List (List ℕ)) (inside : Forest) : Type 0 where
+  pub reads : Reads a_program (marks list) (Node (One Program) inside Empty) []
+  pub within : AllWithin (depths (Node (One Program) inside Empty))
+  pub names_are : names ≡ fold with_name [] (names_before inside [])
+  pub few : length names ≤ length list.tokens
+
+-- where no token is left the end alone is
+end_left : (spot : Spot) → spot.rest ≡ [] → left_at spot ≡ TextEnd spot.end ∷ []
+end_left spot none = ap (λ (rest : List Lexed). left_at (record { rest = rest; end = spot.end })) none
+
+-- where the end of the text is left, the text was read
+all_of_text : {list : TokenList} {names : List (List ℕ)} {make : Forest → Forest} {here : Spot} → HasRead (One Program) 0 [] names (whole list) make (Terminal End 0 ∷ []) here
+    → here.rest ≡ [] → TextRead list names (make (Leaf (TextEnd here.end) 0 Empty))
+all_of_text {make = make} {here = here} so ends =
+    let last = Leaf (TextEnd here.end) 0 Empty in
+    let reads_last : Reads (Terminal End 0 ∷ []) (left_at here) last [] =
+    subst (λ (ts : List Mark). Reads (Terminal End 0 ∷ []) ts last []) (sym (end_left here ends)) (Taken refl Nothing) in
+    record {
+      reads = Opened so.rule_is (so.reads last [] reads_last) Nothing;
+      within = within_both (depths (make last)) [] (so.within last (omega arith, tt)) tt;
+      names_are = sym (so.table last);
+      few = omega (arith, so.few);
+    }
+
+-- the reader of a text has read the same where its first table and its first spot are given names of their own
+from_all : {list : TokenList} {old names : List (List ℕ)} {from here : Spot} {make : Forest → Forest} {left : List Wanted} → old ≡ [] → from ≡ whole list
+    → HasRead (One Program) 0 old names from make left here → HasRead (One Program) 0 [] names (whole list) make left here
+from_all {list} {old} {names} {here = here} {make} {left} none is so =
+    subst (λ (table : List (List ℕ)). HasRead (One Program) 0 table names (whole list) make left here) none
+    (subst (λ (spot : Spot). HasRead (One Program) 0 old names spot make left here) is so)
+
+-- A program was found in a text: its parts, with these names, are those of what was read of all of it.
+pub record ProgramFound (list : TokenList) (names : List (List ℕ)) (declarations : List code_decl.Decl) (main : Body) : Type 0 where
+  pub inside : Forest
+  pub read : TextRead list names inside
+  pub tree_is : tree_of_parts names declarations main ≡ tree_of (Node (One Program) inside Empty)
+
+-- two trees of texts with the same parts are one
+same_text : (a b : TextTree) → a.declarations ≡ b.declarations → a.main ≡ b.main → a.end ≡ b.end → a ≡ b
+same_text a b decls main end = rw (decls, main, end)
+
+-- declarations were found, as many as stand at a spot
+abbrev pub DeclarationsFound : List (List ℕ) → List (List ℕ) → Spot → Spot → List code_decl.Decl → Type 0
+DeclarationsFound old new from to declarations = FoundAs (Repeated Decl) 0 old new from to (λ names inside. map (decl_tree names) declarations ≡ decls_in inside)
+
+-- a block was found
+abbrev pub BlockFound : List (List ℕ) → List (List ℕ) → Spot → Spot → Body → Type 0
+BlockFound old new from to main = FoundAs (One Block) 0 old new from to (λ names inside. IsBlock names main inside)
+
+-- a line in front of a program was found, or none stands there
+abbrev pub LineFound : Symbol → List (List ℕ) → List (List ℕ) → Spot → Spot → Type 0
+LineFound symbol old new from to = FoundAs (Optional symbol) 0 old new from to (λ names inside. ⊤)
+
+-- a program is found with the lines in front of it, its declarations and its main block, behind which no token is left
+pub program_found : {list : TokenList} {old a b c names : List (List ℕ)} {from import_at first main_at end : Spot} (declarations : List code_decl.Decl) (main : Body)
+    → old ≡ [] → from ≡ whole list → LineFound Module old a from import_at → LineFound Import a b import_at first → DeclarationsFound b c first main_at declarations
+    → BlockFound c names main_at end main → end.rest ≡ [] → ProgramFound list names declarations main
+program_found {old = old} {names = names} {from = from} declarations main none is heading imported decls block ends =
+    let so = over_block (over_declarations (over_import (over_heading (program_begins old from) heading) imported) decls) block in
+    let is_block = block.is names (goes_on_itself names) in
+    record {
+      inside = _;
+      read = all_of_text (from_all none is so) ends;
+      tree_is = same_text _ _ (decls.is names (found_goes_on block)) is_block.statements_are is_block.end_is;
+    }
+
+-- such a text is accepted, and this is its tree
+pub text_found : {list : TokenList} {names : List (List ℕ)} {declarations : List code_decl.Decl} {main : Body} → ProgramFound list names declarations main
+    → IsTextOf list (tree_of_parts names declarations main)
+text_found found = record {
+  forest = Node (One Program) found.inside Empty;
+  accepted = accepted found.read.reads found.read.within;
+  is = found.tree_is;
+}
+
+-- its names are the bytes of tokens
+pub names_found : {list : TokenList} {names : List (List ℕ)} {declarations : List code_decl.Decl} {main : Body} → ProgramFound list names declarations main
+    → All (IsWritten list.tokens) names
+names_found {list} {names} found = All-same (IsWritten list.tokens) names _ found.read.names_are (table_written list found.read.reads)
+
+-- How much was read
+
+-- what was read of a text has one token more than the text, its end
+few_leaves : {list : TokenList} {names : List (List ℕ)} {inside : Forest} → TextRead list names inside → leaves (Node (One Program) inside Empty) ≤ length list.tokens + 1
+few_leaves {list} read = omega (arith, leaves_taken read.reads, left_length (whole list))
+
+-- it declares no more variables
+pub variables_found : {list : TokenList} {names : List (List ℕ)} {declarations : List code_decl.Decl} {main : Body} → ProgramFound list names declarations main
+    → all_variables (tree_of_parts names declarations main) ≤ length list.tokens + 1
+variables_found found = omega (arith, ap all_variables found.tree_is, variables_of_text (Node (One Program) found.inside Empty), few_leaves found.read)
+
+-- nor does one of its bodies
+pub bodies_found : {list : TokenList} {names : List (List ℕ)} {declarations : List code_decl.Decl} {main : Body} (bound : ℕ) → ProgramFound list names declarations main
+    → length list.tokens + 1 ≤ bound → All (λ (n : ℕ). n ≤ bound) (body_sizes (tree_of_parts names declarations main))
+bodies_found bound found within =
+    let forest = Node (One Program) found.inside Empty in
+    subst (λ (tree : TextTree). All (λ (n : ℕ). n ≤ bound) (body_sizes tree)) (sym found.tree_is)
+    (All-weaker (λ (n : ℕ). n ≤ leaves forest) (λ (n : ℕ). n ≤ bound) (λ n few. omega (arith, few, few_leaves found.read)) (body_sizes (tree_of forest)) (bodies_of_text forest))
+
+-- and no class has more fields
+pub fields_found : {list : TokenList} {names : List (List ℕ)} {declarations : List code_decl.Decl} {main : Body} (bound : ℕ) → ProgramFound list names declarations main
+    → length list.tokens + 1 ≤ bound → All (λ (n : ℕ). n ≤ bound) (class_sizes (tree_of_parts names declarations main))
+fields_found bound found within =
+    let forest = Node (One Program) found.inside Empty in
+    subst (λ (tree : TextTree). All (λ (n : ℕ). n ≤ bound) (class_sizes tree)) (sym found.tree_is)
+    (All-weaker (λ (n : ℕ). n ≤ leaves forest) (λ (n : ℕ). n ≤ bound) (λ n few. omega (arith, few, few_leaves found.read)) (class_sizes (tree_of forest)) (fields_of_text forest))
+
+-- it has no more statements than tokens, if each part takes no more numbers than tokens
+pub statements_found : {list : TokenList} {old a b : List (List ℕ)} {from import_at first : Spot} {declarations : List code_decl.Decl} {main : Body} {all : ℕ}
+    (main_at end : Spot) (names : List (List ℕ)) → from ≡ whole list
+    → LineFound Module old a from import_at → LineFound Import a b import_at first → (numbered : IsNumberedWhole declarations main all)
+    → numbered.middle + length main_at.rest ≤ 0 + length first.rest → all + length end.rest ≤ numbered.middle + length main_at.rest
+    → all_statements (tree_of_parts names declarations main) ≤ length list.tokens
+statements_found {declarations = declarations} {main} {all} main_at end names is heading imported numbered few_declarations few_main =
+    let tokens = ap (λ (spot : Spot). length spot.rest) is in
+    omega (arith, text_counted names declarations main all numbered, few_declarations, few_main, found_shorter imported, found_shorter heading, tokens)
+
+-- no more tokens are left at a cursor than a list may have
+pub few_at : (cursor : Cursor) → length (spot cursor).rest ≤ 1048576
+few_at cursor = omega (arith, length-drop cursor.index cursor.tokens.now.tokens, cursor.few)
+
+-- so a list of which all are left there has no more
+pub few_tokens : (cursor : Cursor) {list : TokenList} → spot cursor ≡ whole list → length list.tokens ≤ 1048576
+few_tokens cursor is = omega (arith, ap (λ (spot : Spot). length spot.rest) is, few_at cursor)

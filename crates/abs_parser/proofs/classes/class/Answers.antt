@@ -1,0 +1,84 @@
+use Rattle.std.proofs.Common.{◌∙◌, arith, refl}
+use Rattle.std.proofs.lemmas.Result.{err_from_is_err_and}
+use Rattle.abs_parser.proofs.ClassSteps.{class_opened, class_begun, first_member, next_member}
+use Rattle.abs_parser.proofs.WordSteps.{word_read}
+use Rattle.abs_parser.proofs.DeclarationSteps.{heading_read, refused_part, refused_closing, all_parts}
+use Rattle.abs_parser.proofs.MemberSteps.{member_begins_named, member_shorter}
+use Rattle.abs_parser.proofs.NumberLemmas.{members_more}
+use Rattle.abs_parser.proofs.StepLemmas.{over_part, refused_inside, fits_next}
+use Rattle.abs_parser.proofs.classes.class.Goals as goal
+
+pub returns-in_err-name-clause-refused : goal.returns-in_err-name-clause-refused
+returns-in_err-name-clause-refused c =
+    let p = err_from_is_err_and c.from_residual-in_err-name.result c.from_residual-in_err-name.ensures.1 in
+    let word = word_read c.args.depth c.args.symbols.now (class_opened c.args.depth) c.in_ok-word.ensures.found c.requires.depth in
+    rw (p.1, p.2) (refused_inside word _ (c.in_err-name.ensures.refused c.args.depth))
+
+pub returns-in_err-params-clause-refused : goal.returns-in_err-params-clause-refused
+returns-in_err-params-clause-refused c =
+    let p = err_from_is_err_and c.from_residual-in_err-params.result c.from_residual-in_err-params.ensures.1 in
+    let named = heading_read (class_opened c.args.depth) c.in_ok-word.ensures.found c.in_ok-name.ensures.found c.in_ok-intern.ensures.names c.requires.depth in
+    rw (p.1, p.2) (refused_inside named _ c.in_err-params.ensures.refused)
+
+pub names_behind-requires : goal.names_behind-requires
+names_behind-requires c =
+    let few = (class_begun c.in_ok-word.ensures.found c.in_ok-name.ensures.found c.in_ok-intern.ensures.names c.in_ok-params.ensures.found c.requires.depth).few in
+    record { names = omega arith }
+
+pub returns-in_err-implemented-clause-refused : goal.returns-in_err-implemented-clause-refused
+returns-in_err-implemented-clause-refused c =
+    let p = err_from_is_err_and c.from_residual-in_err-implemented.result c.from_residual-in_err-implemented.ensures.1 in
+    let begun = class_begun c.in_ok-word.ensures.found c.in_ok-name.ensures.found c.in_ok-intern.ensures.names c.in_ok-params.ensures.found c.requires.depth in
+    rw (p.1, p.2) (refused_inside begun _ (c.in_err-implemented.ensures.refused c.args.depth c.requires.depth))
+
+pub returns-in_err-here-clause-refused : goal.returns-in_err-here-clause-refused
+returns-in_err-here-clause-refused c =
+    let p = err_from_is_err_and c.from_residual-in_err-here.result c.from_residual-in_err-here.ensures.1 in
+    let begun = class_begun c.in_ok-word.ensures.found c.in_ok-name.ensures.found c.in_ok-intern.ensures.names c.in_ok-params.ensures.found c.requires.depth in
+    rw (p.1, p.2) (refused_inside (over_part begun (c.in_ok-implemented.ensures.found c.args.depth c.requires.depth)) _ (c.in_err-here.ensures.refused c.args.depth))
+
+pub loop-alloc-init : goal.loop-alloc-init
+loop-alloc-init c =
+    let read = first_member c.in_ok-intern.field-0 c.in_ok-params.params.items c.in_ok-implemented.implemented.items c.new-members.ensures.items c.in_ok-word.ensures.found
+    c.in_ok-name.ensures.found c.in_ok-intern.ensures.symbol c.in_ok-intern.ensures.names c.in_ok-params.ensures.found
+    (c.in_ok-implemented.ensures.found c.args.depth c.requires.depth) c.in_ok-here.ensures.found c.requires.depth in
+    let shorter = read.read.shorter in
+    record {
+      read = read;
+      numbered = rw c.new-members.ensures.items refl;
+      few = omega arith;
+    }
+
+pub member-requires-clause-names : goal.member-requires-clause-names
+member-requires-clause-names c =
+    let few = c.loop-alloc.invariant.read.read.few in
+    omega arith
+
+pub returns-in_err-next-clause-refused : goal.returns-in_err-next-clause-refused
+returns-in_err-next-clause-refused c =
+    let p = err_from_is_err_and c.from_residual-in_err-next.result c.from_residual-in_err-next.ensures.1 in
+    rw (p.1, p.2) (refused_part _ c.loop-alloc.invariant.read (member_begins_named _ ∙ fits_next refl c.in-Ok.ensures.found) c.in_err-next.ensures.refused)
+
+pub loop-alloc-smaller : goal.loop-alloc-smaller
+loop-alloc-smaller c =
+    let shorter = member_shorter c.in-Ok.ensures.found c.in_ok-next.ensures.found in
+    omega arith
+
+pub loop-alloc-preserved : goal.loop-alloc-preserved
+loop-alloc-preserved c =
+    let few = c.in_ok-next.ensures.few in
+    let before = c.loop-alloc.invariant.few in
+    record {
+      read = next_member c.in_ok-next.next c.in_ok-push.ensures.items c.loop-alloc.invariant.read c.in-Ok.ensures.found c.in_ok-next.ensures.found;
+      numbered = rw c.in_ok-push.ensures.items (members_more _ _ _ c.in_ok-next.next _ c.loop-alloc.invariant.numbered c.in_ok-next.ensures.numbered);
+      few = omega arith;
+    }
+
+pub returns-in_err-end-clause-refused : goal.returns-in_err-end-clause-refused
+returns-in_err-end-clause-refused c =
+    let p = err_from_is_err_and c.from_residual-in_err-end.result c.from_residual-in_err-end.ensures.1 in
+    rw (p.1, p.2) (refused_closing _ c.loop-alloc.invariant.read (member_begins_named _ ∙ c.in_default.ensures.other) (c.in_err-end.ensures.refused c.args.depth))
+
+pub returns-clause-found : goal.returns-clause-found
+returns-clause-found c =
+    all_parts c.loop-alloc.invariant.read (member_begins_named _ ∙ c.in_default.ensures.other) c.in_ok-end.ensures.found c.requires.depth

@@ -1,0 +1,11 @@
+use Rattle.std.proofs.Common.{length}
+use Rattle.abs_parser.specs.Views.{spot}
+use Rattle.abs_parser.proofs.ListLemmas.{list_of_tests, trees_of_tests}
+use Rattle.abs_parser.proofs.ListSteps.{ReadsSoFar}
+use Rattle.abs_parser.proofs.guards.guard.Given as goal
+
+abbrev pub invariant-loop-behind : goal.invariant-loop-behind
+invariant-loop-behind l = record { read : ReadsSoFar list_of_tests trees_of_tests l.depth l.fn.symbols l.symbols (spot l.from) (spot l.here) l.tests.items }
+
+abbrev pub decreases-loop-behind : goal.decreases-loop-behind
+decreases-loop-behind l = length (spot l.here).rest

@@ -1,0 +1,49 @@
+use Rattle.std.proofs.Common.{arith, refl}
+use Rattle.abs_lexer.specs.declared.lexeme.Keyword.TheVariants as keyword
+use Rattle.abs_parser.specs.Views.{spot}
+use Rattle.abs_parser.proofs.DeclarationListSteps.{refused_no_declaration, no_declaration_at_end, no_declaration_kind, no_declaration_word, no_class_next, plain_numbered}
+use Rattle.abs_parser.proofs.StepLemmas.{found_shorter}
+use Rattle.abs_parser.proofs.programs.declaration.Goals.{in-Data+in_ok-data-in-Data, in-Def+in_ok-function-in-Def, in-Interface+in_ok-decl-in-Interface}
+use Rattle.abs_parser.proofs.programs.declaration.Goals as goal
+
+pub returns-in_default-clause-refused : goal.returns-in_default-clause-refused
+returns-in_default-clause-refused c = refused_no_declaration (spot c.args.from) _ c.wrong.ensures (no_declaration_at_end (spot c.args.from) c.in_default.ensures.none)
+
+pub returns-in_default-kind-clause-refused : goal.returns-in_default-kind-clause-refused
+returns-in_default-kind-clause-refused c =
+    let none = no_declaration_kind c.in-Some.ensures.some c.in_default-kind.not-Word in
+    refused_no_declaration (spot c.args.from) _ c.wrong-in_default-kind.ensures none
+
+pub returns-in_default-word-clause-refused : goal.returns-in_default-word-clause-refused
+returns-in_default-word-clause-refused c =
+    let other = c.in_default-word in
+    let none = no_declaration_word c.in-Word.word c.in-Some.ensures.some c.in-Word.is (other.not-Data, (other.not-Def, (other.not-Interface, (other.not-Class, tt)))) in
+    refused_no_declaration (spot c.args.from) _ c.wrong-in_default-word.ensures none
+
+pub returns-clause-found : goal.returns-clause-found
+returns-clause-found c =
+    elim c.match-word.branch [
+      | in-Data+in_ok-data-in-Data w ↦ rw (w.symbols-is, w.decl-is) w.in_ok-data-in-Data.ensures.found
+      | in-Def+in_ok-function-in-Def w ↦ rw (w.symbols-is, w.decl-is) w.in_ok-function-in-Def.ensures.found
+      | in-Interface+in_ok-decl-in-Interface w ↦ rw (w.symbols-is, w.decl-is) w.in_ok-decl-in-Interface.ensures.found
+    ]
+
+pub returns-clause-numbered : goal.returns-clause-numbered
+returns-clause-numbered c =
+    let takes = c.in-Some.ensures.some in
+    elim c.match-word.branch [
+      | in-Data+in_ok-data-in-Data w ↦
+          rw w.decl-is (plain_numbered c.args.number _ (no_class_next keyword.Data takes c.in-Word.is w.in-Data.is refl) w.in_ok-data-in-Data.ensures.found)
+      | in-Def+in_ok-function-in-Def w ↦
+          rw w.decl-is (plain_numbered c.args.number _ (no_class_next keyword.Def takes c.in-Word.is w.in-Def.is refl) w.in_ok-function-in-Def.ensures.found)
+      | in-Interface+in_ok-decl-in-Interface w ↦
+          rw w.decl-is (plain_numbered c.args.number _ (no_class_next keyword.Interface takes c.in-Word.is w.in-Interface.is refl) w.in_ok-decl-in-Interface.ensures.found)
+    ]
+
+pub returns-clause-few : goal.returns-clause-few
+returns-clause-few c =
+    elim c.match-word.branch [
+      | in-Data+in_ok-data-in-Data w ↦ rw w.decl-is (let few = found_shorter w.in_ok-data-in-Data.ensures.found in omega arith)
+      | in-Def+in_ok-function-in-Def w ↦ rw w.decl-is (let few = found_shorter w.in_ok-function-in-Def.ensures.found in omega arith)
+      | in-Interface+in_ok-decl-in-Interface w ↦ rw w.decl-is (let few = found_shorter w.in_ok-decl-in-Interface.ensures.found in omega arith)
+    ]

@@ -1,0 +1,38 @@
+use Rattle.std.proofs.Common.{refl, arith}
+use Rattle.std.proofs.lemmas.Result.{err_from_is_err_and}
+use Rattle.abs_tree.specs.Syntax.{NewOf}
+use Rattle.abs_parser.specs.TreesOf.{rhs_in}
+use Rattle.abs_parser.proofs.RightSideSteps.{named_call_found, mode_found, new_begins, new_named}
+use Rattle.abs_parser.proofs.StepLemmas.{refused_inside}
+use Rattle.abs_parser.proofs.right_sides.new_object.Goals as goal
+
+pub returns-in_err-name-clause-refused : goal.returns-in_err-name-clause-refused
+returns-in_err-name-clause-refused c =
+    let p = err_from_is_err_and c.from_residual-in_err-name.result c.from_residual-in_err-name.ensures.1 in
+    let begun = new_begins c.in_ok-word.ensures.found (c.in_ok-mode.ensures.found c.args.depth c.requires.depth) c.requires.depth in
+    rw (p.1, p.2) (refused_inside begun _ (c.in_err-name.ensures.refused c.args.depth))
+
+pub intern-requires : goal.intern-requires
+intern-requires c =
+    let few = (new_begins c.in_ok-word.ensures.found (c.in_ok-mode.ensures.found c.args.depth c.requires.depth) c.requires.depth).few in
+    omega arith
+
+pub arguments-requires-clause-names : goal.arguments-requires-clause-names
+arguments-requires-clause-names c =
+    let placed = c.in_ok-mode.ensures.found c.args.depth c.requires.depth in
+    let few = (new_named c.in_ok-word.ensures.found placed c.in_ok-name.ensures.found c.requires.depth c.in_ok-class.ensures.names).few in
+    omega arith
+
+pub returns-in_err-arguments-clause-refused : goal.returns-in_err-arguments-clause-refused
+returns-in_err-arguments-clause-refused c =
+    let p = err_from_is_err_and c.from_residual-in_err-arguments.result c.from_residual-in_err-arguments.ensures.1 in
+    let placed = c.in_ok-mode.ensures.found c.args.depth c.requires.depth in
+    rw (p.1, p.2) (refused_inside (new_named c.in_ok-word.ensures.found placed c.in_ok-name.ensures.found c.requires.depth c.in_ok-class.ensures.names) _ c.in_err-arguments.ensures.refused)
+
+pub returns-clause-found : goal.returns-clause-found
+returns-clause-found c =
+    let placed = c.in_ok-mode.ensures.found c.args.depth c.requires.depth in
+    let class = c.in_ok-class.ensures in
+    named_call_found c.mode.new.symbols c.in_ok-class.class c.in_ok-arguments-2.arguments.value (λ names. NewOf c.in_ok-word.word.place c.in_ok-mode.mode) (λ names. rhs_in)
+    (new_named c.in_ok-word.ensures.found placed c.in_ok-name.ensures.found c.requires.depth class.names) class.symbol class.names c.in_ok-arguments-2.ensures.ok c.in_ok-arguments.ensures.found
+    (λ names inside. rw (mode_found placed) refl)

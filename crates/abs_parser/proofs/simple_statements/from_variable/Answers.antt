@@ -1,0 +1,25 @@
+use Rattle.std.proofs.Common.{arith}
+use Rattle.std.proofs.lemmas.Result.{IfOk-weaker, IfErr-weaker}
+use Rattle.abs_tree.specs.SyntaxViews.{statement as statement_tree}
+use Rattle.abs_parser.proofs.FirstSteps.{variable_deep, variable_begins, variable_found}
+use Rattle.abs_parser.proofs.StepLemmas.{refused_inside, found_shorter, token_shorter}
+use Rattle.abs_parser.proofs.simple_statements.from_variable.Goals as goal
+
+pub returns-then-depth-gt-LIMIT-clause-refused : goal.returns-then-depth-gt-LIMIT-clause-refused
+returns-then-depth-gt-LIMIT-clause-refused c = variable_deep c.args.depth _ c.deep.ensures c.in_ok-name.ensures.found (omega (arith, c.if-depth-gt-LIMIT.true))
+
+pub returns-clause-found : goal.returns-clause-found
+returns-clause-found c =
+    IfOk-weaker c.behind_first.result _ _ (λ found.
+    variable_found c.args.symbols.now c.in_ok-symbol.symbol (λ names. statement_tree names found.0) c.in_ok-name.ensures.found (omega (arith, c.if-depth-gt-LIMIT.false))
+    c.in_ok-symbol.ensures.symbol c.in_ok-symbol.ensures.names) c.behind_first.ensures.found
+
+pub returns-clause-shorter : goal.returns-clause-shorter
+returns-clause-shorter c =
+    IfOk-weaker c.behind_first.result _ _ (λ found after. omega (arith, found_shorter after, token_shorter c.in_ok-name.ensures.found.takes)) c.behind_first.ensures.found
+
+pub returns-clause-refused : goal.returns-clause-refused
+returns-clause-refused c =
+    IfErr-weaker c.behind_first.result _ _ (λ error. refused_inside
+    (variable_begins c.args.depth c.args.symbols.now c.in_ok-name.ensures.found (omega (arith, c.if-depth-gt-LIMIT.false)) c.in_ok-symbol.ensures.names) error)
+    c.behind_first.ensures.refused

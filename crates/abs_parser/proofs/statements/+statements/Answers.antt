@@ -1,0 +1,261 @@
+use Rattle.std.proofs.Common.{◌≡◌, ◌∙◌, ap, refl, sym, arith, rules, subst, ℕ, ◌+◌}
+use Rattle.std.proofs.lemmas.Result.{err_from_is_err_and}
+use Rattle.abs_tree.proofs.StatementLemmas.{numbered-block, numbered-if, numbered-while, numbered-more}
+use Rattle.abs_tree.specs.SyntaxNumbers.{AreNumbered}
+use Rattle.abs_tree.specs.declared.syntax.declaration.Body.{Body}
+use Rattle.abs_lexer.specs.declared.lexeme.Keyword.TheVariants as keyword
+use Rattle.abs_lexer.specs.declared.lexeme.Punctuator.TheVariants as punctuator
+use Rattle.abs_parser.specs.Kinds.{Word, Sign, fits}
+use Rattle.abs_parser.specs.Productions.{Block}
+use Rattle.abs_parser.specs.Readings.{One}
+use Rattle.abs_parser.specs.Views.{spot}
+use Rattle.abs_parser.proofs.BlockSteps.{first_statement, next_statement, refused_statement, refused_brace, block_found}
+use Rattle.abs_parser.proofs.FirstPlaceLemmas.{found_fewer}
+use Rattle.abs_parser.proofs.PatternSteps.{next_taken, sign_is}
+use Rattle.abs_parser.proofs.PrimarySteps.{stands}
+use Rattle.abs_parser.proofs.WordSteps.{word_read, word_deep}
+use Rattle.abs_parser.proofs.StatementSteps.{block_shut, nested_begins, refused_nested_deep, nested_found, test_begins, test_read, while_opened, while_found, if_opened, if_chosen, if_found, else_read, else_found, else_left_out, statement_refused_at_end}
+use Rattle.abs_parser.proofs.StepLemmas.{over_part, refused_inside, refused_other, token_shorter, found_few, found_shorter, fits_next}
+use Rattle.abs_parser.proofs.statements.+statements.Goals as goal
+
+pub block-returns-in_err-here-clause-refused : goal.block-returns-in_err-here-clause-refused
+block-returns-in_err-here-clause-refused t c =
+    let p = err_from_is_err_and c.from_residual.result c.from_residual.ensures.1 in
+    let other = c.in_err-here.ensures.other in
+    rw (p.1, p.2) (refused_other (Sign punctuator.OpenBrace) (One Block) c.args.depth (spot c.args.from) _ other (block_shut _ c.args.depth other) c.in_err-here.ensures.refused)
+
+pub block-loop-alloc-init : goal.block-loop-alloc-init
+block-loop-alloc-init t c = record {
+  read = first_statement c.args.symbols.now c.new-statements.ensures.items c.in_ok-here.ensures.found c.requires.depth;
+  numbered = rw c.new-statements.ensures.items refl;
+  few = let brace = token_shorter c.in_ok-here.ensures.found.takes in omega arith;
+}
+
+pub block-statement-requires : goal.block-statement-requires
+block-statement-requires t c =
+    let few = c.loop-alloc.invariant.read.read.few in
+    let numbers = c.loop-alloc.invariant.few in
+    let shorter = c.loop-alloc.invariant.read.shorter in
+    (search rules, (omega arith, (omega arith, c.requires.depth)))
+
+pub block-returns-in_err-next-clause-refused : goal.block-returns-in_err-next-clause-refused
+block-returns-in_err-next-clause-refused t c =
+    let p = err_from_is_err_and c.from_residual-in_err-next.result c.from_residual-in_err-next.ensures.1 in
+    rw (p.1, p.2) (refused_statement _ c.loop-alloc.invariant.read (sym c.loop-alloc-test.ensures) c.in_err-next.ensures.refused)
+
+pub block-loop-alloc-smaller : goal.block-loop-alloc-smaller
+block-loop-alloc-smaller t c =
+    let fewer = found_fewer c.in_ok-next.ensures.found in
+    omega arith
+
+pub block-loop-alloc-preserved : goal.block-loop-alloc-preserved
+block-loop-alloc-preserved t c = record {
+  read = next_statement c.in_ok-next.next c.in_ok-push.ensures.items c.loop-alloc.invariant.read (sym c.loop-alloc-test.ensures) c.in_ok-next.ensures.found;
+  numbered = rw c.in_ok-push.ensures.items
+      (numbered-more c.args.number c.loop-alloc.statements.items c.loop-alloc.free c.in_ok-next.next c.in_ok-next.behind c.loop-alloc.invariant.numbered c.in_ok-next.ensures.numbered);
+  few = omega (arith, c.loop-alloc.invariant.few, c.in_ok-next.ensures.few);
+}
+
+pub block-returns-in_err-close-clause-refused : goal.block-returns-in_err-close-clause-refused
+block-returns-in_err-close-clause-refused t c =
+    let p = err_from_is_err_and c.from_residual-in_err-close.result c.from_residual-in_err-close.ensures.1 in
+    rw (p.1, p.2) (refused_brace _ c.loop-alloc.invariant.read (sym c.loop-alloc-test.ensures) (c.in_err-close.ensures.refused c.args.depth))
+
+pub block-returns-clause-found : goal.block-returns-clause-found
+block-returns-clause-found t c =
+    let body : Body = record { statements = c.loop-alloc.statements; end = c.in_ok-close.close.place } in
+    block_found body refl c.loop-alloc.invariant.read (sym c.loop-alloc-test.ensures) c.in_ok-close.ensures.found c.requires.depth
+
+pub block-returns-clause-numbered : goal.block-returns-clause-numbered
+block-returns-clause-numbered t c = c.loop-alloc.invariant.numbered
+
+pub block-returns-clause-few : goal.block-returns-clause-few
+block-returns-clause-few t c =
+    let numbers = c.loop-alloc.invariant.few in
+    let brace = token_shorter c.in_ok-close.ensures.found.takes in
+    omega arith
+
+pub conditional-returns-then-depth-eq-LIMIT-clause-refused : goal.conditional-returns-then-depth-eq-LIMIT-clause-refused
+conditional-returns-then-depth-eq-LIMIT-clause-refused t c = rw c.deep.ensures (word_deep _ _ _ (if_opened c.args.depth) c.in_ok-word.ensures.found (omega arith))
+
+pub conditional-returns-in_err-test_at-clause-refused : goal.conditional-returns-in_err-test_at-clause-refused
+conditional-returns-in_err-test_at-clause-refused t c =
+    let p = err_from_is_err_and c.from_residual-in_err-test_at.result c.from_residual-in_err-test_at.ensures.1 in
+    rw (p.1, p.2) (refused_inside (word_read _ c.args.symbols.now (if_opened c.args.depth) c.in_ok-word.ensures.found (omega arith)) _ (c.in_err-test_at.ensures.refused (c.args.depth + 1)))
+
+pub conditional-returns-in_err-test-clause-refused : goal.conditional-returns-in_err-test-clause-refused
+conditional-returns-in_err-test-clause-refused t c =
+    let p = err_from_is_err_and c.from_residual-in_err-test.result c.from_residual-in_err-test.ensures.1 in
+    let begun = test_begins c.args.symbols.now (if_opened c.args.depth) c.in_ok-word.ensures.found c.in_ok-test_at.ensures.found (omega arith) in
+    rw (p.1, p.2) (refused_inside begun _ c.in_err-test.ensures.refused)
+
+pub conditional-returns-in_err-first_at-clause-refused : goal.conditional-returns-in_err-first_at-clause-refused
+conditional-returns-in_err-first_at-clause-refused t c =
+    let p = err_from_is_err_and c.from_residual-in_err-first_at.result c.from_residual-in_err-first_at.ensures.1 in
+    let begun = test_begins c.args.symbols.now (if_opened c.args.depth) c.in_ok-word.ensures.found c.in_ok-test_at.ensures.found (omega arith) in
+    rw (p.1, p.2) (refused_inside (over_part begun c.in_ok-test.ensures.found) _ (c.in_err-first_at.ensures.refused (c.args.depth + 1)))
+
+pub conditional-statement-requires : goal.conditional-statement-requires
+conditional-statement-requires t c =
+    let few = found_few c.in_ok-test.ensures.found in
+    let shorter = found_shorter c.in_ok-test.ensures.found in
+    let word = token_shorter c.in_ok-word.ensures.found.takes in
+    let opening = token_shorter c.in_ok-test_at.ensures.found.takes in
+    let closing = token_shorter c.in_ok-first_at.ensures.found.takes in
+    (search rules, (omega arith, (omega arith, omega arith)))
+
+pub conditional-returns-in_err-first-clause-refused : goal.conditional-returns-in_err-first-clause-refused
+conditional-returns-in_err-first-clause-refused t c =
+    let p = err_from_is_err_and c.from_residual-in_err-first.result c.from_residual-in_err-first.ensures.1 in
+    let tested = test_read (if_opened c.args.depth) c.in_ok-word.ensures.found c.in_ok-test_at.ensures.found c.in_ok-test.ensures.found c.in_ok-first_at.ensures.found (omega arith) in
+    rw (p.1, p.2) (refused_inside tested _ c.in_err-first.ensures.refused)
+
+pub conditional-otherwise-requires : goal.conditional-otherwise-requires
+conditional-otherwise-requires t c =
+    let few_test = found_few c.in_ok-test.ensures.found in
+    let shorter_test = found_shorter c.in_ok-test.ensures.found in
+    let few = found_few c.in_ok-first.ensures.found in
+    let shorter = found_shorter c.in_ok-first.ensures.found in
+    let numbers = c.in_ok-first.ensures.few in
+    let word = token_shorter c.in_ok-word.ensures.found.takes in
+    let opening = token_shorter c.in_ok-test_at.ensures.found.takes in
+    let closing = token_shorter c.in_ok-first_at.ensures.found.takes in
+    (search rules, (omega arith, (omega arith, omega arith)))
+
+pub conditional-returns-in_err-other-clause-refused : goal.conditional-returns-in_err-other-clause-refused
+conditional-returns-in_err-other-clause-refused t c =
+    let p = err_from_is_err_and c.from_residual-in_err-other.result c.from_residual-in_err-other.ensures.1 in
+    let chosen = if_chosen c.in_ok-word.ensures.found c.in_ok-test_at.ensures.found c.in_ok-test.ensures.found c.in_ok-first_at.ensures.found c.in_ok-first.ensures.found (omega arith) in
+    rw (p.1, p.2) (refused_inside chosen _ c.in_err-other.ensures.refused)
+
+pub conditional-returns-clause-found : goal.conditional-returns-clause-found
+conditional-returns-clause-found t c =
+    if_found c.args.number c.in_ok-test-2.test c.in_ok-first.first c.in_ok-first-2.first c.in_ok-other.other c.in_ok-test-2.ensures.ok c.in_ok-first-2.ensures.found
+    c.in_ok-word.ensures.found c.in_ok-test_at.ensures.found c.in_ok-test.ensures.found c.in_ok-first_at.ensures.found c.in_ok-first.ensures.found c.in_ok-other.ensures.found (omega arith)
+
+pub conditional-returns-clause-numbered : goal.conditional-returns-clause-numbered
+conditional-returns-clause-numbered t c =
+    let next : c.args.number + 1 ≡ 1 + c.args.number = omega arith in
+    let first = c.in_ok-first-2.ensures.numbered (c.args.number + 1) c.in_ok-first.middle c.in_ok-first.ensures.numbered in
+    numbered-if c.args.number c.in_ok-word.word.place c.in_ok-test-2.test c.in_ok-first-2.first c.in_ok-first.middle c.in_ok-other.other c.in_ok-other.behind
+    (subst (λ (n : ℕ). AreNumbered n c.in_ok-first-2.first.items c.in_ok-first.middle) next first) c.in_ok-other.ensures.numbered
+
+pub conditional-returns-clause-few : goal.conditional-returns-clause-few
+conditional-returns-clause-few t c =
+    let shorter_test = found_shorter c.in_ok-test.ensures.found in
+    let numbers = c.in_ok-first.ensures.few in
+    let numbers_behind = c.in_ok-other.ensures.few in
+    let word = token_shorter c.in_ok-word.ensures.found.takes in
+    let opening = token_shorter c.in_ok-test_at.ensures.found.takes in
+    let closing = token_shorter c.in_ok-first_at.ensures.found.takes in
+    omega arith
+
+pub looping-returns-then-depth-eq-LIMIT-clause-refused : goal.looping-returns-then-depth-eq-LIMIT-clause-refused
+looping-returns-then-depth-eq-LIMIT-clause-refused t c = rw c.deep.ensures (word_deep _ _ _ (while_opened c.args.depth) c.in_ok-word.ensures.found (omega arith))
+
+pub looping-returns-in_err-test_at-clause-refused : goal.looping-returns-in_err-test_at-clause-refused
+looping-returns-in_err-test_at-clause-refused t c =
+    let p = err_from_is_err_and c.from_residual-in_err-test_at.result c.from_residual-in_err-test_at.ensures.1 in
+    rw (p.1, p.2) (refused_inside (word_read _ c.args.symbols.now (while_opened c.args.depth) c.in_ok-word.ensures.found (omega arith)) _ (c.in_err-test_at.ensures.refused (c.args.depth + 1)))
+
+pub looping-returns-in_err-test-clause-refused : goal.looping-returns-in_err-test-clause-refused
+looping-returns-in_err-test-clause-refused t c =
+    let p = err_from_is_err_and c.from_residual-in_err-test.result c.from_residual-in_err-test.ensures.1 in
+    let begun = test_begins c.args.symbols.now (while_opened c.args.depth) c.in_ok-word.ensures.found c.in_ok-test_at.ensures.found (omega arith) in
+    rw (p.1, p.2) (refused_inside begun _ c.in_err-test.ensures.refused)
+
+pub looping-returns-in_err-body_at-clause-refused : goal.looping-returns-in_err-body_at-clause-refused
+looping-returns-in_err-body_at-clause-refused t c =
+    let p = err_from_is_err_and c.from_residual-in_err-body_at.result c.from_residual-in_err-body_at.ensures.1 in
+    let begun = test_begins c.args.symbols.now (while_opened c.args.depth) c.in_ok-word.ensures.found c.in_ok-test_at.ensures.found (omega arith) in
+    rw (p.1, p.2) (refused_inside (over_part begun c.in_ok-test.ensures.found) _ (c.in_err-body_at.ensures.refused (c.args.depth + 1)))
+
+pub looping-statement-requires : goal.looping-statement-requires
+looping-statement-requires t c =
+    let few = found_few c.in_ok-test.ensures.found in
+    let shorter = found_shorter c.in_ok-test.ensures.found in
+    let word = token_shorter c.in_ok-word.ensures.found.takes in
+    let opening = token_shorter c.in_ok-test_at.ensures.found.takes in
+    let closing = token_shorter c.in_ok-body_at.ensures.found.takes in
+    (search rules, (omega arith, (omega arith, omega arith)))
+
+pub looping-returns-in_err-body-clause-refused : goal.looping-returns-in_err-body-clause-refused
+looping-returns-in_err-body-clause-refused t c =
+    let p = err_from_is_err_and c.from_residual-in_err-body.result c.from_residual-in_err-body.ensures.1 in
+    let tested = test_read (while_opened c.args.depth) c.in_ok-word.ensures.found c.in_ok-test_at.ensures.found c.in_ok-test.ensures.found c.in_ok-body_at.ensures.found (omega arith) in
+    rw (p.1, p.2) (refused_inside tested _ c.in_err-body.ensures.refused)
+
+pub looping-returns-clause-found : goal.looping-returns-clause-found
+looping-returns-clause-found t c =
+    while_found c.args.number c.in_ok-test-2.test c.in_ok-body.body c.in_ok-body-2.body c.in_ok-test-2.ensures.ok c.in_ok-body-2.ensures.found c.in_ok-word.ensures.found
+    c.in_ok-test_at.ensures.found c.in_ok-test.ensures.found c.in_ok-body_at.ensures.found c.in_ok-body.ensures.found (omega arith)
+
+pub looping-returns-clause-numbered : goal.looping-returns-clause-numbered
+looping-returns-clause-numbered t c =
+    let next : c.args.number + 1 ≡ 1 + c.args.number = omega arith in
+    let body = c.in_ok-body-2.ensures.numbered (c.args.number + 1) c.in_ok-body.behind c.in_ok-body.ensures.numbered in
+    numbered-while c.args.number c.in_ok-word.word.place c.in_ok-test-2.test c.in_ok-body-2.body c.in_ok-body.behind
+    (subst (λ (n : ℕ). AreNumbered n c.in_ok-body-2.body.items c.in_ok-body.behind) next body)
+
+pub looping-returns-clause-few : goal.looping-returns-clause-few
+looping-returns-clause-few t c =
+    let shorter_test = found_shorter c.in_ok-test.ensures.found in
+    let numbers = c.in_ok-body.ensures.few in
+    let word = token_shorter c.in_ok-word.ensures.found.takes in
+    let opening = token_shorter c.in_ok-test_at.ensures.found.takes in
+    let closing = token_shorter c.in_ok-body_at.ensures.found.takes in
+    omega arith
+
+pub nested-returns-then-depth-eq-LIMIT-clause-refused : goal.nested-returns-then-depth-eq-LIMIT-clause-refused
+nested-returns-then-depth-eq-LIMIT-clause-refused t c = rw c.deep.ensures (refused_nested_deep c.args.depth (spot c.args.from) c.requires.begins (omega arith))
+
+pub nested-block-requires : goal.nested-block-requires
+nested-block-requires t c = (search rules, (c.requires.names, (c.requires.few, omega arith)))
+
+pub nested-returns-in_err-body-clause-refused : goal.nested-returns-in_err-body-clause-refused
+nested-returns-in_err-body-clause-refused t c =
+    let p = err_from_is_err_and c.from_residual.result c.from_residual.ensures.1 in
+    rw (p.1, p.2) (refused_inside (nested_begins c.args.depth c.args.symbols.now (spot c.args.from) c.requires.begins) _ c.in_err-body.ensures.refused)
+
+pub nested-returns-clause-found : goal.nested-returns-clause-found
+nested-returns-clause-found t c = nested_found c.in_ok-body.body c.place-place.ensures c.requires.begins c.in_ok-body.ensures.found
+
+pub nested-returns-clause-numbered : goal.nested-returns-clause-numbered
+nested-returns-clause-numbered t c = numbered-block c.args.number c.place-place.result c.in_ok-body.body.statements c.in_ok-body.behind c.in_ok-body.ensures.numbered
+
+pub otherwise-returns-in_default-clause-found : goal.otherwise-returns-in_default-clause-found
+otherwise-returns-in_default-clause-found t c = else_left_out c.args.depth c.args.symbols.now (spot c.args.from) c.in_default.ensures.other
+
+pub otherwise-statement-requires : goal.otherwise-statement-requires
+otherwise-statement-requires t c =
+    let word = token_shorter c.in-Ok.ensures.found.takes in
+    (search rules, (omega arith, (omega arith, c.requires.depth)))
+
+pub otherwise-returns-in_err-other-clause-refused : goal.otherwise-returns-in_err-other-clause-refused
+otherwise-returns-in_err-other-clause-refused t c =
+    let p = err_from_is_err_and c.from_residual.result c.from_residual.ensures.1 in
+    rw (p.1, p.2) (refused_inside (else_read c.args.depth c.args.symbols.now c.in-Ok.ensures.found c.requires.depth) _ c.in_err-other.ensures.refused)
+
+pub otherwise-returns-clause-found : goal.otherwise-returns-clause-found
+otherwise-returns-clause-found t c = else_found c.in_ok-other.other c.in_ok-branch.field-0 c.in_ok-branch.ensures.found c.in-Ok.ensures.found c.in_ok-other.ensures.found c.requires.depth
+
+pub statement-returns-in_default-clause-refused : goal.statement-returns-in_default-clause-refused
+statement-returns-in_default-clause-refused t c = statement_refused_at_end c.args.depth (spot c.args.from) _ c.wrong.ensures c.in_default.ensures.none
+
+pub statement-worded-requires : goal.statement-worded-requires
+statement-worded-requires t c = (search rules, (next_taken (stands c.in-Some.ensures.some c.in-Word.is), (c.requires.names, (c.requires.few, c.requires.depth))))
+
+pub statement-nested-requires : goal.statement-nested-requires
+statement-nested-requires t c =
+    let brace = sign_is c.in-Sign.sign punctuator.OpenBrace c.in-Sign.is c.eq.ensures c.if-eq.true in
+    (search rules, (fits_next refl (stands c.in-Some.ensures.some brace), (c.requires.names, (c.requires.few, c.requires.depth))))
+
+pub worded-conditional-requires : goal.worded-conditional-requires
+worded-conditional-requires t c =
+    let stands_if = c.requires.begins ∙ ap Word c.in-If.is in
+    (search rules, (ap (fits (Word keyword.If)) stands_if, (c.requires.names, (c.requires.few, c.requires.depth))))
+
+pub worded-looping-requires : goal.worded-looping-requires
+worded-looping-requires t c =
+    let stands_while = c.requires.begins ∙ ap Word c.in-While.is in
+    (search rules, (ap (fits (Word keyword.While)) stands_while, (c.requires.names, (c.requires.few, c.requires.depth))))

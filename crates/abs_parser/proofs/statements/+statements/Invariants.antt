@@ -1,0 +1,38 @@
+use Rattle.std.proofs.Common.{◌≤◌, ◌+◌, ◌*◌, length}
+use Rattle.abs_tree.specs.SyntaxNumbers.{AreNumbered}
+use Rattle.abs_parser.specs.Views.{spot}
+use Rattle.abs_parser.proofs.BlockSteps.{ReadsBlock}
+use Rattle.abs_parser.proofs.statements.+statements.Given as goal
+
+-- each call reads fewer tokens than its caller, or as many and less of the grammar
+abbrev pub decreases-statement : goal.decreases-statement
+decreases-statement l = 4 * length (spot l.from).rest + 3
+
+abbrev pub decreases-worded : goal.decreases-worded
+decreases-worded l = 4 * length (spot l.from).rest + 2
+
+abbrev pub decreases-nested : goal.decreases-nested
+decreases-nested l = 4 * length (spot l.from).rest + 1
+
+abbrev pub decreases-conditional : goal.decreases-conditional
+decreases-conditional l = 4 * length (spot l.from).rest + 1
+
+abbrev pub decreases-otherwise : goal.decreases-otherwise
+decreases-otherwise l = 4 * length (spot l.from).rest
+
+abbrev pub decreases-looping : goal.decreases-looping
+decreases-looping l = 4 * length (spot l.from).rest + 1
+
+abbrev pub decreases-block : goal.decreases-block
+decreases-block l = 4 * length (spot l.from).rest
+
+-- what was read so far
+abbrev pub invariant-block-loop-alloc : goal.invariant-block-loop-alloc
+invariant-block-loop-alloc l = record {
+  read : ReadsBlock l.depth l.fn.symbols l.symbols (spot l.from) (spot l.here) l.statements.items;
+  numbered : AreNumbered l.number l.statements.items l.free;
+  few : l.free + length (spot l.here).rest ≤ l.number + length (spot l.from).rest;
+}
+
+abbrev pub decreases-block-loop-alloc : goal.decreases-block-loop-alloc
+decreases-block-loop-alloc l = length (spot l.here).rest

@@ -1,0 +1,54 @@
+-- What statements begin with: the variable or the field, as a place, as what a value goes to, as an expression with the arguments behind it,
+-- and as the statement that it begins; the tokens that begin another statement than a right side; and what was read of a block.
+use Rattle.std.specs.Prelude.{◌≡◌, Bool, true, false, List, Option}
+use Rattle.abs_tree.specs.declared.place.Place.{Place}
+use Rattle.abs_tree.specs.Syntax.{Name, Written, Phrase, Phrases, TargetTree, ToVariable, ToField, Statement}
+use Rattle.abs_tree.specs.SyntaxViews.{statements}
+use Rattle.abs_tree.specs.Trees.{name_of}
+use Rattle.abs_tree.specs.declared.syntax.declaration.Body.{Body}
+use Rattle.abs_lexer.specs.declared.lexeme.Keyword.TheVariants as keyword
+use Rattle.abs_lexer.specs.declared.lexeme.Punctuator.TheVariants as punctuator
+use Rattle.abs_parser.specs.Kinds.{Kind, LowerName, LocalName, UpperName, AbsName, StdLibName, Word, Sign}
+use Rattle.abs_parser.specs.declared.simple_statements.First.{First}
+use Rattle.abs_parser.specs.declared.simple_statements.First.TheVariants as first
+use Rattle.abs_parser.specs.Readings.{Forest}
+use Rattle.abs_parser.specs.TreesOf.{named, member, after_variable, after_field, block_in, block_end}
+
+abbrev pub place_of_first : First → Place
+place_of_first (first.Variable place symbol) = place
+place_of_first (first.Field place symbol) = place
+
+abbrev pub target_of : List Name → First → TargetTree
+target_of names (first.Variable place symbol) = ToVariable place (Written (name_of names symbol))
+target_of names (first.Field place symbol) = ToField place (name_of names symbol)
+
+abbrev pub phrase_of : List Name → First → Option Phrases → Phrase
+phrase_of names (first.Variable place symbol) arguments = named place (name_of names symbol) arguments
+phrase_of names (first.Field place symbol) arguments = member place (name_of names symbol) arguments
+
+abbrev pub after_first : List Name → First → Forest → Statement
+after_first names (first.Variable place symbol) inside = after_variable place (name_of names symbol) inside
+after_first names (first.Field place symbol) inside = after_field place (name_of names symbol) inside
+
+-- whether a token begins a statement that is no right side alone
+abbrev pub begins_another : Kind → Bool
+begins_another LowerName = true
+begins_another LocalName = true
+begins_another UpperName = true
+begins_another AbsName = true
+begins_another StdLibName = true
+begins_another (Sign punctuator.OpenBrace) = true
+begins_another (Word keyword.Skip) = true
+begins_another (Word keyword.Suspend) = true
+begins_another (Word keyword.Await) = true
+begins_another (Word keyword.Return) = true
+begins_another (Word keyword.Println) = true
+begins_another (Word keyword.If) = true
+begins_another (Word keyword.While) = true
+begins_another (Word keyword.This) = true
+begins_another _ = false
+
+-- this block was read: its statements, and the place of the brace that closes it
+pub record IsBlock (names : List Name) (body : Body) (inside : Forest) : Type 0 where
+  pub statements_are : statements names body.statements.items ≡ block_in inside
+  pub end_is : body.end ≡ block_end inside

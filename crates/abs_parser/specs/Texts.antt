@@ -1,0 +1,36 @@
+-- What the reader of a text answers: the tree of a text that is accepted, or where one stops.
+--
+--   `IsTextOf`                                         a text is accepted, and this is its tree
+--   `StopsWith`                                        a text stops with this refusal
+--   `RefusesText`                                      why there is no tree
+use Rattle.std.specs.Prelude.{◌≡◌, ⊤, List}
+use Rattle.abs_lexer.specs.Tokens.{TokenList}
+use Rattle.abs_tree.specs.Refusals.{refusal_of}
+use Rattle.abs_tree.specs.Syntax.{TextTree}
+use Rattle.abs_tree.specs.declared.refusal.Code.{Code}
+use Rattle.abs_tree.specs.declared.refusal.Refusal.{Refusal}
+use Rattle.abs_parser.specs.Kinds.{Mark, marks, place_of_mark}
+use Rattle.abs_parser.specs.Readings.{Forest}
+use Rattle.abs_parser.specs.Stops.{StopsAt, IsAccepted}
+use Rattle.abs_parser.specs.TreesOf.{tree_of}
+use Rattle.abs_parser.specs.declared.parser.ParseError.{ParseError}
+use Rattle.abs_parser.specs.declared.parser.ParseError.TheVariants.{Refused, Memory}
+
+-- the text of these tokens is accepted, and this is its tree
+pub record IsTextOf (list : TokenList) (tree : TextTree) : Type 0 where
+  pub forest : Forest
+  pub accepted : IsAccepted (marks list) forest
+  pub is : tree ≡ tree_of forest
+
+-- it stops, and the token at which it does is refused by this
+pub record StopsWith (list : TokenList) (refusal : Refusal) : Type 0 where
+  pub before : List Mark
+  pub mark : Mark
+  pub code : Code
+  pub stops : StopsAt (marks list) before mark code
+  pub refusal_is : refusal ≡ refusal_of (record { code = code; place = place_of_mark mark })
+
+-- why there is no tree: the text stops; want of memory needs no cause
+abbrev pub RefusesText : ParseError → TokenList → Type 0
+RefusesText (Refused refusal) list = StopsWith list refusal
+RefusesText Memory list = ⊤

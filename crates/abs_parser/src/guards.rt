@@ -1,0 +1,82 @@
+//! Reads guards.
+ghost use Rattle.std.specs.Prelude.{◌≡◌, ◌+◌, ◌<◌, ◌≤◌, ◌^◌, length, IfOk, IfErr};
+ghost use Rattle.abs_tree.specs.Syntax.{Tests, NextTest};
+ghost use Rattle.abs_tree.specs.SyntaxViews.{phrase, tests as test_trees};
+ghost use Rattle.abs_parser.specs.Productions.{Guard, Test as TestSymbol};
+ghost use Rattle.abs_parser.specs.Readings.{One, Nonterminal};
+ghost use Rattle.abs_parser.specs.ReaderAnswers.{FoundAs, IsRefused};
+ghost use Rattle.abs_parser.specs.Stops.{limit};
+ghost use Rattle.abs_parser.specs.TreesOf.{guard_in, test_in};
+ghost use Rattle.abs_parser.specs.Views.{spot};
+
+use crate::ParseError;
+use crate::cursor::Cursor;
+use crate::operators::{Level, operators};
+use abs_lexer::{Lexeme, Punctuator};
+use abs_tree::Symbols;
+use abs_tree::syntax::Test;
+use std::alloc::Global;
+use std::sync::Arc;
+
+/// Tests with `&&` between them, and the cursor behind them.
+///
+/// # Errors
+/// The refusal of the first token that no guard has there, or that stands too deep.
+pub(crate) fn guard<'a, 'b>(
+    alloc: Global,
+    symbols: &mut Symbols<'a>,
+    depth: u32,
+    from: Cursor<'a, 'b>,
+) -> Result<(Vec<Test>, Cursor<'a, 'b>), ParseError>
+    requires names { length symbols.old + length (spot from).rest < 2 ^ 31 }
+    requires depth { depth ≤ limit }
+    ensures found { IfOk result (λ found. FoundAs (One Guard) depth symbols.old symbols.new (spot from.entry) (spot found.1)
+        (λ names inside. test_trees names found.0.items ≡ guard_in inside)) }
+    ensures refused { IfErr result (λ error. IsRefused (Nonterminal (One Guard) depth) (spot from.entry) error) }
+{
+    let mut tests = Vec::new(alloc);
+    let (first, mut here) = test(alloc, symbols, depth, from)?;
+    tests.push(first)?;
+    while let Ok((_, behind)) = here.expect(Lexeme::Sign(Punctuator::And)) {
+        let (next, end) = test(alloc, symbols, depth, behind)?;
+        tests.push(next)?;
+        here = end;
+    }
+    Ok((tests, here))
+}
+
+/// An expression in front of `&&`, perhaps with `?` behind it, and the cursor behind it.
+fn test<'a, 'b>(
+    alloc: Global,
+    symbols: &mut Symbols<'a>,
+    depth: u32,
+    from: Cursor<'a, 'b>,
+) -> Result<(Test, Cursor<'a, 'b>), ParseError>
+    requires names { length symbols.old + length (spot from).rest < 2 ^ 31 }
+    requires depth { depth ≤ limit }
+    ensures found { IfOk result (λ found. FoundAs (One TestSymbol) depth symbols.old symbols.new (spot from.entry) (spot found.1)
+        (λ names inside. (others : Tests) → NextTest found.0.place (phrase names found.0.value.value) found.0.asks others ≡ test_in inside others)) }
+    ensures refused { IfErr result (λ error. IsRefused (Nonterminal (One TestSymbol) depth) (spot from.entry) error) }
+{
+    let place = from.place();
+    let (value, behind) = operators(alloc, symbols, Level::Equal, depth, from)?;
+    let value = Arc::new(alloc, value)?;
+    match behind.expect(Lexeme::Sign(Punctuator::Question)) {
+        Ok((_, end)) => Ok((
+            Test {
+                place,
+                value,
+                asks: true,
+            },
+            end,
+        )),
+        Err(_) => Ok((
+            Test {
+                place,
+                value,
+                asks: false,
+            },
+            behind,
+        )),
+    }
+}

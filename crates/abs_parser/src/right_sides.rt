@@ -1,0 +1,145 @@
+//! Reads right sides: a new object, or an expression with what stands behind it.
+ghost use Rattle.std.specs.Prelude.{◌≡◌, ℕ, true, false, ◌+◌, ◌<◌, ◌≤◌, ◌^◌, length, IfOk, IfErr, OnErr};
+ghost use Rattle.abs_lexer.specs.declared.lexeme.Keyword.TheVariants as keyword;
+ghost use Rattle.abs_tree.specs.SyntaxViews.{phrase, side_tree};
+ghost use Rattle.abs_parser.specs.Kinds.{Word, fits, next};
+ghost use Rattle.abs_parser.specs.Productions.{Rhs, RhsTail, Selected, Where};
+ghost use Rattle.abs_parser.specs.Readings.{One, Optional, Nonterminal};
+ghost use Rattle.abs_parser.specs.ReaderAnswers.{FoundAs, IsRefused, left_at};
+ghost use Rattle.abs_parser.specs.Stops.{limit};
+ghost use Rattle.abs_parser.specs.TreesOf.{rhs_in, tail_in, selected_in, mode_in};
+ghost use Rattle.abs_parser.specs.Views.{spot};
+
+use crate::ParseError;
+use crate::arguments::arguments;
+use crate::cursor::{Cursor, FixedName};
+use crate::expressions::expression;
+use abs_lexer::{Keyword, Lexeme, Punctuator};
+use abs_tree::syntax::{Expr, Mode, RightSide};
+use abs_tree::{Place, Symbols};
+use std::alloc::{AllocError, Global};
+use std::sync::Arc;
+
+/// A right side that stands in so many counted symbols, and the cursor behind it.
+///
+/// # Errors
+/// The refusal of the first token that no right side has there, or that stands too deep.
+pub(crate) fn right_side<'a, 'b>(
+    alloc: Global,
+    symbols: &mut Symbols<'a>,
+    depth: u32,
+    from: Cursor<'a, 'b>,
+) -> Result<(RightSide, Cursor<'a, 'b>), ParseError>
+    requires names { length symbols.old + length (spot from).rest < 2 ^ 31 }
+    requires depth { depth ≤ limit }
+    ensures found { IfOk result (λ found. FoundAs (One Rhs) depth symbols.old symbols.new (spot from.entry) (spot found.1)
+        (λ names inside. side_tree names found.0 ≡ rhs_in inside)) }
+    ensures refused { IfErr result (λ error. IsRefused (Nonterminal (One Rhs) depth) (spot from.entry) error) }
+{
+    if let Ok(_) = from.expect(Lexeme::Word(Keyword::New)) {
+        return new_object(alloc, symbols, depth, from);
+    }
+    let (first, behind) = expression(alloc, symbols, depth, from)?;
+    side_behind(alloc, symbols, depth, from.place(), first, behind)
+}
+
+/// `new C(es)`, perhaps with `cog` or `local`, and the cursor behind it.
+fn new_object<'a, 'b>(
+    alloc: Global,
+    symbols: &mut Symbols<'a>,
+    depth: u32,
+    from: Cursor<'a, 'b>,
+) -> Result<(RightSide, Cursor<'a, 'b>), ParseError>
+    requires begins { fits (Word keyword.New) (next (left_at (spot from))) ≡ true }
+    requires names { length symbols.old + length (spot from).rest < 2 ^ 31 }
+    requires depth { depth ≤ limit }
+    ensures found { IfOk result (λ found. FoundAs (One Rhs) depth symbols.old symbols.new (spot from.entry) (spot found.1)
+        (λ names inside. side_tree names found.0 ≡ rhs_in inside)) }
+    ensures refused { IfErr result (λ error. IsRefused (Nonterminal (One Rhs) depth) (spot from.entry) error) }
+{
+    let (word, here) = from.expect(Lexeme::Word(Keyword::New))?;
+    let (mode, name_at) = mode(symbols, here)?;
+    let (name, open) = name_at.expect(Lexeme::UpperName)?;
+    let class = symbols.intern(name.slice)?;
+    let (arguments, end) = arguments(alloc, symbols, depth, open)?;
+    let arguments = Arc::new(alloc, arguments)?;
+    Ok((RightSide::New(word.place, mode, class, arguments), end))
+}
+
+/// Where a new object is to live, by the word behind `new`, and the cursor behind that word. `local` is a name like others, so
+/// the table has it then.
+fn mode<'a, 'b>(
+    symbols: &mut Symbols<'a>,
+    from: Cursor<'a, 'b>,
+) -> Result<(Mode, Cursor<'a, 'b>), AllocError>
+    requires names { length symbols.old + length (spot from).rest < 2 ^ 31 }
+    ensures found { IfOk result (λ found. (depth : ℕ) → depth ≤ limit → FoundAs (Optional Where) depth symbols.old symbols.new (spot from.entry) (spot found.1)
+        (λ names inside. found.0 ≡ mode_in inside)) }
+{
+    if let Ok((_, behind)) = from.expect(Lexeme::Word(Keyword::Cog)) {
+        return Ok((Mode::Cog, behind));
+    }
+    if let Ok((name, behind)) = from.expect_name(FixedName::Local) {
+        symbols.intern(name.slice)?;
+        return Ok((Mode::Local, behind));
+    }
+    Ok((Mode::Plain, from))
+}
+
+/// An expression, which begins at `place`, with what stands behind it: `!` and a call, `.get`, `.` and a call, or nothing; and
+/// the cursor behind that.
+///
+/// # Errors
+/// The refusal of the first token that is nothing of this form, or that stands too deep.
+pub(crate) fn side_behind<'a, 'b>(
+    alloc: Global,
+    symbols: &mut Symbols<'a>,
+    depth: u32,
+    place: Place,
+    first: Expr,
+    from: Cursor<'a, 'b>,
+) -> Result<(RightSide, Cursor<'a, 'b>), ParseError>
+    requires names { length symbols.old + length (spot from).rest < 2 ^ 31 }
+    requires depth { depth ≤ limit }
+    ensures found { IfOk result (λ found. FoundAs (Optional RhsTail) depth symbols.old symbols.new (spot from.entry) (spot found.1)
+        (λ names inside. side_tree names found.0 ≡ tail_in place (phrase names first) inside)) }
+    ensures refused { IfErr result (λ error. IsRefused (Nonterminal (Optional RhsTail) depth) (spot from.entry) error) }
+{
+    let first = Arc::new(alloc, first)?;
+    if let Ok((_, behind)) = from.expect(Lexeme::Sign(Punctuator::Not)) {
+        let (name, open) = behind.expect(Lexeme::LowerName)?;
+        let method = symbols.intern(name.slice)?;
+        let (arguments, end) = arguments(alloc, symbols, depth, open)?;
+        let arguments = Arc::new(alloc, arguments)?;
+        return Ok((RightSide::Send(place, first, method, arguments), end));
+    }
+    let Ok((_, behind)) = from.expect(Lexeme::Sign(Punctuator::Dot)) else {
+        return Ok((RightSide::Value(place, first), from));
+    };
+    selected(alloc, symbols, depth, place, first, behind)
+}
+
+/// What stands behind an expression and `.`: `get`, or a method with its arguments; and the cursor behind it.
+fn selected<'a, 'b>(
+    alloc: Global,
+    symbols: &mut Symbols<'a>,
+    depth: u32,
+    place: Place,
+    first: Arc<Expr>,
+    from: Cursor<'a, 'b>,
+) -> Result<(RightSide, Cursor<'a, 'b>), ParseError>
+    requires names { length symbols.old + length (spot from).rest < 2 ^ 31 }
+    requires depth { depth ≤ limit }
+    ensures found { IfOk result (λ found. FoundAs (One Selected) depth symbols.old symbols.new (spot from.entry) (spot found.1)
+        (λ names inside. side_tree names found.0 ≡ selected_in place (phrase names first.value) inside)) }
+    ensures refused { IfErr result (λ error. IsRefused (Nonterminal (One Selected) depth) (spot from.entry) error) }
+{
+    if let Ok((_, end)) = from.expect(Lexeme::Word(Keyword::Get)) {
+        return Ok((RightSide::Get(place, first), end));
+    }
+    let (name, open) = from.expect(Lexeme::LowerName)?;
+    let method = symbols.intern(name.slice)?;
+    let (arguments, end) = arguments(alloc, symbols, depth, open)?;
+    let arguments = Arc::new(alloc, arguments)?;
+    Ok((RightSide::Call(place, first, method, arguments), end))
+}

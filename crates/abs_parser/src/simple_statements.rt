@@ -1,0 +1,483 @@
+//! Reads the statements that hold no others.
+ghost use Rattle.std.specs.Prelude.{◌≡◌, List, true, false, ◌+◌, ◌<◌, ◌≤◌, ◌^◌, length, IfOk, IfErr};
+ghost use Rattle.abs_lexer.specs.declared.lexeme.Keyword.TheVariants as keyword;
+ghost use Rattle.abs_tree.specs.Syntax.{Name};
+ghost use Rattle.abs_tree.specs.SyntaxNumbers.{IsNumbered};
+ghost use Rattle.abs_tree.specs.SyntaxViews.{phrase, side_tree, target_tree, statement as statement_tree, maybe_side};
+ghost use Rattle.abs_parser.specs.Kinds.{LowerName, UpperName, Word, fits, next};
+ghost use Rattle.abs_parser.specs.Productions.{begins, Stmt as StmtSymbol, Rhs, Initial, Rest, AfterName};
+ghost use Rattle.abs_parser.specs.Readings.{One, Optional, Nonterminal};
+ghost use Rattle.abs_parser.specs.ReaderAnswers.{FoundAs, IsRefused, left_at, maybe_phrases};
+ghost use Rattle.abs_parser.specs.Stops.{limit};
+ghost use Rattle.abs_parser.specs.Firsts.{place_of_first, target_of, phrase_of, after_first, begins_another};
+ghost use Rattle.abs_parser.specs.TreesOf.{statement_in, initial_in, rest_in};
+ghost use Rattle.abs_parser.specs.Views.{spot};
+
+use crate::ParseError;
+use crate::arguments::arguments_maybe;
+use crate::cursor::{Cursor, LIMIT};
+use crate::expressions::expression;
+use crate::guards::guard;
+use crate::operators::{Level, operators_behind};
+use crate::right_sides::{right_side, side_behind};
+use crate::types::type_term;
+use abs_lexer::{Keyword, Lexeme, Punctuator};
+use abs_tree::syntax::{Expr, RightSide, Stmt, Target};
+use abs_tree::{Place, Symbol, Symbols, Variable};
+use std::alloc::Global;
+use std::sync::Arc;
+
+/// A variable or a field with which a statement begins, with the place where it begins.
+#[derive(Clone, Copy, Debug, PartialEq, Eq)]
+pub(crate) enum First {
+    /// `x`
+    Variable(Place, Symbol),
+    /// `this.x`
+    Field(Place, Symbol),
+}
+
+impl First {
+    /// Where it begins.
+    fn place(self) -> Place
+        ensures { result ≡ place_of_first self }
+    {
+        match self {
+            First::Variable(place, _) | First::Field(place, _) => place,
+        }
+    }
+
+    /// The same as what a value goes to.
+    fn target(self) -> Target
+        ensures { (names : List Name) → target_tree names result ≡ target_of names self }
+    {
+        match self {
+            First::Variable(place, symbol) => Target::Local(place, Variable::Named(symbol)),
+            First::Field(place, symbol) => Target::Field(place, symbol),
+        }
+    }
+
+    /// The same as an expression, with arguments behind it or without.
+    fn expr(self, arguments: Option<Vec<Expr>>) -> Expr
+        ensures { (names : List Name) → phrase names result ≡ phrase_of names self (maybe_phrases names arguments) }
+    {
+        match (self, arguments) {
+            (First::Variable(place, symbol), None) => Expr::Local(place, Variable::Named(symbol)),
+            (First::Variable(place, symbol), Some(given)) => Expr::Apply(place, symbol, given),
+            (First::Field(place, symbol), None) => Expr::Field(place, symbol),
+            (First::Field(place, symbol), Some(given)) => Expr::OwnCall(place, symbol, given),
+        }
+    }
+}
+
+/// `skip;`, and the cursor behind it.
+pub(crate) fn skip<'a, 'b>(
+    alloc: Global,
+    symbols: &mut Symbols<'a>,
+    number: u32,
+    depth: u32,
+    from: Cursor<'a, 'b>,
+) -> Result<(Stmt, Cursor<'a, 'b>), ParseError>
+    requires begins { fits (Word keyword.Skip) (next (left_at (spot from))) ≡ true }
+    requires names { length symbols.old + length (spot from).rest < 2 ^ 31 }
+    requires depth { depth ≤ limit }
+    ensures found { IfOk result (λ found. FoundAs (One StmtSymbol) depth symbols.old symbols.new (spot from.entry) (spot found.1)
+        (λ names inside. statement_tree names found.0 ≡ statement_in inside)) }
+    ensures numbered { IfOk result (λ found. IsNumbered number found.0 (1 + number)) }
+    ensures shorter { IfOk result (λ found. length (spot found.1).rest < length (spot from.entry).rest) }
+    ensures refused { IfErr result (λ error. IsRefused (Nonterminal (One StmtSymbol) depth) (spot from.entry) error) }
+{
+    let (word, last) = from.expect(Lexeme::Word(Keyword::Skip))?;
+    if depth == LIMIT {
+        return Err(from.deep());
+    }
+    let (_, end) = last.expect(Lexeme::Sign(Punctuator::Semicolon))?;
+    Ok((Stmt::Skip(number, word.place), end))
+}
+
+/// `suspend;`, and the cursor behind it.
+pub(crate) fn suspend<'a, 'b>(
+    alloc: Global,
+    symbols: &mut Symbols<'a>,
+    number: u32,
+    depth: u32,
+    from: Cursor<'a, 'b>,
+) -> Result<(Stmt, Cursor<'a, 'b>), ParseError>
+    requires begins { fits (Word keyword.Suspend) (next (left_at (spot from))) ≡ true }
+    requires names { length symbols.old + length (spot from).rest < 2 ^ 31 }
+    requires depth { depth ≤ limit }
+    ensures found { IfOk result (λ found. FoundAs (One StmtSymbol) depth symbols.old symbols.new (spot from.entry) (spot found.1)
+        (λ names inside. statement_tree names found.0 ≡ statement_in inside)) }
+    ensures numbered { IfOk result (λ found. IsNumbered number found.0 (1 + number)) }
+    ensures shorter { IfOk result (λ found. length (spot found.1).rest < length (spot from.entry).rest) }
+    ensures refused { IfErr result (λ error. IsRefused (Nonterminal (One StmtSymbol) depth) (spot from.entry) error) }
+{
+    let (word, last) = from.expect(Lexeme::Word(Keyword::Suspend))?;
+    if depth == LIMIT {
+        return Err(from.deep());
+    }
+    let (_, end) = last.expect(Lexeme::Sign(Punctuator::Semicolon))?;
+    Ok((Stmt::Suspend(number, word.place), end))
+}
+
+/// `await g;`, and the cursor behind it.
+pub(crate) fn awaiting<'a, 'b>(
+    alloc: Global,
+    symbols: &mut Symbols<'a>,
+    number: u32,
+    depth: u32,
+    from: Cursor<'a, 'b>,
+) -> Result<(Stmt, Cursor<'a, 'b>), ParseError>
+    requires begins { fits (Word keyword.Await) (next (left_at (spot from))) ≡ true }
+    requires names { length symbols.old + length (spot from).rest < 2 ^ 31 }
+    requires depth { depth ≤ limit }
+    ensures found { IfOk result (λ found. FoundAs (One StmtSymbol) depth symbols.old symbols.new (spot from.entry) (spot found.1)
+        (λ names inside. statement_tree names found.0 ≡ statement_in inside)) }
+    ensures numbered { IfOk result (λ found. IsNumbered number found.0 (1 + number)) }
+    ensures shorter { IfOk result (λ found. length (spot found.1).rest < length (spot from.entry).rest) }
+    ensures refused { IfErr result (λ error. IsRefused (Nonterminal (One StmtSymbol) depth) (spot from.entry) error) }
+{
+    let (word, guard_at) = from.expect(Lexeme::Word(Keyword::Await))?;
+    if depth == LIMIT {
+        return Err(from.deep());
+    }
+    let (tests, last) = guard(alloc, symbols, depth + 1, guard_at)?;
+    let (_, end) = last.expect(Lexeme::Sign(Punctuator::Semicolon))?;
+    Ok((Stmt::Await(number, word.place, tests), end))
+}
+
+/// `return e;`, and the cursor behind it.
+pub(crate) fn returning<'a, 'b>(
+    alloc: Global,
+    symbols: &mut Symbols<'a>,
+    number: u32,
+    depth: u32,
+    from: Cursor<'a, 'b>,
+) -> Result<(Stmt, Cursor<'a, 'b>), ParseError>
+    requires begins { fits (Word keyword.Return) (next (left_at (spot from))) ≡ true }
+    requires names { length symbols.old + length (spot from).rest < 2 ^ 31 }
+    requires depth { depth ≤ limit }
+    ensures found { IfOk result (λ found. FoundAs (One StmtSymbol) depth symbols.old symbols.new (spot from.entry) (spot found.1)
+        (λ names inside. statement_tree names found.0 ≡ statement_in inside)) }
+    ensures numbered { IfOk result (λ found. IsNumbered number found.0 (1 + number)) }
+    ensures shorter { IfOk result (λ found. length (spot found.1).rest < length (spot from.entry).rest) }
+    ensures refused { IfErr result (λ error. IsRefused (Nonterminal (One StmtSymbol) depth) (spot from.entry) error) }
+{
+    let (word, value_at) = from.expect(Lexeme::Word(Keyword::Return))?;
+    if depth == LIMIT {
+        return Err(from.deep());
+    }
+    let (value, last) = expression(alloc, symbols, depth + 1, value_at)?;
+    let (_, end) = last.expect(Lexeme::Sign(Punctuator::Semicolon))?;
+    let value = Arc::new(alloc, value)?;
+    Ok((Stmt::Return(number, word.place, value), end))
+}
+
+/// `println(e);`, and the cursor behind it.
+pub(crate) fn printing<'a, 'b>(
+    alloc: Global,
+    symbols: &mut Symbols<'a>,
+    number: u32,
+    depth: u32,
+    from: Cursor<'a, 'b>,
+) -> Result<(Stmt, Cursor<'a, 'b>), ParseError>
+    requires begins { fits (Word keyword.Println) (next (left_at (spot from))) ≡ true }
+    requires names { length symbols.old + length (spot from).rest < 2 ^ 31 }
+    requires depth { depth ≤ limit }
+    ensures found { IfOk result (λ found. FoundAs (One StmtSymbol) depth symbols.old symbols.new (spot from.entry) (spot found.1)
+        (λ names inside. statement_tree names found.0 ≡ statement_in inside)) }
+    ensures numbered { IfOk result (λ found. IsNumbered number found.0 (1 + number)) }
+    ensures shorter { IfOk result (λ found. length (spot found.1).rest < length (spot from.entry).rest) }
+    ensures refused { IfErr result (λ error. IsRefused (Nonterminal (One StmtSymbol) depth) (spot from.entry) error) }
+{
+    let (word, open) = from.expect(Lexeme::Word(Keyword::Println))?;
+    if depth == LIMIT {
+        return Err(from.deep());
+    }
+    let (_, text_at) = open.expect(Lexeme::Sign(Punctuator::OpenParen))?;
+    let (text, close) = expression(alloc, symbols, depth + 1, text_at)?;
+    let (_, last) = close.expect(Lexeme::Sign(Punctuator::CloseParen))?;
+    let (_, end) = last.expect(Lexeme::Sign(Punctuator::Semicolon))?;
+    let text = Arc::new(alloc, text)?;
+    Ok((Stmt::Print(number, word.place, text), end))
+}
+
+/// `T x;` or `T x = r;`, and the cursor behind it.
+pub(crate) fn declaration<'a, 'b>(
+    alloc: Global,
+    symbols: &mut Symbols<'a>,
+    number: u32,
+    depth: u32,
+    from: Cursor<'a, 'b>,
+) -> Result<(Stmt, Cursor<'a, 'b>), ParseError>
+    requires begins { fits UpperName (next (left_at (spot from))) ≡ true }
+    requires names { length symbols.old + length (spot from).rest < 2 ^ 31 }
+    requires depth { depth ≤ limit }
+    ensures found { IfOk result (λ found. FoundAs (One StmtSymbol) depth symbols.old symbols.new (spot from.entry) (spot found.1)
+        (λ names inside. statement_tree names found.0 ≡ statement_in inside)) }
+    ensures numbered { IfOk result (λ found. IsNumbered number found.0 (1 + number)) }
+    ensures shorter { IfOk result (λ found. length (spot found.1).rest < length (spot from.entry).rest) }
+    ensures refused { IfErr result (λ error. IsRefused (Nonterminal (One StmtSymbol) depth) (spot from.entry) error) }
+{
+    if depth == LIMIT {
+        return Err(from.deep());
+    }
+    let (type_of, name_at) = type_term(alloc, symbols, depth + 1, from)?;
+    let (name, behind) = name_at.expect(Lexeme::LowerName)?;
+    let variable = Variable::Named(symbols.intern(name.slice)?);
+    let (initial, last) = initial(alloc, symbols, depth + 1, behind)?;
+    let (_, end) = last.expect(Lexeme::Sign(Punctuator::Semicolon))?;
+    let stmt = Stmt::Declare(number, from.place(), type_of, name.place, variable, initial);
+    Ok((stmt, end))
+}
+
+/// `= r`, where it stands here, and the cursor behind it.
+fn initial<'a, 'b>(
+    alloc: Global,
+    symbols: &mut Symbols<'a>,
+    depth: u32,
+    from: Cursor<'a, 'b>,
+) -> Result<(Option<RightSide>, Cursor<'a, 'b>), ParseError>
+    requires names { length symbols.old + length (spot from).rest < 2 ^ 31 }
+    requires depth { depth ≤ limit }
+    ensures found { IfOk result (λ found. FoundAs (Optional Initial) depth symbols.old symbols.new (spot from.entry) (spot found.1)
+        (λ names inside. maybe_side names found.0 ≡ initial_in inside)) }
+    ensures refused { IfErr result (λ error. IsRefused (Nonterminal (Optional Initial) depth) (spot from.entry) error) }
+{
+    let Ok((_, behind)) = from.expect(Lexeme::Sign(Punctuator::Assign)) else {
+        return Ok((None, from));
+    };
+    let (side, end) = right_side(alloc, symbols, depth, behind)?;
+    Ok((Some(side), end))
+}
+
+/// A statement that begins with a name: `x = r;`, or a right side; and the cursor behind it.
+pub(crate) fn from_variable<'a, 'b>(
+    alloc: Global,
+    symbols: &mut Symbols<'a>,
+    number: u32,
+    depth: u32,
+    from: Cursor<'a, 'b>,
+) -> Result<(Stmt, Cursor<'a, 'b>), ParseError>
+    requires begins { fits LowerName (next (left_at (spot from))) ≡ true }
+    requires names { length symbols.old + length (spot from).rest < 2 ^ 31 }
+    requires depth { depth ≤ limit }
+    ensures found { IfOk result (λ found. FoundAs (One StmtSymbol) depth symbols.old symbols.new (spot from.entry) (spot found.1)
+        (λ names inside. statement_tree names found.0 ≡ statement_in inside)) }
+    ensures numbered { IfOk result (λ found. IsNumbered number found.0 (1 + number)) }
+    ensures shorter { IfOk result (λ found. length (spot found.1).rest < length (spot from.entry).rest) }
+    ensures refused { IfErr result (λ error. IsRefused (Nonterminal (One StmtSymbol) depth) (spot from.entry) error) }
+{
+    let (name, behind) = from.expect(Lexeme::LowerName)?;
+    if depth + 3 > LIMIT {
+        return Err(from.deep());
+    }
+    let symbol = symbols.intern(name.slice)?;
+    let first = First::Variable(name.place, symbol);
+    behind_first(alloc, symbols, number, depth + 1, first, behind)
+}
+
+/// A statement that begins with `this`: `this.x = r;`, or a right side; and the cursor behind it.
+pub(crate) fn from_this<'a, 'b>(
+    alloc: Global,
+    symbols: &mut Symbols<'a>,
+    number: u32,
+    depth: u32,
+    from: Cursor<'a, 'b>,
+) -> Result<(Stmt, Cursor<'a, 'b>), ParseError>
+    requires begins { fits (Word keyword.This) (next (left_at (spot from))) ≡ true }
+    requires names { length symbols.old + length (spot from).rest < 2 ^ 31 }
+    requires depth { depth ≤ limit }
+    ensures found { IfOk result (λ found. FoundAs (One StmtSymbol) depth symbols.old symbols.new (spot from.entry) (spot found.1)
+        (λ names inside. statement_tree names found.0 ≡ statement_in inside)) }
+    ensures numbered { IfOk result (λ found. IsNumbered number found.0 (1 + number)) }
+    ensures shorter { IfOk result (λ found. length (spot found.1).rest < length (spot from.entry).rest) }
+    ensures refused { IfErr result (λ error. IsRefused (Nonterminal (One StmtSymbol) depth) (spot from.entry) error) }
+{
+    let (this, behind) = from.expect(Lexeme::Word(Keyword::This))?;
+    if depth + 3 > LIMIT {
+        return Err(from.deep());
+    }
+    let Ok((_, name_at)) = behind.expect(Lexeme::Sign(Punctuator::Dot)) else {
+        let (side, end) = rest(
+            alloc,
+            symbols,
+            depth + 1,
+            this.place,
+            Expr::This(this.place),
+            behind,
+        )?;
+        return Ok((Stmt::Do(number, this.place, side), end));
+    };
+    let (name, last) = name_at.expect(Lexeme::LowerName)?;
+    let symbol = symbols.intern(name.slice)?;
+    let first = First::Field(this.place, symbol);
+    behind_first(alloc, symbols, number, depth + 1, first, last)
+}
+
+/// What stands behind the variable or the field with which a statement begins: `= r;`, or the rest of a right side; and the cursor
+/// behind it.
+fn behind_first<'a, 'b>(
+    alloc: Global,
+    symbols: &mut Symbols<'a>,
+    number: u32,
+    depth: u32,
+    first: First,
+    from: Cursor<'a, 'b>,
+) -> Result<(Stmt, Cursor<'a, 'b>), ParseError>
+    requires within { depth + 2 ≤ limit }
+    requires names { length symbols.old + length (spot from).rest < 2 ^ 31 }
+    ensures found { IfOk result (λ found. FoundAs (One AfterName) depth symbols.old symbols.new (spot from.entry) (spot found.1)
+        (λ names inside. statement_tree names found.0 ≡ after_first names first inside)) }
+    ensures numbered { IfOk result (λ found. IsNumbered number found.0 (1 + number)) }
+    ensures refused { IfErr result (λ error. IsRefused (Nonterminal (One AfterName) depth) (spot from.entry) error) }
+{
+    let place = first.place();
+    if let Ok((_, side_at)) = from.expect(Lexeme::Sign(Punctuator::Assign)) {
+        let (side, last) = right_side(alloc, symbols, depth, side_at)?;
+        let (_, end) = last.expect(Lexeme::Sign(Punctuator::Semicolon))?;
+        return Ok((Stmt::Assign(number, place, first.target(), side), end));
+    }
+    let (arguments, behind) = arguments_maybe(alloc, symbols, depth + 2, from)?;
+    let (side, end) = rest(alloc, symbols, depth, place, first.expr(arguments), behind)?;
+    Ok((Stmt::Do(number, place, side), end))
+}
+
+/// The rest of a right side, behind its first operand, which begins at `place`; `;`; and the cursor behind it.
+fn rest<'a, 'b>(
+    alloc: Global,
+    symbols: &mut Symbols<'a>,
+    depth: u32,
+    place: Place,
+    first: Expr,
+    from: Cursor<'a, 'b>,
+) -> Result<(RightSide, Cursor<'a, 'b>), ParseError>
+    requires within { depth + 2 ≤ limit }
+    requires names { length symbols.old + length (spot from).rest < 2 ^ 31 }
+    ensures found { IfOk result (λ found. FoundAs (One Rest) depth symbols.old symbols.new (spot from.entry) (spot found.1)
+        (λ names inside. side_tree names found.0 ≡ rest_in place (phrase names first) inside)) }
+    ensures refused { IfErr result (λ error. IsRefused (Nonterminal (One Rest) depth) (spot from.entry) error) }
+{
+    let level = depth + 1;
+    let (product, here) = operators_behind(alloc, symbols, Level::Mul, level, place, first, from)?;
+    let (sum, here) = operators_behind(alloc, symbols, Level::Sum, level, place, product, here)?;
+    let (comparison, here) = operators_behind(
+        alloc,
+        symbols,
+        Level::Compare,
+        level,
+        place,
+        sum,
+        here,
+    )?;
+    let (equality, here) = operators_behind(
+        alloc,
+        symbols,
+        Level::Equal,
+        level,
+        place,
+        comparison,
+        here,
+    )?;
+    let (conjunction, here) = operators_behind(
+        alloc,
+        symbols,
+        Level::And,
+        level,
+        place,
+        equality,
+        here,
+    )?;
+    let (disjunction, here) = operators_behind(
+        alloc,
+        symbols,
+        Level::Or,
+        level,
+        place,
+        conjunction,
+        here,
+    )?;
+    let (side, last) = side_behind(alloc, symbols, depth, place, disjunction, here)?;
+    let (_, end) = last.expect(Lexeme::Sign(Punctuator::Semicolon))?;
+    Ok((side, end))
+}
+
+/// Whether a right side may begin with the token that stands here.
+fn right_side_begins(from: Cursor<'_, '_>) -> bool
+    ensures { result ≡ begins Rhs (next (left_at (spot from.entry))) }
+{
+    let Some((token, _)) = from.next() else {
+        return false;
+    };
+    match token.kind {
+        Lexeme::Number | Lexeme::Text | Lexeme::LowerName | Lexeme::UpperName => true,
+        Lexeme::Word(word) => match word {
+            Keyword::New
+            | Keyword::Let
+            | Keyword::If
+            | Keyword::Case
+            | Keyword::Null
+            | Keyword::Destiny
+            | Keyword::This => true,
+            _ => false,
+        },
+        Lexeme::Sign(sign) => match sign {
+            Punctuator::OpenParen | Punctuator::Not | Punctuator::Tilde | Punctuator::Minus => true,
+            _ => false,
+        },
+        Lexeme::Foreign => false,
+    }
+}
+
+/// Whether a statement may begin with the token that stands here.
+pub(crate) fn statement_begins(from: Cursor<'_, '_>) -> bool
+    ensures { result ≡ begins StmtSymbol (next (left_at (spot from.entry))) }
+{
+    if right_side_begins(from) {
+        return true;
+    }
+    let Some((token, _)) = from.next() else {
+        return false;
+    };
+    match token.kind {
+        Lexeme::Word(word) => match word {
+            Keyword::Skip
+            | Keyword::Suspend
+            | Keyword::Await
+            | Keyword::Return
+            | Keyword::Println
+            | Keyword::While => true,
+            _ => false,
+        },
+        Lexeme::Sign(sign) => sign == Punctuator::OpenBrace,
+        _ => false,
+    }
+}
+
+/// A right side as a statement, `r;`, where the next token begins no other statement; and the cursor behind it.
+pub(crate) fn plain<'a, 'b>(
+    alloc: Global,
+    symbols: &mut Symbols<'a>,
+    number: u32,
+    depth: u32,
+    from: Cursor<'a, 'b>,
+) -> Result<(Stmt, Cursor<'a, 'b>), ParseError>
+    requires plain { begins_another (next (left_at (spot from))) ≡ false }
+    requires names { length symbols.old + length (spot from).rest < 2 ^ 31 }
+    requires depth { depth ≤ limit }
+    ensures found { IfOk result (λ found. FoundAs (One StmtSymbol) depth symbols.old symbols.new (spot from.entry) (spot found.1)
+        (λ names inside. statement_tree names found.0 ≡ statement_in inside)) }
+    ensures numbered { IfOk result (λ found. IsNumbered number found.0 (1 + number)) }
+    ensures shorter { IfOk result (λ found. length (spot found.1).rest < length (spot from.entry).rest) }
+    ensures refused { IfErr result (λ error. IsRefused (Nonterminal (One StmtSymbol) depth) (spot from.entry) error) }
+{
+    if depth == LIMIT {
+        return Err(if right_side_begins(from) {
+            from.deep()
+        } else {
+            from.wrong()
+        });
+    }
+    let (side, last) = right_side(alloc, symbols, depth + 1, from)?;
+    let (_, end) = last.expect(Lexeme::Sign(Punctuator::Semicolon))?;
+    Ok((Stmt::Do(number, from.place(), side), end))
+}

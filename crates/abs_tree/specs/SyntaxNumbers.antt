@@ -1,0 +1,47 @@
+-- How the statements of a body are numbered: in the order in which they begin, without a gap. A block has no number, and stands for its
+-- statements; so a branch does.
+--
+--   `IsNumbered`                                       a statement is numbered from a first number on, and behind it the next one is free
+--   `AreNumbered`                                      so are the statements of a list
+use Rattle.std.specs.Prelude.{◌≡◌, ℕ, ◌+◌, List, [], ◌∷◌, Option, Some, None}
+use Rattle.std.specs.declared.alloc.Global.{Global}
+use Rattle.std.specs.declared.vec.Vec.{Vec}
+use Rattle.abs_tree.specs.declared.syntax.statement.Stmt as code_stmt
+
+-- one that holds no others has the first number, and behind it the next one is free
+pub record HasNumber (first number behind : ℕ) : Type 0 where
+  pub number_is : number ≡ first
+  pub behind_is : behind ≡ 1 + first
+
+abbrev mutual
+  pub IsNumbered : ℕ → code_stmt.Stmt → ℕ → Type 0
+  IsNumbered first (code_stmt.Block' place shape block) behind = RowNumbered first block behind
+  IsNumbered first (code_stmt.If' number place test shape chosen other) behind =
+      (number ≡ first) × (middle : ℕ) × RowNumbered (1 + first) chosen middle × OtherNumbered middle other behind
+  IsNumbered first (code_stmt.While' number place test shape body) behind = (number ≡ first) × RowNumbered (1 + first) body behind
+  IsNumbered first (code_stmt.Skip number place) behind = HasNumber first number behind
+  IsNumbered first (code_stmt.Suspend number place) behind = HasNumber first number behind
+  IsNumbered first (code_stmt.Await number place guard) behind = HasNumber first number behind
+  IsNumbered first (code_stmt.Return number place value) behind = HasNumber first number behind
+  IsNumbered first (code_stmt.Print number place value) behind = HasNumber first number behind
+  IsNumbered first (code_stmt.Declare number place type name_place variable initial) behind = HasNumber first number behind
+  IsNumbered first (code_stmt.Assign number place target rhs) behind = HasNumber first number behind
+  IsNumbered first (code_stmt.Do number place rhs) behind = HasNumber first number behind
+
+  pub RowNumbered : {n : _} → ℕ → code_stmt.Row_of-Stmt n → ℕ → Type 0
+  RowNumbered first code_stmt.end_of-Stmt behind = behind ≡ first
+  RowNumbered first (code_stmt.more_of-Stmt stmt others) behind = (middle : ℕ) × IsNumbered first stmt middle × RowNumbered middle others behind
+
+  OtherNumbered : ℕ → code_stmt.Held-Stmt-If-4 → ℕ → Type 0
+  OtherNumbered first code_stmt.None' behind = behind ≡ first
+  OtherNumbered first (code_stmt.Some' shape other) behind = RowNumbered first other behind
+
+-- the statements of a list
+abbrev pub AreNumbered : ℕ → List code_stmt.Stmt → ℕ → Type 0
+AreNumbered first [] behind = behind ≡ first
+AreNumbered first (stmt ∷ others) behind = (middle : ℕ) × IsNumbered first stmt middle × AreNumbered middle others behind
+
+-- those of a branch that may be missing
+abbrev pub BranchNumbered : ℕ → Option (Vec code_stmt.Stmt Global) → ℕ → Type 0
+BranchNumbered first None behind = behind ≡ first
+BranchNumbered first (Some branch) behind = AreNumbered first branch.items behind

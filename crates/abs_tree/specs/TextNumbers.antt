@@ -1,0 +1,41 @@
+-- How the statements of a text are numbered: from 0 on, in the order in which they begin, those of the methods of its classes and then those
+-- of its main block.
+--
+--   `MemberNumbered`, `MembersNumbered`                the statements of the methods of a class
+--   `DeclNumbered`, `DeclsNumbered`                    those of the classes of a text
+--   `IsNumberedWhole`                                  all of a text
+use Rattle.std.specs.Prelude.{◌≡◌, ℕ, List, [], ◌∷◌}
+use Rattle.abs_tree.specs.declared.syntax.declaration.Body.{Body}
+use Rattle.abs_tree.specs.declared.syntax.declaration.Decl.{Decl}
+use Rattle.abs_tree.specs.declared.syntax.declaration.Decl.TheVariants as decl
+use Rattle.abs_tree.specs.declared.syntax.declaration.Member.{Member}
+use Rattle.abs_tree.specs.declared.syntax.declaration.Member.TheVariants as member
+use Rattle.abs_tree.specs.SyntaxNumbers.{AreNumbered}
+
+-- the statements of a member; a field has none
+abbrev pub MemberNumbered : ℕ → Member → ℕ → Type 0
+MemberNumbered first (member.Field type name value) behind = behind ≡ first
+MemberNumbered first (member.Method signature body) behind = AreNumbered first body.statements.items behind
+
+-- those of the members of a class
+abbrev pub MembersNumbered : ℕ → List Member → ℕ → Type 0
+MembersNumbered first [] behind = behind ≡ first
+MembersNumbered first (one ∷ others) behind = (middle : ℕ) × MemberNumbered first one middle × MembersNumbered middle others behind
+
+-- those of a declaration; only a class has any
+abbrev pub DeclNumbered : ℕ → Decl → ℕ → Type 0
+DeclNumbered first (decl.Class place name params implemented members) behind = MembersNumbered first members.items behind
+DeclNumbered first (decl.Data place name parameters constructors) behind = behind ≡ first
+DeclNumbered first (decl.Function place result name parameters params value) behind = behind ≡ first
+DeclNumbered first (decl.Interface place name extended signatures) behind = behind ≡ first
+
+-- those of the declarations of a text
+abbrev pub DeclsNumbered : ℕ → List Decl → ℕ → Type 0
+DeclsNumbered first [] behind = behind ≡ first
+DeclsNumbered first (one ∷ others) behind = (middle : ℕ) × DeclNumbered first one middle × DeclsNumbered middle others behind
+
+-- a text: from 0 on those of its declarations, and then those of its main block, so many in all
+pub record IsNumberedWhole (declarations : List Decl) (main : Body) (all : ℕ) : Type 0 where
+  pub middle : ℕ
+  pub declarations_are : DeclsNumbered 0 declarations middle
+  pub main_is : AreNumbered middle main.statements.items all
