@@ -1,274 +1,233 @@
--- Where names offend: the offences of a text that was read stand one behind the other, each at a place of its own. So there is
+-- Where names offend: the offences of a text that was read stand one behind the other, each at a token of its own. So there is
 -- one that stands first.
-use Rattle.std.proofs.Common.{◌≡◌, ℕ, zero, suc, ◌+◌, ◌<◌, ◌≤◌, Bool, true, false, cond, List, [], ◌∷◌, ◌++◌, refl, sym, ap, subst, ◌∙◌, length, get_or, arith}
-use Rattle.std.proofs.lemmas.List.{append-nil}
+use Rattle.std.proofs.Common.{◌≡◌, ℕ, zero, suc, ◌+◌, ◌<◌, ◌≤◌, Bool, true, false, cond, List, [], ◌∷◌, ◌++◌, Option, Some, None, option_map, map, refl, sym, ap, subst, ◌∙◌, length, get_or, arith}
+use Rattle.std.proofs.lemmas.List.{append-nil, map-append}
+use Rattle.std.specs.Option.{IfSome}
+use Rattle.std.specs.Prelude.{⊤, codes, if◌then◌else◌}
+use Rattle.std.specs.Str.{bytes_eq}
 use Rattle.abs_tree.specs.declared.place.Place.{Place}
-use Rattle.abs_tree.specs.declared.program.Variable.TheVariants.{Named}
+use Rattle.abs_tree.specs.declared.operator.Operator.{Operator}
+use Rattle.abs_tree.specs.declared.program.Variable.{Variable}
+use Rattle.abs_tree.specs.declared.program.Variable.TheVariants.{Named, Slot}
 use Rattle.abs_tree.specs.declared.refusal.Code.{Code}
 use Rattle.abs_tree.specs.declared.refusal.Code.TheVariants.{N1, N2}
 use Rattle.abs_tree.specs.declared.refusal.Offence.{Offence}
-use Rattle.abs_tree.specs.declared.symbol.Symbol.{Symbol}
+use Rattle.abs_tree.specs.declared.syntax.expression.Prefix.TheVariants as prefix
+use Rattle.abs_tree.specs.Names.{symbol_in}
 use Rattle.abs_tree.specs.Refusals.{IsFirst}
-use Rattle.abs_tree.specs.Trees.{ExprTree, OperandTrees, StmtTree, ProgramTree, NoOperand, Then}
+use Rattle.abs_tree.specs.Syntax.{Name, Phrase, NumberOf, VariableOf, Prefixed, Chain, ApplyOf, NoPhrase, NextPhrase, Links, NoLink, Link, SideTree, ValueOf, ToVariable, SomeSide, Statement, DeclareOf, AssignOf, PrintOf, Statements, NoStatement, NextStatement, DeclTree, TextTree}
+use Rattle.abs_tree.specs.Trees.{ExprTree, Local, Apply, Negate, Operators, NoMore, More, OperandTrees, Then, StmtTree, Declare, Assign, Print, ProgramTree}
 use Rattle.abs_lexer.specs.Tokens.{Lexed, TokenList, Rise as TokensRise}
-use Rattle.abs_parser.specs.Tokens.{Spot, whole, place_in, place_of, TakesToken, Takes, TakesWritten}
-use Rattle.abs_parser.specs.Expressions.{Reading, ReadsPrimary, number, local, ReadsOperands, last, operand, ReadsOperators, node_of, ReadsUnaryOver, negate, group, primary, reads_unary, reads_sum}
-use Rattle.abs_parser.specs.Grammar.{expression_room, ReadsBinding, ReadsPrinted, ReadsStmt, declare, assign, print, ReadsStmts, none, some, ReadsProgram}
+use Rattle.abs_parser.specs.Kinds.{Token, TextEnd, marks, place_of_mark}
+use Rattle.abs_parser.specs.Texts.{IsTextOf}
 use Rattle.abs_names.specs.NameOffences.{unknown, twice, unknown_in, unknown_in_operands, offences_of, offences_from, name_offences}
 use Rattle.abs_names.specs.Scopes.{is_declared, scope_behind}
+use Rattle.abs_command.specs.Runnable.{both, runnable_operator, runnable_variable, runnable_expr, runnable_operands, runnable_side, runnable_text, is_int, runnable_statement, runnable_statements, runnable_main, runnable}
+use Rattle.abs_command.proofs.Subsequences.{IsPartOf, part_both, part_of_part, PlacesRise, rise_from, part_rises}
+use Rattle.abs_command.proofs.Subsequences.IsPartOf.{none, kept}
+use Rattle.abs_command.proofs.LeafPlaces.{phrase_uses, link_uses, side_uses, statement_uses, statements_uses, leaf_places, tree_part, places_taken}
 
--- Offences that stand from one offset on and before another, each behind the one before it.
-abbrev Rise : ℕ → List Offence → ℕ → Type 0
-Rise low [] high = low ≤ high
-Rise low (offence ∷ rest) high = (low ≤ offence.place.offset) × Rise (offence.place.offset + 1) rest high
-
--- Some rise behind others.
-rise_both : (low middle high : ℕ) (first second : List Offence) → Rise low first middle → Rise middle second high → Rise low (first ++ second) high
-rise_both low middle high [] [] x y = omega arith
-rise_both low middle high [] (offence ∷ rest) x y = (omega (arith, x, y.0), y.1)
-rise_both low middle high (offence ∷ rest) second x y = (x.0, rise_both (offence.place.offset + 1) middle high rest second x.1 y)
-
--- They rise from a lower offset on too.
-rise_from : (low lower high : ℕ) (offences : List Offence) → lower ≤ low → Rise low offences high → Rise lower offences high
-rise_from low lower high [] few x = omega arith
-rise_from low lower high (offence ∷ rest) few x = (omega (arith, few, x.0), x.1)
-
--- They rise up to a higher offset too.
-rise_to : (low high higher : ℕ) (offences : List Offence) → high ≤ higher → Rise low offences high → Rise low offences higher
-rise_to low high higher [] few x = omega arith
-rise_to low high higher (offence ∷ rest) few x = (x.0, rise_to (offence.place.offset + 1) high higher rest few x.1)
+-- where offences stand
+abbrev places : List Offence → List Place
+places offences = map (λ (offence : Offence). offence.place) offences
 
 -- Each of them stands behind what comes before them.
-rise_at : (low high : ℕ) (offences : List Offence) (k : ℕ) (d : Offence) → Rise low offences high → k < length offences → low ≤ (get_or offences k d).place.offset
-rise_at low high [] k d x few = absurd (omega arith)
-rise_at low high (offence ∷ rest) zero d x few = x.0
-rise_at low high (offence ∷ rest) (suc k) d x few =
-    let later = rise_at (offence.place.offset + 1) high rest k d x.1 (omega arith) in
+rise_at : (low : ℕ) (offences : List Offence) (k : ℕ) (d : Offence) → PlacesRise low (places offences) → k < length offences → low ≤ (get_or offences k d).place.offset
+rise_at low [] k d x few = absurd (omega arith)
+rise_at low (offence ∷ rest) zero d x few = x.0
+rise_at low (offence ∷ rest) (suc k) d x few =
+    let later = rise_at (offence.place.offset + 1) rest k d x.1 (omega arith) in
     omega (arith, x.0, later)
 
 -- Two of them at one offset are one.
-rise_once : (low high : ℕ) (offences : List Offence) (k l : ℕ) (d e : Offence) → Rise low offences high → k < length offences → l < length offences
+rise_once : (low : ℕ) (offences : List Offence) (k l : ℕ) (d e : Offence) → PlacesRise low (places offences) → k < length offences → l < length offences
     → (get_or offences k d).place.offset ≡ (get_or offences l e).place.offset → get_or offences k d ≡ get_or offences l e
-rise_once low high [] k l d e x few less same = absurd (omega arith)
-rise_once low high (offence ∷ rest) zero zero d e x few less same = refl
-rise_once low high (offence ∷ rest) zero (suc l) d e x few less same =
-    let later = rise_at (offence.place.offset + 1) high rest l e x.1 (omega arith) in
+rise_once low [] k l d e x few less same = absurd (omega arith)
+rise_once low (offence ∷ rest) zero zero d e x few less same = refl
+rise_once low (offence ∷ rest) zero (suc l) d e x few less same =
+    let later = rise_at (offence.place.offset + 1) rest l e x.1 (omega arith) in
     absurd (omega (arith, later, same))
-rise_once low high (offence ∷ rest) (suc k) zero d e x few less same =
-    let later = rise_at (offence.place.offset + 1) high rest k d x.1 (omega arith) in
+rise_once low (offence ∷ rest) (suc k) zero d e x few less same =
+    let later = rise_at (offence.place.offset + 1) rest k d x.1 (omega arith) in
     absurd (omega (arith, later, same))
-rise_once low high (offence ∷ rest) (suc k) (suc l) d e x few less same =
-    rise_once (offence.place.offset + 1) high rest k l d e x.1 (omega arith) (omega arith) same
+rise_once low (offence ∷ rest) (suc k) (suc l) d e x few less same =
+    rise_once (offence.place.offset + 1) rest k l d e x.1 (omega arith) (omega arith) same
 
--- Where a test fails, one offence stands at a place.
-one_by : (b : Bool) (code : Code) (place : Place) (high : ℕ) → place.offset + 1 ≤ high → Rise place.offset (cond b [] (record { code = code; place = place } ∷ [])) high
-one_by true code place high h = omega arith
-one_by false code place high h = (omega arith, h)
+-- Offences at some of the places, and others at some of those behind, are at some of all.
+both_places : (first second : List Offence) {here behind : List Place} → IsPartOf (places first) here → IsPartOf (places second) behind
+    → IsPartOf (places (first ++ second)) (here ++ behind)
+both_places first second {here} {behind} x y =
+    subst (λ (some : List Place). IsPartOf some (here ++ behind)) (sym (map-append (λ (offence : Offence). offence.place) first second)) (part_both x y)
 
--- Where a test passes, one offence stands at a place.
-other_by : (b : Bool) (code : Code) (place : Place) (high : ℕ) → place.offset + 1 ≤ high → Rise place.offset (cond b (record { code = code; place = place } ∷ []) []) high
-other_by true code place high h = (omega arith, h)
-other_by false code place high h = omega arith
+-- Where a test fails, an offence stands at a place.
+one_by : (b : Bool) (code : Code) (place : Place) → IsPartOf (places (cond b [] (record { code = code; place = place } ∷ []))) (place ∷ [])
+one_by true code place = none
+one_by false code place = kept none
 
--- The tokens that are left rise from the place of the next one up to the end of the text.
-record Rising (spot : Spot) : Type 0 where
-  tokens : TokensRise (place_of spot).offset spot.rest spot.end.offset
+-- Where a test passes, an offence stands at a place.
+other_by : (b : Bool) (code : Code) (place : Place) → IsPartOf (places (cond b (record { code = code; place = place } ∷ []) [])) (place ∷ [])
+other_by true code place = kept none
+other_by false code place = none
 
--- Between two spots the place moves on, and behind them the tokens still rise.
-record Passes (from to : Spot) : Type 0 where
-  on : (place_of from).offset + 1 ≤ (place_of to).offset
-  rising : Rising to
+-- The use of a variable offends at its place.
+unknown_places : (scope : List ℕ) (place : Place) (variable : Variable) → IsPartOf (places (unknown scope place variable)) (place ∷ [])
+unknown_places scope place (Named symbol) = one_by (is_declared scope symbol) N2 place
+unknown_places scope place (Slot slot) = none
 
--- Tokens that rise from some offset on rise from the place of the first one on, which is not before it.
-from_next : (low : ℕ) (tokens : List Lexed) (end : Place) → TokensRise low tokens end.offset
-    → (low ≤ (place_in tokens end).offset) × TokensRise (place_in tokens end).offset tokens end.offset
-from_next low [] end x = (x, omega arith)
-from_next low (token ∷ others) end x = (x.0, (omega arith, x.1, x.2))
+-- So does its declaration.
+twice_places : (scope : List ℕ) (place : Place) (variable : Variable) → IsPartOf (places (twice scope place variable)) (place ∷ [])
+twice_places scope place (Named symbol) = other_by (is_declared scope symbol) N1 place
+twice_places scope place (Slot slot) = none
 
--- Behind a token the place has moved on, by its bytes at least, and the others rise.
-behind_token : (token : Lexed) (others : List Lexed) (end : Place) → TokensRise token.place.offset (token ∷ others) end.offset
-    → (token.place.offset + 1 ≤ (place_in others end).offset) × TokensRise (place_in others end).offset others end.offset
-behind_token token others end x =
-    let next = from_next (token.place.offset + length token.bytes) others end x.2 in
-    (omega (arith, next.0, x.1), next.1)
+-- What holds of any value holds of the one that is there.
+of_any : {A : Type 0} (P : A → Type 0) (found : Option A) → ((a : A) → P a) → IfSome found P
+of_any P None each = tt
+of_any P (Some a) each = each a
 
--- To take a token is to pass it.
-passes : {token : Lexed} {from to : Spot} → Rising from → TakesToken token from to → Passes from to
-passes {token} {from} {to} rising h =
-    let tokens = subst (λ (rest : List Lexed). TokensRise (place_in rest from.end).offset rest from.end.offset) h.rest rising.tokens in
-    let next = behind_token token to.rest from.end tokens in
-    let start : (place_of from).offset ≡ token.place.offset = ap (λ (rest : List Lexed). (place_in rest from.end).offset) h.rest in
-    let on : token.place.offset + 1 ≤ (place_of to).offset = subst (λ (e : Place). token.place.offset + 1 ≤ (place_in to.rest e).offset) (sym h.end) next.0 in
-    record {
-      on = omega (arith, start, on);
-      rising = record { tokens = subst (λ (e : Place). TokensRise (place_in to.rest e).offset to.rest e.offset) (sym h.end) next.1 };
-    }
+-- What is made of a value that is there has what follows for it.
+of_mapped : {A B : Type 0} (P : A → Type 0) (R : B → Type 0) (make : A → B) (found : Option A) → ((a : A) → P a → R (make a)) → IfSome found P
+    → IfSome (option_map make found) R
+of_mapped P R make None follows x = tt
+of_mapped P R make (Some a) follows x = follows a x
 
--- So it is with a token of a kind.
-kind_passes : {kind : _} {from to : Spot} → Rising from → Takes kind from to → Passes from to
-kind_passes rising h = passes rising h.takes
+-- So has what is made of two.
+of_both : {A B C : Type 0} (P : A → Type 0) (Q : B → Type 0) (R : C → Type 0) (make : A → B → C) (first : Option A) (second : Option B)
+    → ((a : A) (b : B) → P a → Q b → R (make a b)) → IfSome first P → IfSome second Q → IfSome (both make first second) R
+of_both P Q R make None second follows x y = tt
+of_both P Q R make (Some a) None follows x y = tt
+of_both P Q R make (Some a) (Some b) follows x y = follows a b x y
 
--- So it is with a token that is written in a certain way.
-written_passes : {kind : _} {bytes : List ℕ} {from to : Spot} → Rising from → TakesWritten kind bytes from to → Passes from to
-written_passes rising h = passes rising h.takes
+-- So has what is made of two, whatever the first one is.
+of_second : {A B C : Type 0} (Q : B → Type 0) (R : C → Type 0) (make : A → B → C) (first : Option A) (second : Option B)
+    → ((a : A) (b : B) → Q b → R (make a b)) → IfSome second Q → IfSome (both make first second) R
+of_second Q R make None second follows y = tt
+of_second Q R make (Some a) None follows y = tt
+of_second Q R make (Some a) (Some b) follows y = follows a b y
 
--- What is passed in two steps is passed.
-passes_both : {from next to : Spot} → Passes from next → Passes next to → Passes from to
-passes_both first second = record { on = omega (arith, first.on, second.on); rising = second.rising }
+-- What holds of a value does so where it is there under a condition.
+of_cond : {A : Type 0} (P : A → Type 0) (b : Bool) (found : Option A) → IfSome found P → IfSome (if b then found else None) P
+of_cond P true found x = x
+of_cond P false found x = tt
 
--- Between two spots stand these offences, and behind them the tokens still rise.
-record Stands (from : Spot) (offences : List Offence) (to : Spot) : Type 0 where
-  rise : Rise (place_of from).offset offences (place_of to).offset
-  rising : Rising to
+-- an expression offends at some of these places, whatever was declared before it
+abbrev ExprWithin : List Place → ExprTree → Type 0
+ExprWithin many expr = (scope : List ℕ) → IsPartOf (places (unknown_in scope expr)) many
 
--- Where nothing is read, no offence stands.
-nothing_stands : {from to : Spot} → Rising from → from ≡ to → Stands from [] to
-nothing_stands {from} {to} rising same = record {
-  rise = omega (arith, ap (λ (s : Spot). (place_of s).offset) same);
-  rising = subst Rising same rising;
-}
+-- so do operands
+abbrev OperandsWithin : List Place → OperandTrees → Type 0
+OperandsWithin many operands = (scope : List ℕ) → IsPartOf (places (unknown_in_operands scope operands)) many
 
--- Where one token is read, no offence stands.
-none_stands : {from to : Spot} → Passes from to → Stands from [] to
-none_stands h = record { rise = omega (arith, h.on); rising = h.rising }
+-- and a statement
+abbrev StmtWithin : List Place → StmtTree → Type 0
+StmtWithin many stmt = (scope : List ℕ) → IsPartOf (places (offences_of scope stmt)) many
 
--- Offences stand behind tokens that have none.
-stand_behind : {from next to : Spot} {offences : List Offence} → Passes from next → Stands next offences to → Stands from offences to
-stand_behind {from} {next} {to} {offences} h x = record {
-  rise = rise_from (place_of next).offset (place_of from).offset (place_of to).offset offences (omega (arith, h.on)) x.rise;
-  rising = x.rising;
-}
-
--- Offences stand before tokens that have none.
-stand_before : {from close to : Spot} {offences : List Offence} → Stands from offences close → Passes close to → Stands from offences to
-stand_before {from} {close} {to} {offences} x h = record {
-  rise = rise_to (place_of from).offset (place_of close).offset (place_of to).offset offences (omega (arith, h.on)) x.rise;
-  rising = h.rising;
-}
-
--- Offences stand behind others.
-stand_both : {from next to : Spot} {first second : List Offence} → Stands from first next → Stands next second to → Stands from (first ++ second) to
-stand_both {from} {next} {to} {first} {second} x y = record {
-  rise = rise_both (place_of from).offset (place_of next).offset (place_of to).offset first second x.rise y.rise;
-  rising = y.rising;
-}
-
--- What a part of an expression reads has its offences between its first token and what stands behind it.
-abbrev Rises : Reading → Type 0
-Rises part = (scope : List ℕ) (names : List (List ℕ)) (from : Spot) (expr : ExprTree) (words : List (List ℕ)) (to : Spot) → Rising from → part names from expr words to
-    → Stands from (unknown_in scope expr) to
-
--- A name that is not declared offends at its place.
-primary_rises : Rises ReadsPrimary
-primary_rises scope names from _ _ _ rising (number value to x) = none_stands (written_passes rising x.takes)
-primary_rises scope names from _ _ _ rising (local name to x) =
-    let name_end = written_passes rising x in
-    record { rise = one_by (is_declared scope _) N2 (place_of from) (place_of to).offset name_end.on; rising = name_end.rising }
-
--- Operands offend one behind the other.
-operands_rise : {rule : _} {part : Reading} {names : List (List ℕ)} {from to : Spot} {operands : OperandTrees} {words : List (List ℕ)} → Rises part → (scope : List ℕ)
-    → Rising from → ReadsOperands rule part names from operands words to → Stands from (unknown_in_operands scope operands) to
-operands_rise rises scope rising (last from to same no_operator) = nothing_stands rising same
-operands_rise rises scope rising (operand from at next to operator right rest front behind words are sign first more) =
-    let sign_end = kind_passes rising sign.sign in
-    let inside = rises scope _ at right front next sign_end.rising first in
-    stand_behind sign_end (stand_both inside (operands_rise rises scope inside.rising more))
-
--- A node offends where its operands do.
-node_rises : {from to : Spot} (scope : List ℕ) (place : Place) (first : ExprTree) (operands : OperandTrees) → Stands from (unknown_in scope first ++ unknown_in_operands scope operands) to
-    → Stands from (unknown_in scope (node_of place first operands)) to
-node_rises {from} {to} scope place first NoOperand x = subst (λ (os : List Offence). Stands from os to) (append-nil (unknown_in scope first)) x
-node_rises scope place first (Then operator right rest) x = x
-
--- Operators of one rule offend where their operands do.
-operators_rise : {rule : _} {part : Reading} → Rises part → Rises (ReadsOperators rule part)
-operators_rise rises scope names from expr words to rising x =
-    let front = rises scope names from x.first x.front x.next rising x.reads_first in
-    subst (λ (e : ExprTree). Stands from (unknown_in scope e) to) (sym x.expr_is)
-    (node_rises scope (place_of from) x.first x.operands (stand_both front (operands_rise rises scope front.rising x.reads_operands)))
-
--- A unary offends where what stands in it does.
-over_rises : {unary sum : Reading} → Rises unary → Rises sum → Rises (ReadsUnaryOver unary sum)
-over_rises unaries sums scope names from _ _ _ rising (negate next to expr words minus x) =
-    let minus_end = kind_passes rising minus in
-    stand_behind minus_end (unaries scope names next expr words to minus_end.rising x)
-over_rises unaries sums scope names from _ _ _ rising (group next close to expr words open_sign x close_sign) =
-    let opening = kind_passes rising open_sign in
-    let inside = sums scope names next expr words close opening.rising x in
-    stand_behind opening (stand_before inside (kind_passes inside.rising close_sign))
-over_rises unaries sums scope names from _ _ _ rising (primary to expr words x) = primary_rises scope names from expr words to rising x
+-- and statements
+abbrev StmtsWithin : List Place → List StmtTree → Type 0
+StmtsWithin many stmts = (scope : List ℕ) → IsPartOf (places (offences_from scope stmts)) many
 
 mutual
-  unfolding reads_unary reads_sum
+  -- An expression that runs offends where it uses variables.
+  expr_places : (names : List Name) (phrase : Phrase) → IfSome (runnable_expr names phrase) (ExprWithin (phrase_uses phrase))
+  expr_places names (NumberOf place number) = λ scope. none
+  expr_places names (VariableOf place variable) =
+      of_mapped (λ local. ⊤) (ExprWithin (place ∷ [])) (Local place) (runnable_variable names variable) (λ local x scope. unknown_places scope place local)
+      (of_any (λ local. ⊤) (runnable_variable names variable) (λ local. tt))
+  expr_places names (Prefixed place prefix.Minus operand) =
+      of_mapped (ExprWithin (phrase_uses operand)) (ExprWithin (phrase_uses operand)) (Negate place) (runnable_expr names operand) (λ expr x. x) (expr_places names operand)
+  expr_places names (Chain place first others) =
+      of_both (ExprWithin (phrase_uses first)) (OperandsWithin (link_uses others)) (ExprWithin (phrase_uses first ++ link_uses others)) (Operators place)
+      (runnable_expr names first) (runnable_operands names others)
+      (λ front operands x y scope. both_places (unknown_in scope front) (unknown_in_operands scope operands) (x scope) (y scope))
+      (expr_places names first) (operands_places names others)
+  expr_places names _ = tt
 
-  -- A unary offends so at each depth.
-  unary_rises : (room : ℕ) → Rises (reads_unary room)
-  unary_rises zero scope names from expr words to rising x = absurd x
-  unary_rises (suc room) scope names from expr words to rising x = over_rises (unary_rises room) (sum_rises room) scope names from expr words to rising x
+  -- So do operators with their operands.
+  operands_places : (names : List Name) (links : Links) → IfSome (runnable_operands names links) (OperandsWithin (link_uses links))
+  operands_places names NoLink = λ scope. none
+  operands_places names (Link operation right others) =
+      let many = phrase_uses right ++ link_uses others in
+      let operands = both (λ first rest operator. Then operator first rest) (runnable_expr names right) (runnable_operands names others) in
+      of_second (λ (behind : Operator → OperandTrees). (operator : Operator) → OperandsWithin many (behind operator)) (OperandsWithin many)
+      (λ operator (behind : Operator → OperandTrees). behind operator) (runnable_operator operation) operands (λ operator behind x. x operator)
+      (of_both (ExprWithin (phrase_uses right)) (OperandsWithin (link_uses others)) (λ (behind : Operator → OperandTrees). (operator : Operator) → OperandsWithin many (behind operator))
+      (λ first rest operator. Then operator first rest) (runnable_expr names right) (runnable_operands names others)
+      (λ first rest x y operator scope. both_places (unknown_in scope first) (unknown_in_operands scope rest) (x scope) (y scope))
+      (expr_places names right) (operands_places names others))
 
-  -- A sum does so too.
-  sum_rises : (room : ℕ) → Rises (reads_sum room)
-  sum_rises zero scope names from expr words to rising x = absurd x
-  sum_rises (suc room) scope names from expr words to rising x = operators_rise (operators_rise (unary_rises room)) scope names from expr words to rising x
+-- A right side that runs offends where it uses variables.
+side_places : (names : List Name) (side : SideTree) → IfSome (runnable_side names side) (ExprWithin (side_uses side))
+side_places names (ValueOf place value) = expr_places names value
+side_places names _ = tt
 
--- A binding has none or one offence at its name, and then those of its value.
-binding_rises : {names : List (List ℕ)} {from to : Spot} {symbol : Symbol} {value : ExprTree} {words : List (List ℕ)} (scope : List ℕ) (here : List Offence)
-    → ((high : ℕ) → (place_of from).offset + 1 ≤ high → Rise (place_of from).offset here high)
-    → Rising from → ReadsBinding names from symbol value words to → Stands from (here ++ unknown_in scope value) to
-binding_rises {names} {from} {to} {symbol} {value} scope here one rising x =
-    let name_end = written_passes rising x.name_word in
-    let front = passes_both name_end (kind_passes name_end.rising x.equal_sign) in
-    let name_stands : Stands from here x.sum = record { rise = one (place_of x.sum).offset front.on; rising = front.rising } in
-    let inside = sum_rises expression_room scope names x.sum value x.behind x.close front.rising x.reads in
-    stand_both name_stands (stand_before inside (kind_passes inside.rising x.semicolon))
+-- So does the text of a number.
+text_places : (names : List Name) (phrase : Phrase) → IfSome (runnable_text names phrase) (ExprWithin (phrase_uses phrase))
+text_places names (ApplyOf place function (NextPhrase value NoPhrase)) =
+    let many = phrase_uses value ++ [] in
+    of_cond (ExprWithin many) (bytes_eq function (codes "toString"))
+    (both (λ symbol number. Apply place symbol (More number NoMore)) (symbol_in names function) (runnable_expr names value))
+    (of_second (ExprWithin (phrase_uses value)) (ExprWithin many) (λ symbol number. Apply place symbol (More number NoMore))
+    (symbol_in names function) (runnable_expr names value) (λ symbol number x scope. both_places (unknown_in scope number) [] (x scope) none) (expr_places names value))
+text_places names _ = tt
 
--- What is printed has the offences of its one operand.
-printed_rises : {names : List (List ℕ)} {from to : Spot} {text : ExprTree} {words : List (List ℕ)} (scope : List ℕ) → Rising from → ReadsPrinted names from text words to
-    → Stands from (unknown_in scope text) to
-printed_rises {names} {from} {to} scope rising x =
-    let opening = kind_passes rising x.open_sign in
-    let word = written_passes opening.rising x.opens.word in
-    let front = passes_both opening (passes_both word (kind_passes word.rising x.opens.open_sign)) in
-    let inside = sum_rises expression_room scope names x.sum x.value x.behind x.close front.rising x.reads in
-    let first = kind_passes inside.rising x.end.first in
-    let second = kind_passes first.rising x.end.second in
-    let back = passes_both first (passes_both second (kind_passes second.rising x.end.semicolon)) in
-    subst (λ (e : ExprTree). Stands from (unknown_in scope e) to) (sym x.text_is)
-    (subst (λ (os : List Offence). Stands from os to) (sym (append-nil (unknown_in scope x.value))) (stand_behind front (stand_before inside back)))
+-- A statement that runs offends where it declares or uses variables.
+stmt_places : (names : List Name) (statement : Statement) → IfSome (runnable_statement names statement) (StmtWithin (statement_uses statement))
+stmt_places names (DeclareOf place type at variable (SomeSide side)) =
+    let many = at ∷ side_uses side in
+    of_cond (StmtWithin many) (is_int type) (both (Declare place at) (runnable_variable names variable) (runnable_side names side))
+    (of_second (ExprWithin (side_uses side)) (StmtWithin many) (Declare place at) (runnable_variable names variable) (runnable_side names side)
+    (λ local value x scope. both_places (twice scope at local) (unknown_in scope value) (twice_places scope at local) (x scope)) (side_places names side))
+stmt_places names (AssignOf place (ToVariable at variable) side) =
+    of_second (ExprWithin (side_uses side)) (StmtWithin (place ∷ side_uses side)) (Assign place) (runnable_variable names variable) (runnable_side names side)
+    (λ local value x scope. both_places (unknown scope place local) (unknown_in scope value) (unknown_places scope place local) (x scope)) (side_places names side)
+stmt_places names (PrintOf place text) =
+    of_mapped (ExprWithin (phrase_uses text)) (StmtWithin (phrase_uses text)) (Print place) (runnable_text names text) (λ printed x. x) (text_places names text)
+stmt_places names _ = tt
 
--- A statement has its offences between its first token and what stands behind it.
-stmt_rises : {names : List (List ℕ)} {from to : Spot} {stmt : StmtTree} {words : List (List ℕ)} (scope : List ℕ) → Rising from → ReadsStmt names from stmt words to
-    → Stands from (offences_of scope stmt) to
-stmt_rises scope rising (declare name symbol value words to int x) =
-    let int_end = written_passes rising int in
-    stand_behind int_end
-    (binding_rises scope (twice scope (place_of name) (Named symbol)) (λ high h. other_by (is_declared scope symbol) N1 (place_of name) high h) int_end.rising x)
-stmt_rises {from = from} scope rising (assign symbol value words to x) =
-    binding_rises scope (unknown scope (place_of from) (Named symbol)) (λ high h. one_by (is_declared scope symbol) N2 (place_of from) high h) rising x
-stmt_rises scope rising (print behind text words to println x) =
-    let println_end = kind_passes rising println in
-    stand_behind println_end (printed_rises scope println_end.rising x)
+-- So do statements, one behind the other.
+stmts_places : (names : List Name) (statements : Statements) → IfSome (runnable_statements names statements) (StmtsWithin (statements_uses statements))
+stmts_places names NoStatement = λ scope. none
+stmts_places names (NextStatement first others) =
+    of_both (StmtWithin (statement_uses first)) (StmtsWithin (statements_uses others)) (StmtsWithin (statement_uses first ++ statements_uses others)) (λ stmt stmts. stmt ∷ stmts)
+    (runnable_statement names first) (runnable_statements names others)
+    (λ stmt stmts x y scope. both_places (offences_of scope stmt) (offences_from (scope_behind scope stmt) stmts) (x scope) (y (scope_behind scope stmt)))
+    (stmt_places names first) (stmts_places names others)
 
--- Statements offend one behind the other.
-stmts_rise : {names : List (List ℕ)} {from to : Spot} {stmts : List StmtTree} {words : List (List ℕ)} (scope : List ℕ) → Rising from → ReadsStmts names from stmts words to
-    → Stands from (offences_from scope stmts) to
-stmts_rise scope rising (none from to same) = nothing_stands rising same
-stmts_rise scope rising (some from next to stmt stmts front behind words are first rest) =
-    let inside = stmt_rises scope rising first in
-    stand_both inside (stmts_rise (scope_behind scope stmt) inside.rising rest)
+-- The program that a text without declarations is offends where its main block declares or uses variables.
+main_places : (names : List Name) (declarations : List DeclTree) (main : Statements)
+    → IfSome (runnable_main names declarations main) (λ (part : ProgramTree). IsPartOf (places (name_offences part)) (statements_uses main))
+main_places names [] main =
+    of_mapped (StmtsWithin (statements_uses main)) (λ (part : ProgramTree). IsPartOf (places (name_offences part)) (statements_uses main))
+    (λ stmts. record { names = names; main = stmts }) (runnable_statements names main) (λ stmts x. x []) (stmts_places names main)
+main_places names (decl ∷ others) main = tt
 
--- The offences of a program rise, since its tokens do.
-program_rises : (list : TokenList) (tree : ProgramTree) → TokensRise 0 list.tokens list.end.offset → (read : ReadsProgram list tree) → Stands read.begin (name_offences tree) read.block.close
-program_rises list tree rise read =
-    let all : Rising (whole list) = record { tokens = (from_next 0 list.tokens list.end rise).1 } in
-    stmts_rise [] (kind_passes all read.begin_sign).rising read.block.inside
+-- The tokens of a text stand at places that rise, and so does its end.
+marks_rise : (low : ℕ) (tokens : List Lexed) (end : Place) → TokensRise low tokens end.offset → PlacesRise low (map place_of_mark (map Token tokens ++ TextEnd end ∷ []))
+marks_rise low [] end x = (x, tt)
+marks_rise low (token ∷ others) end x = (
+  x.0,
+  rise_from (token.place.offset + length token.bytes) (token.place.offset + 1) (map place_of_mark (map Token others ++ TextEnd end ∷ [])) (omega (arith, x.1))
+      (marks_rise (token.place.offset + length token.bytes) others end x.2),
+)
 
--- Of the offences of a program one stands first.
-pub one_first : (list : TokenList) (tree : ProgramTree) → TokensRise 0 list.tokens list.end.offset → ReadsProgram list tree
-    → (first second : Offence) → IsFirst (name_offences tree) first → IsFirst (name_offences tree) second → first ≡ second
-one_first list tree tokens_rise read first second x y =
-    let offences = name_offences tree in
-    let rise = (program_rises list tree tokens_rise read).rise in
+-- The offences of a text that was read rise, since its tokens do.
+offences_rise : (list : TokenList) (names : List Name) (tree : TextTree) (part : ProgramTree) → TokensRise 0 list.tokens list.end.offset → IsTextOf list names tree
+    → runnable names tree ≡ Some part → PlacesRise 0 (places (name_offences part))
+offences_rise list names tree part tokens_rise text runs =
+    let at_uses : IsPartOf (places (name_offences part)) (statements_uses tree.main) =
+    subst (λ (found : Option ProgramTree). IfSome found (λ (p : ProgramTree). IsPartOf (places (name_offences p)) (statements_uses tree.main))) runs
+    (main_places names tree.declarations tree.main) in
+    let at_leaves : IsPartOf (statements_uses tree.main) (leaf_places text.forest) =
+    subst (λ (t : TextTree). IsPartOf (statements_uses t.main) (leaf_places text.forest)) (sym text.is) (tree_part text.forest) in
+    let leaves_are : leaf_places text.forest ≡ map place_of_mark (marks list) =
+    sym (append-nil (leaf_places text.forest)) ∙ places_taken text.accepted.reads.reads in
+    part_rises 0 (part_of_part at_uses at_leaves) (subst (λ (many : List Place). PlacesRise 0 many) (sym leaves_are) (marks_rise 0 list.tokens list.end tokens_rise))
+
+-- Of the offences of a text that was read one stands first.
+pub one_first : (list : TokenList) (names : List Name) (tree : TextTree) (part : ProgramTree) → TokensRise 0 list.tokens list.end.offset → IsTextOf list names tree
+    → runnable names tree ≡ Some part → (first second : Offence) → IsFirst (name_offences part) first → IsFirst (name_offences part) second → first ≡ second
+one_first list names tree part tokens_rise text runs first second x y =
+    let offences = name_offences part in
+    let rise = offences_rise list names tree part tokens_rise text runs in
     let k = x.among.0 in
     let l = y.among.0 in
     let at_k : get_or offences k first ≡ first = x.among.2 in
@@ -277,5 +236,5 @@ one_first list tree tokens_rise read first second x y =
     let after : second.place.offset ≤ first.place.offset = subst (λ (o : Offence). second.place.offset ≤ o.place.offset) at_k (y.least k first x.among.1) in
     let same : first.place.offset ≡ second.place.offset = omega arith in
     sym at_k
-    ∙ (rise_once _ _ offences k l first second rise x.among.1 y.among.1
+    ∙ (rise_once 0 offences k l first second rise x.among.1 y.among.1
     (ap (λ (o : Offence). o.place.offset) at_k ∙ (same ∙ ap (λ (o : Offence). o.place.offset) (sym at_l))) ∙ at_l)

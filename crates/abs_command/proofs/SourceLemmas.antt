@@ -1,9 +1,12 @@
 -- A text is one program, or it has an offence.
-use Rattle.std.proofs.Common.{◌≡◌, ℕ, List, [], ◌++◌, sym, ap, ◌∙◌, arith, length, subst}
+use Rattle.std.proofs.Common.{◌≡◌, ℕ, List, [], ◌++◌, Some, None, sym, ap, ◌∙◌, arith, length, subst}
 use Rattle.std.proofs.lemmas.List.Elements.{All-weaker, All-contains}
+use Rattle.std.proofs.lemmas.Option.{same_Some}
 use Rattle.std.specs.List.{All}
 use Rattle.std.specs.Prelude.{Contains}
-use Rattle.abs_tree.specs.declared.refusal.Code.TheVariants.{S1}
+use Rattle.abs_tree.specs.Names.{by_first_appearance}
+use Rattle.abs_tree.specs.Syntax.{Name, TextTree}
+use Rattle.abs_tree.specs.declared.refusal.Code.{Code}
 use Rattle.abs_tree.specs.declared.refusal.Offence.{Offence}
 use Rattle.abs_tree.specs.declared.refusal.Refusal.{Refusal}
 use Rattle.abs_tree.specs.Refusals.{refusal_of}
@@ -12,74 +15,119 @@ use Rattle.abs_lexer.proofs.LawLemmas.{list_once, first_once, list_or_first}
 use Rattle.abs_lexer.proofs.LeadLemmas.{rising}
 use Rattle.abs_lexer.specs.Answers.{RefusesLexing}
 use Rattle.abs_lexer.specs.Tokens.{Lexed, TokenList, TokensOf, IsPieceAt}
-use Rattle.abs_parser.proofs.GrammarLemmas.{one_reading}
+use Rattle.abs_parser.proofs.ReadingLemmas.{one_reading}
+use Rattle.abs_parser.proofs.OutcomeLemmas.{one_stop}
 use Rattle.abs_parser.specs.Answers.{IsWritten}
-use Rattle.abs_parser.specs.Grammar.{ReadsProgram}
+use Rattle.abs_parser.specs.Kinds.{Mark, place_of_mark}
+use Rattle.abs_parser.specs.ReaderAnswers.{names_before}
+use Rattle.abs_parser.specs.Readings.{Forest}
+use Rattle.abs_parser.specs.Texts.{IsTextOf, StopsWith}
+use Rattle.abs_parser.specs.TreesOf.{tree_of}
 use Rattle.abs_names.specs.Answers.{RefusesFirst}
 use Rattle.abs_names.specs.NameOffences.{name_offences}
 use Rattle.abs_names.specs.Resolution.{resolved}
 use Rattle.abs_command.proofs.PlaceLemmas.{one_first}
-use Rattle.abs_command.specs.Sources.{IsProgramOf, IsPiece, FirstOffence, AgreeOn, HasOneFirstOffence}
-use Rattle.abs_command.specs.Sources.FirstOffence.{unlexed, unread, misnamed}
+use Rattle.abs_command.specs.Runnable.{runnable}
+use Rattle.abs_command.specs.Sources.{IsTree, IsProgramOf, IsPiece, FirstOffence, HasOneFirstOffence}
+use Rattle.abs_command.specs.Sources.FirstOffence.{unlexed, unread, not_yet, misnamed}
+use Rattle.abs_command.specs.Sources.AgreeOn.{same, later}
 
--- Two trees of a text's tokens are one.
-one_tree : {text : List ℕ} {list other : TokenList} {tree next : ProgramTree} → TokensOf text list → TokensOf text other → ReadsProgram list tree → ReadsProgram other next → tree ≡ next
-one_tree {list = list} {tree = tree} {next = next} tokens others read reads =
-    one_reading list tree next read
-    (subst (λ (l : TokenList). ReadsProgram l next) (list_once others tokens) reads)
+-- two trees of a text with the same names are one
+record OneTree (names others : List Name) (tree next : TextTree) : Type 0 where
+  names_are : names ≡ others
+  tree_is : tree ≡ next
+
+-- two trees of one list of tokens are one
+list_tree : {list : TokenList} {names others : List Name} {tree next : TextTree} → IsTextOf list names tree → IsTextOf list others next → OneTree names others tree next
+list_tree x y =
+    let same_forest = (one_reading x.accepted.reads.reads y.accepted.reads.reads).0 in
+    record {
+      names_are = x.names_are ∙ (ap (λ (forest : Forest). by_first_appearance (names_before forest [])) same_forest ∙ sym y.names_are);
+      tree_is = x.is ∙ (ap tree_of same_forest ∙ sym y.is);
+    }
+
+-- two trees of a text are one
+one_tree : {text : List ℕ} {names others : List Name} {tree next : TextTree} → IsTree text names tree → IsTree text others next → OneTree names others tree next
+one_tree {others = others} {next = next} x y = list_tree x.is (subst (λ (list : TokenList). IsTextOf list others next) (list_once y.tokens x.tokens) y.is)
+
+-- what runs of two trees of a text is one
+one_part : {text : List ℕ} {names others : List Name} {tree next : TextTree} {part other : ProgramTree} → IsTree text names tree → IsTree text others next
+    → runnable names tree ≡ Some part → runnable others next ≡ Some other → part ≡ other
+one_part x y runs goes =
+    let one = one_tree x y in
+    same_Some _ _ (sym runs ∙ (rw (one.names_are, one.tree_is) goes))
+
+-- a text of which something does not run yet has no part that runs
+not_both : {text : List ℕ} {names others : List Name} {tree next : TextTree} {part : ProgramTree} → IsTree text names tree → IsTree text others next
+    → runnable names tree ≡ Some part → runnable others next ≡ None → ⊥
+not_both {names = names} {tree = tree} x y runs waits =
+    let one = one_tree x y in
+    let none : runnable names tree ≡ None = rw (one.names_are, one.tree_is) waits in
+    cc (sym runs ∙ none)
 
 -- Two programs of a text are one.
 pub one_program : {text : List ℕ} {p q : NamedTree} → IsProgramOf text p → IsProgramOf text q → p ≡ q
-one_program x y = x.is ∙ (ap resolved (one_tree x.tokens y.tokens x.read y.read) ∙ sym y.is)
+one_program x y = x.is ∙ (ap resolved (one_part x.read y.read x.runs y.runs) ∙ sym y.is)
 
 -- An empty list has no element.
 none_of : (offences : List Offence) (offence : Offence) → offences ≡ [] → Contains offences offence → ⊥
 none_of offences offence e h = let few : length offences ≡ 0 = ap length e in omega (arith, h.1)
 
+-- a text that is accepted does not stop
+no_stop : {text : List ℕ} {names : List Name} {tree : TextTree} {list : TokenList} {refusal : Refusal} → IsTree text names tree → TokensOf text list → StopsWith list refusal → ⊥
+no_stop {refusal = refusal} x tokens stops =
+    let stop = subst (λ (l : TokenList). StopsWith l refusal) (list_once tokens x.tokens) stops in
+    x.is.accepted.no_stop stop.before stop.mark stop.code stop.stops
+
 -- The text of a program has no offence.
 pub no_offence : {text : List ℕ} {program : NamedTree} {refusal : Refusal} → IsProgramOf text program → FirstOffence text refusal → ⊥
-no_offence accepted (unlexed lexing) = list_or_first accepted.tokens lexing.is_first
-no_offence accepted (unread list tokens none code) =
-    none accepted.tree (subst (λ (l : TokenList). ReadsProgram l accepted.tree) (list_once accepted.tokens tokens) accepted.read)
-no_offence accepted (misnamed list tree tokens read first) =
-    none_of (name_offences tree) first.first (ap name_offences (one_tree tokens accepted.tokens read accepted.read) ∙ accepted.no_offence) first.is_first.among
-
--- Refusals that are the same agree.
-agree : {one other : Refusal} → one ≡ other → AgreeOn one other
-agree same = record { code = ap (λ (r : Refusal). r.code) same; place = λ no_token. same }
-
--- Refusals of unexpected tokens agree on their code.
-agree_on_code : {one other : Refusal} → one.code ≡ S1 → other.code ≡ S1 → AgreeOn one other
-agree_on_code one_is other_is = record { code = one_is ∙ sym other_is; place = λ no_token. absurd (no_token one_is) }
+no_offence accepted (unlexed lexing) = list_or_first accepted.read.tokens lexing.is_first
+no_offence accepted (unread list tokens stops) = no_stop accepted.read tokens stops
+no_offence accepted (not_yet names tree read waits code) = not_both accepted.read read accepted.runs waits
+no_offence accepted (misnamed names tree part read runs first) =
+    none_of (name_offences part) first.first (ap name_offences (one_part read accepted.read runs accepted.runs) ∙ accepted.no_offence) first.is_first.among
 
 -- Two refusals for the first lexical offence are one.
 one_lexical : {text : List ℕ} {one other : Refusal} → RefusesLexing text one → RefusesLexing text other → one ≡ other
 one_lexical x y = x.refusal_is ∙ (ap refusal_of (first_once x.is_first y.is_first) ∙ sym y.refusal_is)
 
--- Two refusals for the first name that offends in a text are one.
-one_misnamed : {text : List ℕ} {list other_list : TokenList} {tree next : ProgramTree} (one other : Refusal)
-    → TokensOf text list → TokensOf text other_list → ReadsProgram list tree → ReadsProgram other_list next
-    → RefusesFirst (name_offences tree) one → RefusesFirst (name_offences next) other → one ≡ other
-one_misnamed {list = list} {tree = tree} one other tokens others read reads first second =
-    let same = one_tree others tokens reads read in
-    let later = subst (λ (t : ProgramTree). RefusesFirst (name_offences t) other) same second in
+-- so are two for where a list of tokens stops
+one_stopped : {list : TokenList} {one other : Refusal} → StopsWith list one → StopsWith list other → one ≡ other
+one_stopped x y =
+    let once = one_stop x.stops y.stops in
+    let at : Code → Mark → Refusal = λ code mark. refusal_of (record { code = code; place = place_of_mark mark }) in
+    x.refusal_is ∙ (sym (ap (λ (code : Code). at code y.mark) once.2 ∙ ap (at x.code) once.1) ∙ sym y.refusal_is)
+
+-- and two for the first name that offends in a text
+one_misnamed : {text : List ℕ} {names others : List Name} {tree next : TextTree} {part other_part : ProgramTree} (one other : Refusal)
+    → IsTree text names tree → IsTree text others next → runnable names tree ≡ Some part → runnable others next ≡ Some other_part
+    → RefusesFirst (name_offences part) one → RefusesFirst (name_offences other_part) other → one ≡ other
+one_misnamed {names = names} {tree = tree} {part = part} one other read reads runs goes first second =
+    let later = subst (λ (p : ProgramTree). RefusesFirst (name_offences p) other) (one_part reads read goes runs) second in
     first.refusal_is
-    ∙ (ap refusal_of (one_first list tree (rising tokens) read first.first later.first first.is_first later.is_first) ∙ sym later.refusal_is)
+    ∙ (ap refusal_of (one_first read.list names tree part (rising read.tokens) read.is runs first.first later.first first.is_first later.is_first) ∙ sym later.refusal_is)
 
 -- A text is refused for one offence at the most.
 pub one_first_offence : (text : List ℕ) → HasOneFirstOffence text
-one_first_offence text one other (unlexed x) (unlexed y) = agree (one_lexical x y)
-one_first_offence text one other (unlexed x) (unread list tokens none code) = absurd (list_or_first tokens x.is_first)
-one_first_offence text one other (unlexed x) (misnamed list tree tokens read first) = absurd (list_or_first tokens x.is_first)
-one_first_offence text one other (unread list tokens none code) (unlexed y) = absurd (list_or_first tokens y.is_first)
-one_first_offence text one other (unread list tokens none code) (unread others other_tokens nothing other_code) = agree_on_code code other_code
-one_first_offence text one other (unread list tokens none code) (misnamed others tree other_tokens read first) =
-    absurd (none tree (subst (λ (l : TokenList). ReadsProgram l tree) (list_once other_tokens tokens) read))
-one_first_offence text one other (misnamed list tree tokens read first) (unlexed y) = absurd (list_or_first tokens y.is_first)
-one_first_offence text one other (misnamed list tree tokens read first) (unread others other_tokens none code) =
-    absurd (none tree (subst (λ (l : TokenList). ReadsProgram l tree) (list_once tokens other_tokens) read))
-one_first_offence text one other (misnamed list tree tokens read first) (misnamed others next other_tokens reads second) =
-    agree (one_misnamed one other tokens other_tokens read reads first second)
+one_first_offence text one other (unlexed x) (unlexed y) = same (one_lexical x y)
+one_first_offence text one other (unlexed x) (unread list tokens stops) = absurd (list_or_first tokens x.is_first)
+one_first_offence text one other (unlexed x) (not_yet names tree read waits code) = absurd (list_or_first read.tokens x.is_first)
+one_first_offence text one other (unlexed x) (misnamed names tree part read runs first) = absurd (list_or_first read.tokens x.is_first)
+one_first_offence text one other (unread list tokens stops) (unlexed y) = absurd (list_or_first tokens y.is_first)
+one_first_offence text one other (unread list tokens stops) (unread others other_tokens other_stops) =
+    same (one_stopped stops (subst (λ (l : TokenList). StopsWith l other) (list_once other_tokens tokens) other_stops))
+one_first_offence text one other (unread list tokens stops) (not_yet names tree read waits code) = absurd (no_stop read tokens stops)
+one_first_offence text one other (unread list tokens stops) (misnamed names tree part read runs first) = absurd (no_stop read tokens stops)
+one_first_offence text one other (not_yet names tree read waits code) (unlexed y) = absurd (list_or_first read.tokens y.is_first)
+one_first_offence text one other (not_yet names tree read waits code) (unread list tokens stops) = absurd (no_stop read tokens stops)
+one_first_offence text one other (not_yet names tree read waits code) (not_yet others next reads also other_code) =
+    later (record { names = names; tree = tree; read = read; not_yet = waits }) code other_code
+one_first_offence text one other (not_yet names tree read waits code) (misnamed others next part reads runs first) = absurd (not_both reads read runs waits)
+one_first_offence text one other (misnamed names tree part read runs first) (unlexed y) = absurd (list_or_first read.tokens y.is_first)
+one_first_offence text one other (misnamed names tree part read runs first) (unread list tokens stops) = absurd (no_stop read tokens stops)
+one_first_offence text one other (misnamed names tree part read runs first) (not_yet others next reads waits code) = absurd (not_both read reads runs waits)
+one_first_offence text one other (misnamed names tree part read runs first) (misnamed others next other_part reads goes second) =
+    same (one_misnamed one other read reads runs goes first second)
 
 -- names that are written by tokens, which are pieces of a text, are pieces of it
 pub names_are_pieces : {text : List ℕ} (tokens : List Lexed) (names : List (List ℕ)) → All (IsPieceAt text) tokens → All (IsWritten tokens) names → All (IsPiece text) names

@@ -7,6 +7,8 @@ pub mod Promises
 pub mod Recorded
 pub mod Refused
 pub mod Runs
+pub mod Runnable
+pub mod NotYet
 pub mod Sources
 pub mod Texts
 pub mod Words

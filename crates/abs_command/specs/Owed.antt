@@ -53,7 +53,7 @@ pub record OwesRefusal (bytes : List ℕ) (ended : Ended) (text : List ℕ) : Ty
   pub refusal : ended.refusal ≡ Some first
   pub text_is : text ≡ refusal_line first
 
--- the report of a program that was read: no form that is read so far waits, so one kind of task is live, no pair of
+-- the report of a program that was read: no form that runs so far waits, so one kind of task is live, no pair of
 -- dependencies is there, and no chain
 pub record IsAnalysed (bytes : List ℕ) (ended : Ended) (program : NamedTree) : Type 0 where
   pub small : length bytes ≤ source_limit

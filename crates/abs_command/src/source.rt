@@ -4,11 +4,14 @@ ghost use Rattle.abs_tree.specs.Trees.{named_tree};
 ghost use Rattle.abs_command.specs.Refused.{RefusesSource};
 ghost use Rattle.abs_command.specs.Sources.{IsProgramOf, IsPiece, HasOneFirstOffence};
 
+pub mod runnable;
+
+use crate::source::runnable::{RunnableError, runnable};
 use abs_lexer::LexError;
 use abs_lexer::lexer::tokens;
 use abs_names::{NameError, resolve};
 use abs_parser::{ParseError, parse};
-use abs_tree::{Named, Refusal};
+use abs_tree::{Code, Named, Offence, Refusal};
 use std::alloc::Global;
 use thiserror::Error;
 
@@ -39,10 +42,18 @@ pub fn program_of<'a>(alloc: Global, text: &'a [u8]) -> Result<Named<'a>, Source
         Err(LexError::Refused(refusal)) => return Err(SourceError::Refused(refusal)),
         Err(LexError::Memory) => return Err(SourceError::Memory),
     };
-    let program = match parse(alloc, &list) {
-        Ok(program) => program,
+    let tree = match parse(alloc, &list) {
+        Ok(tree) => tree,
         Err(ParseError::Refused(refusal)) => return Err(SourceError::Refused(refusal)),
         Err(ParseError::Memory) => return Err(SourceError::Memory),
+    };
+    let program = match runnable(alloc, tree) {
+        Ok(program) => program,
+        Err(RunnableError::NotYet(place)) => {
+            let code = Code::S1;
+            return Err(SourceError::Refused(Offence { code, place }.refusal()));
+        }
+        Err(RunnableError::Memory) => return Err(SourceError::Memory),
     };
     match resolve(alloc, program) {
         Ok(program) => Ok(program),
@@ -51,7 +62,7 @@ pub fn program_of<'a>(alloc: Global, text: &'a [u8]) -> Result<Named<'a>, Source
     }
 }
 
-/// A text is refused for one offence at the most; of an unexpected token the code alone is fixed.
+/// A text is refused for one offence at the most; of what does not run yet the code alone is fixed.
 pub fn one_first_offence()
     ensures { (text : List ℕ) → HasOneFirstOffence text }
 {}

@@ -12,6 +12,10 @@ use std::process::Abort;
 use std::test::Fail;
 
 mod lexemes;
+mod programs;
+mod shown;
+mod tables;
+mod trees;
 
 // The line for words that are not of the command.
 const USAGE: &str =
@@ -340,20 +344,15 @@ fn offending_names(rt: HostRuntime) -> Result<(), Fail> {
     Ok(())
 }
 
-// A statement, a sum and what stands in it are at most 100 nested symbols.
+// A print is one of 100 nested symbols, and what stands in it and in a pair of parentheses takes two each.
 #[test]
 fn nested_parentheses(rt: HostRuntime) -> Result<(), Fail> {
     let alloc = rt.alloc();
+    let deep = "refused: S2 at 1:67: nesting above 100\n";
     let table = [
-        (48, Want::clean("no circular chain\n1\ndone: 1 tasks\n", 3)),
-        (
-            49,
-            Want::refused("refused: S1 at 1:68: unexpected token\n", Code::S1, 1, 68),
-        ),
-        (
-            60,
-            Want::refused("refused: S1 at 1:68: unexpected token\n", Code::S1, 1, 68),
-        ),
+        (47, Want::clean("no circular chain\n1\ndone: 1 tasks\n", 3)),
+        (48, Want::refused(deep, Code::S2, 1, 67)),
+        (60, Want::refused(deep, Code::S2, 1, 67)),
     ];
     for (depth, want) in table {
         let mut content = Vec::from_slice(alloc, b"{println(toString(")?;

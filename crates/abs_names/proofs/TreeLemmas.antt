@@ -2,7 +2,6 @@
 -- are found as there were.
 use Rattle.std.proofs.Common.{◌≡◌, ℕ, suc, ◌+◌, ◌<◌, List, [], ◌∷◌, ◌++◌, refl, sym, ap, ◌∙◌, length, get_or, drop, fold}
 use Rattle.std.specs.Prelude.{Option}
-use Rattle.std.proofs.lemmas.List.{drop_more}
 use Rattle.std.proofs.lemmas.List.Sums.{fold-append}
 use Rattle.std.specs.declared.alloc.Global.{Global}
 use Rattle.std.specs.declared.boxed.Box.{Box}
@@ -15,6 +14,7 @@ use Rattle.abs_tree.specs.declared.program.Operand.{Operand}
 use Rattle.abs_tree.specs.declared.operator.Operator.{Operator}
 use Rattle.abs_tree.specs.declared.refusal.Offence.{Offence}
 use Rattle.abs_tree.specs.Trees.{ExprTree, ExprTrees, OperandTrees, StmtTree, Apply, NoMore, More, Operators, NoOperand, Then, expr_tree, trees_of, operands_of}
+use Rattle.abs_tree.proofs.EntryLemmas.{drop_item}
 use Rattle.abs_tree.proofs.TreeLemmas.{expr_tree-apply, expr_tree-operators}
 use Rattle.abs_names.specs.Answers.{earlier}
 use Rattle.abs_names.specs.NameOffences.{unknown_in, unknown_in_all, unknown_in_operands}
@@ -33,10 +33,6 @@ in_front_more (e ∷ es) expr trees = ap (More (expr_tree e)) (in_front_more es 
 pub in_front_all : (exprs : List Expr) → in_front exprs NoMore ≡ trees_of exprs
 in_front_all [] = refl
 in_front_all (e ∷ es) = ap (More (expr_tree e)) (in_front_all es)
-
--- an entry of a list stands in front of those behind it
-drop_item : {X : Type 0} (xs : List X) (i : ℕ) (x : X) → i < length xs → x ≡ get_or xs i x → drop i xs ≡ x ∷ drop (i + 1) xs
-drop_item {X} xs i x there is = drop_more xs i x there ∙ ap (λ (y : X). y ∷ drop (i + 1) xs) (sym is)
 
 -- an application with its arguments looked up
 pub resolved_apply : (scope : List ℕ) (expr : Expr) (place : Place) (function : Symbol) (before found : Vec Expr Global) (exprs : List Expr)

@@ -2,14 +2,6 @@ pub mod SpotLemmas
 pub mod KindLemmas
 pub mod DigitLemmas
 pub mod NameLemmas
-pub mod ExpressionLemmas
-pub mod GrammarLemmas
-pub mod FindLemmas
-pub mod RefusalLemmas
-pub mod SizeLemmas
-pub mod PieceLemmas
-pub mod OperandLemmas
-pub mod OpeningLemmas
 pub mod ReadingLemmas
 pub mod MoveLemmas
 pub mod CompletionLemmas

@@ -65,7 +65,7 @@ one_stop_by stop another (Before between is) = absurd (not_before between stop.r
 one_stop_by stop another (After between is) = absurd (not_before between another.refused stop is)
 
 -- A list stops at one token, with one code.
-one_stop : {ts before front : List Mark} {mark other : Mark} {code by : Code} → StopsAt ts before mark code → StopsAt ts front other by
+pub one_stop : {ts before front : List Mark} {mark other : Mark} {code by : Code} → StopsAt ts before mark code → StopsAt ts front other by
     → (front ≡ before) × (other ≡ mark) × (by ≡ code)
 one_stop {before = before} {front = front} {mark = mark} {other = other} stop another =
     one_stop_by stop another (places before front mark other stop.behind another.behind (sym stop.is ∙ another.is))

@@ -226,12 +226,13 @@ program_found {old = old} {names = names} {from = from} declarations main none i
       tree_is = same_text _ _ (decls.is names (found_goes_on block)) is_block.statements_are is_block.end_is;
     }
 
--- such a text is accepted, and this is its tree
+-- such a text is accepted, and these are its names and its tree
 pub text_found : {list : TokenList} {names : List (List ℕ)} {declarations : List code_decl.Decl} {main : Body} → ProgramFound list names declarations main
-    → IsTextOf list (tree_of_parts names declarations main)
+    → IsTextOf list names (tree_of_parts names declarations main)
 text_found found = record {
   forest = Node (One Program) found.inside Empty;
   accepted = accepted found.read.reads found.read.within;
+  names_are = found.read.names_are;
   is = found.tree_is;
 }
 

@@ -1,5 +1,10 @@
 -- What statements begin with: the variable or the field, as a place, as what a value goes to, as an expression with the arguments behind it,
 -- and as the statement that it begins; the tokens that begin another statement than a right side; and what was read of a block.
+--
+--   `place_of_first`, `target_of`, `phrase_of`         the variable or the field
+--   `after_first`                                      the statement that it begins, by what stands behind it
+--   `begins_another`                                   the tokens that begin another statement
+--   `IsBlock`                                          what was read of a block
 use Rattle.std.specs.Prelude.{◌≡◌, Bool, true, false, List, Option}
 use Rattle.abs_tree.specs.declared.place.Place.{Place}
 use Rattle.abs_tree.specs.Syntax.{Name, Written, Phrase, Phrases, TargetTree, ToVariable, ToField, Statement}

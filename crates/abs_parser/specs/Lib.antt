@@ -1,6 +1,4 @@
 pub mod Tokens
-pub mod Expressions
-pub mod Grammar
 pub mod Answers
 pub mod Views
 pub mod Kinds

@@ -1,25 +1,28 @@
 -- What the reader of a text answers: the tree of a text that is accepted, or where one stops.
 --
---   `IsTextOf`                                         a text is accepted, and this is its tree
+--   `IsTextOf`                                         a text is accepted, and these are its names and its tree
 --   `StopsWith`                                        a text stops with this refusal
 --   `RefusesText`                                      why there is no tree
-use Rattle.std.specs.Prelude.{◌≡◌, ⊤, List}
+use Rattle.std.specs.Prelude.{◌≡◌, ⊤, List, []}
 use Rattle.abs_lexer.specs.Tokens.{TokenList}
 use Rattle.abs_tree.specs.Refusals.{refusal_of}
-use Rattle.abs_tree.specs.Syntax.{TextTree}
+use Rattle.abs_tree.specs.Names.{by_first_appearance}
+use Rattle.abs_tree.specs.Syntax.{Name, TextTree}
 use Rattle.abs_tree.specs.declared.refusal.Code.{Code}
 use Rattle.abs_tree.specs.declared.refusal.Refusal.{Refusal}
 use Rattle.abs_parser.specs.Kinds.{Mark, marks, place_of_mark}
 use Rattle.abs_parser.specs.Readings.{Forest}
+use Rattle.abs_parser.specs.ReaderAnswers.{names_before}
 use Rattle.abs_parser.specs.Stops.{StopsAt, IsAccepted}
 use Rattle.abs_parser.specs.TreesOf.{tree_of}
 use Rattle.abs_parser.specs.declared.parser.ParseError.{ParseError}
 use Rattle.abs_parser.specs.declared.parser.ParseError.TheVariants.{Refused, Memory}
 
--- the text of these tokens is accepted, and this is its tree
-pub record IsTextOf (list : TokenList) (tree : TextTree) : Type 0 where
+-- the text of these tokens is accepted; these are its names, each once, in the order of first appearance, and this is its tree
+pub record IsTextOf (list : TokenList) (names : List Name) (tree : TextTree) : Type 0 where
   pub forest : Forest
   pub accepted : IsAccepted (marks list) forest
+  pub names_are : names ≡ by_first_appearance (names_before forest [])
   pub is : tree ≡ tree_of forest
 
 -- it stops, and the token at which it does is refused by this

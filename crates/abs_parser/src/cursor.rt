@@ -2,7 +2,6 @@
 ghost use Rattle.std.specs.Prelude.{◌≡◌, ℕ, false, ◌^◌, ◌<◌, ◌≤◌, [], length, IfOk, OnOk, IfErr, IfSome, IfNone, pos, List};
 
 use crate::ParseError;
-use crate::literals::numeral;
 use abs_lexer::token::Tokens;
 use abs_lexer::{Lexeme, Token};
 use abs_tree::{Code, Offence, Place, Refusal};
@@ -33,8 +32,7 @@ pub(crate) struct Cursor<'a, 'b> {
 impl<'a, 'b> Cursor<'a, 'b> {
     ghost use Rattle.abs_lexer.specs.Tokens.{IsWellFormed};
     ghost use Rattle.abs_lexer.specs.Views.{lexed};
-    ghost use Rattle.abs_parser.specs.Tokens.{Spot, whole, place_of, TakesToken, Takes, TakesWritten, TakesName, TakesNumber};
-    ghost use Rattle.abs_parser.specs.Answers.{refused_at, RefusesAt};
+    ghost use Rattle.abs_parser.specs.Tokens.{whole, place_of, TakesToken};
     ghost use Rattle.abs_parser.specs.Views.{spot};
     ghost use Rattle.abs_parser.specs.Kinds.{End, fits, next};
     ghost use Rattle.abs_parser.specs.Readings.{Terminal};
@@ -77,17 +75,6 @@ impl<'a, 'b> Cursor<'a, 'b> {
             Some((token, _)) => token.place,
             None => self.tokens.end(),
         }
-    }
-
-    /// The refusal of the token that stands here.
-    pub fn unexpected(self) -> Refusal
-        ensures { result ≡ refused_at (place_of (spot self.entry)) }
-    {
-        let offence = Offence {
-            code: Code::S1,
-            place: self.place(),
-        };
-        offence.refusal()
     }
 
     /// The refusal of the token that stands here, where nothing that is read has it there: a word outside the profile has
@@ -175,77 +162,5 @@ impl<'a, 'b> Cursor<'a, 'b> {
             Some(_) => Err(self.wrong()),
             None => Ok(()),
         }
-    }
-
-    /// The token of this kind that is to stand here, and the cursor behind it.
-    ///
-    /// # Errors
-    /// The refusal of the token that stands here, where it is of another kind.
-    fn token(self, kind: Lexeme) -> Result<(Token<'a>, Cursor<'a, 'b>), Refusal>
-        ensures kind { IfOk result (λ found. found.0.kind ≡ kind) }
-        ensures found { IfOk result (λ found. TakesToken (lexed found.0) (spot self.entry) (spot found.1)) }
-        ensures well_formed { IfOk result (λ found. IsWellFormed (lexed found.0)) }
-        ensures refused { IfErr result (λ refusal. RefusesAt (place_of (spot self.entry)) refusal ((to : Spot) → Takes kind (spot self.entry) to → ⊥)) }
-    {
-        let Some((token, behind)) = self.next() else {
-            return Err(self.unexpected());
-        };
-        if token.kind != kind {
-            return Err(self.unexpected());
-        }
-        Ok((token, behind))
-    }
-
-    /// The cursor behind a token of this kind, which is to stand here.
-    ///
-    /// # Errors
-    /// The refusal of the token that stands here, where it is of another kind.
-    pub fn take(self, kind: Lexeme) -> Result<Cursor<'a, 'b>, Refusal>
-        ensures found { IfOk result (λ to. Takes kind (spot self.entry) (spot to)) }
-        ensures refused { IfErr result (λ refusal. RefusesAt (place_of (spot self.entry)) refusal ((to : Spot) → Takes kind (spot self.entry) to → ⊥)) }
-    {
-        let (_, behind) = self.token(kind)?;
-        Ok(behind)
-    }
-
-    /// The bytes, as they stand in the text, of the token of this kind that is to stand here and to be written so, and the
-    /// cursor behind it.
-    ///
-    /// # Errors
-    /// The refusal of the token that stands here, where it is another one.
-    pub fn written(self, kind: Lexeme, bytes: &[u8]) -> Result<(&'a [u8], Cursor<'a, 'b>), Refusal>
-        ensures bytes { IfOk result (λ found. found.0.now ≡ bytes.now) }
-        ensures found { IfOk result (λ found. TakesWritten kind bytes.now (spot self.entry) (spot found.1)) }
-        ensures refused { IfErr result (λ refusal. RefusesAt (place_of (spot self.entry)) refusal ((to : Spot) → TakesWritten kind bytes.now (spot self.entry) to → ⊥)) }
-    {
-        let (token, behind) = self.token(kind)?;
-        if token.slice != bytes {
-            return Err(self.unexpected());
-        }
-        Ok((token.slice, behind))
-    }
-
-    /// The name of a local that is to stand here, and the cursor behind it.
-    ///
-    /// # Errors
-    /// The refusal of the token that stands here, where it is no such name.
-    pub fn name(self) -> Result<(&'a [u8], Cursor<'a, 'b>), Refusal>
-        ensures found { IfOk result (λ found. TakesName found.0.now (spot self.entry) (spot found.1)) }
-        ensures refused { IfErr result (λ refusal. RefusesAt (place_of (spot self.entry)) refusal ((name : List ℕ) (to : Spot) → TakesName name (spot self.entry) to → ⊥)) }
-    {
-        let (token, behind) = self.token(Lexeme::LowerName)?;
-        Ok((token.slice, behind))
-    }
-
-    /// The number that is to stand here, and the cursor behind it.
-    ///
-    /// # Errors
-    /// The refusal of the token that stands here, where it is no number.
-    pub fn number(self) -> Result<(i128, Cursor<'a, 'b>), Refusal>
-        ensures found { IfOk result (λ found. (number : ℕ) × (found.0 ≡ pos number) × (number < 2 ^ 127) × TakesNumber number (spot self.entry) (spot found.1)) }
-        ensures refused { IfErr result (λ refusal. RefusesAt (place_of (spot self.entry)) refusal ((number : ℕ) (to : Spot) → TakesNumber number (spot self.entry) to → ⊥)) }
-    {
-        let (token, behind) = self.token(Lexeme::Number)?;
-        Ok((numeral(token.slice), behind))
     }
 }

@@ -21,11 +21,6 @@ mod programs;
 mod right_sides;
 mod simple_statements;
 mod statements;
-mod sums;
 mod types;
-mod whole;
 
-pub use parser::{ParseError, one_tree, parse};
-
-#[cfg(test)]
-mod tests;
+pub use parser::{ParseError, parse};

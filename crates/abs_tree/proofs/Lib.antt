@@ -3,3 +3,4 @@ pub mod TreeLemmas
 pub mod RuleLemmas
 pub mod SyntaxLemmas
 pub mod StatementLemmas
+pub mod EntryLemmas

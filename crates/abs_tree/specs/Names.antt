@@ -1,7 +1,8 @@
 -- The table of a program's names.
-use Rattle.std.specs.Prelude.{ℕ, List, [], ◌∷◌, ◌++◌, fold, if◌then◌else◌}
-use Rattle.std.specs.List.{list_any, position_or_len}
+use Rattle.std.specs.Prelude.{ℕ, List, [], ◌∷◌, ◌++◌, fold, Option, option_map, if◌then◌else◌}
+use Rattle.std.specs.List.{list_any, position, position_or_len}
 use Rattle.std.specs.Str.{bytes_eq}
+use Rattle.abs_tree.specs.declared.symbol.Symbol.{Symbol}
 
 -- the names after another one appears: a name that is there already stays where it is
 abbrev pub with_name : List (List ℕ) → List ℕ → List (List ℕ)
@@ -14,3 +15,7 @@ number_of_name names name = position_or_len (bytes_eq name) names
 -- each name once, in the order of first appearance
 abbrev pub by_first_appearance : List (List ℕ) → List (List ℕ)
 by_first_appearance names = fold with_name [] names
+
+-- the symbol of a name that is there
+abbrev pub symbol_in : List (List ℕ) → List ℕ → Option Symbol
+symbol_in names name = option_map (λ number. record { 0 = number }) (position (bytes_eq name) names)

@@ -1,6 +1,5 @@
--- The tree of a program without its memory: what the grammar relates to a text, and what the rules of a run speak of.
--- It has a constructor for each alternative of the grammar that is read so far. In the tree of a text each local is its
--- name; in that of a program that runs, its slot.
+-- The tree of a program of the part of the language that runs, without its memory: what the rules of a run speak of. In the tree
+-- of a text each local is its name; in that of a program whose names were looked up, its slot.
 use Rattle.std.specs.Prelude.{ℕ, ℤ, List, [], ◌∷◌, map, slice_get, unwrap_or}
 use Rattle.abs_tree.specs.declared.place.Place.{Place}
 use Rattle.abs_tree.specs.declared.symbol.Symbol.{Symbol}

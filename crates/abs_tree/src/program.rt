@@ -1,4 +1,4 @@
-//! The tree of a program, as the parser makes it, and as it is run once its names were looked up.
+//! The tree of a program of the part of the language that runs, as its text has it, and as it is run once its names were looked up.
 ghost use Rattle.std.specs.Prelude.{◌≤◌, length};
 
 use crate::{Operator, Place, Symbol, Symbols};

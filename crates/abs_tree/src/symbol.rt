@@ -1,6 +1,6 @@
 //! Symbols: the names of a source as numbers.
-ghost use Rattle.std.specs.Prelude.{◌≡◌, ◌^◌, ◌<◌, [], length, IfOk, OnOk, OnErr};
-ghost use Rattle.abs_tree.specs.Names.{with_name, number_of_name};
+ghost use Rattle.std.specs.Prelude.{◌≡◌, ◌^◌, ◌<◌, ◌≤◌, [], length, IfOk, OnOk, OnErr};
+ghost use Rattle.abs_tree.specs.Names.{with_name, number_of_name, symbol_in};
 ghost use Rattle.abs_tree.specs.Trees.{name_of};
 
 use indexmap::IndexSet;
@@ -50,6 +50,17 @@ impl<'a> Symbols<'a> {
         match self.names.get_index(symbol.0 as usize) {
             Some(name) => *name,
             None => &[],
+        }
+    }
+
+    /// The symbol of a name that the table has.
+    pub fn find(&self, name: &[u8]) -> Option<Symbol>
+        requires { length self.now ≤ 2 ^ 32 }
+        ensures { result ≡ symbol_in self.now name.now }
+    {
+        match self.names.get_index_of(name) {
+            Some(index) => Some(Symbol(index as u32)),
+            None => None,
         }
     }
 

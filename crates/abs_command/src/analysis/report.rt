@@ -4,7 +4,7 @@ ghost use Rattle.std.specs.Prelude.{◌≡◌, ◌<◌, ◌==◌, [], length, sl
 use std::alloc::Global;
 use std::marker::Model;
 
-/// A circular chain of dependencies. No statement that is read so far waits for a task, so there is no chain to name:
+/// A circular chain of dependencies. No statement that runs so far waits for a task, so there is no chain to name:
 /// the type has no value until one does.
 #[derive(Drop)]
 pub enum Chain {}

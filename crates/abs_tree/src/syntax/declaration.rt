@@ -66,6 +66,18 @@ pub enum Decl {
     Class(Place, Declared, Vec<Param>, Vec<Declared>, Vec<Member>),
 }
 
+impl Decl {
+    /// Where it begins.
+    pub fn place(&self) -> Place {
+        match self {
+            Decl::Data(place, ..)
+            | Decl::Function(place, ..)
+            | Decl::Interface(place, ..)
+            | Decl::Class(place, ..) => *place,
+        }
+    }
+}
+
 /// A source: its names, its declarations, and its main block.
 #[derive(Drop)]
 pub struct Program<'a> {

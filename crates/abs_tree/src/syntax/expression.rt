@@ -80,6 +80,29 @@ pub enum Expr {
     Case(Place, Box<Expr>, Vec<Branch>),
 }
 
+impl Expr {
+    /// Where it begins; parentheses around it do not count.
+    pub fn place(&self) -> Place {
+        match self {
+            Expr::Let(place, ..)
+            | Expr::If(place, ..)
+            | Expr::Chain(place, ..)
+            | Expr::Prefixed(place, ..)
+            | Expr::Number(place, ..)
+            | Expr::Text(place, ..)
+            | Expr::Null(place)
+            | Expr::Destiny(place)
+            | Expr::This(place)
+            | Expr::Field(place, ..)
+            | Expr::OwnCall(place, ..)
+            | Expr::Local(place, ..)
+            | Expr::Apply(place, ..)
+            | Expr::Build(place, ..)
+            | Expr::Case(place, ..) => *place,
+        }
+    }
+}
+
 /// An operator, and its right operand.
 #[derive(Drop)]
 #[cycle(syntax_expressions)]

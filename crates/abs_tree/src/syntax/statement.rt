@@ -29,6 +29,19 @@ pub enum RightSide {
     Call(Place, Arc<Expr>, Symbol, Arc<Vec<Expr>>),
 }
 
+impl RightSide {
+    /// Where it begins.
+    pub fn place(&self) -> Place {
+        match self {
+            RightSide::New(place, ..)
+            | RightSide::Value(place, ..)
+            | RightSide::Send(place, ..)
+            | RightSide::Get(place, ..)
+            | RightSide::Call(place, ..) => *place,
+        }
+    }
+}
+
 /// A part of a guard.
 #[derive(Drop)]
 pub struct Test {
@@ -75,4 +88,23 @@ pub enum Stmt {
     Assign(u32, Place, Target, RightSide),
     /// `r;`
     Do(u32, Place, RightSide),
+}
+
+impl Stmt {
+    /// Where it begins.
+    pub fn place(&self) -> Place {
+        match self {
+            Stmt::Block(place, _)
+            | Stmt::Skip(_, place)
+            | Stmt::Suspend(_, place)
+            | Stmt::Await(_, place, ..)
+            | Stmt::Return(_, place, ..)
+            | Stmt::Print(_, place, ..)
+            | Stmt::If(_, place, ..)
+            | Stmt::While(_, place, ..)
+            | Stmt::Declare(_, place, ..)
+            | Stmt::Assign(_, place, ..)
+            | Stmt::Do(_, place, ..) => *place,
+        }
+    }
 }

@@ -1,56 +1,102 @@
-use Rattle.std.proofs.Common.{◌≡◌, List, [], ◌∷◌, ap, sym, ◌∙◌, arith, length-drop}
-use Rattle.std.proofs.lemmas.List.{length-map}
+use Rattle.std.proofs.Common.{[], ap, length, arith}
 use Rattle.std.proofs.lemmas.Result.{err_from_is_err_and}
-use Rattle.abs_tree.specs.declared.refusal.Refusal.{Refusal}
-use Rattle.abs_tree.specs.Trees.{stmt_tree}
-use Rattle.abs_lexer.specs.Tokens.{Lexed}
-use Rattle.abs_parser.specs.Tokens.{Spot}
-use Rattle.abs_parser.proofs.SpotLemmas.{takes_at}
-use Rattle.abs_parser.proofs.NameLemmas.{goes_on_itself}
-use Rattle.abs_parser.proofs.GrammarLemmas.{block_once}
-use Rattle.abs_parser.proofs.FindLemmas.{reads_program}
-use Rattle.abs_parser.proofs.RefusalLemmas.{refused_by_token, refuses_weaker, takes_from, block_from}
-use Rattle.abs_parser.proofs.SizeLemmas.{few_in_block}
-use Rattle.abs_parser.proofs.PieceLemmas.{names_are_written}
+use Rattle.abs_tree.specs.TextNumbers.{IsNumberedWhole}
+use Rattle.abs_parser.specs.Views.{spot}
+use Rattle.abs_parser.proofs.StepLemmas.{found_few, refused_inside}
+use Rattle.abs_parser.proofs.WholeSteps.{program_begins, over_heading, over_import, over_declarations, over_block, heading_refused, import_refused, declarations_refused, block_refused, stops_from, ProgramFound, program_found, text_found, names_found, variables_found, bodies_found, fields_found, statements_found, few_at, few_tokens}
 use Rattle.abs_parser.proofs.parser.parse.Goals as goal
 
-pub returns-in_err-begin-clause-refused : goal.returns-in_err-begin-clause-refused
-returns-in_err-begin-clause-refused c =
+pub returns-in_err-import_at-clause-refused : goal.returns-in_err-import_at-clause-refused
+returns-in_err-import_at-clause-refused c =
     let p = err_from_is_err_and c.from_residual.result c.from_residual.ensures.1 in
-    rw (p.1, p.2) (refused_by_token c.in_err-begin.ensures.refused (λ none program read. none read.begin (takes_from (sym c.new.ensures) read.begin_sign)))
+    rw (p.1, p.2) (stops_from _ c.new.ensures (heading_refused _ (program_begins [] _) c.in_err-import_at.ensures.refused))
 
-pub returns-in_err-symbols-clause-refused : goal.returns-in_err-symbols-clause-refused
-returns-in_err-symbols-clause-refused c =
-    let p = err_from_is_err_and c.from_residual-in_err-symbols.result c.from_residual-in_err-symbols.ensures.1 in
-    rw (p.1, p.2) (refuses_weaker c.in_err-symbols.field-0.0 (λ none program read.
-    none program.names program.main read.words read.end (block_from (takes_at (sym c.new.ensures) read.begin_sign c.in_ok-begin.ensures.found) read.block)) c.in_err-symbols.ensures.refused)
+pub import_line-requires : goal.import_line-requires
+import_line-requires c =
+    let few = found_few c.in_ok-import_at.ensures.found in
+    let names = ap length c.new-symbols.ensures in
+    let tokens = few_at c.new.result in
+    record { names = omega arith }
 
--- a token and others are not nothing
-token_is_left : {token : Lexed} {others : List Lexed} → token ∷ others ≡ [] → ⊥
-token_is_left e = cc
+pub returns-in_err-first-clause-refused : goal.returns-in_err-first-clause-refused
+returns-in_err-first-clause-refused c =
+    let p = err_from_is_err_and c.from_residual-in_err-first.result c.from_residual-in_err-first.ensures.1 in
+    let so = over_heading (program_begins _ _) c.in_ok-import_at.ensures.found in
+    rw (p.1, p.2) (stops_from _ c.new.ensures (import_refused _ so c.in_err-first.ensures.refused))
 
-pub returns-in-Some-clause-refused : goal.returns-in-Some-clause-refused
-returns-in-Some-clause-refused c =
-    let found = c.in_ok-symbols.ensures.found in
-    let block = found.read c.in_ok-symbols.symbols (goes_on_itself c.in_ok-symbols.symbols) in
-    record {
-      code = ap (λ (r : Refusal). r.code) c.unexpected.ensures;
-      why = λ program read.
-          let same = block_once (takes_at (sym c.new.ensures) read.begin_sign c.in_ok-begin.ensures.found) read.block block in
-          let whole = ap (λ (s : Spot). s.rest) (sym same.behind) ∙ read.nothing_behind in
-          token_is_left (sym c.in-Some.ensures.some.rest ∙ whole);
-    }
+pub declarations-requires-clause-names : goal.declarations-requires-clause-names
+declarations-requires-clause-names c =
+    let heading = found_few c.in_ok-import_at.ensures.found in
+    let imported = found_few c.in_ok-first.ensures.found in
+    let names = ap length c.new-symbols.ensures in
+    let tokens = few_at c.new.result in
+    omega arith
+
+pub returns-in_err-declarations-clause-refused : goal.returns-in_err-declarations-clause-refused
+returns-in_err-declarations-clause-refused c =
+    let p = err_from_is_err_and c.from_residual-in_err-declarations.result c.from_residual-in_err-declarations.ensures.1 in
+    let so = over_import (over_heading (program_begins _ _) c.in_ok-import_at.ensures.found) c.in_ok-first.ensures.found in
+    rw (p.1, p.2) (stops_from _ c.new.ensures (declarations_refused _ so c.in_err-declarations.ensures.refused))
+
+pub block-requires-clause-names : goal.block-requires-clause-names
+block-requires-clause-names c =
+    let heading = found_few c.in_ok-import_at.ensures.found in
+    let imported = found_few c.in_ok-first.ensures.found in
+    let declarations = found_few c.in_ok-declarations.ensures.found in
+    let names = ap length c.new-symbols.ensures in
+    let tokens = few_at c.new.result in
+    omega arith
+
+pub returns-in_err-main-clause-refused : goal.returns-in_err-main-clause-refused
+returns-in_err-main-clause-refused c =
+    let p = err_from_is_err_and c.from_residual-in_err-main.result c.from_residual-in_err-main.ensures.1 in
+    let so = over_declarations (over_import (over_heading (program_begins _ _) c.in_ok-import_at.ensures.found) c.in_ok-first.ensures.found) c.in_ok-declarations.ensures.found in
+    rw (p.1, p.2) (stops_from _ c.new.ensures (block_refused _ so c.in_err-main.ensures.refused))
+
+pub returns-in_err-finish-clause-refused : goal.returns-in_err-finish-clause-refused
+returns-in_err-finish-clause-refused c =
+    let p = err_from_is_err_and c.from_residual-in_err-finish.result c.from_residual-in_err-finish.ensures.1 in
+    let so = over_declarations (over_import (over_heading (program_begins _ _) c.in_ok-import_at.ensures.found) c.in_ok-first.ensures.found) c.in_ok-declarations.ensures.found in
+    rw (p.1, p.2) (stops_from _ c.new.ensures (refused_inside (over_block so c.in_ok-main.ensures.found) _ (c.in_err-finish.ensures.refused 0)))
 
 pub invariant_of-result : goal.invariant_of-result
 invariant_of-result c =
-    let few = few_in_block c.in_ok-symbols.ensures.found in
-    let stmts = length-map c.in_ok-symbols.main.items stmt_tree in
-    let rest = length-drop c.in_ok-begin.begin.index c.in_ok-begin.begin.tokens.now.tokens in
-    let all = c.in_ok-begin.begin.few in
-    record { few_names = omega arith; few_statements = omega arith }
+    let found = program_found c.in_ok-declarations.declarations.items c.in_ok-main.main c.new-symbols.ensures c.new.ensures c.in_ok-import_at.ensures.found
+    c.in_ok-first.ensures.found c.in_ok-declarations.ensures.found c.in_ok-main.ensures.found c.in_ok-finish.ensures.found in
+    let tokens = few_tokens c.new.result c.new.ensures in
+    let numbered : IsNumberedWhole c.in_ok-declarations.declarations.items c.in_ok-main.main c.in_ok-main.field-0-1 =
+    record { middle = c.in_ok-declarations.free; declarations_are = c.in_ok-declarations.ensures.numbered; main_is = c.in_ok-main.ensures.numbered } in
+    let statements = statements_found (spot c.in_ok-declarations.main_at) (spot c.in_ok-main.end) c.block.new.symbols c.new.ensures c.in_ok-import_at.ensures.found
+    c.in_ok-first.ensures.found numbered c.in_ok-declarations.ensures.few c.in_ok-main.ensures.few in
+    record {
+      few_names = omega (arith, found.read.few);
+      few_statements = omega (arith, statements);
+      few_slots = bodies_found 268435456 found (omega arith);
+      few_fields = fields_found 268435456 found (omega arith);
+    }
+
+-- the program that was found
+found_program : (c : goal.After-result-1) → ProgramFound c.args.list.now c.block.new.symbols c.in_ok-declarations.declarations.items c.in_ok-main.main
+found_program c =
+    program_found c.in_ok-declarations.declarations.items c.in_ok-main.main c.new-symbols.ensures c.new.ensures c.in_ok-import_at.ensures.found c.in_ok-first.ensures.found
+    c.in_ok-declarations.ensures.found c.in_ok-main.ensures.found c.in_ok-finish.ensures.found
 
 pub returns-clause-found : goal.returns-clause-found
-returns-clause-found c = reads_program c.new.ensures c.in_ok-begin.ensures.found c.in_ok-symbols.ensures.found c.in-None.ensures.none
+returns-clause-found c = text_found (found_program c)
 
 pub returns-clause-names : goal.returns-clause-names
-returns-clause-names c = names_are_written c.args.list.now _ (returns-clause-found c)
+returns-clause-names c = names_found (found_program c)
+
+pub returns-clause-few_symbols : goal.returns-clause-few_symbols
+returns-clause-few_symbols c = omega (arith, (found_program c).read.few, few_tokens c.new.result c.new.ensures)
+
+pub returns-clause-few_statements : goal.returns-clause-few_statements
+returns-clause-few_statements c =
+    let numbered : IsNumberedWhole c.in_ok-declarations.declarations.items c.in_ok-main.main c.in_ok-main.field-0-1 =
+    record { middle = c.in_ok-declarations.free; declarations_are = c.in_ok-declarations.ensures.numbered; main_is = c.in_ok-main.ensures.numbered } in
+    let statements = statements_found (spot c.in_ok-declarations.main_at) (spot c.in_ok-main.end) c.block.new.symbols c.new.ensures c.in_ok-import_at.ensures.found
+    c.in_ok-first.ensures.found numbered c.in_ok-declarations.ensures.few c.in_ok-main.ensures.few in
+    omega (arith, few_tokens c.new.result c.new.ensures, statements)
+
+pub returns-clause-few_variables : goal.returns-clause-few_variables
+returns-clause-few_variables c = omega (arith, few_tokens c.new.result c.new.ensures, variables_found (found_program c))

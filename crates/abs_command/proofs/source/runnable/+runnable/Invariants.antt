@@ -1,0 +1,7 @@
+use Rattle.abs_tree.specs.Trees.{operands_of}
+use Rattle.abs_command.proofs.RunnableLemmas.{IsReadUpTo, operands_run}
+use Rattle.abs_command.proofs.source.runnable.+runnable.Given as goal
+
+-- what the rest gives stands behind what was found so far
+abbrev pub invariant-operands-loop-other : goal.invariant-operands-loop-other
+invariant-operands-loop-other l = IsReadUpTo (operands_run l.symbols) operands_of l.others l.other-index l.found.items

@@ -1,0 +1,239 @@
+//! The part of the language that runs today, out of the tree of a whole text.
+ghost use Rattle.std.specs.Prelude.{◌≡◌, ◌≤◌, Some, None, length, map, IfOk, IfErr};
+ghost use Rattle.abs_tree.specs.SyntaxViews.{variable_tree, type_tree, phrase, links, side_tree, statement as statement_tree, statements as statement_trees};
+ghost use Rattle.abs_tree.specs.TextViews.{text_tree};
+ghost use Rattle.abs_tree.specs.Trees.{expr_tree, operands_of, stmt_tree, program_tree};
+ghost use Rattle.abs_command.specs.NotYet.{ForNotYet};
+ghost use Rattle.abs_command.specs.Runnable.{runnable_variable, runnable_operator, runnable_expr, runnable_operands, runnable_side, runnable_text, is_int as is_int_type, runnable_statement, runnable_statements, runnable as runnable_part};
+ghost use Rattle.abs_command.specs.declared.source.runnable.RunnableError.TheVariants.{Memory};
+
+use abs_tree::{Expr, Operand, Operator, Place, Program, Stmt, Symbols, Variable, syntax};
+use std::alloc::{AllocError, AllocFailed, Global};
+use std::sync::Arc;
+use thiserror::Error;
+
+/// Why a text does not run.
+#[derive(Clone, Copy, Debug, PartialEq, Eq, Error)]
+pub enum RunnableError {
+    /// What begins here does not run yet.
+    #[error("this does not run yet")]
+    NotYet(Place),
+    /// Memory ran out.
+    #[error("memory ran out")]
+    Memory,
+}
+
+impl From<AllocError> for RunnableError {
+    ghost from_gives = { λ _ e. e ≡ Memory };
+
+    fn from(_: AllocError) -> Self {
+        RunnableError::Memory
+    }
+}
+
+impl<T: Drop> From<AllocFailed<T>> for RunnableError {
+    ghost from_gives = { λ _ e. e ≡ Memory };
+
+    fn from(_: AllocFailed<T>) -> Self {
+        RunnableError::Memory
+    }
+}
+
+/// The program of a text of the part that runs today.
+///
+/// # Errors
+/// [`RunnableError::NotYet`] where the text has something else, with the place of the first such thing, and
+/// [`RunnableError::Memory`] where memory runs out.
+pub fn runnable<'a>(alloc: Global, text: syntax::Program<'a>) -> Result<Program<'a>, RunnableError>
+    ensures found { IfOk result (λ program. runnable_part text.entry.symbols (text_tree text.entry) ≡ Some (program_tree program)) }
+    ensures not_yet { IfErr result (λ error. ForNotYet error (runnable_part text.entry.symbols (text_tree text.entry) ≡ None)) }
+{
+    let syntax::Program {
+        symbols,
+        declarations,
+        main,
+    } = text;
+    if let Some(first) = declarations.first() {
+        return Err(RunnableError::NotYet(first.place()));
+    }
+    let main = statements(alloc, &symbols, main.statements.as_slice())?;
+    Ok(Program { symbols, main })
+}
+
+/// Statements that stand one behind the other.
+fn statements(
+    alloc: Global,
+    symbols: &Symbols<'_>,
+    stmts: &[syntax::Stmt],
+) -> Result<Vec<Stmt>, RunnableError>
+    requires few { length symbols.now ≤ 268435456 }
+    ensures found { IfOk result (λ found. runnable_statements symbols.now (statement_trees symbols.now stmts.now) ≡ Some (map stmt_tree found.items)) }
+    ensures not_yet { IfErr result (λ error. ForNotYet error (runnable_statements symbols.now (statement_trees symbols.now stmts.now) ≡ None)) }
+{
+    let mut found = Vec::with_capacity(alloc, stmts.len())?;
+    for stmt in stmts {
+        found.push(statement(alloc, symbols, stmt)?)?;
+    }
+    Ok(found)
+}
+
+/// A declaration with a value, an assignment to a local, or a print.
+fn statement(
+    alloc: Global,
+    symbols: &Symbols<'_>,
+    stmt: &syntax::Stmt,
+) -> Result<Stmt, RunnableError>
+    requires few { length symbols.now ≤ 268435456 }
+    ensures found { IfOk result (λ found. runnable_statement symbols.now (statement_tree symbols.now stmt.now) ≡ Some (stmt_tree found)) }
+    ensures not_yet { IfErr result (λ error. ForNotYet error (runnable_statement symbols.now (statement_tree symbols.now stmt.now) ≡ None)) }
+{
+    match stmt {
+        syntax::Stmt::Declare(_, place, type_of, at, variable, Some(side)) => {
+            if !is_int(symbols, type_of) {
+                return Err(RunnableError::NotYet(*place));
+            }
+            let variable = local(symbols, *at, *variable)?;
+            let value = Arc::new(alloc, value_of(alloc, symbols, side)?)?;
+            Ok(Stmt::Declare(*place, *at, variable, value))
+        }
+        syntax::Stmt::Assign(_, place, syntax::Target::Local(at, variable), side) => {
+            let variable = local(symbols, *at, *variable)?;
+            let value = Arc::new(alloc, value_of(alloc, symbols, side)?)?;
+            Ok(Stmt::Assign(*place, variable, value))
+        }
+        syntax::Stmt::Print(_, place, text) => {
+            let text = Arc::new(alloc, printed(alloc, symbols, text)?)?;
+            Ok(Stmt::Print(*place, text))
+        }
+        other => Err(RunnableError::NotYet(other.place())),
+    }
+}
+
+/// Whether a type is `Int`.
+fn is_int(symbols: &Symbols<'_>, type_of: &syntax::TypeTerm) -> bool
+    ensures { result ≡ is_int_type (type_tree symbols.now type_of.now) }
+{
+    match type_of {
+        syntax::TypeTerm::Name(_, symbol, arguments) => {
+            arguments.is_empty() && symbols.name(*symbol) == b"Int".as_slice()
+        }
+        _ => false,
+    }
+}
+
+/// A local. It is looked up by its name, since no clause of its tree says that its symbol is one of the table.
+fn local(symbols: &Symbols<'_>, at: Place, variable: Variable) -> Result<Variable, RunnableError>
+    requires few { length symbols.now ≤ 268435456 }
+    ensures found { IfOk result (λ found. runnable_variable symbols.now (variable_tree symbols.now variable) ≡ Some found) }
+    ensures not_yet { IfErr result (λ error. ForNotYet error (runnable_variable symbols.now (variable_tree symbols.now variable) ≡ None)) }
+{
+    let Variable::Named(symbol) = variable else {
+        return Err(RunnableError::NotYet(at));
+    };
+    match symbols.find(symbols.name(symbol)) {
+        Some(found) => Ok(Variable::Named(found)),
+        None => Err(RunnableError::NotYet(at)),
+    }
+}
+
+/// The value of a right side that is an expression.
+fn value_of(
+    alloc: Global,
+    symbols: &Symbols<'_>,
+    side: &syntax::RightSide,
+) -> Result<Expr, RunnableError>
+    requires few { length symbols.now ≤ 268435456 }
+    ensures found { IfOk result (λ found. runnable_side symbols.now (side_tree symbols.now side.now) ≡ Some (expr_tree found)) }
+    ensures not_yet { IfErr result (λ error. ForNotYet error (runnable_side symbols.now (side_tree symbols.now side.now) ≡ None)) }
+{
+    match side {
+        syntax::RightSide::Value(_, value) => expression(alloc, symbols, value),
+        other => Err(RunnableError::NotYet(other.place())),
+    }
+}
+
+/// `toString` of a number.
+fn printed(alloc: Global, symbols: &Symbols<'_>, text: &syntax::Expr) -> Result<Expr, RunnableError>
+    requires few { length symbols.now ≤ 268435456 }
+    ensures found { IfOk result (λ found. runnable_text symbols.now (phrase symbols.now text.now) ≡ Some (expr_tree found)) }
+    ensures not_yet { IfErr result (λ error. ForNotYet error (runnable_text symbols.now (phrase symbols.now text.now) ≡ None)) }
+{
+    let syntax::Expr::Apply(place, function, arguments) = text else {
+        return Err(RunnableError::NotYet(text.place()));
+    };
+    let name = symbols.name(*function);
+    if name != b"toString".as_slice() || arguments.len() != 1 {
+        return Err(RunnableError::NotYet(*place));
+    }
+    let Some(function) = symbols.find(name) else {
+        return Err(RunnableError::NotYet(*place));
+    };
+    let value = expression(alloc, symbols, &arguments[0])?;
+    let arguments = vec![in alloc; value]?;
+    Ok(Expr::Apply(*place, function, arguments))
+}
+
+/// A number, a local, a minus, or sums, differences and products.
+#[cycle(runnable)]
+fn expression(
+    alloc: Global,
+    symbols: &Symbols<'_>,
+    expr: &syntax::Expr,
+) -> Result<Expr, RunnableError>
+    requires few { length symbols.now ≤ 268435456 }
+    ensures found { IfOk result (λ found. runnable_expr symbols.now (phrase symbols.now expr.now) ≡ Some (expr_tree found)) }
+    ensures not_yet { IfErr result (λ error. ForNotYet error (runnable_expr symbols.now (phrase symbols.now expr.now) ≡ None)) }
+{
+    match expr {
+        syntax::Expr::Number(place, number) => Ok(Expr::Number(*place, *number)),
+        syntax::Expr::Local(place, variable) => {
+            let variable = local(symbols, *place, *variable)?;
+            Ok(Expr::Local(*place, variable))
+        }
+        syntax::Expr::Prefixed(place, syntax::Prefix::Minus, operand) => {
+            let operand = expression(alloc, symbols, operand)?;
+            Ok(Expr::Negate(*place, Box::new(alloc, operand)?))
+        }
+        syntax::Expr::Chain(place, first, others) => {
+            let first = Box::new(alloc, expression(alloc, symbols, first)?)?;
+            let operands = operands(alloc, symbols, *place, others)?;
+            Ok(Expr::Operators(*place, first, operands))
+        }
+        other => Err(RunnableError::NotYet(other.place())),
+    }
+}
+
+/// Operators of one precedence with their right operands; the first operand begins at `place`.
+#[cycle(runnable)]
+fn operands(
+    alloc: Global,
+    symbols: &Symbols<'_>,
+    place: Place,
+    others: &[syntax::Operand],
+) -> Result<Vec<Operand>, RunnableError>
+    requires few { length symbols.now ≤ 268435456 }
+    ensures found { IfOk result (λ found. runnable_operands symbols.now (links symbols.now others.now) ≡ Some (operands_of found.items)) }
+    ensures not_yet { IfErr result (λ error. ForNotYet error (runnable_operands symbols.now (links symbols.now others.now) ≡ None)) }
+{
+    let mut found = Vec::with_capacity(alloc, others.len())?;
+    for other in others {
+        let Some(operator) = operator(other.operator) else {
+            return Err(RunnableError::NotYet(place));
+        };
+        let right = expression(alloc, symbols, &other.right)?;
+        found.push(Operand { operator, right })?;
+    }
+    Ok(found)
+}
+
+/// An operator between numbers.
+fn operator(operator: syntax::Operator) -> Option<Operator>
+    ensures { result ≡ runnable_operator operator }
+{
+    match operator {
+        syntax::Operator::Plus => Some(Operator::Plus),
+        syntax::Operator::Minus => Some(Operator::Minus),
+        syntax::Operator::Times => Some(Operator::Times),
+        _ => None,
+    }
+}
