@@ -28,7 +28,7 @@ use Rattle.abs_parser.specs.declared.parser.ParseError.TheVariants.{Refused}
 use Rattle.abs_parser.proofs.DeclarationSteps.{one_more, no_part}
 use Rattle.abs_parser.proofs.FirstTokens.{BeginsBy, begins_next, IsOneOf, IsNoneOf, one_passes, none_found}
 use Rattle.abs_parser.proofs.NameLemmas.{goes_on_itself, goes_on_further}
-use Rattle.abs_parser.proofs.NumberLemmas.{decls_more}
+use Rattle.abs_tree.proofs.NumberLemmas.{numbered_more}
 use Rattle.abs_parser.proofs.PatternSteps.{next_taken, next_end}
 use Rattle.abs_parser.proofs.RepeatSteps.{in_front, over_one_more}
 use Rattle.abs_parser.proofs.StepLemmas.{HasRead, inside_alone, left_whole, opens, over_part, all_read, refused_inside, refused_shut, reads_shorter, left_length, found_goes_on}
@@ -188,7 +188,7 @@ next_declaration {number = number} {free} {behind} {listed = listed} decl same s
       so.is names (goes_on_further (found_goes_on found) more) (Node (One Decl) found.inside (Node (Repeated Decl) inside Empty))
       ∙ (ap (λ (trees : List DeclTree). map (decl_tree names) listed ++ trees) (sym (found.is names more (decls_in inside)))
       ∙ sym (one_more (decl_tree names) listed decl (decls_in inside)));
-  numbered = decls_more number listed free decl behind so.numbered numbered;
+  numbered = numbered_more DeclNumbered number listed free decl behind so.numbered numbered;
   few = omega (arith, so.few, few);
 })
 

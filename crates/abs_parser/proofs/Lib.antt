@@ -44,7 +44,6 @@ pub mod DeclarationSteps
 pub mod SignatureSteps
 pub mod PreambleSteps
 pub mod MemberSteps
-pub mod NumberLemmas
 pub mod ClassSteps
 pub mod DeclarationListSteps
 pub mod WordStatementSteps

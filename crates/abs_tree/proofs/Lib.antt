@@ -4,3 +4,4 @@ pub mod RuleLemmas
 pub mod SyntaxLemmas
 pub mod StatementLemmas
 pub mod EntryLemmas
+pub mod NumberLemmas

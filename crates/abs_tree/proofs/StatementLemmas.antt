@@ -1,5 +1,5 @@
 -- Statements that hold others: the trees and the numbers of the statements inside one that stands in memory are those of its lists.
-use Rattle.std.proofs.Common.{◌≡◌, ℕ, List, [], ◌∷◌, ◌++◌, ◌+◌, Option, Some, None, refl, sym, ap, subst, ◌∙◌}
+use Rattle.std.proofs.Common.{◌≡◌, ℕ, List, ◌+◌, Option, Some, None, refl, sym, ap, subst, ◌∙◌}
 use Rattle.std.specs.declared.alloc.Global.{Global}
 use Rattle.std.specs.declared.sync.Arc.{Arc}
 use Rattle.std.specs.declared.vec.Vec.{Vec}
@@ -86,8 +86,3 @@ pub block-numbered : (first : ℕ) (place : Place) (block : Vec Stmt Global) (be
 block-numbered first place block behind is =
     let row = inside_of (code_stmt.Block place block) in
     subst (λ (items : List Stmt). AreNumbered first items behind) (items_hidden-the_row-Stmt-0 block) (row_numbered first row.0 row.1 behind is)
-
--- one more statement behind others
-pub numbered-more : (first : ℕ) (stmts : List Stmt) (middle : ℕ) (stmt : Stmt) (behind : ℕ) → AreNumbered first stmts middle → IsNumbered middle stmt behind → AreNumbered first (stmts ++ stmt ∷ []) behind
-numbered-more first [] middle stmt behind are is = (behind, subst (λ (n : ℕ). IsNumbered n stmt behind) are is, refl)
-numbered-more first (one ∷ others) middle stmt behind (next, one_is, are) is = (next, one_is, numbered-more next others middle stmt behind are is)

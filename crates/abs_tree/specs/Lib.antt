@@ -9,6 +9,7 @@ pub mod Refusals
 pub mod Faults
 pub mod Syntax
 pub mod SyntaxViews
+pub mod SyntaxPlaces
 pub mod SyntaxSizes
 pub mod SyntaxNumbers
 pub mod TextNumbers

@@ -2,11 +2,17 @@
 -- statements; so a branch does.
 --
 --   `IsNumbered`                                       a statement is numbered from a first number on, and behind it the next one is free
+--   `InARow`                                           a list is numbered from a first number on, entry by entry
 --   `AreNumbered`                                      so are the statements of a list
 use Rattle.std.specs.Prelude.{◌≡◌, ℕ, ◌+◌, List, [], ◌∷◌, Option, Some, None}
 use Rattle.std.specs.declared.alloc.Global.{Global}
 use Rattle.std.specs.declared.vec.Vec.{Vec}
 use Rattle.abs_tree.specs.declared.syntax.statement.Stmt as code_stmt
+
+-- the numbers of each entry of a list go on where those of the entry before it end; what the numbers of an entry are, the relation says
+abbrev pub InARow : {A : Type 0} → (ℕ → A → ℕ → Type 0) → ℕ → List A → ℕ → Type 0
+InARow One first [] behind = behind ≡ first
+InARow One first (one ∷ others) behind = (middle : ℕ) × One first one middle × InARow One middle others behind
 
 -- one that holds no others has the first number, and behind it the next one is free
 pub record HasNumber (first number behind : ℕ) : Type 0 where
@@ -38,8 +44,7 @@ abbrev mutual
 
 -- the statements of a list
 abbrev pub AreNumbered : ℕ → List code_stmt.Stmt → ℕ → Type 0
-AreNumbered first [] behind = behind ≡ first
-AreNumbered first (stmt ∷ others) behind = (middle : ℕ) × IsNumbered first stmt middle × AreNumbered middle others behind
+AreNumbered first stmts behind = InARow IsNumbered first stmts behind
 
 -- those of a branch that may be missing
 abbrev pub BranchNumbered : ℕ → Option (Vec code_stmt.Stmt Global) → ℕ → Type 0

@@ -4,13 +4,13 @@
 --   `MemberNumbered`, `MembersNumbered`                the statements of the methods of a class
 --   `DeclNumbered`, `DeclsNumbered`                    those of the classes of a text
 --   `IsNumberedWhole`                                  all of a text
-use Rattle.std.specs.Prelude.{◌≡◌, ℕ, List, [], ◌∷◌}
+use Rattle.std.specs.Prelude.{◌≡◌, ℕ, List}
 use Rattle.abs_tree.specs.declared.syntax.declaration.Body.{Body}
 use Rattle.abs_tree.specs.declared.syntax.declaration.Decl.{Decl}
 use Rattle.abs_tree.specs.declared.syntax.declaration.Decl.TheVariants as decl
 use Rattle.abs_tree.specs.declared.syntax.declaration.Member.{Member}
 use Rattle.abs_tree.specs.declared.syntax.declaration.Member.TheVariants as member
-use Rattle.abs_tree.specs.SyntaxNumbers.{AreNumbered}
+use Rattle.abs_tree.specs.SyntaxNumbers.{InARow, AreNumbered}
 
 -- the statements of a member; a field has none
 abbrev pub MemberNumbered : ℕ → Member → ℕ → Type 0
@@ -19,8 +19,7 @@ MemberNumbered first (member.Method signature body) behind = AreNumbered first b
 
 -- those of the members of a class
 abbrev pub MembersNumbered : ℕ → List Member → ℕ → Type 0
-MembersNumbered first [] behind = behind ≡ first
-MembersNumbered first (one ∷ others) behind = (middle : ℕ) × MemberNumbered first one middle × MembersNumbered middle others behind
+MembersNumbered first members behind = InARow MemberNumbered first members behind
 
 -- those of a declaration; only a class has any
 abbrev pub DeclNumbered : ℕ → Decl → ℕ → Type 0
@@ -31,8 +30,7 @@ DeclNumbered first (decl.Interface place name extended signatures) behind = behi
 
 -- those of the declarations of a text
 abbrev pub DeclsNumbered : ℕ → List Decl → ℕ → Type 0
-DeclsNumbered first [] behind = behind ≡ first
-DeclsNumbered first (one ∷ others) behind = (middle : ℕ) × DeclNumbered first one middle × DeclsNumbered middle others behind
+DeclsNumbered first declarations behind = InARow DeclNumbered first declarations behind
 
 -- a text: from 0 on those of its declarations, and then those of its main block, so many in all
 pub record IsNumberedWhole (declarations : List Decl) (main : Body) (all : ℕ) : Type 0 where

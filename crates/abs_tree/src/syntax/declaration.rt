@@ -1,7 +1,9 @@
 //! Declarations, and a source as a whole.
-ghost use Rattle.std.specs.Prelude.{◌≤◌, All, length};
+ghost use Rattle.std.specs.Prelude.{◌≡◌, ◌≤◌, All, List, length};
+ghost use Rattle.abs_tree.specs.Syntax.{Name};
+ghost use Rattle.abs_tree.specs.SyntaxPlaces.{decl_place};
 ghost use Rattle.abs_tree.specs.SyntaxSizes.{all_statements, body_sizes, class_sizes};
-ghost use Rattle.abs_tree.specs.SyntaxViews.{tree_of_parts};
+ghost use Rattle.abs_tree.specs.SyntaxViews.{decl_tree, tree_of_parts};
 
 use crate::syntax::{Expr, Stmt, TypeTerm};
 use crate::{Place, Symbol, Symbols, Variable};
@@ -68,7 +70,9 @@ pub enum Decl {
 
 impl Decl {
     /// Where it begins.
-    pub fn place(&self) -> Place {
+    pub fn place(&self) -> Place
+        ensures { (names : List Name) → result ≡ decl_place (decl_tree names self.now) }
+    {
         match self {
             Decl::Data(place, ..)
             | Decl::Function(place, ..)

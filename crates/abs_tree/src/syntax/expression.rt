@@ -1,4 +1,9 @@
 //! Expressions.
+ghost use Rattle.std.specs.Prelude.{◌≡◌, List};
+ghost use Rattle.abs_tree.specs.Syntax.{Name};
+ghost use Rattle.abs_tree.specs.SyntaxPlaces.{phrase_place};
+ghost use Rattle.abs_tree.specs.SyntaxViews.{phrase};
+
 use crate::syntax::{Pattern, TypeTerm};
 use crate::{Place, Symbol, Text, Variable};
 
@@ -82,7 +87,9 @@ pub enum Expr {
 
 impl Expr {
     /// Where it begins; parentheses around it do not count.
-    pub fn place(&self) -> Place {
+    pub fn place(&self) -> Place
+        ensures { (names : List Name) → result ≡ phrase_place (phrase names self.now) }
+    {
         match self {
             Expr::Let(place, ..)
             | Expr::If(place, ..)

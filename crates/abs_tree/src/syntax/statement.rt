@@ -1,4 +1,9 @@
 //! Statements. Their expressions stand behind shared pointers, so that to take them along costs the same whatever their size.
+ghost use Rattle.std.specs.Prelude.{◌≡◌, List};
+ghost use Rattle.abs_tree.specs.Syntax.{Name};
+ghost use Rattle.abs_tree.specs.SyntaxPlaces.{side_place, statement_place};
+ghost use Rattle.abs_tree.specs.SyntaxViews.{side_tree, statement};
+
 use crate::syntax::{Expr, TypeTerm};
 use crate::{Place, Symbol, Variable};
 use std::sync::Arc;
@@ -31,7 +36,9 @@ pub enum RightSide {
 
 impl RightSide {
     /// Where it begins.
-    pub fn place(&self) -> Place {
+    pub fn place(&self) -> Place
+        ensures { (names : List Name) → result ≡ side_place (side_tree names self.now) }
+    {
         match self {
             RightSide::New(place, ..)
             | RightSide::Value(place, ..)
@@ -92,7 +99,9 @@ pub enum Stmt {
 
 impl Stmt {
     /// Where it begins.
-    pub fn place(&self) -> Place {
+    pub fn place(&self) -> Place
+        ensures { (names : List Name) → result ≡ statement_place (statement names self.now) }
+    {
         match self {
             Stmt::Block(place, _)
             | Stmt::Skip(_, place)

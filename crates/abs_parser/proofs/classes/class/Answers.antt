@@ -4,7 +4,8 @@ use Rattle.abs_parser.proofs.ClassSteps.{class_opened, class_begun, first_member
 use Rattle.abs_parser.proofs.WordSteps.{word_read}
 use Rattle.abs_parser.proofs.DeclarationSteps.{heading_read, refused_part, refused_closing, all_parts}
 use Rattle.abs_parser.proofs.MemberSteps.{member_begins_named, member_shorter}
-use Rattle.abs_parser.proofs.NumberLemmas.{members_more}
+use Rattle.abs_tree.proofs.NumberLemmas.{numbered_more}
+use Rattle.abs_tree.specs.TextNumbers.{MemberNumbered}
 use Rattle.abs_parser.proofs.StepLemmas.{over_part, refused_inside, fits_next}
 use Rattle.abs_parser.proofs.classes.class.Goals as goal
 
@@ -70,7 +71,7 @@ loop-alloc-preserved c =
     let before = c.loop-alloc.invariant.few in
     record {
       read = next_member c.in_ok-next.next c.in_ok-push.ensures.items c.loop-alloc.invariant.read c.in-Ok.ensures.found c.in_ok-next.ensures.found;
-      numbered = rw c.in_ok-push.ensures.items (members_more _ _ _ c.in_ok-next.next _ c.loop-alloc.invariant.numbered c.in_ok-next.ensures.numbered);
+      numbered = rw c.in_ok-push.ensures.items (numbered_more MemberNumbered _ _ _ c.in_ok-next.next _ c.loop-alloc.invariant.numbered c.in_ok-next.ensures.numbered);
       few = omega arith;
     }
 

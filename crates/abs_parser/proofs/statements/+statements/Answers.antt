@@ -1,7 +1,8 @@
 use Rattle.std.proofs.Common.{◌≡◌, ◌∙◌, ap, refl, sym, arith, rules, subst, ℕ, ◌+◌}
 use Rattle.std.proofs.lemmas.Result.{err_from_is_err_and}
-use Rattle.abs_tree.proofs.StatementLemmas.{numbered-block, numbered-if, numbered-while, numbered-more}
-use Rattle.abs_tree.specs.SyntaxNumbers.{AreNumbered}
+use Rattle.abs_tree.proofs.NumberLemmas.{numbered_more}
+use Rattle.abs_tree.proofs.StatementLemmas.{numbered-block, numbered-if, numbered-while}
+use Rattle.abs_tree.specs.SyntaxNumbers.{IsNumbered, AreNumbered}
 use Rattle.abs_tree.specs.declared.syntax.declaration.Body.{Body}
 use Rattle.abs_lexer.specs.declared.lexeme.Keyword.TheVariants as keyword
 use Rattle.abs_lexer.specs.declared.lexeme.Punctuator.TheVariants as punctuator
@@ -52,7 +53,7 @@ pub block-loop-alloc-preserved : goal.block-loop-alloc-preserved
 block-loop-alloc-preserved t c = record {
   read = next_statement c.in_ok-next.next c.in_ok-push.ensures.items c.loop-alloc.invariant.read (sym c.loop-alloc-test.ensures) c.in_ok-next.ensures.found;
   numbered = rw c.in_ok-push.ensures.items
-      (numbered-more c.args.number c.loop-alloc.statements.items c.loop-alloc.free c.in_ok-next.next c.in_ok-next.behind c.loop-alloc.invariant.numbered c.in_ok-next.ensures.numbered);
+      (numbered_more IsNumbered c.args.number c.loop-alloc.statements.items c.loop-alloc.free c.in_ok-next.next c.in_ok-next.behind c.loop-alloc.invariant.numbered c.in_ok-next.ensures.numbered);
   few = omega (arith, c.loop-alloc.invariant.few, c.in_ok-next.ensures.few);
 }
 
