@@ -9,7 +9,7 @@ use std::process::ExitCode;
 use std::rt::Env;
 use std::{env, io};
 
-/// The words of the command line. Words that are not text are not of the command; an empty list, which isn't either,
+/// The words of the command line. Words that are not UTF-8 are not of the command; an empty list, which is not either,
 /// stands for them.
 ///
 /// # Errors

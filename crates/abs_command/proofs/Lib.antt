@@ -2,9 +2,9 @@ pub mod EvaluationLemmas
 pub mod ByteLemmas
 pub mod ProgressLemmas
 pub mod AnswerLemmas
-pub mod Subsequences
-pub mod LeafPlaces
 pub mod PlaceLemmas
 pub mod SourceLemmas
 pub mod PromiseLemmas
+pub mod ResultLemmas
+pub mod TakingLemmas
 pub mod RunnableLemmas

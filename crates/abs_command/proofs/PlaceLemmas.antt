@@ -1,9 +1,9 @@
 -- Where names offend: the offences of a text that was read stand one behind the other, each at a token of its own. So there is
 -- one that stands first.
-use Rattle.std.proofs.Common.{◌≡◌, ℕ, zero, suc, ◌+◌, ◌<◌, ◌≤◌, Bool, true, false, cond, List, [], ◌∷◌, ◌++◌, Option, Some, None, option_map, map, refl, sym, ap, subst, ◌∙◌, length, get_or, arith}
+use Rattle.std.proofs.Common.{◌≡◌, ℕ, zero, suc, ◌+◌, ◌<◌, ◌≤◌, Bool, true, false, cond, List, [], ◌∷◌, ◌++◌, Ok, Err, map, refl, sym, ap, subst, ◌∙◌, length, get_or, arith}
 use Rattle.std.proofs.lemmas.List.{append-nil, map-append}
-use Rattle.std.specs.Option.{IfSome}
-use Rattle.std.specs.Prelude.{⊤, codes, if◌then◌else◌}
+use Rattle.std.specs.Option.{ok_or}
+use Rattle.std.specs.Prelude.{⊤, Result, IfOk, codes, if◌then◌else◌}
 use Rattle.std.specs.Str.{bytes_eq}
 use Rattle.abs_tree.specs.declared.place.Place.{Place}
 use Rattle.abs_tree.specs.declared.operator.Operator.{Operator}
@@ -15,17 +15,17 @@ use Rattle.abs_tree.specs.declared.refusal.Offence.{Offence}
 use Rattle.abs_tree.specs.declared.syntax.expression.Prefix.TheVariants as prefix
 use Rattle.abs_tree.specs.Names.{symbol_in}
 use Rattle.abs_tree.specs.Refusals.{IsFirst}
-use Rattle.abs_tree.specs.Syntax.{Name, Phrase, NumberOf, VariableOf, Prefixed, Chain, ApplyOf, NoPhrase, NextPhrase, Links, NoLink, Link, SideTree, ValueOf, ToVariable, SomeSide, Statement, DeclareOf, AssignOf, PrintOf, Statements, NoStatement, NextStatement, DeclTree, TextTree}
+use Rattle.abs_tree.specs.Syntax.{Name, Phrase, NumberOf, VariableOf, Prefixed, Chain, ApplyOf, NoPhrase, NextPhrase, Links, NoLink, Link, SideTree, ValueOf, ToVariable, SomeSide, Statement, DeclareOf, AssignOf, PrintOf, Statements, NoStatement, NextStatement, DeclTree, SourceTree}
 use Rattle.abs_tree.specs.Trees.{ExprTree, Local, Apply, Negate, Operators, NoMore, More, OperandTrees, Then, StmtTree, Declare, Assign, Print, ProgramTree}
 use Rattle.abs_lexer.specs.Tokens.{Lexed, TokenList, Rise as TokensRise}
 use Rattle.abs_parser.specs.Kinds.{Token, TextEnd, marks, place_of_mark}
 use Rattle.abs_parser.specs.Texts.{IsTextOf}
-use Rattle.abs_names.specs.NameOffences.{unknown, twice, unknown_in, unknown_in_operands, offences_of, offences_from, name_offences}
-use Rattle.abs_names.specs.Scopes.{is_declared, scope_behind}
-use Rattle.abs_command.specs.Runnable.{both, runnable_operator, runnable_variable, runnable_expr, runnable_operands, runnable_side, runnable_text, is_int, runnable_statement, runnable_statements, runnable_main, runnable}
-use Rattle.abs_command.proofs.Subsequences.{IsPartOf, part_both, part_of_part, PlacesRise, rise_from, part_rises}
-use Rattle.abs_command.proofs.Subsequences.IsPartOf.{none, kept}
-use Rattle.abs_command.proofs.LeafPlaces.{phrase_uses, link_uses, side_uses, statement_uses, statements_uses, leaf_places, tree_part, places_taken}
+use Rattle.abs_names.specs.NameOffences.{unknown_name, repeated_declaration, unknown_in, unknown_in_operands, offences_of, offences_from, name_offences}
+use Rattle.abs_names.specs.Scopes.{is_declared, scope_after_statement}
+use Rattle.abs_command.specs.Runnable.{made_of, made_of_both, runnable_operator, runnable_variable, runnable_expr, runnable_operands, runnable_side, runnable_text, is_int, runnable_statement, runnable_statements, runnable_main, runnable}
+use Rattle.abs_tree.proofs.Subsequences.{IsPartOf, part_both, part_of_part, PlacesRise, rise_from, part_rises}
+use Rattle.abs_tree.proofs.Subsequences.IsPartOf.{none, kept}
+use Rattle.abs_parser.proofs.LeafPlaces.{phrase_uses, link_uses, side_uses, statement_uses, statements_uses, leaf_places, tree_part, places_taken}
 
 -- where offences stand
 abbrev places : List Offence → List Place
@@ -70,44 +70,42 @@ other_by true code place = kept none
 other_by false code place = none
 
 -- The use of a variable offends at its place.
-unknown_places : (scope : List ℕ) (place : Place) (variable : Variable) → IsPartOf (places (unknown scope place variable)) (place ∷ [])
+unknown_places : (scope : List ℕ) (place : Place) (variable : Variable) → IsPartOf (places (unknown_name scope place variable)) (place ∷ [])
 unknown_places scope place (Named symbol) = one_by (is_declared scope symbol) N2 place
 unknown_places scope place (Slot slot) = none
 
 -- So does its declaration.
-twice_places : (scope : List ℕ) (place : Place) (variable : Variable) → IsPartOf (places (twice scope place variable)) (place ∷ [])
+twice_places : (scope : List ℕ) (place : Place) (variable : Variable) → IsPartOf (places (repeated_declaration scope place variable)) (place ∷ [])
 twice_places scope place (Named symbol) = other_by (is_declared scope symbol) N1 place
 twice_places scope place (Slot slot) = none
 
--- What holds of any value holds of the one that is there.
-of_any : {A : Type 0} (P : A → Type 0) (found : Option A) → ((a : A) → P a) → IfSome found P
-of_any P None each = tt
-of_any P (Some a) each = each a
+-- What holds of any value holds of one that is there.
+of_any : {A : Type 0} (P : A → Type 0) (found : Result A Place) → ((a : A) → P a) → IfOk found P
+of_any P (Err place) each = tt
+of_any P (Ok a) each = each a
 
 -- What is made of a value that is there has what follows for it.
-of_mapped : {A B : Type 0} (P : A → Type 0) (R : B → Type 0) (make : A → B) (found : Option A) → ((a : A) → P a → R (make a)) → IfSome found P
-    → IfSome (option_map make found) R
-of_mapped P R make None follows x = tt
-of_mapped P R make (Some a) follows x = follows a x
+of_one : {A B : Type 0} (P : A → Type 0) (R : B → Type 0) (make : A → B) (found : Result A Place) → ((a : A) → P a → R (make a)) → IfOk found P
+    → IfOk (made_of make found) R
+of_one P R make (Err place) follows x = tt
+of_one P R make (Ok a) follows x = follows a x
 
 -- So has what is made of two.
-of_both : {A B C : Type 0} (P : A → Type 0) (Q : B → Type 0) (R : C → Type 0) (make : A → B → C) (first : Option A) (second : Option B)
-    → ((a : A) (b : B) → P a → Q b → R (make a b)) → IfSome first P → IfSome second Q → IfSome (both make first second) R
-of_both P Q R make None second follows x y = tt
-of_both P Q R make (Some a) None follows x y = tt
-of_both P Q R make (Some a) (Some b) follows x y = follows a b x y
+of_both : {A B C : Type 0} (P : A → Type 0) (Q : B → Type 0) (R : C → Type 0) (make : A → B → C) (first : Result A Place) (second : Result B Place)
+    → ((a : A) (b : B) → P a → Q b → R (make a b)) → IfOk first P → IfOk second Q → IfOk (made_of_both make first second) R
+of_both P Q R make (Err place) second follows x y = tt
+of_both P Q R make (Ok a) second follows x y = of_one Q R (make a) second (λ b. follows a b x) y
 
 -- So has what is made of two, whatever the first one is.
-of_second : {A B C : Type 0} (Q : B → Type 0) (R : C → Type 0) (make : A → B → C) (first : Option A) (second : Option B)
-    → ((a : A) (b : B) → Q b → R (make a b)) → IfSome second Q → IfSome (both make first second) R
-of_second Q R make None second follows y = tt
-of_second Q R make (Some a) None follows y = tt
-of_second Q R make (Some a) (Some b) follows y = follows a b y
+of_second : {A B C : Type 0} (Q : B → Type 0) (R : C → Type 0) (make : A → B → C) (first : Result A Place) (second : Result B Place)
+    → ((a : A) (b : B) → Q b → R (make a b)) → IfOk second Q → IfOk (made_of_both make first second) R
+of_second Q R make (Err place) second follows y = tt
+of_second Q R make (Ok a) second follows y = of_one Q R (make a) second (follows a) y
 
 -- What holds of a value does so where it is there under a condition.
-of_cond : {A : Type 0} (P : A → Type 0) (b : Bool) (found : Option A) → IfSome found P → IfSome (if b then found else None) P
-of_cond P true found x = x
-of_cond P false found x = tt
+of_cond : {A : Type 0} (P : A → Type 0) (b : Bool) (found : Result A Place) (place : Place) → IfOk found P → IfOk (if b then found else Err place) P
+of_cond P true found place x = x
+of_cond P false found place x = tt
 
 -- an expression offends at some of these places, whatever was declared before it
 abbrev ExprWithin : List Place → ExprTree → Type 0
@@ -127,76 +125,76 @@ StmtsWithin many stmts = (scope : List ℕ) → IsPartOf (places (offences_from 
 
 mutual
   -- An expression that runs offends where it uses variables.
-  expr_places : (names : List Name) (phrase : Phrase) → IfSome (runnable_expr names phrase) (ExprWithin (phrase_uses phrase))
+  expr_places : (names : List Name) (phrase : Phrase) → IfOk (runnable_expr names phrase) (ExprWithin (phrase_uses phrase))
   expr_places names (NumberOf place number) = λ scope. none
   expr_places names (VariableOf place variable) =
-      of_mapped (λ local. ⊤) (ExprWithin (place ∷ [])) (Local place) (runnable_variable names variable) (λ local x scope. unknown_places scope place local)
-      (of_any (λ local. ⊤) (runnable_variable names variable) (λ local. tt))
+      of_one (λ local. ⊤) (ExprWithin (place ∷ [])) (Local place) (ok_or (runnable_variable names variable) place) (λ local x scope. unknown_places scope place local)
+      (of_any (λ local. ⊤) (ok_or (runnable_variable names variable) place) (λ local. tt))
   expr_places names (Prefixed place prefix.Minus operand) =
-      of_mapped (ExprWithin (phrase_uses operand)) (ExprWithin (phrase_uses operand)) (Negate place) (runnable_expr names operand) (λ expr x. x) (expr_places names operand)
+      of_one (ExprWithin (phrase_uses operand)) (ExprWithin (phrase_uses operand)) (Negate place) (runnable_expr names operand) (λ expr x. x) (expr_places names operand)
   expr_places names (Chain place first others) =
       of_both (ExprWithin (phrase_uses first)) (OperandsWithin (link_uses others)) (ExprWithin (phrase_uses first ++ link_uses others)) (Operators place)
-      (runnable_expr names first) (runnable_operands names others)
+      (runnable_expr names first) (runnable_operands names place others)
       (λ front operands x y scope. both_places (unknown_in scope front) (unknown_in_operands scope operands) (x scope) (y scope))
-      (expr_places names first) (operands_places names others)
+      (expr_places names first) (operands_places names place others)
   expr_places names _ = tt
 
   -- So do operators with their operands.
-  operands_places : (names : List Name) (links : Links) → IfSome (runnable_operands names links) (OperandsWithin (link_uses links))
-  operands_places names NoLink = λ scope. none
-  operands_places names (Link operation right others) =
+  operands_places : (names : List Name) (place : Place) (links : Links) → IfOk (runnable_operands names place links) (OperandsWithin (link_uses links))
+  operands_places names place NoLink = λ scope. none
+  operands_places names place (Link operation right others) =
       let many = phrase_uses right ++ link_uses others in
-      let operands = both (λ first rest operator. Then operator first rest) (runnable_expr names right) (runnable_operands names others) in
+      let operands = made_of_both (λ first rest operator. Then operator first rest) (runnable_expr names right) (runnable_operands names place others) in
       of_second (λ (behind : Operator → OperandTrees). (operator : Operator) → OperandsWithin many (behind operator)) (OperandsWithin many)
-      (λ operator (behind : Operator → OperandTrees). behind operator) (runnable_operator operation) operands (λ operator behind x. x operator)
+      (λ operator (behind : Operator → OperandTrees). behind operator) (ok_or (runnable_operator operation) place) operands (λ operator behind x. x operator)
       (of_both (ExprWithin (phrase_uses right)) (OperandsWithin (link_uses others)) (λ (behind : Operator → OperandTrees). (operator : Operator) → OperandsWithin many (behind operator))
-      (λ first rest operator. Then operator first rest) (runnable_expr names right) (runnable_operands names others)
+      (λ first rest operator. Then operator first rest) (runnable_expr names right) (runnable_operands names place others)
       (λ first rest x y operator scope. both_places (unknown_in scope first) (unknown_in_operands scope rest) (x scope) (y scope))
-      (expr_places names right) (operands_places names others))
+      (expr_places names right) (operands_places names place others))
 
 -- A right side that runs offends where it uses variables.
-side_places : (names : List Name) (side : SideTree) → IfSome (runnable_side names side) (ExprWithin (side_uses side))
+side_places : (names : List Name) (side : SideTree) → IfOk (runnable_side names side) (ExprWithin (side_uses side))
 side_places names (ValueOf place value) = expr_places names value
 side_places names _ = tt
 
 -- So does the text of a number.
-text_places : (names : List Name) (phrase : Phrase) → IfSome (runnable_text names phrase) (ExprWithin (phrase_uses phrase))
+text_places : (names : List Name) (phrase : Phrase) → IfOk (runnable_text names phrase) (ExprWithin (phrase_uses phrase))
 text_places names (ApplyOf place function (NextPhrase value NoPhrase)) =
     let many = phrase_uses value ++ [] in
     of_cond (ExprWithin many) (bytes_eq function (codes "toString"))
-    (both (λ symbol number. Apply place symbol (More number NoMore)) (symbol_in names function) (runnable_expr names value))
+    (made_of_both (λ symbol number. Apply place symbol (More number NoMore)) (ok_or (symbol_in names function) place) (runnable_expr names value)) place
     (of_second (ExprWithin (phrase_uses value)) (ExprWithin many) (λ symbol number. Apply place symbol (More number NoMore))
-    (symbol_in names function) (runnable_expr names value) (λ symbol number x scope. both_places (unknown_in scope number) [] (x scope) none) (expr_places names value))
+    (ok_or (symbol_in names function) place) (runnable_expr names value) (λ symbol number x scope. both_places (unknown_in scope number) [] (x scope) none) (expr_places names value))
 text_places names _ = tt
 
 -- A statement that runs offends where it declares or uses variables.
-stmt_places : (names : List Name) (statement : Statement) → IfSome (runnable_statement names statement) (StmtWithin (statement_uses statement))
+stmt_places : (names : List Name) (statement : Statement) → IfOk (runnable_statement names statement) (StmtWithin (statement_uses statement))
 stmt_places names (DeclareOf place type at variable (SomeSide side)) =
     let many = at ∷ side_uses side in
-    of_cond (StmtWithin many) (is_int type) (both (Declare place at) (runnable_variable names variable) (runnable_side names side))
-    (of_second (ExprWithin (side_uses side)) (StmtWithin many) (Declare place at) (runnable_variable names variable) (runnable_side names side)
-    (λ local value x scope. both_places (twice scope at local) (unknown_in scope value) (twice_places scope at local) (x scope)) (side_places names side))
+    of_cond (StmtWithin many) (is_int type) (made_of_both (Declare place at) (ok_or (runnable_variable names variable) at) (runnable_side names side)) place
+    (of_second (ExprWithin (side_uses side)) (StmtWithin many) (Declare place at) (ok_or (runnable_variable names variable) at) (runnable_side names side)
+    (λ local value x scope. both_places (repeated_declaration scope at local) (unknown_in scope value) (twice_places scope at local) (x scope)) (side_places names side))
 stmt_places names (AssignOf place (ToVariable at variable) side) =
-    of_second (ExprWithin (side_uses side)) (StmtWithin (place ∷ side_uses side)) (Assign place) (runnable_variable names variable) (runnable_side names side)
-    (λ local value x scope. both_places (unknown scope place local) (unknown_in scope value) (unknown_places scope place local) (x scope)) (side_places names side)
+    of_second (ExprWithin (side_uses side)) (StmtWithin (place ∷ side_uses side)) (Assign place) (ok_or (runnable_variable names variable) at) (runnable_side names side)
+    (λ local value x scope. both_places (unknown_name scope place local) (unknown_in scope value) (unknown_places scope place local) (x scope)) (side_places names side)
 stmt_places names (PrintOf place text) =
-    of_mapped (ExprWithin (phrase_uses text)) (StmtWithin (phrase_uses text)) (Print place) (runnable_text names text) (λ printed x. x) (text_places names text)
+    of_one (ExprWithin (phrase_uses text)) (StmtWithin (phrase_uses text)) (Print place) (runnable_text names text) (λ printed x. x) (text_places names text)
 stmt_places names _ = tt
 
 -- So do statements, one behind the other.
-stmts_places : (names : List Name) (statements : Statements) → IfSome (runnable_statements names statements) (StmtsWithin (statements_uses statements))
+stmts_places : (names : List Name) (statements : Statements) → IfOk (runnable_statements names statements) (StmtsWithin (statements_uses statements))
 stmts_places names NoStatement = λ scope. none
 stmts_places names (NextStatement first others) =
     of_both (StmtWithin (statement_uses first)) (StmtsWithin (statements_uses others)) (StmtsWithin (statement_uses first ++ statements_uses others)) (λ stmt stmts. stmt ∷ stmts)
     (runnable_statement names first) (runnable_statements names others)
-    (λ stmt stmts x y scope. both_places (offences_of scope stmt) (offences_from (scope_behind scope stmt) stmts) (x scope) (y (scope_behind scope stmt)))
+    (λ stmt stmts x y scope. both_places (offences_of scope stmt) (offences_from (scope_after_statement scope stmt) stmts) (x scope) (y (scope_after_statement scope stmt)))
     (stmt_places names first) (stmts_places names others)
 
 -- The program that a text without declarations is offends where its main block declares or uses variables.
 main_places : (names : List Name) (declarations : List DeclTree) (main : Statements)
-    → IfSome (runnable_main names declarations main) (λ (part : ProgramTree). IsPartOf (places (name_offences part)) (statements_uses main))
+    → IfOk (runnable_main names declarations main) (λ (part : ProgramTree). IsPartOf (places (name_offences part)) (statements_uses main))
 main_places names [] main =
-    of_mapped (StmtsWithin (statements_uses main)) (λ (part : ProgramTree). IsPartOf (places (name_offences part)) (statements_uses main))
+    of_one (StmtsWithin (statements_uses main)) (λ (part : ProgramTree). IsPartOf (places (name_offences part)) (statements_uses main))
     (λ stmts. record { names = names; main = stmts }) (runnable_statements names main) (λ stmts x. x []) (stmts_places names main)
 main_places names (decl ∷ others) main = tt
 
@@ -210,21 +208,21 @@ marks_rise low (token ∷ others) end x = (
 )
 
 -- The offences of a text that was read rise, since its tokens do.
-offences_rise : (list : TokenList) (names : List Name) (tree : TextTree) (part : ProgramTree) → TokensRise 0 list.tokens list.end.offset → IsTextOf list names tree
-    → runnable names tree ≡ Some part → PlacesRise 0 (places (name_offences part))
+offences_rise : (list : TokenList) (names : List Name) (tree : SourceTree) (part : ProgramTree) → TokensRise 0 list.tokens list.end.offset → IsTextOf list names tree
+    → runnable names tree ≡ Ok part → PlacesRise 0 (places (name_offences part))
 offences_rise list names tree part tokens_rise text runs =
     let at_uses : IsPartOf (places (name_offences part)) (statements_uses tree.main) =
-    subst (λ (found : Option ProgramTree). IfSome found (λ (p : ProgramTree). IsPartOf (places (name_offences p)) (statements_uses tree.main))) runs
+    subst (λ (found : Result ProgramTree Place). IfOk found (λ (p : ProgramTree). IsPartOf (places (name_offences p)) (statements_uses tree.main))) runs
     (main_places names tree.declarations tree.main) in
     let at_leaves : IsPartOf (statements_uses tree.main) (leaf_places text.forest) =
-    subst (λ (t : TextTree). IsPartOf (statements_uses t.main) (leaf_places text.forest)) (sym text.is) (tree_part text.forest) in
+    subst (λ (t : SourceTree). IsPartOf (statements_uses t.main) (leaf_places text.forest)) (sym text.is) (tree_part text.forest) in
     let leaves_are : leaf_places text.forest ≡ map place_of_mark (marks list) =
     sym (append-nil (leaf_places text.forest)) ∙ places_taken text.accepted.reads.reads in
     part_rises 0 (part_of_part at_uses at_leaves) (subst (λ (many : List Place). PlacesRise 0 many) (sym leaves_are) (marks_rise 0 list.tokens list.end tokens_rise))
 
 -- Of the offences of a text that was read one stands first.
-pub one_first : (list : TokenList) (names : List Name) (tree : TextTree) (part : ProgramTree) → TokensRise 0 list.tokens list.end.offset → IsTextOf list names tree
-    → runnable names tree ≡ Some part → (first second : Offence) → IsFirst (name_offences part) first → IsFirst (name_offences part) second → first ≡ second
+pub one_first : (list : TokenList) (names : List Name) (tree : SourceTree) (part : ProgramTree) → TokensRise 0 list.tokens list.end.offset → IsTextOf list names tree
+    → runnable names tree ≡ Ok part → (first second : Offence) → IsFirst (name_offences part) first → IsFirst (name_offences part) second → first ≡ second
 one_first list names tree part tokens_rise text runs first second x y =
     let offences = name_offences part in
     let rise = offences_rise list names tree part tokens_rise text runs in

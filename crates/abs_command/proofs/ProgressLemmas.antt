@@ -15,8 +15,8 @@ use Rattle.abs_command.specs.declared.runtime.config.Config.{Config}
 use Rattle.abs_command.specs.declared.runtime.config.State.TheVariants.{Ready, Running}
 use Rattle.std.specs.Option.{option_map}
 use Rattle.abs_command.specs.declared.runtime.config.TaskCell.{TaskCell}
-use Rattle.abs_command.specs.Events.{Change, Step, event_of, following, ends_with, goes_on, assigns, prints, executes, step_of, after}
-use Rattle.abs_command.specs.Runs.{Ran, first, first_statement, stepped, goes_on_by, IsOpen, HasStep, NeverStuck}
+use Rattle.abs_command.specs.Events.{Change, Step, event_of, statement_after, ended_change, continued_change, assign_change, print_change, statement_change, step_of, configuration_after}
+use Rattle.abs_command.specs.Runs.{Ran, first, first_statement, run_after_event, run_with_step, IsOpen, HasStep, NeverStuck}
 
 -- the statement is there, or none is left
 abbrev IsThere : NamedTree → Option ℕ → Type 0
@@ -46,7 +46,7 @@ following_by : (program : NamedTree) (statement : ℕ) (b : Bool) → nat_lt (st
 following_by program statement true e = grind (arith, nat_tests)
 following_by program statement false e = tt
 
-following_there : (program : NamedTree) (statement : ℕ) → IsThere program (following program statement)
+following_there : (program : NamedTree) (statement : ℕ) → IsThere program (statement_after program statement)
 following_there program statement = following_by program statement (nat_lt (statement + 1) (length program.main)) refl
 
 shape_first : (program : NamedTree) → Shape program (first program)
@@ -64,28 +64,28 @@ same_shape : (program : NamedTree) (found step : Step) → Some found ≡ Some s
 same_shape program found step e h = let same : found ≡ step = cc in subst (λ (s : Step). Shape program s.config) same h
 
 shape_prints : (program : NamedTree) (statement : ℕ) (slots : List Value) (found : Evaluated)
-    → Shape program (after (at_work (Some statement) slots) 0 (prints program 0 (working (Some statement) slots) statement slots found))
+    → Shape program (configuration_after (at_work (Some statement) slots) 0 (print_change program 0 (working (Some statement) slots) statement slots found))
 shape_prints program statement slots (Good (Int number)) = ended (Bad fault.Mistyped)
-shape_prints program statement slots (Good (Text text)) = works (following program statement) slots (following_there program statement)
+shape_prints program statement slots (Good (Text text)) = works (statement_after program statement) slots (following_there program statement)
 shape_prints program statement slots (Good Null) = ended (Bad fault.Mistyped)
 shape_prints program statement slots (Bad cause) = ended (Bad cause)
 
 -- a choice between two changes has a shape that both have
-shape_either : (program : NamedTree) (config : Config) (one other : Change) (b : Bool) → Shape program (after config 0 one) → Shape program (after config 0 other) → Shape program (after config 0 (cond b one other))
+shape_either : (program : NamedTree) (config : Config) (one other : Change) (b : Bool) → Shape program (configuration_after config 0 one) → Shape program (configuration_after config 0 other) → Shape program (configuration_after config 0 (cond b one other))
 shape_either program config one other true h k = h
 shape_either program config one other false h k = k
 
 shape_assigns : (program : NamedTree) (statement : ℕ) (slots : List Value) (target : Variable) (found : Evaluated)
-    → Shape program (after (at_work (Some statement) slots) 0 (assigns program 0 (working (Some statement) slots) statement slots target found))
+    → Shape program (configuration_after (at_work (Some statement) slots) 0 (assign_change program 0 (working (Some statement) slots) statement slots target found))
 shape_assigns program statement slots (Slot slot) (Good value) =
-    shape_either program (at_work (Some statement) slots) (goes_on program 0 (working (Some statement) slots) statement (set slots slot value) [])
-    (ends_with (working (Some statement) slots) (Bad fault.Mistyped)) (nat_lt slot (length slots))
-    (works (following program statement) (set slots slot value) (following_there program statement)) (ended (Bad fault.Mistyped))
+    shape_either program (at_work (Some statement) slots) (continued_change program 0 (working (Some statement) slots) statement (set slots slot value) [])
+    (ended_change (working (Some statement) slots) (Bad fault.Mistyped)) (nat_lt slot (length slots))
+    (works (statement_after program statement) (set slots slot value) (following_there program statement)) (ended (Bad fault.Mistyped))
 shape_assigns program statement slots (Named symbol) (Good value) = ended (Bad fault.Mistyped)
 shape_assigns program statement slots target (Bad cause) = ended (Bad cause)
 
 shape_executes : (program : NamedTree) (statement : ℕ) (slots : List Value) (found : Option StmtTree) (step : Step)
-    → option_map (step_of (at_work (Some statement) slots) 0) (executes program 0 (working (Some statement) slots) statement slots found) ≡ Some step
+    → option_map (step_of (at_work (Some statement) slots) 0) (statement_change program 0 (working (Some statement) slots) statement slots found) ≡ Some step
     → Shape program step.config
 shape_executes program statement slots None step e = absurd (cc)
 shape_executes program statement slots (Some (Declare place name target value)) step e =
@@ -111,7 +111,7 @@ is_there (x ∷ xs) zero h = refl
 is_there (x ∷ xs) (suc i) h = is_there xs i (omega arith)
 
 executes_some : (program : NamedTree) (statement : ℕ) (slots : List Value) (found : Option StmtTree) → IsSome found
-    → IsSome (option_map (step_of (at_work (Some statement) slots) 0) (executes program 0 (working (Some statement) slots) statement slots found))
+    → IsSome (option_map (step_of (at_work (Some statement) slots) 0) (statement_change program 0 (working (Some statement) slots) statement slots found))
 executes_some program statement slots None h = h
 executes_some program statement slots (Some (Declare place name target value)) h = h
 executes_some program statement slots (Some (Assign place target value)) h = h
@@ -126,17 +126,17 @@ progress program _ (ended outcome) (zero, unfinished) = let there = unfinished.t
 progress program _ (ended outcome) (suc number, unfinished) = let there = unfinished.there in absurd (cc)
 
 -- an event after others
-shape_goes : (program : NamedTree) (ran : Ran) (task : ℕ) (found : Option Step) → event_of program ran.config task ≡ found → Shape program ran.config → (end : Ran) → goes_on_by ran found ≡ Some end → Shape program end.config
+shape_goes : (program : NamedTree) (ran : Ran) (task : ℕ) (found : Option Step) → event_of program ran.config task ≡ found → Shape program ran.config → (end : Ran) → run_with_step ran found ≡ Some end → Shape program end.config
 shape_goes program ran task None e shape end went = absurd (cc)
 shape_goes program ran task (Some step) e shape end went =
     let same : record { config = step.config; lines = ran.lines ++ step.lines } ≡ end = cc in
     subst (λ (r : Ran). Shape program r.config) same (shape_step program ran.config task step shape e)
 
-shape_run : (program : NamedTree) (history : List ℕ) (from : Option Ran) (end : Ran) → ((ran : Ran) → from ≡ Some ran → Shape program ran.config) → fold (stepped program) from history ≡ Some end → Shape program end.config
+shape_run : (program : NamedTree) (history : List ℕ) (from : Option Ran) (end : Ran) → ((ran : Ran) → from ≡ Some ran → Shape program ran.config) → fold (run_after_event program) from history ≡ Some end → Shape program end.config
 shape_run program [] from end shape e = shape end e
 shape_run program (task ∷ history) None end shape e = shape_run program history None end (λ ran h. absurd (cc)) e
 shape_run program (task ∷ history) (Some ran) end shape e =
-    shape_run program history (goes_on_by ran (event_of program ran.config task)) end
+    shape_run program history (run_with_step ran (event_of program ran.config task)) end
     (λ next went. shape_goes program ran task (event_of program ran.config task) refl (shape ran refl) next went) e
 
 pub never_stuck : (program : NamedTree) → NeverStuck program

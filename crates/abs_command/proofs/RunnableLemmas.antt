@@ -1,16 +1,17 @@
 -- The part of the language that runs today, of trees that stand in memory: what runs of a list that is read from the front, of operators of
 -- one precedence, of the text of a number, of the type `Int`, and of statements.
-use Rattle.std.proofs.Common.{◌≡◌, ℕ, ◌+◌, ◌<◌, ◌≤◌, true, false, List, [], ◌∷◌, ◌++◌, Option, Some, None, refl, sym, ap, ◌∙◌, arith, vec_len, length, get_or, drop, map, append_assoc, append-nil}
-use Rattle.std.specs.Prelude.{◌==◌, codes, option_map}
+use Rattle.std.proofs.Common.{◌≡◌, ℕ, ◌+◌, ◌<◌, ◌≤◌, true, false, List, [], ◌∷◌, ◌++◌, Some, None, Ok, Err, refl, sym, ap, ◌∙◌, arith, vec_len, length, get_or, drop, map, append_assoc, append-nil}
+use Rattle.std.specs.Result.{result_unwrap_or, result_err}
+use Rattle.std.specs.Prelude.{◌==◌, Result, codes, unwrap_or}
 use Rattle.std.specs.Str.{bytes_eq}
 use Rattle.std.proofs.lemmas.Bool.{eqb-true}
 use Rattle.std.proofs.lemmas.List.{drop_all}
-use Rattle.std.proofs.lemmas.Option.{same_Some, none-some}
 use Rattle.std.specs.declared.alloc.Global.{Global}
 use Rattle.std.specs.declared.boxed.Box.{Box}
 use Rattle.std.specs.declared.sync.Arc.{Arc}
 use Rattle.std.specs.declared.vec.Vec.{Vec}
 use Rattle.abs_tree.specs.declared.place.Place.{Place}
+use Rattle.abs_tree.specs.declared.operator.Operator.{Operator}
 use Rattle.abs_tree.specs.declared.symbol.Symbol.{Symbol}
 use Rattle.abs_tree.specs.declared.program.Expr as code
 use Rattle.abs_tree.specs.declared.program.Expr.{Expr}
@@ -23,7 +24,7 @@ use Rattle.abs_tree.specs.declared.syntax.statement.Stmt.{Stmt as SyntaxStmt}
 use Rattle.abs_tree.specs.declared.syntax.types.TypeTerm as code_type
 use Rattle.abs_tree.specs.declared.syntax.types.TypeTerm.{TypeTerm}
 use Rattle.abs_tree.specs.Names.{symbol_in}
-use Rattle.abs_tree.specs.Syntax.{Name, TypeName, ApplyOf, Phrases, NoPhrase, NextPhrase, Statement, BlockOf, SkipOf, SuspendOf, AwaitOf, ReturnOf, PrintOf, IfOf, WhileOf, DeclareOf, AssignOf, DoOf, Statements, NoStatement, NextStatement, DeclTree, TextTree}
+use Rattle.abs_tree.specs.Syntax.{Name, TypeName, ApplyOf, Phrases, NoPhrase, NextPhrase, Statement, BlockOf, SkipOf, SuspendOf, AwaitOf, ReturnOf, PrintOf, IfOf, WhileOf, DeclareOf, AssignOf, DoOf, Statements, NoStatement, NextStatement, DeclTree, SourceTree}
 use Rattle.abs_tree.specs.SyntaxSizes.{statement_count, count_of}
 use Rattle.abs_tree.specs.SyntaxViews.{type_tree, type_trees, phrase, phrases, links, statement, statements}
 use Rattle.abs_tree.specs.Trees.{OperandTrees, StmtTree, ProgramTree, Apply, name_of, expr_tree, trees_of, operands_of, stmt_tree}
@@ -31,89 +32,94 @@ use Rattle.abs_tree.proofs.EntryLemmas.{drop_item}
 use Rattle.abs_tree.proofs.SyntaxLemmas.{type_tree-name, phrase-chain, phrase-apply}
 use Rattle.abs_tree.proofs.TreeLemmas.{expr_tree-apply, expr_tree-operators}
 use Rattle.abs_command.specs.NotYet.{ForNotYet}
-use Rattle.abs_command.specs.Runnable.{runnable, runnable_main, both, runnable_operator, runnable_expr, runnable_operands, runnable_text, is_int, runnable_statement, runnable_statements}
+use Rattle.abs_command.specs.Runnable.{runnable, runnable_main, made_of, made_of_both, runnable_operator, runnable_expr, runnable_operands, runnable_text, is_int, runnable_statement, runnable_statements}
 use Rattle.abs_command.specs.declared.source.runnable.RunnableError.{RunnableError}
 use Rattle.abs_command.specs.declared.source.runnable.RunnableError.TheVariants.{NotYet, Memory}
 
--- where the second of two is missing, nothing is made
-both_none : {A B C : Type 0} (make : A → B → C) (a : Option A) → both make a None ≡ None
-both_none make (Some a) = refl
-both_none make None = refl
+-- what is made is one
+pub same_made : {A : Type 0} {a b : A} (found : Result A Place) → found ≡ Ok a → found ≡ Ok b → a ≡ b
+same_made {A} {a} found is also = ap (λ (r : Result A Place). result_unwrap_or r a) (sym is ∙ also)
 
--- what has a cause does not run for what follows from the cause either
-pub not_yet_for : {P Q : Type 0} (error : RunnableError) → (P → Q) → ForNotYet error P → ForNotYet error Q
-not_yet_for (NotYet place) follows cause = follows cause
+-- and so is the place of what does not run
+pub same_place : {A : Type 0} {place at : Place} (found : Result A Place) → found ≡ Err place → found ≡ Err at → place ≡ at
+same_place {A} {place} found is also = ap (λ (r : Result A Place). unwrap_or (result_err r) place) (sym is ∙ also)
+
+-- what is told of a place goes over to what follows from it
+pub not_yet_for : {P Q : Place → Type 0} (error : RunnableError) → ((place : Place) → P place → Q place) → ForNotYet error P → ForNotYet error Q
+not_yet_for (NotYet place) follows cause = follows place cause
 not_yet_for Memory follows cause = cause
 
--- what the rest of a list gives stands behind what was found before it, and where the rest gives nothing, the whole list does
-abbrev pub IsReadUpTo : {A B T : Type 0} → (List A → Option T) → (List B → T) → List A → ℕ → List B → Type 0
+-- what the rest of a list gives stands behind what was found before it, and where the rest gives nothing, the whole list does for the same place
+abbrev pub IsReadUpTo : {A B T : Type 0} → (List A → Result T Place) → (List B → T) → List A → ℕ → List B → Type 0
 IsReadUpTo {A} {B} {T} gives tree all index found = record {
-  found : (rest : List B) → gives (drop index all) ≡ Some (tree rest) → gives all ≡ Some (tree (found ++ rest));
-  not_yet : gives (drop index all) ≡ None → gives all ≡ None;
+  found : (rest : List B) → gives (drop index all) ≡ Ok (tree rest) → gives all ≡ Ok (tree (found ++ rest));
+  not_yet : (place : Place) → gives (drop index all) ≡ Err place → gives all ≡ Err place;
 }
 
-module _ {A B T : Type 0} (gives : List A → Option T) (tree : List B → T) (all : List A) (index : ℕ) where
+module _ {A B T : Type 0} (gives : List A → Result T Place) (tree : List B → T) (all : List A) (index : ℕ) where
   -- a list is read one entry further, where that entry gives something
   pub read_more : (found : List B) (item : A) (made : B) → index < length all → item ≡ get_or all index item
-      → ((others : List A) (rest : List B) → gives others ≡ Some (tree rest) → gives (item ∷ others) ≡ Some (tree (made ∷ rest)))
-      → ((others : List A) → gives others ≡ None → gives (item ∷ others) ≡ None)
+      → ((others : List A) (rest : List B) → gives others ≡ Ok (tree rest) → gives (item ∷ others) ≡ Ok (tree (made ∷ rest)))
+      → ((others : List A) (place : Place) → gives others ≡ Err place → gives (item ∷ others) ≡ Err place)
       → IsReadUpTo gives tree all index found → IsReadUpTo gives tree all (index + 1) (found ++ made ∷ [])
   read_more found item made there is runs fails before = record {
     found = λ rest given. before.found (made ∷ rest) (ap gives (drop_item all index item there is) ∙ runs _ rest given)
-        ∙ ap (λ (items : List B). Some (tree items)) (sym (append_assoc found (made ∷ []) rest));
-    not_yet = λ none. before.not_yet (ap gives (drop_item all index item there is) ∙ fails _ none);
+        ∙ ap (λ (items : List B). Ok (tree items)) (sym (append_assoc found (made ∷ []) rest));
+    not_yet = λ place none. before.not_yet place (ap gives (drop_item all index item there is) ∙ fails _ place none);
   }
 
   -- where nothing is given at an entry, nothing is given for the whole list
-  pub read_no_further : (found : List B) (item : A) → index < length all → item ≡ get_or all index item
-      → ((others : List A) → gives (item ∷ others) ≡ None) → IsReadUpTo gives tree all index found → gives all ≡ None
-  read_no_further found item there is fails before = before.not_yet (ap gives (drop_item all index item there is) ∙ fails _)
+  pub read_no_further : (found : List B) (item : A) (place : Place) → index < length all → item ≡ get_or all index item
+      → ((others : List A) → gives (item ∷ others) ≡ Err place) → IsReadUpTo gives tree all index found → gives all ≡ Err place
+  read_no_further found item place there is fails before = before.not_yet place (ap gives (drop_item all index item there is) ∙ fails _)
 
   -- where all entries are read, what was found is what the whole list gives
-  pub read_all : (found : List B) → length all ≤ index → gives [] ≡ Some (tree []) → IsReadUpTo gives tree all index found → gives all ≡ Some (tree found)
-  read_all found past none before = before.found [] (ap gives (drop_all index all past) ∙ none) ∙ ap (λ (items : List B). Some (tree items)) (append-nil found)
+  pub read_all : (found : List B) → length all ≤ index → gives [] ≡ Ok (tree []) → IsReadUpTo gives tree all index found → gives all ≡ Ok (tree found)
+  read_all found past none before = before.found [] (ap gives (drop_all index all past) ∙ none) ∙ ap (λ (items : List B). Ok (tree items)) (append-nil found)
 
 -- what runs of operators that stand in memory
-abbrev pub operands_run : List Name → List SyntaxOperand → Option OperandTrees
-operands_run names operands = runnable_operands names (links names operands)
+abbrev pub operands_run : List Name → Place → List SyntaxOperand → Result OperandTrees Place
+operands_run names place operands = runnable_operands names place (links names operands)
 
 -- an operator with an operand runs before others that do, where both run
-pub operand_runs : (names : List Name) (operand : SyntaxOperand) (made : Operand) → runnable_operator operand.operator ≡ Some made.operator
-    → runnable_expr names (phrase names operand.right) ≡ Some (expr_tree made.right)
-    → (others : List SyntaxOperand) (rest : List Operand) → operands_run names others ≡ Some (operands_of rest)
-    → operands_run names (operand ∷ others) ≡ Some (operands_of (made ∷ rest))
-operand_runs names operand made operator right others rest behind = rw (operator, right, behind) refl
+pub operand_runs : (names : List Name) (place : Place) (operand : SyntaxOperand) (made : Operand) → runnable_operator operand.operator ≡ Some made.operator
+    → runnable_expr names (phrase names operand.right) ≡ Ok (expr_tree made.right)
+    → (others : List SyntaxOperand) (rest : List Operand) → operands_run names place others ≡ Ok (operands_of rest)
+    → operands_run names place (operand ∷ others) ≡ Ok (operands_of (made ∷ rest))
+operand_runs names place operand made operator right others rest behind = rw (operator, right, behind) refl
 
 -- operators do not run where one of them does not
-pub operator_not_yet : (names : List Name) (operand : SyntaxOperand) → runnable_operator operand.operator ≡ None
-    → (others : List SyntaxOperand) → operands_run names (operand ∷ others) ≡ None
-operator_not_yet names operand none others = rw none refl
+pub operator_not_yet : (names : List Name) (place : Place) (operand : SyntaxOperand) → runnable_operator operand.operator ≡ None
+    → (others : List SyntaxOperand) → operands_run names place (operand ∷ others) ≡ Err place
+operator_not_yet names place operand none others = rw none refl
 
 -- operators do not run where one of their operands does not
-pub operand_not_yet : (names : List Name) (operand : SyntaxOperand) → runnable_expr names (phrase names operand.right) ≡ None
-    → (others : List SyntaxOperand) → operands_run names (operand ∷ others) ≡ None
-operand_not_yet names operand none others = rw (none, both_none) refl
+pub operand_not_yet : (names : List Name) (place at : Place) (operand : SyntaxOperand) (operator : Operator) → runnable_operator operand.operator ≡ Some operator
+    → runnable_expr names (phrase names operand.right) ≡ Err at → (others : List SyntaxOperand) → operands_run names place (operand ∷ others) ≡ Err at
+operand_not_yet names place at operand operator runs none others = rw (runs, none) refl
 
 -- operators do not run where those behind the first one do not
-pub operands_not_yet : (names : List Name) (operand : SyntaxOperand) (others : List SyntaxOperand) → operands_run names others ≡ None
-    → operands_run names (operand ∷ others) ≡ None
-operands_not_yet names operand others none = rw (none, both_none, both_none) refl
+pub operands_not_yet : (names : List Name) (place : Place) (operand : SyntaxOperand) (made : Operand) → runnable_operator operand.operator ≡ Some made.operator
+    → runnable_expr names (phrase names operand.right) ≡ Ok (expr_tree made.right) → (others : List SyntaxOperand) (at : Place) → operands_run names place others ≡ Err at
+    → operands_run names place (operand ∷ others) ≡ Err at
+operands_not_yet names place operand made operator right others at none = rw (operator, right, none) refl
 
 -- operators of one precedence run where their operands do
 pub chain_runs : (names : List Name) (expr : SyntaxExpr) (place : Place) (first : Box SyntaxExpr Global) (others : Vec SyntaxOperand Global) (operands : List SyntaxOperand)
     (made : Box Expr Global) (found : Vec Operand Global) → expr ≡ code_expr.Chain place first others → operands ≡ others.items
-    → runnable_expr names (phrase names first.value) ≡ Some (expr_tree made.value) → operands_run names operands ≡ Some (operands_of found.items)
-    → runnable_expr names (phrase names expr) ≡ Some (expr_tree (code.Operators place made found))
+    → runnable_expr names (phrase names first.value) ≡ Ok (expr_tree made.value) → operands_run names place operands ≡ Ok (operands_of found.items)
+    → runnable_expr names (phrase names expr) ≡ Ok (expr_tree (code.Operators place made found))
 chain_runs names expr place first others operands made found is operands_are first_runs others_run =
     ap (runnable_expr names) (ap (phrase names) is ∙ phrase-chain names place first others)
     ∙ (rw (first_runs, ← operands_are, others_run) refl
-    ∙ ap Some (sym (expr_tree-operators place made found)))
+    ∙ ap Ok (sym (expr_tree-operators place made found)))
 
 -- operators of one precedence do not run where one behind the first operand does not
 pub chain_not_yet : (names : List Name) (expr : SyntaxExpr) (place : Place) (first : Box SyntaxExpr Global) (others : Vec SyntaxOperand Global) (operands : List SyntaxOperand)
-    → expr ≡ code_expr.Chain place first others → operands ≡ others.items → operands_run names operands ≡ None → runnable_expr names (phrase names expr) ≡ None
-chain_not_yet names expr place first others operands is operands_are none =
-    ap (runnable_expr names) (ap (phrase names) is ∙ phrase-chain names place first others) ∙ rw (← operands_are, none, both_none) refl
+    (made : Expr) → expr ≡ code_expr.Chain place first others → operands ≡ others.items → runnable_expr names (phrase names first.value) ≡ Ok (expr_tree made)
+    → (at : Place) → operands_run names place operands ≡ Err at → runnable_expr names (phrase names expr) ≡ Err at
+chain_not_yet names expr place first others operands made is operands_are first_runs at none =
+    ap (runnable_expr names) (ap (phrase names) is ∙ phrase-chain names place first others) ∙ rw (first_runs, ← operands_are, none) refl
 
 -- what runs of a function with its arguments, as a text, is what runs of its tree
 text_applied : (names : List Name) (text : SyntaxExpr) (place : Place) (function : Symbol) (arguments : Vec SyntaxExpr Global)
@@ -123,14 +129,14 @@ text_applied names text place function arguments is = ap (runnable_text names) (
 
 -- a function other than `toString` does not run as a text, by its tree
 other_function : (names : List Name) (place : Place) (name : Name) (arguments : Phrases) → bytes_eq name (codes "toString") ≡ false
-    → runnable_text names (ApplyOf place name arguments) ≡ None
+    → runnable_text names (ApplyOf place name arguments) ≡ Err place
 other_function names place name NoPhrase other = refl
 other_function names place name (NextPhrase value NoPhrase) other = rw other refl
 other_function names place name (NextPhrase value (NextPhrase next others)) other = refl
 
 -- a function with no argument, or with several, does not run as a text, by its tree
 several_arguments : (names : List Name) (place : Place) (name : Name) (arguments : List SyntaxExpr) → (length arguments ≡ 1 → ⊥)
-    → runnable_text names (ApplyOf place name (phrases names arguments)) ≡ None
+    → runnable_text names (ApplyOf place name (phrases names arguments)) ≡ Err place
 several_arguments names place name [] other = refl
 several_arguments names place name (value ∷ []) other = absurd (other refl)
 several_arguments names place name (value ∷ next ∷ others) other = refl
@@ -145,29 +151,38 @@ only_entry (first ∷ next ∷ others) item one is = absurd (omega arith)
 pub text_runs : (names : List Name) (text : SyntaxExpr) (place : Place) (function : Symbol) (arguments : Vec SyntaxExpr Global) (value : SyntaxExpr) (symbol : Symbol) (made : Expr)
     (found : Vec Expr Global) → text ≡ code_expr.Apply place function arguments → length arguments.items ≡ 1 → value ≡ get_or arguments.items 0 value
     → bytes_eq (name_of names function) (codes "toString") ≡ true → symbol_in names (name_of names function) ≡ Some symbol
-    → runnable_expr names (phrase names value) ≡ Some (expr_tree made) → found.items ≡ made ∷ []
-    → runnable_text names (phrase names text) ≡ Some (expr_tree (code.Apply place symbol found))
+    → runnable_expr names (phrase names value) ≡ Ok (expr_tree made) → found.items ≡ made ∷ []
+    → runnable_text names (phrase names text) ≡ Ok (expr_tree (code.Apply place symbol found))
 text_runs names text place function arguments value symbol made found is one value_is named symbol_is runs found_is =
     text_applied names text place function arguments is
     ∙ (rw (only_entry arguments.items value one value_is, named, symbol_is, runs) refl
-    ∙ ap Some (sym (expr_tree-apply place symbol found ∙ ap (λ (exprs : List Expr). Apply place symbol (trees_of exprs)) found_is)))
+    ∙ ap Ok (sym (expr_tree-apply place symbol found ∙ ap (λ (exprs : List Expr). Apply place symbol (trees_of exprs)) found_is)))
 
 -- the text of a number does not run where the number does not
-pub text_not_yet : (names : List Name) (text : SyntaxExpr) (place : Place) (function : Symbol) (arguments : Vec SyntaxExpr Global) (value : SyntaxExpr)
+pub text_not_yet : (names : List Name) (text : SyntaxExpr) (place : Place) (function : Symbol) (arguments : Vec SyntaxExpr Global) (value : SyntaxExpr) (symbol : Symbol)
     → text ≡ code_expr.Apply place function arguments → length arguments.items ≡ 1 → value ≡ get_or arguments.items 0 value
-    → bytes_eq (name_of names function) (codes "toString") ≡ true → runnable_expr names (phrase names value) ≡ None → runnable_text names (phrase names text) ≡ None
-text_not_yet names text place function arguments value is one value_is named none =
-    text_applied names text place function arguments is ∙ rw (only_entry arguments.items value one value_is, named, none, both_none) refl
+    → bytes_eq (name_of names function) (codes "toString") ≡ true → symbol_in names (name_of names function) ≡ Some symbol
+    → (at : Place) → runnable_expr names (phrase names value) ≡ Err at → runnable_text names (phrase names text) ≡ Err at
+text_not_yet names text place function arguments value symbol is one value_is named symbol_is at none =
+    text_applied names text place function arguments is ∙ rw (only_entry arguments.items value one value_is, named, symbol_is, none) refl
+
+-- nor does it where the table does not have the function's name
+pub text_unnamed : (names : List Name) (text : SyntaxExpr) (place : Place) (function : Symbol) (arguments : Vec SyntaxExpr Global) (value : SyntaxExpr)
+    → text ≡ code_expr.Apply place function arguments → length arguments.items ≡ 1 → value ≡ get_or arguments.items 0 value
+    → bytes_eq (name_of names function) (codes "toString") ≡ true → symbol_in names (name_of names function) ≡ None
+    → runnable_text names (phrase names text) ≡ Err place
+text_unnamed names text place function arguments value is one value_is named none =
+    text_applied names text place function arguments is ∙ rw (only_entry arguments.items value one value_is, named, none) refl
 
 -- a function other than `toString` does not run as a text
 pub other_text : (names : List Name) (text : SyntaxExpr) (place : Place) (function : Symbol) (arguments : Vec SyntaxExpr Global)
-    → text ≡ code_expr.Apply place function arguments → bytes_eq (name_of names function) (codes "toString") ≡ false → runnable_text names (phrase names text) ≡ None
+    → text ≡ code_expr.Apply place function arguments → bytes_eq (name_of names function) (codes "toString") ≡ false → runnable_text names (phrase names text) ≡ Err place
 other_text names text place function arguments is other = text_applied names text place function arguments is
     ∙ other_function names place (name_of names function) (phrases names arguments.items) other
 
 -- a function with no argument, or with several, does not run as a text
 pub several_numbers : (names : List Name) (text : SyntaxExpr) (place : Place) (function : Symbol) (arguments : Vec SyntaxExpr Global)
-    → text ≡ code_expr.Apply place function arguments → (length arguments.items ≡ 1 → ⊥) → runnable_text names (phrase names text) ≡ None
+    → text ≡ code_expr.Apply place function arguments → (length arguments.items ≡ 1 → ⊥) → runnable_text names (phrase names text) ≡ Err place
 several_numbers names text place function arguments is other = text_applied names text place function arguments is
     ∙ several_arguments names place (name_of names function) arguments.items other
 
@@ -207,27 +222,28 @@ int_nowhere names type place symbol arguments items is items_are some =
     ∙ int_with names place (name_of names symbol) items.items (ap (λ (count : ℕ). count == 0) (sym items.ok.0) ∙ some)
 
 -- what runs of statements that stand in memory
-abbrev pub statements_run : List Name → List SyntaxStmt → Option (List StmtTree)
+abbrev pub statements_run : List Name → List SyntaxStmt → Result (List StmtTree) Place
 statements_run names stmts = runnable_statements names (statements names stmts)
 
 -- a statement that runs, before others that do, runs with them
-pub statement_runs : (names : List Name) (stmt : SyntaxStmt) (made : Stmt) → runnable_statement names (statement names stmt) ≡ Some (stmt_tree made)
-    → (others : List SyntaxStmt) (rest : List Stmt) → statements_run names others ≡ Some (map stmt_tree rest)
-    → statements_run names (stmt ∷ others) ≡ Some (map stmt_tree (made ∷ rest))
+pub statement_runs : (names : List Name) (stmt : SyntaxStmt) (made : Stmt) → runnable_statement names (statement names stmt) ≡ Ok (stmt_tree made)
+    → (others : List SyntaxStmt) (rest : List Stmt) → statements_run names others ≡ Ok (map stmt_tree rest)
+    → statements_run names (stmt ∷ others) ≡ Ok (map stmt_tree (made ∷ rest))
 statement_runs names stmt made runs others rest behind = rw (runs, behind) refl
 
 -- statements do not run where one of them does not
-pub statement_not_yet : (names : List Name) (stmt : SyntaxStmt) → runnable_statement names (statement names stmt) ≡ None
-    → (others : List SyntaxStmt) → statements_run names (stmt ∷ others) ≡ None
-statement_not_yet names stmt none others = rw none refl
+pub statement_not_yet : (names : List Name) (stmt : SyntaxStmt) (at : Place) → runnable_statement names (statement names stmt) ≡ Err at
+    → (others : List SyntaxStmt) → statements_run names (stmt ∷ others) ≡ Err at
+statement_not_yet names stmt at none others = rw none refl
 
 -- statements do not run where those behind the first one do not
-pub statements_not_yet : (names : List Name) (stmt : SyntaxStmt) (others : List SyntaxStmt) → statements_run names others ≡ None → statements_run names (stmt ∷ others) ≡ None
-statements_not_yet names stmt others none = rw (none, both_none) refl
+pub statements_not_yet : (names : List Name) (stmt : SyntaxStmt) (made : Stmt) → runnable_statement names (statement names stmt) ≡ Ok (stmt_tree made)
+    → (others : List SyntaxStmt) (at : Place) → statements_run names others ≡ Err at → statements_run names (stmt ∷ others) ≡ Err at
+statements_not_yet names stmt made runs others at none = rw (runs, none) refl
 
 -- a statement that runs counts as one at the least
-counts : (names : List Name) (stmt : Statement) (made : StmtTree) → runnable_statement names stmt ≡ Some made → 1 ≤ count_of stmt
-counts names (BlockOf place block) made runs = absurd (none-some made runs)
+counts : (names : List Name) (stmt : Statement) (made : StmtTree) → runnable_statement names stmt ≡ Ok made → 1 ≤ count_of stmt
+counts names (BlockOf place block) made runs = absurd (cc runs)
 counts names (SkipOf place) made runs = omega arith
 counts names (SuspendOf place) made runs = omega arith
 counts names (AwaitOf place guard) made runs = omega arith
@@ -240,30 +256,31 @@ counts names (AssignOf place target side) made runs = omega arith
 counts names (DoOf place side) made runs = omega arith
 
 -- one more statement counts at least one more
-one_more : (first : Option StmtTree) (others : Option (List StmtTree)) (made : List StmtTree) (one rest : ℕ) → ((stmt : StmtTree) → first ≡ Some stmt → 1 ≤ one)
-    → ((stmts : List StmtTree) → others ≡ Some stmts → length stmts ≤ rest) → both (λ stmt stmts. stmt ∷ stmts) first others ≡ Some made → length made ≤ one + rest
-one_more (Some stmt) (Some stmts) made one rest at_first at_others is =
-    let same = ap length (same_Some (stmt ∷ stmts) made is) in
+one_more : (first : Result StmtTree Place) (others : Result (List StmtTree) Place) (made : List StmtTree) (one rest : ℕ) → ((stmt : StmtTree) → first ≡ Ok stmt → 1 ≤ one)
+    → ((stmts : List StmtTree) → others ≡ Ok stmts → length stmts ≤ rest) → made_of_both (λ stmt stmts. stmt ∷ stmts) first others ≡ Ok made → length made ≤ one + rest
+one_more (Ok stmt) (Ok stmts) made one rest at_first at_others is =
+    let same = ap length (same_made _ refl is) in
     omega (arith, at_first stmt refl, at_others stmts refl, same)
-one_more (Some stmt) None made one rest at_first at_others is = absurd (none-some made is)
-one_more None others made one rest at_first at_others is = absurd (none-some made is)
+one_more (Ok stmt) (Err place) made one rest at_first at_others is = absurd (cc is)
+one_more (Err place) others made one rest at_first at_others is = absurd (cc is)
 
 -- of statements that run there are no more than are counted
-pub all_counted : (names : List Name) (stmts : Statements) (made : List StmtTree) → runnable_statements names stmts ≡ Some made → length made ≤ statement_count stmts
-all_counted names NoStatement made runs = let same = ap length (same_Some [] made runs) in omega (arith, same)
+pub all_counted : (names : List Name) (stmts : Statements) (made : List StmtTree) → runnable_statements names stmts ≡ Ok made → length made ≤ statement_count stmts
+all_counted names NoStatement made runs = let same = ap length (same_made _ refl runs) in omega (arith, same)
 all_counted names (NextStatement first others) made runs =
     one_more (runnable_statement names first) (runnable_statements names others) made (count_of first) (statement_count others) (counts names first) (all_counted names others) runs
 
 -- a program has the names that it is made with, by cases of whether its statements run
-names_by : (names : List Name) (part : ProgramTree) (stmts : Option (List StmtTree)) → option_map (λ (main : List StmtTree). record { names = names; main = main }) stmts ≡ Some part → part.names ≡ names
-names_by names part (Some main) is = sym (ap (λ (program : ProgramTree). program.names) (same_Some _ _ is))
-names_by names part None is = absurd cc
+names_by : (names : List Name) (part : ProgramTree) (stmts : Result (List StmtTree) Place)
+    → made_of (λ (main : List StmtTree). record { names = names; main = main }) stmts ≡ Ok part → part.names ≡ names
+names_by names part (Ok main) is = sym (ap (λ (program : ProgramTree). program.names) (same_made _ refl is))
+names_by names part (Err place) is = absurd (cc is)
 
 -- what runs of a text has the names of the text, by cases of its declarations
-main_names : (names : List Name) (declarations : List DeclTree) (main : Statements) (part : ProgramTree) → runnable_main names declarations main ≡ Some part → part.names ≡ names
+main_names : (names : List Name) (declarations : List DeclTree) (main : Statements) (part : ProgramTree) → runnable_main names declarations main ≡ Ok part → part.names ≡ names
 main_names names [] main part is = names_by names part (runnable_statements names main) is
-main_names names (decl ∷ others) main part is = absurd cc
+main_names names (decl ∷ others) main part is = absurd (cc is)
 
 -- what runs of a text has the names of the text
-pub part_names : (names : List Name) (text : TextTree) (part : ProgramTree) → runnable names text ≡ Some part → part.names ≡ names
+pub part_names : (names : List Name) (text : SourceTree) (part : ProgramTree) → runnable names text ≡ Ok part → part.names ≡ names
 part_names names text part is = main_names names text.declarations text.main part is

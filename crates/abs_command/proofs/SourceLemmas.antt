@@ -1,12 +1,13 @@
 -- A text is one program, or it has an offence.
-use Rattle.std.proofs.Common.{◌≡◌, ℕ, List, [], ◌++◌, Some, None, sym, ap, ◌∙◌, arith, length, subst}
+use Rattle.std.proofs.Common.{◌≡◌, ℕ, List, [], ◌++◌, Ok, Err, sym, ap, ◌∙◌, arith, length, subst}
 use Rattle.std.proofs.lemmas.List.Elements.{All-weaker, All-contains}
-use Rattle.std.proofs.lemmas.Option.{same_Some}
 use Rattle.std.specs.List.{All}
 use Rattle.std.specs.Prelude.{Contains}
 use Rattle.abs_tree.specs.Names.{by_first_appearance}
-use Rattle.abs_tree.specs.Syntax.{Name, TextTree}
+use Rattle.abs_tree.specs.Syntax.{Name, SourceTree}
+use Rattle.abs_tree.specs.declared.place.Place.{Place}
 use Rattle.abs_tree.specs.declared.refusal.Code.{Code}
+use Rattle.abs_tree.specs.declared.refusal.Code.TheVariants.{S1}
 use Rattle.abs_tree.specs.declared.refusal.Offence.{Offence}
 use Rattle.abs_tree.specs.declared.refusal.Refusal.{Refusal}
 use Rattle.abs_tree.specs.Refusals.{refusal_of}
@@ -27,18 +28,18 @@ use Rattle.abs_names.specs.Answers.{RefusesFirst}
 use Rattle.abs_names.specs.NameOffences.{name_offences}
 use Rattle.abs_names.specs.Resolution.{resolved}
 use Rattle.abs_command.proofs.PlaceLemmas.{one_first}
+use Rattle.abs_command.proofs.RunnableLemmas.{same_made, same_place}
 use Rattle.abs_command.specs.Runnable.{runnable}
 use Rattle.abs_command.specs.Sources.{IsTree, IsProgramOf, IsPiece, FirstOffence, HasOneFirstOffence}
 use Rattle.abs_command.specs.Sources.FirstOffence.{unlexed, unread, not_yet, misnamed}
-use Rattle.abs_command.specs.Sources.AgreeOn.{same, later}
 
 -- two trees of a text with the same names are one
-record OneTree (names others : List Name) (tree next : TextTree) : Type 0 where
+record OneTree (names others : List Name) (tree next : SourceTree) : Type 0 where
   names_are : names ≡ others
   tree_is : tree ≡ next
 
 -- two trees of one list of tokens are one
-list_tree : {list : TokenList} {names others : List Name} {tree next : TextTree} → IsTextOf list names tree → IsTextOf list others next → OneTree names others tree next
+list_tree : {list : TokenList} {names others : List Name} {tree next : SourceTree} → IsTextOf list names tree → IsTextOf list others next → OneTree names others tree next
 list_tree x y =
     let same_forest = (one_reading x.accepted.reads.reads y.accepted.reads.reads).0 in
     record {
@@ -47,23 +48,30 @@ list_tree x y =
     }
 
 -- two trees of a text are one
-one_tree : {text : List ℕ} {names others : List Name} {tree next : TextTree} → IsTree text names tree → IsTree text others next → OneTree names others tree next
+one_tree : {text : List ℕ} {names others : List Name} {tree next : SourceTree} → IsTree text names tree → IsTree text others next → OneTree names others tree next
 one_tree {others = others} {next = next} x y = list_tree x.is (subst (λ (list : TokenList). IsTextOf list others next) (list_once y.tokens x.tokens) y.is)
 
 -- what runs of two trees of a text is one
-one_part : {text : List ℕ} {names others : List Name} {tree next : TextTree} {part other : ProgramTree} → IsTree text names tree → IsTree text others next
-    → runnable names tree ≡ Some part → runnable others next ≡ Some other → part ≡ other
+one_part : {text : List ℕ} {names others : List Name} {tree next : SourceTree} {part other : ProgramTree} → IsTree text names tree → IsTree text others next
+    → runnable names tree ≡ Ok part → runnable others next ≡ Ok other → part ≡ other
 one_part x y runs goes =
     let one = one_tree x y in
-    same_Some _ _ (sym runs ∙ (rw (one.names_are, one.tree_is) goes))
+    same_made _ runs (rw (one.names_are, one.tree_is) goes)
 
 -- a text of which something does not run yet has no part that runs
-not_both : {text : List ℕ} {names others : List Name} {tree next : TextTree} {part : ProgramTree} → IsTree text names tree → IsTree text others next
-    → runnable names tree ≡ Some part → runnable others next ≡ None → ⊥
-not_both {names = names} {tree = tree} x y runs waits =
+not_both : {text : List ℕ} {names others : List Name} {tree next : SourceTree} {part : ProgramTree} {place : Place} → IsTree text names tree → IsTree text others next
+    → runnable names tree ≡ Ok part → runnable others next ≡ Err place → ⊥
+not_both {names = names} {tree = tree} {place = place} x y runs waits =
     let one = one_tree x y in
-    let none : runnable names tree ≡ None = rw (one.names_are, one.tree_is) waits in
+    let none : runnable names tree ≡ Err place = rw (one.names_are, one.tree_is) waits in
     cc (sym runs ∙ none)
+
+-- the first thing that does not run yet begins at one place
+one_place : {text : List ℕ} {names others : List Name} {tree next : SourceTree} {place at : Place} → IsTree text names tree → IsTree text others next
+    → runnable names tree ≡ Err place → runnable others next ≡ Err at → place ≡ at
+one_place x y waits also =
+    let one = one_tree x y in
+    same_place _ waits (rw (one.names_are, one.tree_is) also)
 
 -- Two programs of a text are one.
 pub one_program : {text : List ℕ} {p q : NamedTree} → IsProgramOf text p → IsProgramOf text q → p ≡ q
@@ -74,7 +82,7 @@ none_of : (offences : List Offence) (offence : Offence) → offences ≡ [] → 
 none_of offences offence e h = let few : length offences ≡ 0 = ap length e in omega (arith, h.1)
 
 -- a text that is accepted does not stop
-no_stop : {text : List ℕ} {names : List Name} {tree : TextTree} {list : TokenList} {refusal : Refusal} → IsTree text names tree → TokensOf text list → StopsWith list refusal → ⊥
+no_stop : {text : List ℕ} {names : List Name} {tree : SourceTree} {list : TokenList} {refusal : Refusal} → IsTree text names tree → TokensOf text list → StopsWith list refusal → ⊥
 no_stop {refusal = refusal} x tokens stops =
     let stop = subst (λ (l : TokenList). StopsWith l refusal) (list_once tokens x.tokens) stops in
     x.is.accepted.no_stop stop.before stop.mark stop.code stop.stops
@@ -83,7 +91,7 @@ no_stop {refusal = refusal} x tokens stops =
 pub no_offence : {text : List ℕ} {program : NamedTree} {refusal : Refusal} → IsProgramOf text program → FirstOffence text refusal → ⊥
 no_offence accepted (unlexed lexing) = list_or_first accepted.read.tokens lexing.is_first
 no_offence accepted (unread list tokens stops) = no_stop accepted.read tokens stops
-no_offence accepted (not_yet names tree read waits code) = not_both accepted.read read accepted.runs waits
+no_offence accepted (not_yet names tree place read waits is) = not_both accepted.read read accepted.runs waits
 no_offence accepted (misnamed names tree part read runs first) =
     none_of (name_offences part) first.first (ap name_offences (one_part read accepted.read runs accepted.runs) ∙ accepted.no_offence) first.is_first.among
 
@@ -99,8 +107,8 @@ one_stopped x y =
     x.refusal_is ∙ (sym (ap (λ (code : Code). at code y.mark) once.2 ∙ ap (at x.code) once.1) ∙ sym y.refusal_is)
 
 -- and two for the first name that offends in a text
-one_misnamed : {text : List ℕ} {names others : List Name} {tree next : TextTree} {part other_part : ProgramTree} (one other : Refusal)
-    → IsTree text names tree → IsTree text others next → runnable names tree ≡ Some part → runnable others next ≡ Some other_part
+one_misnamed : {text : List ℕ} {names others : List Name} {tree next : SourceTree} {part other_part : ProgramTree} (one other : Refusal)
+    → IsTree text names tree → IsTree text others next → runnable names tree ≡ Ok part → runnable others next ≡ Ok other_part
     → RefusesFirst (name_offences part) one → RefusesFirst (name_offences other_part) other → one ≡ other
 one_misnamed {names = names} {tree = tree} {part = part} one other read reads runs goes first second =
     let later = subst (λ (p : ProgramTree). RefusesFirst (name_offences p) other) (one_part reads read goes runs) second in
@@ -109,25 +117,25 @@ one_misnamed {names = names} {tree = tree} {part = part} one other read reads ru
 
 -- A text is refused for one offence at the most.
 pub one_first_offence : (text : List ℕ) → HasOneFirstOffence text
-one_first_offence text one other (unlexed x) (unlexed y) = same (one_lexical x y)
+one_first_offence text one other (unlexed x) (unlexed y) = one_lexical x y
 one_first_offence text one other (unlexed x) (unread list tokens stops) = absurd (list_or_first tokens x.is_first)
-one_first_offence text one other (unlexed x) (not_yet names tree read waits code) = absurd (list_or_first read.tokens x.is_first)
+one_first_offence text one other (unlexed x) (not_yet names tree place read waits is) = absurd (list_or_first read.tokens x.is_first)
 one_first_offence text one other (unlexed x) (misnamed names tree part read runs first) = absurd (list_or_first read.tokens x.is_first)
 one_first_offence text one other (unread list tokens stops) (unlexed y) = absurd (list_or_first tokens y.is_first)
 one_first_offence text one other (unread list tokens stops) (unread others other_tokens other_stops) =
-    same (one_stopped stops (subst (λ (l : TokenList). StopsWith l other) (list_once other_tokens tokens) other_stops))
-one_first_offence text one other (unread list tokens stops) (not_yet names tree read waits code) = absurd (no_stop read tokens stops)
+    one_stopped stops (subst (λ (l : TokenList). StopsWith l other) (list_once other_tokens tokens) other_stops)
+one_first_offence text one other (unread list tokens stops) (not_yet names tree place read waits is) = absurd (no_stop read tokens stops)
 one_first_offence text one other (unread list tokens stops) (misnamed names tree part read runs first) = absurd (no_stop read tokens stops)
-one_first_offence text one other (not_yet names tree read waits code) (unlexed y) = absurd (list_or_first read.tokens y.is_first)
-one_first_offence text one other (not_yet names tree read waits code) (unread list tokens stops) = absurd (no_stop read tokens stops)
-one_first_offence text one other (not_yet names tree read waits code) (not_yet others next reads also other_code) =
-    later (record { names = names; tree = tree; read = read; not_yet = waits }) code other_code
-one_first_offence text one other (not_yet names tree read waits code) (misnamed others next part reads runs first) = absurd (not_both reads read runs waits)
+one_first_offence text one other (not_yet names tree place read waits is) (unlexed y) = absurd (list_or_first read.tokens y.is_first)
+one_first_offence text one other (not_yet names tree place read waits is) (unread list tokens stops) = absurd (no_stop read tokens stops)
+one_first_offence text one other (not_yet names tree place read waits is) (not_yet others next at reads also other_is) =
+    is ∙ (ap (λ (begin : Place). refusal_of (record { code = S1; place = begin })) (one_place read reads waits also) ∙ sym other_is)
+one_first_offence text one other (not_yet names tree place read waits is) (misnamed others next part reads runs first) = absurd (not_both reads read runs waits)
 one_first_offence text one other (misnamed names tree part read runs first) (unlexed y) = absurd (list_or_first read.tokens y.is_first)
 one_first_offence text one other (misnamed names tree part read runs first) (unread list tokens stops) = absurd (no_stop read tokens stops)
-one_first_offence text one other (misnamed names tree part read runs first) (not_yet others next reads waits code) = absurd (not_both read reads runs waits)
+one_first_offence text one other (misnamed names tree part read runs first) (not_yet others next place reads waits is) = absurd (not_both read reads runs waits)
 one_first_offence text one other (misnamed names tree part read runs first) (misnamed others next other_part reads goes second) =
-    same (one_misnamed one other read reads runs goes first second)
+    one_misnamed one other read reads runs goes first second
 
 -- names that are written by tokens, which are pieces of a text, are pieces of it
 pub names_are_pieces : {text : List ℕ} (tokens : List Lexed) (names : List (List ℕ)) → All (IsPieceAt text) tokens → All (IsWritten tokens) names → All (IsPiece text) names

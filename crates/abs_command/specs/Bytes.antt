@@ -1,10 +1,7 @@
--- What the command takes from its source and what it brings to its sink.
-use Rattle.std.specs.Prelude.{◌≡◌, ℕ, ◌+◌, ◌≤◌, List, ◌++◌, length, Option}
+-- What the command takes from its source and what it writes to its sink.
+use Rattle.std.specs.Prelude.{◌≡◌, ◌≢◌, ℕ, ◌+◌, ◌≤◌, List, [], ◌++◌, length, Option}
+use Rattle.abs_tree.specs.Limits.{source_limit}
 use Rattle.std.specs.Io.KnownBytes.{Appends, Consumes, IsAtEnd}
-
--- the bytes that a source may have
-abbrev pub source_limit : ℕ
-source_limit = 1048576
 
 -- The bytes were taken from what was left: all of it, or as many as show that there are too many.
 pub record TakesWhole (before after : Option (List ℕ)) (bytes : List ℕ) : Type 0 where
@@ -18,9 +15,10 @@ pub record TakesSome (before after : Option (List ℕ)) : Type 0 where
   pub taken : Consumes before after bytes
   pub at_most : length bytes ≤ source_limit + 1
 
--- A front of the text was written.
-pub record WritesFront (before after : Option (List ℕ)) (text : List ℕ) : Type 0 where
-  pub front : List ℕ
-  pub behind : List ℕ
-  pub parts : text ≡ front ++ behind
-  pub written : Appends before after front
+-- A prefix of the output was written, and not the whole.
+pub record WritesPrefix (before after : Option (List ℕ)) (output : List ℕ) : Type 0 where
+  pub prefix : List ℕ
+  pub rest : List ℕ
+  pub parts : output ≡ prefix ++ rest
+  pub more : rest ≢ []
+  pub written : Appends before after prefix

@@ -1,4 +1,10 @@
--- The events of a program's tasks: each task has at most one event in a configuration, which leads to the next one.
+-- The events of a program's tasks. A task has at most one event in a configuration, and the event leads to the next configuration.
+--
+--   `event_of`                             the event of a task, where it has one
+--   `Step`, `Change`                       what an event leads to, and what it changes
+--   `change_of`, `change_by_state`                the change of a task: take, or what its body does
+--   `statement_change`, `assign_change`, `print_change`        the change of a statement
+--   `Steps`, `Makes`, `slots_of`           what contracts of the code say of events; they serve proofs only
 use Rattle.std.specs.Prelude.{◌≡◌, ℕ, ◌+◌, nat_lt, if◌then◌else◌, List, [], ◌∷◌, ◌++◌, set, length, slice_get, Option, Some, None}
 use Rattle.std.specs.Option.{option_map}
 use Rattle.abs_tree.specs.declared.value.Fault.TheVariants as fault
@@ -23,20 +29,20 @@ pub record Change : Type 0 where
   pub holder : Option ℕ
   pub lines : List (List ℕ)
 
--- the statement behind one of the main block
-abbrev pub following : NamedTree → ℕ → Option ℕ
-following program number = if nat_lt (number + 1) (length program.main) then Some (number + 1) else None
+-- the index of the statement after one of the main block
+abbrev pub statement_after : NamedTree → ℕ → Option ℕ
+statement_after program number = if nat_lt (number + 1) (length program.main) then Some (number + 1) else None
 
 -- the task ends with this result, and its cog is free
-abbrev pub ends_with : TaskCell → Evaluated → Change
-ends_with task outcome = record { task = record { cog = task.cog; frames = []; state = Ready; outcome = Some outcome }; holder = None; lines = [] }
+abbrev pub ended_change : TaskCell → Evaluated → Change
+ended_change task outcome = record { task = record { cog = task.cog; frames = []; state = Ready; outcome = Some outcome }; holder = None; lines = [] }
 
--- the task goes on behind the statement that it was at, with these values in the slots of its body
-abbrev pub goes_on : NamedTree → ℕ → TaskCell → ℕ → List Value → List (List ℕ) → Change
-goes_on program number task statement slots lines = record {
+-- the task goes on with the next statement, with these values in the slots of its body; it holds its cog
+abbrev pub continued_change : NamedTree → ℕ → TaskCell → ℕ → List Value → List (List ℕ) → Change
+continued_change program number task statement slots lines = record {
   task = record {
     cog = task.cog;
-    frames = record { next = following program statement; slots = slots } ∷ [];
+    frames = record { next = statement_after program statement; slots = slots } ∷ [];
     state = task.state;
     outcome = task.outcome;
   };
@@ -45,85 +51,86 @@ goes_on program number task statement slots lines = record {
 }
 
 -- take: a task that is ready takes its cog, where that is free
-abbrev pub takes : ℕ → TaskCell → Option Cog → Option Change
-takes number task None = None
-takes number task (Some cog) = takes_free number task cog.holder
+abbrev pub take_change : ℕ → TaskCell → Option Cog → Option Change
+take_change number task None = None
+take_change number task (Some cog) = take_change_if_free number task cog.holder
   where
-    takes_free : ℕ → TaskCell → Option ℕ → Option Change
-    takes_free number task (Some holder) = None
-    takes_free number task None = Some (record {
+    take_change_if_free : ℕ → TaskCell → Option ℕ → Option Change
+    take_change_if_free number task (Some holder) = None
+    take_change_if_free number task None = Some (record {
       task = record { cog = task.cog; frames = task.frames; state = Running; outcome = task.outcome };
       holder = Some number;
       lines = [];
     })
 
--- assign: a value goes to the slot of the target; a target that is no slot of the body, and a fault, end the task
-abbrev pub assigns : NamedTree → ℕ → TaskCell → ℕ → List Value → Variable → Evaluated → Change
-assigns program number task statement slots (Slot slot) (Good value) =
+-- assign: the value goes to the slot of the target. A fault ends the task, and so does a target that is no slot of the body
+abbrev pub assign_change : NamedTree → ℕ → TaskCell → ℕ → List Value → Variable → Evaluated → Change
+assign_change program number task statement slots (Slot slot) (Good value) =
     if nat_lt slot (length slots)
-    then goes_on program number task statement (set slots slot value) []
-    else ends_with task (Bad fault.Mistyped)
-assigns program number task statement slots (Named symbol) (Good value) = ends_with task (Bad fault.Mistyped)
-assigns program number task statement slots target (Bad cause) = ends_with task (Bad cause)
+    then continued_change program number task statement (set slots slot value) []
+    else ended_change task (Bad fault.Mistyped)
+assign_change program number task statement slots (Named symbol) (Good value) = ended_change task (Bad fault.Mistyped)
+assign_change program number task statement slots target (Bad cause) = ended_change task (Bad cause)
 
--- print: a text is one line; another value and a fault end the task
-abbrev pub prints : NamedTree → ℕ → TaskCell → ℕ → List Value → Evaluated → Change
-prints program number task statement slots (Good (Text text)) = goes_on program number task statement slots (text ∷ [])
-prints program number task statement slots (Good (Int value)) = ends_with task (Bad fault.Mistyped)
-prints program number task statement slots (Good Null) = ends_with task (Bad fault.Mistyped)
-prints program number task statement slots (Bad cause) = ends_with task (Bad cause)
+-- print: a string is one line; any other value and a fault end the task
+abbrev pub print_change : NamedTree → ℕ → TaskCell → ℕ → List Value → Evaluated → Change
+print_change program number task statement slots (Good (Text text)) = continued_change program number task statement slots (text ∷ [])
+print_change program number task statement slots (Good (Int value)) = ended_change task (Bad fault.Mistyped)
+print_change program number task statement slots (Good Null) = ended_change task (Bad fault.Mistyped)
+print_change program number task statement slots (Bad cause) = ended_change task (Bad cause)
 
--- the event of a statement, where the slots have these values
-abbrev pub executes : NamedTree → ℕ → TaskCell → ℕ → List Value → Option StmtTree → Option Change
-executes program number task statement slots None = None
-executes program number task statement slots (Some (Declare place name target value)) =
-    Some (assigns program number task statement slots target (result_of program.names slots value))
-executes program number task statement slots (Some (Assign place target value)) =
-    Some (assigns program number task statement slots target (result_of program.names slots value))
-executes program number task statement slots (Some (Print place text)) =
-    Some (prints program number task statement slots (result_of program.names slots text))
+-- the change that a statement makes, where the slots have these values
+abbrev pub statement_change : NamedTree → ℕ → TaskCell → ℕ → List Value → Option StmtTree → Option Change
+statement_change program number task statement slots None = None
+statement_change program number task statement slots (Some (Declare place name target value)) =
+    Some (assign_change program number task statement slots target (result_of program.names slots value))
+statement_change program number task statement slots (Some (Assign place target value)) =
+    Some (assign_change program number task statement slots target (result_of program.names slots value))
+statement_change program number task statement slots (Some (Print place text)) =
+    Some (print_change program number task statement slots (result_of program.names slots text))
 
--- return: where no statement is left the task ends; until there are types, the value of a block is null
-abbrev pub runs : NamedTree → ℕ → TaskCell → List Value → Option ℕ → Option Change
-runs program number task slots None = Some (ends_with task (Good Null))
-runs program number task slots (Some statement) = executes program number task statement slots (slice_get program.main statement)
+-- the change of a body: that of its next statement; or return, where no statement is left. Until there are types, the value of a
+-- block is null
+abbrev pub body_change : NamedTree → ℕ → TaskCell → List Value → Option ℕ → Option Change
+body_change program number task slots None = Some (ended_change task (Good Null))
+body_change program number task slots (Some statement) = statement_change program number task statement slots (slice_get program.main statement)
 
--- a task that holds its cog is at its one body
-abbrev pub runs_body : NamedTree → ℕ → TaskCell → List Frame → Option Change
-runs_body program number task [] = None
-runs_body program number task (frame ∷ []) = runs program number task frame.slots frame.next
-runs_body program number task (frame ∷ other ∷ frames) = None
+-- a task that holds its cog works on its one body; with another number of bodies it has no event
+abbrev pub running_change : NamedTree → ℕ → TaskCell → List Frame → Option Change
+running_change program number task [] = None
+running_change program number task (frame ∷ []) = body_change program number task frame.slots frame.next
+running_change program number task (frame ∷ other ∷ frames) = None
 
 -- the values in the slots of the one body
 abbrev pub slots_of : List Frame → List Value
 slots_of [] = []
 slots_of (frame ∷ frames) = frame.slots
 
-abbrev pub by_state : NamedTree → List Cog → ℕ → TaskCell → State → Option Change
-by_state program cogs number task Ready = takes number task (slice_get cogs task.cog)
-by_state program cogs number task Running = runs_body program number task task.frames
+abbrev pub change_by_state : NamedTree → List Cog → ℕ → TaskCell → State → Option Change
+change_by_state program cogs number task Ready = take_change number task (slice_get cogs task.cog)
+change_by_state program cogs number task Running = running_change program number task task.frames
 
--- a task that has ended has no event
-abbrev pub by_outcome : NamedTree → List Cog → ℕ → TaskCell → Option Evaluated → Option Change
-by_outcome program cogs number task (Some outcome) = None
-by_outcome program cogs number task None = by_state program cogs number task task.state
+-- a task that has a result has no event
+abbrev pub change_by_outcome : NamedTree → List Cog → ℕ → TaskCell → Option Evaluated → Option Change
+change_by_outcome program cogs number task (Some outcome) = None
+change_by_outcome program cogs number task None = change_by_state program cogs number task task.state
 
-abbrev pub of_task : NamedTree → List Cog → ℕ → Option TaskCell → Option Change
-of_task program cogs number None = None
-of_task program cogs number (Some task) = by_outcome program cogs number task task.outcome
+abbrev pub task_change : NamedTree → List Cog → ℕ → Option TaskCell → Option Change
+task_change program cogs number None = None
+task_change program cogs number (Some task) = change_by_outcome program cogs number task task.outcome
 
 -- the change that the event of a task makes, where it has one
 abbrev pub change_of : NamedTree → Config → ℕ → Option Change
-change_of program config number = of_task program config.cogs number (slice_get config.tasks number)
+change_of program config number = task_change program config.cogs number (slice_get config.tasks number)
 
 -- the cogs after one of them has this holder
-abbrev pub held : List Cog → ℕ → Option ℕ → List Cog
-held cogs cog holder = set cogs cog (record { holder = holder })
+abbrev pub with_holder : List Cog → ℕ → Option ℕ → List Cog
+with_holder cogs cog holder = set cogs cog (record { holder = holder })
 
 -- the configuration after a change of a task
-abbrev pub after : Config → ℕ → Change → Config
-after config number change = record {
-  cogs = held config.cogs change.task.cog change.holder;
+abbrev pub configuration_after : Config → ℕ → Change → Config
+configuration_after config number change = record {
+  cogs = with_holder config.cogs change.task.cog change.holder;
   tasks = set config.tasks number change.task;
 }
 
@@ -134,20 +141,20 @@ pub record Step : Type 0 where
 
 -- the step that a change of a task makes
 abbrev pub step_of : Config → ℕ → Change → Step
-step_of config number change = record { config = after config number change; lines = change.lines }
+step_of config number change = record { config = configuration_after config number change; lines = change.lines }
 
 -- the event of a task in a configuration, where it has one
 abbrev pub event_of : NamedTree → Config → ℕ → Option Step
 event_of program config number = option_map (step_of config number) (change_of program config number)
 
--- the event of a task leads from one configuration and lines to others
+-- The event of a task leads from this configuration and these lines to those. It serves proofs only.
 pub record Steps (program : NamedTree) (before : Config) (task : ℕ) (now : Config) (lines new : List (List ℕ)) : Type 0 where
   pub step : Step
   pub event : event_of program before task ≡ Some step
   pub config : now ≡ step.config
   pub printed : new ≡ lines ++ step.lines
 
--- a change makes this of the task and the holder of its cog, and adds its lines
+-- The change leaves this task and this holder of its cog, and adds its lines. It serves proofs only.
 pub record Makes (change : Option Change) (task : TaskCell) (holder : Option ℕ) (lines new : List (List ℕ)) : Type 0 where
   pub made : Change
   pub is : change ≡ Some made

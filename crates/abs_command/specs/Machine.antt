@@ -1,5 +1,5 @@
--- What the machine hands back of a run.
-use Rattle.std.specs.Prelude.{◌≡◌, ◌⊎◌, ℕ, Some}
+-- What the machine returns for a run. The contracts of the machine cite it, and no clause of `abs_run`.
+use Rattle.std.specs.Prelude.{◌≡◌, ◌≤◌, ◌⊎◌, ℕ, length, Some}
 use Rattle.abs_tree.specs.Trees.{NamedTree}
 use Rattle.abs_command.specs.declared.runtime.config.Config.{Config}
 use Rattle.abs_command.specs.declared.runtime.machine.End.{End}
@@ -7,11 +7,12 @@ use Rattle.abs_command.specs.declared.runtime.machine.End.TheVariants.{Done}
 use Rattle.abs_command.specs.declared.runtime.machine.Ran as machine
 use Rattle.abs_command.specs.Runs.{run_of, IsDone, IsOpen, EndsAs}
 
--- the history is legal, configuration and lines are what it leads to, and so it ended
+-- the history is legal and has at most this many events; configuration, lines and end are those of its run
 pub record IsRun (program : NamedTree) (steps : ℕ) (ran : machine.Ran) : Type 0 where
   pub legal : run_of program ran.history.tasks ≡ Some (record { config = ran.config; lines = ran.lines })
+  pub few : length ran.history.tasks ≤ steps
   pub ends : EndsAs program steps ran.history.tasks ran.config ran.end
 
--- done where every task has a result, and otherwise the other end
+-- done, where every task has a result; the other end, where some task has none
 abbrev pub Settles : Config → End → End → Type 0
 Settles config otherwise end = ((end ≡ Done) × IsDone config) ⊎ ((end ≡ otherwise) × IsOpen config)

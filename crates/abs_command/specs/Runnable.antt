@@ -1,31 +1,41 @@
--- The part of the language that runs today: a main block of locals of type Int that are declared with a value, of assignments to them, and
--- of prints of the text of a number; over numbers, locals, minus, sums, differences and products. A text of this part is a program of the
--- smaller tree, in which a name is the symbol of the table's.
+-- The part of the language that is supported today: a main block without declarations around it, with these statements. A local of type
+-- Int is declared with a value; a value is assigned to a local; `toString` of a value is printed. A value has numbers, locals, minus,
+-- sums, differences and products. For such a source the result is its program, as a smaller tree in which a name is its symbol in the
+-- table. For any other source it is the place where the first unsupported thing begins.
 --
---   `runnable_variable`                                locals
---   `runnable_expr`, `runnable_operands`               expressions
+--   `runnable`                                         a source
 --   `runnable_statement`, `runnable_statements`        statements
---   `runnable`                                         a text
-use Rattle.std.specs.Prelude.{Bool, false, List, [], ◌∷◌, Option, Some, None, option_map, codes, if◌then◌else◌}
+--   `runnable_side`, `runnable_text`                   the right side of a statement, the argument of a print
+--   `runnable_expr`, `runnable_operands`               expressions
+--   `runnable_variable`, `runnable_operator`           locals, operators
+--   `made_of`, `made_of_both`                          the result for a whole, from the results for its parts
+use Rattle.std.specs.Prelude.{Bool, false, List, [], ◌∷◌, Option, Some, None, option_map, Result, Ok, Err, codes, if◌then◌else◌}
+use Rattle.std.specs.Option.{ok_or}
 use Rattle.std.specs.Str.{bytes_eq}
 use Rattle.abs_tree.specs.Names.{symbol_in}
-use Rattle.abs_tree.specs.Syntax.{Name, VariableTree, Written, AtSlot, TypeTree, TypeName, NoType, Phrase, Chain, Prefixed, NumberOf, VariableOf, ApplyOf, NoPhrase, NextPhrase, Links, NoLink, Link, SideTree, ValueOf, ToVariable, SomeSide, Statement, PrintOf, DeclareOf, AssignOf, Statements, NoStatement, NextStatement, DeclTree, TextTree}
+use Rattle.abs_tree.specs.Syntax.{Name, VariableTree, Written, AtSlot, TypeTree, TypeName, NoType, Phrase, Chain, Prefixed, NumberOf, VariableOf, ApplyOf, NoPhrase, NextPhrase, Links, NoLink, Link, SideTree, ValueOf, ToVariable, SomeSide, Statement, PrintOf, DeclareOf, AssignOf, Statements, NoStatement, NextStatement, DeclTree, SourceTree}
+use Rattle.abs_tree.specs.SyntaxPlaces.{phrase_place, side_place, statement_place, decl_place}
 use Rattle.abs_tree.specs.Trees.{ExprTree, Number, Local, Apply, Negate, Operators, NoMore, More, OperandTrees, NoOperand, Then, StmtTree, Declare, Assign, Print, ProgramTree}
 use Rattle.abs_tree.specs.declared.operator.Operator.{Operator}
 use Rattle.abs_tree.specs.declared.operator.Operator.TheVariants as operator
+use Rattle.abs_tree.specs.declared.place.Place.{Place}
 use Rattle.abs_tree.specs.declared.program.Variable.{Variable}
 use Rattle.abs_tree.specs.declared.program.Variable.TheVariants.{Named}
 use Rattle.abs_tree.specs.declared.syntax.expression.Operator.{Operator as SyntaxOperator}
 use Rattle.abs_tree.specs.declared.syntax.expression.Operator.TheVariants as syntax_operator
 use Rattle.abs_tree.specs.declared.syntax.expression.Prefix.TheVariants as prefix
 
--- what is made of two, where both are there
-abbrev pub both : {A B C : Type 0} → (A → B → C) → Option A → Option B → Option C
-both make (Some a) (Some b) = Some (make a b)
-both make (Some a) None = None
-both make None b = None
+-- the result for a whole with one part
+abbrev pub made_of : {A B : Type 0} → (A → B) → Result A Place → Result B Place
+made_of make (Ok a) = Ok (make a)
+made_of make (Err place) = Err place
 
--- the operators between numbers
+-- the result for a whole with two parts; where both are unsupported, the place is that of the first
+abbrev pub made_of_both : {A B C : Type 0} → (A → B → C) → Result A Place → Result B Place → Result C Place
+made_of_both make (Ok a) second = made_of (make a) second
+made_of_both make (Err place) second = Err place
+
+-- the operators between numbers that are supported
 abbrev pub runnable_operator : SyntaxOperator → Option Operator
 runnable_operator syntax_operator.Plus = Some operator.Plus
 runnable_operator syntax_operator.Minus = Some operator.Minus
@@ -38,30 +48,33 @@ runnable_variable names (Written name) = option_map Named (symbol_in names name)
 runnable_variable names (AtSlot slot) = None
 
 abbrev mutual
-  -- numbers, locals, minus, and operators of one precedence
-  pub runnable_expr : List Name → Phrase → Option ExprTree
-  runnable_expr names (NumberOf place number) = Some (Number place number)
-  runnable_expr names (VariableOf place variable) = option_map (Local place) (runnable_variable names variable)
-  runnable_expr names (Prefixed place prefix.Minus operand) = option_map (Negate place) (runnable_expr names operand)
-  runnable_expr names (Chain place first others) = both (Operators place) (runnable_expr names first) (runnable_operands names others)
-  runnable_expr names _ = None
+  -- numbers, locals, minus, and operator lists
+  pub runnable_expr : List Name → Phrase → Result ExprTree Place
+  runnable_expr names (NumberOf place number) = Ok (Number place number)
+  runnable_expr names (VariableOf place variable) = made_of (Local place) (ok_or (runnable_variable names variable) place)
+  runnable_expr names (Prefixed place prefix.Minus operand) = made_of (Negate place) (runnable_expr names operand)
+  runnable_expr names (Chain place first others) = made_of_both (Operators place) (runnable_expr names first) (runnable_operands names place others)
+  runnable_expr names other = Err (phrase_place other)
 
-  pub runnable_operands : List Name → Links → Option OperandTrees
-  runnable_operands names NoLink = Some NoOperand
-  runnable_operands names (Link operation right others) =
-      both (λ operator (behind : Operator → OperandTrees). behind operator) (runnable_operator operation)
-      (both (λ first rest operator. Then operator first rest) (runnable_expr names right) (runnable_operands names others))
+  -- an operator list from the left; an unsupported operator has the place where the list begins
+  pub runnable_operands : List Name → Place → Links → Result OperandTrees Place
+  runnable_operands names place NoLink = Ok NoOperand
+  runnable_operands names place (Link operation right others) =
+      made_of_both (λ operator (behind : Operator → OperandTrees). behind operator) (ok_or (runnable_operator operation) place)
+      (made_of_both (λ first rest operator. Then operator first rest) (runnable_expr names right) (runnable_operands names place others))
 
 -- a right side that is an expression
-abbrev pub runnable_side : List Name → SideTree → Option ExprTree
+abbrev pub runnable_side : List Name → SideTree → Result ExprTree Place
 runnable_side names (ValueOf place value) = runnable_expr names value
-runnable_side names _ = None
+runnable_side names other = Err (side_place other)
 
--- the text of a number
-abbrev pub runnable_text : List Name → Phrase → Option ExprTree
+-- the argument of a print: `toString` of one value
+abbrev pub runnable_text : List Name → Phrase → Result ExprTree Place
 runnable_text names (ApplyOf place function (NextPhrase value NoPhrase)) =
-    if bytes_eq function (codes "toString") then both (λ symbol number. Apply place symbol (More number NoMore)) (symbol_in names function) (runnable_expr names value) else None
-runnable_text names _ = None
+    if bytes_eq function (codes "toString")
+    then made_of_both (λ symbol number. Apply place symbol (More number NoMore)) (ok_or (symbol_in names function) place) (runnable_expr names value)
+    else Err place
+runnable_text names other = Err (phrase_place other)
 
 -- the type Int
 abbrev pub is_int : TypeTree → Bool
@@ -69,21 +82,23 @@ is_int (TypeName place name NoType) = bytes_eq name (codes "Int")
 is_int _ = false
 
 -- a declaration, an assignment, a print
-abbrev pub runnable_statement : List Name → Statement → Option StmtTree
+abbrev pub runnable_statement : List Name → Statement → Result StmtTree Place
 runnable_statement names (DeclareOf place type at variable (SomeSide side)) =
-    if is_int type then both (Declare place at) (runnable_variable names variable) (runnable_side names side) else None
-runnable_statement names (AssignOf place (ToVariable at variable) side) = both (Assign place) (runnable_variable names variable) (runnable_side names side)
-runnable_statement names (PrintOf place text) = option_map (Print place) (runnable_text names text)
-runnable_statement names _ = None
+    if is_int type then made_of_both (Declare place at) (ok_or (runnable_variable names variable) at) (runnable_side names side) else Err place
+runnable_statement names (AssignOf place (ToVariable at variable) side) =
+    made_of_both (Assign place) (ok_or (runnable_variable names variable) at) (runnable_side names side)
+runnable_statement names (PrintOf place text) = made_of (Print place) (runnable_text names text)
+runnable_statement names other = Err (statement_place other)
 
-abbrev pub runnable_statements : List Name → Statements → Option (List StmtTree)
-runnable_statements names NoStatement = Some []
-runnable_statements names (NextStatement first others) = both (λ stmt stmts. stmt ∷ stmts) (runnable_statement names first) (runnable_statements names others)
+abbrev pub runnable_statements : List Name → Statements → Result (List StmtTree) Place
+runnable_statements names NoStatement = Ok []
+runnable_statements names (NextStatement first others) =
+    made_of_both (λ stmt stmts. stmt ∷ stmts) (runnable_statement names first) (runnable_statements names others)
 
--- a text without declarations
-abbrev pub runnable_main : List Name → List DeclTree → Statements → Option ProgramTree
-runnable_main names [] main = option_map (λ stmts. record { names = names; main = stmts }) (runnable_statements names main)
-runnable_main names (decl ∷ others) main = None
+-- a source without declarations
+abbrev pub runnable_main : List Name → List DeclTree → Statements → Result ProgramTree Place
+runnable_main names [] main = made_of (λ stmts. record { names = names; main = stmts }) (runnable_statements names main)
+runnable_main names (decl ∷ others) main = Err (decl_place decl)
 
-abbrev pub runnable : List Name → TextTree → Option ProgramTree
+abbrev pub runnable : List Name → SourceTree → Result ProgramTree Place
 runnable names text = runnable_main names text.declarations text.main

@@ -1,4 +1,11 @@
--- Runs: what a history leads to, when it is legal, and how a run ends.
+-- Runs: where a history leads, when it is legal, and how a run ends.
+--
+--   `run_of`, `Ran`                    the run of a history: where it leads, and what it printed
+--   `first`                            the first configuration
+--   `IsLegal`                          each event of a history exists
+--   `IsDone`, `IsOpen`, `HasStep`      every task has a result; some task has none; some task has an event
+--   `EndsAs`                           how a run ended
+--   `NeverStuck`                       no legal history leads to where a program is stuck
 use Rattle.std.specs.Prelude.{◌≡◌, ◌≢◌, ℕ, List, [], ◌∷◌, ◌++◌, length, slice_get, replicate, Option, Some, None, IsSome, fold}
 use Rattle.abs_tree.specs.declared.value.Value.TheVariants.{Null}
 use Rattle.abs_tree.specs.Trees.{NamedTree}
@@ -9,7 +16,7 @@ use Rattle.abs_command.specs.declared.runtime.machine.End.{End}
 use Rattle.abs_command.specs.declared.runtime.machine.End.TheVariants.{Done, Stalled, Spent}
 use Rattle.abs_command.specs.Events.{Step, event_of}
 
--- the first statement of a block
+-- the index of the first statement of a block
 abbrev pub first_statement : {A : Type 0} → List A → Option ℕ
 first_statement [] = None
 first_statement (statement ∷ statements) = Some 0
@@ -21,23 +28,23 @@ first program = record {
   tasks = record { cog = 0; frames = record { next = first_statement program.main; slots = replicate program.slots Null } ∷ []; state = Ready; outcome = None } ∷ [];
 }
 
--- what stands after some events: the configuration, and all lines that were printed
+-- the state after some events: the configuration, and all lines that were printed
 pub record Ran : Type 0 where
   pub config : Config
   pub lines : List (List ℕ)
 
--- one event more, where it exists
-abbrev pub goes_on_by : Ran → Option Step → Option Ran
-goes_on_by ran None = None
-goes_on_by ran (Some step) = Some (record { config = step.config; lines = ran.lines ++ step.lines })
+-- the run with one more event, where that event exists
+abbrev pub run_with_step : Ran → Option Step → Option Ran
+run_with_step ran None = None
+run_with_step ran (Some step) = Some (record { config = step.config; lines = ran.lines ++ step.lines })
 
-abbrev pub stepped : NamedTree → Option Ran → ℕ → Option Ran
-stepped program None task = None
-stepped program (Some ran) task = goes_on_by ran (event_of program ran.config task)
+abbrev pub run_after_event : NamedTree → Option Ran → ℕ → Option Ran
+run_after_event program None task = None
+run_after_event program (Some ran) task = run_with_step ran (event_of program ran.config task)
 
 -- the run of a history: the events of its tasks in order, from the first configuration on
 abbrev pub run_of : NamedTree → List ℕ → Option Ran
-run_of program history = fold (stepped program) (Some (record { config = first program; lines = [] })) history
+run_of program history = fold (run_after_event program) (Some (record { config = first program; lines = [] })) history
 
 -- each event of the history exists
 abbrev pub IsLegal : NamedTree → List ℕ → Type 0
@@ -61,12 +68,13 @@ IsOpen config = (number : ℕ) × IsUnfinished config number
 abbrev pub HasStep : NamedTree → Config → Type 0
 HasStep program config = (number : ℕ) × IsSome (event_of program config number)
 
--- how the run of a history of at most so many events ended; a run that is both spent and stalled is spent
+-- how a run of at most this many events ended; one that is both spent and stalled is spent
 abbrev pub EndsAs : NamedTree → ℕ → List ℕ → Config → End → Type 0
 EndsAs program steps history config Done = IsDone config
 EndsAs program steps history config Spent = (length history ≡ steps) × IsOpen config
 EndsAs program steps history config Stalled = (length history ≢ steps) × IsOpen config × (HasStep program config → ⊥)
 
--- Whatever legal list of events comes, the configuration that it reaches has a step while a task of it is unfinished.
+-- Whatever legal history comes, the configuration that it reaches has a step while a task in it is unfinished. No task can wait yet, so
+-- every program meets this.
 abbrev pub NeverStuck : NamedTree → Type 0
 NeverStuck program = (history : List ℕ) (ran : Ran) → run_of program history ≡ Some ran → IsOpen ran.config → HasStep program ran.config

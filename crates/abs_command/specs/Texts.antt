@@ -1,4 +1,9 @@
--- The bytes of all that the command prints. Each line ends with a line feed.
+-- The bytes of all output of the command. Each line ends with a line feed.
+--
+--   `usage_line`, `too_large_line`     the lines for other words, and for a source that is too large
+--   `refusal_line`                     the line of a refusal
+--   `report_lines`                     the lines of a report
+--   `end_text`                         what a run printed, how it ended, and the faults of its tasks
 use Rattle.std.specs.Prelude.{ℕ, ◌+◌, List, [], ◌∷◌, ◌++◌, length, Option, Some, None, codes, decimal, count_by, is_none}
 use Rattle.std.specs.List.{flat_map}
 use Rattle.abs_tree.specs.declared.refusal.Refusal.{Refusal}
@@ -24,12 +29,12 @@ abbrev pub refusal_line : Refusal → List ℕ
 refusal_line refusal =
     codes "refused: " ++ (code_name refusal.code ++ (codes " at " ++ (decimal refusal.line ++ (codes ":" ++ (decimal refusal.column ++ (codes ": " ++ (code_words refusal.code ++ codes "\n")))))))
 
--- the report of no chain; there is no chain yet that another report could name
+-- the lines of a report; a chain has no value yet, so each report is the one that names no chain
 abbrev pub report_lines : List Chain → List ℕ
 report_lines [] = codes "no circular chain\n"
 report_lines (chain ∷ chains) = elim chain [ ]
 
--- each printed text, a line each
+-- the printed strings, a line each
 abbrev pub lines_text : List (List ℕ) → List ℕ
 lines_text lines = flat_map (λ line. line ++ codes "\n") lines
 
@@ -37,20 +42,20 @@ lines_text lines = flat_map (λ line. line ++ codes "\n") lines
 abbrev pub unfinished_of : List TaskCell → ℕ
 unfinished_of tasks = count_by (λ task. is_none task.outcome) tasks
 
--- how the run ended, by the number of its events and its tasks
+-- how the run ended, with how many events it had, how many tasks there are, and how many of them are unfinished
 abbrev pub end_line : End → ℕ → List TaskCell → List ℕ
 end_line Done events tasks = codes "done: " ++ (decimal (length tasks) ++ codes " tasks\n")
 end_line Stalled events tasks = codes "stalled: " ++ (decimal (length tasks) ++ (codes " tasks, " ++ (decimal (unfinished_of tasks) ++ codes " unfinished\n")))
 end_line Spent events tasks =
     codes "spent: " ++ (decimal events ++ (codes " events, " ++ (decimal (length tasks) ++ (codes " tasks, " ++ (decimal (unfinished_of tasks) ++ codes " unfinished\n")))))
 
--- the line of a task that ended by a fault
+-- the line of the task of this index, where it ended by a fault
 abbrev pub fault_line : ℕ → Option Evaluated → List ℕ
 fault_line number None = []
 fault_line number (Some (Good value)) = []
 fault_line number (Some (Bad cause)) = codes "fault: task " ++ (decimal number ++ (codes ": " ++ (fault_name cause ++ codes "\n")))
 
--- those lines in the order of the tasks, of which the first has this number
+-- those lines in the order of the tasks, the first of which has this index
 abbrev pub fault_lines : ℕ → List TaskCell → List ℕ
 fault_lines number [] = []
 fault_lines number (task ∷ tasks) = fault_line number task.outcome ++ fault_lines (number + 1) tasks

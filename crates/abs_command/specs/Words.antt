@@ -1,10 +1,14 @@
--- The words of the command.
+-- The words of the command line.
+--
+--   `spelled`                  the bytes of each word
+--   `Names`                    the words name a file
+--   `AreCommandWords`          the words are of the command
 use Rattle.std.specs.Prelude.{◌≡◌, ℕ, List, [], ◌∷◌, map, string_bytes}
 use Rattle.std.specs.declared.alloc.Global.{Global}
 use Rattle.std.specs.declared.string.String.{String}
 use Rattle.std.specs.declared.vec.Vec.{Vec}
 
--- what the words spell
+-- the bytes of each word
 abbrev pub spelled : Vec (String Global) Global → List (List ℕ)
 spelled words = map string_bytes words.items
 

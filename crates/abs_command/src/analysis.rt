@@ -1,3 +1,34 @@
 //! What is known of a program before any run.
+ghost use Rattle.std.specs.Prelude.{◌≡◌};
+ghost use Rattle.abs_tree.specs.Trees.{named_tree};
+ghost use Rattle.abs_command.specs.Analysis.{facts_of, pairs_of, report_of};
 
 pub mod report;
+
+use crate::analysis::report::Report;
+use abs_tree::Named;
+use std::alloc::Global;
+
+/// What an analysis found of a program.
+#[derive(Drop)]
+pub struct Analysis {
+    /// How many facts it derived.
+    pub facts: u64,
+    /// How many pairs of dependencies there are.
+    pub pairs: u64,
+    /// The circular chains.
+    pub report: Report,
+}
+
+/// Analyses a program. No statement that runs today waits for a task, so no program has a pair.
+pub fn analyse(alloc: Global, _program: &Named<'_>) -> Analysis
+    ensures facts { result.facts ≡ facts_of (named_tree _program.now) }
+    ensures pairs { result.pairs ≡ pairs_of (named_tree _program.now) }
+    ensures report { result.report ≡ report_of (named_tree _program.now) }
+{
+    Analysis {
+        facts: 1,
+        pairs: 0,
+        report: Report::new(alloc),
+    }
+}

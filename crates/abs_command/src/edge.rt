@@ -1,4 +1,4 @@
-//! Takes bytes from a source and brings texts to a sink.
+//! Takes bytes from a source and writes output to a sink.
 
 pub mod read;
 pub mod write;

@@ -1,4 +1,4 @@
-//! The texts that the command prints.
+//! The output of the command.
 
 pub mod outcome;
 pub mod refusal;

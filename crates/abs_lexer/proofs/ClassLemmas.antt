@@ -10,11 +10,11 @@ use Rattle.abs_lexer.specs.declared.lexeme.Punctuator.{Punctuator}
 use Rattle.abs_lexer.specs.declared.lexeme.Punctuator.TheVariants as punctuator
 use Rattle.abs_lexer.specs.declared.piece.Piece.{Piece}
 use Rattle.abs_lexer.specs.declared.piece.Piece.TheVariants.{Blank}
-use Rattle.abs_lexer.specs.Words.{word_kind, sign_text}
+use Rattle.abs_lexer.specs.Words.{word_kind, punctuator_bytes}
 use Rattle.abs_lexer.specs.Forms.{is_white, is_on_line, IsName, IsNumber, IsQuoted, IsForm, opens_comment}
 use Rattle.abs_lexer.specs.Forms.IsForm.{word as form_word, upper as form_upper, number as form_number, text as form_text, sign as form_sign}
 use Rattle.abs_lexer.proofs.EndLemmas.{true_or_false, two_in_front}
-use Rattle.abs_lexer.specs.Scans.{text_at, number_at, word_at, upper_at, opens_line, line_at, opens_block, block_at, sign_at, piece_at}
+use Rattle.abs_lexer.specs.Scans.{string_at, number_at, word_at, upper_at, opens_line, line_at, opens_block, block_at, punctuator_at, piece_at}
 
 -- white space, the quote of a text, a digit, a letter of either case, and all others
 pub data Class : Type 0 where
@@ -38,18 +38,18 @@ class_of byte = class_by (is_white byte) (byte == 34) (is_ascii_digit byte) (is_
 
 -- what stands at bytes of each class
 abbrev pub mark_at : List ℕ → Piece
-mark_at bytes = cond (opens_line bytes) (line_at bytes) (cond (opens_block bytes) (block_at bytes) (sign_at bytes))
+mark_at bytes = cond (opens_line bytes) (line_at bytes) (cond (opens_block bytes) (block_at bytes) (punctuator_at bytes))
 
 abbrev pub piece_by : Class → List ℕ → Piece
 piece_by White bytes = Blank 1
-piece_by Quote bytes = text_at bytes
+piece_by Quote bytes = string_at bytes
 piece_by Digit bytes = number_at bytes
 piece_by Lower bytes = word_at bytes
 piece_by Upper bytes = upper_at bytes
 piece_by Mark bytes = mark_at bytes
 
 nest : (w q d l u : Bool) (bytes : List ℕ)
-    → cond w (Blank 1) (cond q (text_at bytes) (cond d (number_at bytes) (cond l (word_at bytes) (cond u (upper_at bytes) (mark_at bytes)))))
+    → cond w (Blank 1) (cond q (string_at bytes) (cond d (number_at bytes) (cond l (word_at bytes) (cond u (upper_at bytes) (mark_at bytes)))))
     ≡ piece_by (class_by w q d l u) bytes
 nest true q d l u bytes = refl
 nest false true d l u bytes = refl
@@ -132,7 +132,7 @@ test_of_class class byte h =
     (tested (is_white byte) (byte == 34) (is_ascii_digit byte) (is_ascii_lowercase byte) (is_ascii_uppercase byte))
 
 -- every sign begins with a mark
-pub class_sign : (p : Punctuator) (behind : List ℕ) → class_of (slice_index (sign_text p ++ behind) 0) ≡ Mark
+pub class_sign : (p : Punctuator) (behind : List ℕ) → class_of (slice_index (punctuator_bytes p ++ behind) 0) ≡ Mark
 class_sign punctuator.OpenParen behind = refl
 class_sign punctuator.CloseParen behind = refl
 class_sign punctuator.OpenBrace behind = refl
@@ -167,7 +167,7 @@ pub data FormOf (kind : Lexeme) (piece : List ℕ) : Class → Type 0 where
   upper : IsName is_ascii_uppercase piece → kind ≡ UpperName → FormOf kind piece Upper
   number : IsNumber piece → kind ≡ Number → FormOf kind piece Digit
   text : IsQuoted is_on_line piece → kind ≡ Text → FormOf kind piece Quote
-  sign : (p : Punctuator) → piece ≡ sign_text p → kind ≡ Sign p → FormOf kind piece Mark
+  sign : (p : Punctuator) → piece ≡ punctuator_bytes p → kind ≡ Sign p → FormOf kind piece Mark
 
 -- the first byte of a name and of a number
 pub first_of_name : {is_first : ℕ → Bool} {piece : List ℕ} (x : IsName is_first piece) (behind : List ℕ) → slice_index (piece ++ behind) 0 ≡ x.first

@@ -17,7 +17,7 @@ use Rattle.abs_lexer.specs.Forms.{is_on_line, EndsLine, NowhereIn, IsComment}
 use Rattle.abs_lexer.specs.Forms.IsComment.{line, block}
 use Rattle.abs_lexer.specs.Offences.{OffendsAt}
 use Rattle.abs_lexer.specs.Offences.OffendsAt.{open_comment, broken_comment}
-use Rattle.abs_lexer.specs.Scans.{block_end, checked, comment_checked, opens_line, line_at, opens_block, block_at}
+use Rattle.abs_lexer.specs.Scans.{block_end, checked_piece, comment_checked, opens_line, line_at, opens_block, block_at}
 use Rattle.abs_lexer.proofs.RunLemmas.{run_passes, run_ends, run_is}
 use Rattle.abs_lexer.proofs.EndLemmas.{unbroken, two_in_front, block_ends, block_reads}
 use Rattle.abs_lexer.proofs.QuotedLemmas.{checked_offence, checked_sound, front_of_piece, broken_at}
@@ -78,7 +78,7 @@ describe_ended : {bytes piece : List ℕ} (behind : List ℕ) → bytes ≡ piec
 unfolding comment_checked
 describe_ended {bytes} {piece} behind is x = by (cases_lt (utf8_valid_len piece) (length piece))
   where
-    by : (utf8_valid_len piece < length piece) ⊎ (length piece ≤ utf8_valid_len piece) → Describes bytes (checked (Blank (length piece)) (utf8_valid_len piece) piece)
+    by : (utf8_valid_len piece < length piece) ⊎ (length piece ≤ utf8_valid_len piece) → Describes bytes (checked_piece (Blank (length piece)) (utf8_valid_len piece) piece)
     by (inl short) =
         subst (λ (p : Piece). Describes bytes p) (sym (checked_offence (Blank (length piece)) (utf8_valid_len piece) piece short))
         (offence L1 (utf8_valid_len piece) (λ place. subst (λ (f : List ℕ). OffendsAt place bytes (record { code = L1; place = place_after place f }))

@@ -14,13 +14,13 @@ use Rattle.abs_lexer.specs.declared.lexeme.Lexeme.{Lexeme}
 use Rattle.abs_lexer.specs.declared.lexeme.Lexeme.TheVariants.{UpperName, Number, Text, Sign}
 use Rattle.abs_lexer.specs.declared.piece.Piece.{Piece}
 use Rattle.abs_lexer.specs.declared.piece.Piece.TheVariants.{Blank, Token, Offence}
-use Rattle.abs_lexer.specs.Words.{word_kind, sign_text}
+use Rattle.abs_lexer.specs.Words.{word_kind, punctuator_bytes}
 use Rattle.abs_lexer.specs.Forms.{is_word, IsName, IsNumber, IsForm, opens_comment, IsComment}
 use Rattle.abs_lexer.specs.Forms.IsForm.{word as form_word, upper as form_upper, number as form_number, sign as form_sign}
 use Rattle.abs_lexer.specs.Forms.IsComment.{line, block}
 use Rattle.abs_lexer.specs.Tokens.{Lexed, IsLongest, IsSound, Begins}
 use Rattle.abs_lexer.specs.Tokens.Begins.{white, comment, lexeme}
-use Rattle.abs_lexer.specs.Scans.{comment_checked, text_at, line_at, block_at, number_at, word_at, upper_at, opens_line, opens_block, sign_at, piece_at}
+use Rattle.abs_lexer.specs.Scans.{comment_checked, string_at, line_at, block_at, number_at, word_at, upper_at, opens_line, opens_block, punctuator_at, piece_at}
 use Rattle.abs_lexer.proofs.RunLemmas.{run_within, run_over, length_front}
 use Rattle.abs_lexer.proofs.ClassLemmas.{Class, White, Quote, Digit, Lower, Upper, Mark, class_of, piece_by, piece_of_class, test_of_class, FormOf, formed_in, class_white, mark_at}
 use Rattle.abs_lexer.proofs.ClassLemmas.FormOf.{word, upper, number, text, sign}
@@ -42,7 +42,7 @@ describe (byte ∷ others) some = by (class_of byte) refl
     found class e p is x = subst (λ (q : Piece). Describes bytes q) (sym (piece_of_class class bytes e ∙ is)) x
 
     marked : (line_opens block_opens : Bool) → opens_line bytes ≡ line_opens → opens_block bytes ≡ block_opens → class_of byte ≡ Mark
-        → Describes bytes (cond line_opens (line_at bytes) (cond block_opens (block_at bytes) (sign_at bytes)))
+        → Describes bytes (cond line_opens (line_at bytes) (cond block_opens (block_at bytes) (punctuator_at bytes)))
     marked true block_opens l b e = describe_line bytes l
     marked false true l b e = describe_block bytes b
     marked false false l b e = describe_sign byte others e (rw (l, b) refl)
@@ -50,8 +50,8 @@ describe (byte ∷ others) some = by (class_of byte) refl
     by : (class : Class) → class_of byte ≡ class → Describes bytes (piece_at bytes)
     by White e = found White e (Blank 1) refl (describes_white byte others refl (test_of_class White byte e))
     by Quote e =
-        found Quote e (text_at bytes) refl
-        (subst (λ (b : ℕ). Describes (b ∷ others) (text_at (b ∷ others))) (sym ((Decides-eqb byte 34).0 (test_of_class Quote byte e))) (describe_text others))
+        found Quote e (string_at bytes) refl
+        (subst (λ (b : ℕ). Describes (b ∷ others) (string_at (b ∷ others))) (sym ((Decides-eqb byte 34).0 (test_of_class Quote byte e))) (describe_text others))
     by Digit e = found Digit e (number_at bytes) refl (describe_number byte others e)
     by Lower e = found Lower e (word_at bytes) refl (describe_word byte others e)
     by Upper e = found Upper e (upper_at bytes) refl (describe_upper byte others e)
@@ -142,10 +142,10 @@ token_found {kind} {bytes} piece behind is unopened x sound Quote class (text y 
     piece_of_class Quote bytes class ∙ (text_found behind is y ∙ (text_is_token parts.0 parts.1 ∙ ap (λ (k : Lexeme). Token k (length piece)) (sym e)))
 token_found {kind} {bytes} piece behind is unopened x sound Mark class (sign p spelled e) =
     let opens = neither (opens_line bytes) (opens_block bytes) unopened in
-    let marks : mark_at bytes ≡ sign_at bytes = rw (opens.0, opens.1) refl in
+    let marks : mark_at bytes ≡ punctuator_at bytes = rw (opens.0, opens.1) refl in
     piece_of_class Mark bytes class
     ∙ (marks
-    ∙ (sign_is_found p piece behind is spelled (λ q more is_q. x.longest (Sign q) (sign_text q) more (sym is ∙ is_q) (form_sign q refl refl)) ∙ ap (λ (k : Lexeme). Token k (length piece)) (sym e)))
+    ∙ (sign_is_found p piece behind is spelled (λ q more is_q. x.longest (Sign q) (punctuator_bytes q) more (sym is ∙ is_q) (form_sign q refl refl)) ∙ ap (λ (k : Lexeme). Token k (length piece)) (sym e)))
 
 -- whatever stands in front without an offence is found
 pub begins_found : {place : Place} {bytes : List ℕ} (piece behind : List ℕ) {tokens : List Lexed} → bytes ≡ piece ++ behind → Begins place piece behind tokens

@@ -9,7 +9,7 @@ use Rattle.abs_lexer.specs.declared.piece.Piece.TheVariants.{Offence as Stop}
 use Rattle.abs_lexer.specs.Tokens.{Lexed, TokenList, Begins, Lexes, TokensOf}
 use Rattle.abs_lexer.specs.Tokens.Lexes.{end, more}
 use Rattle.abs_lexer.specs.Offences.{OffendsAt, Offends, IsFirstLexical}
-use Rattle.abs_lexer.specs.Offences.OffendsAt.{stray_byte, open_comment, open_text, large_number, bad_escape, broken_text, broken_comment}
+use Rattle.abs_lexer.specs.Offences.OffendsAt.{stray_byte, open_comment, open_string, large_number, bad_escape, broken_string, broken_comment}
 use Rattle.abs_lexer.specs.Offences.Offends.{here, later}
 use Rattle.abs_lexer.specs.Laws.{HasOneLexing}
 use Rattle.abs_lexer.specs.Laws.HasOneLexing.{cut, refused}
@@ -36,10 +36,10 @@ lexes_once {place} {bytes} (more place' bytes' piece behind front others tokens 
 nothing_offends : {place : Place} {bytes : List ℕ} {offence : Offence} → bytes ≡ [] → OffendsAt place bytes offence → ⊥
 nothing_offends none (stray_byte x) = omega (arith, ap length none, ap length x.is)
 nothing_offends none (open_comment x) = omega (arith, ap length none, ap length x.is)
-nothing_offends none (open_text x) = omega (arith, ap length none, ap length x.is)
+nothing_offends none (open_string x) = omega (arith, ap length none, ap length x.is)
 nothing_offends none (large_number piece behind is x large) = omega (arith, ap length none, ap length is, length-append piece behind, form_some x.form)
 nothing_offends none (bad_escape piece behind front is x y) = omega (arith, ap length none, ap length is, length-append piece behind, ap length x.is)
-nothing_offends none (broken_text piece behind front is x y) = omega (arith, ap length none, ap length is, length-append piece behind, ap length x.is)
+nothing_offends none (broken_string piece behind front is x y) = omega (arith, ap length none, ap length is, length-append piece behind, ap length x.is)
 nothing_offends none (broken_comment piece behind front is x y) = omega (arith, ap length none, ap length is, length-append piece behind, comment_some x)
 
 -- an offence behind what stands in front is one of the rest

@@ -15,14 +15,14 @@ use Rattle.abs_tree.specs.declared.refusal.Offence.{Offence}
 use Rattle.abs_tree.specs.Places.{place_after}
 use Rattle.abs_lexer.specs.declared.lexeme.Lexeme.TheVariants.{UpperName, Number, Text, Sign}
 use Rattle.abs_lexer.specs.declared.piece.Piece.TheVariants.{Blank, Token, Offence as Stop}
-use Rattle.abs_lexer.specs.Words.{word_kind, sign_text}
+use Rattle.abs_lexer.specs.Words.{word_kind, punctuator_bytes}
 use Rattle.abs_lexer.specs.Forms.{is_word, is_on_line, IsQuoted, IsComment}
 use Rattle.abs_lexer.specs.Forms.IsForm.{word as form_word, upper as form_upper, number as form_number, sign as form_sign}
 use Rattle.abs_lexer.specs.Forms.IsComment.{block}
 use Rattle.abs_lexer.specs.Tokens.{IsLongest}
-use Rattle.abs_lexer.specs.Offences.{IsStray, IsOpenComment, IsOpenText, OffendsAt}
-use Rattle.abs_lexer.specs.Offences.OffendsAt.{stray_byte, open_comment, open_text, large_number, bad_escape as offends_bad_escape, broken_text, broken_comment}
-use Rattle.abs_lexer.specs.Scans.{closing, bad_escape, block_end, text_checked, comment_checked, text_at, block_at, number_at, opens_line, opens_block, sign_at, piece_at}
+use Rattle.abs_lexer.specs.Offences.{IsStray, IsOpenComment, IsOpenString, OffendsAt}
+use Rattle.abs_lexer.specs.Offences.OffendsAt.{stray_byte, open_comment, open_string, large_number, bad_escape as offends_bad_escape, broken_string, broken_comment}
+use Rattle.abs_lexer.specs.Scans.{closing_quote, bad_escape, block_end, string_checked, comment_checked, string_at, block_at, number_at, opens_line, opens_block, punctuator_at, piece_at}
 use Rattle.abs_lexer.proofs.TextLemmas.{closing_reads}
 use Rattle.abs_lexer.proofs.EndLemmas.{block_reads}
 use Rattle.abs_lexer.proofs.ClassLemmas.{Class, White, Quote, Digit, Lower, Upper, Mark, class_of, piece_of_class, test_of_class, FormOf, formed_in, mark_at}
@@ -89,8 +89,8 @@ stray_found bytes x = by (class_of x.byte) refl
         (form_upper (name_in_front is_ascii_uppercase x.byte x.others letter (upper_is_word x.byte letter)) refl))
     by Mark e =
         let opens = neither (opens_line bytes) (opens_block bytes) x.no_comment in
-        let marks : mark_at bytes ≡ sign_at bytes = rw (opens.0, opens.1) refl in
-        piece_of_class Mark bytes (first Mark e) ∙ (marks ∙ no_sign_found bytes (λ p behind is. x.no_token (Sign p) (sign_text p) behind is (form_sign p refl refl)))
+        let marks : mark_at bytes ≡ punctuator_at bytes = rw (opens.0, opens.1) refl in
+        piece_of_class Mark bytes (first Mark e) ∙ (marks ∙ no_sign_found bytes (λ p behind is. x.no_token (Sign p) (punctuator_bytes p) behind is (form_sign p refl refl)))
 
 -- a comment that doesn't end
 open_comment_found : (bytes : List ℕ) → IsOpenComment bytes → piece_at bytes ≡ Stop L2 0
@@ -118,11 +118,11 @@ open_comment_found bytes x = piece_of_class Mark bytes class ∙ (marks ∙ by (
         (x.is ∙ ap (λ (bs : List ℕ). 47 ∷ 42 ∷ bs) (rest ∙ sym (append_assoc y.inside (codes "*/") y.behind))) (block y.inside refl y.nowhere))
 
 -- a text that doesn't end on its line
-open_text_found : (bytes : List ℕ) → IsOpenText bytes → piece_at bytes ≡ Stop L3 0
-unfolding text_at
-open_text_found bytes x = piece_of_class Quote bytes (ap (λ (bs : List ℕ). class_of (slice_index bs 0)) x.is) ∙ by (closing (drop 1 bytes)) refl
+open_text_found : (bytes : List ℕ) → IsOpenString bytes → piece_at bytes ≡ Stop L3 0
+unfolding string_at
+open_text_found bytes x = piece_of_class Quote bytes (ap (λ (bs : List ℕ). class_of (slice_index bs 0)) x.is) ∙ by (closing_quote (drop 1 bytes)) refl
   where
-    by : (closed : Option ℕ) → closing (drop 1 bytes) ≡ closed → text_at bytes ≡ Stop L3 0
+    by : (closed : Option ℕ) → closing_quote (drop 1 bytes) ≡ closed → string_at bytes ≡ Stop L3 0
     by None e = rw e refl
     by (Some n) e =
         let y = closing_reads (drop 1 bytes) n e in
@@ -152,7 +152,7 @@ large_found {bytes} piece behind is x large = by (class_of (slice_index bytes 0)
 -- a text in which an offence stands
 text_stops : {bytes : List ℕ} (piece behind : List ℕ) → bytes ≡ piece ++ behind → IsQuoted is_on_line piece → min (bad_escape piece) (utf8_valid_len piece) < length piece
     → piece_at bytes ≡ Stop L1 (min (bad_escape piece) (utf8_valid_len piece))
-unfolding text_checked
+unfolding string_checked
 text_stops {bytes} piece behind is x short =
     let class : class_of (slice_index bytes 0) ≡ Quote = ap (λ (bs : List ℕ). class_of (slice_index bs 0)) (is ∙ ap (λ (p : List ℕ). p ++ behind) x.is) in
     piece_of_class Quote bytes class ∙ (text_found behind is x ∙ checked_offence (Token Text (length piece)) (min (bad_escape piece) (utf8_valid_len piece)) piece short)
@@ -167,13 +167,13 @@ comment_stops piece behind is x short = comment_found piece behind is x ∙ chec
 pub offends_found : {place : Place} {bytes : List ℕ} {offence : Offence} → OffendsAt place bytes offence → IsStopped place bytes offence
 offends_found {place} {bytes} (stray_byte x) = stopped_here place bytes L1 (stray_found bytes x)
 offends_found {place} {bytes} (open_comment x) = stopped_here place bytes L2 (open_comment_found bytes x)
-offends_found {place} {bytes} (open_text x) = stopped_here place bytes L3 (open_text_found bytes x)
+offends_found {place} {bytes} (open_string x) = stopped_here place bytes L3 (open_text_found bytes x)
 offends_found {place} {bytes} (large_number piece behind is x large) = stopped_here place bytes L4 (large_found piece behind is x large)
 offends_found {place} {bytes} (offends_bad_escape piece behind front is x y) =
     let least = bad_found y in
     stopped_behind place piece behind front (92 ∷ y.byte ∷ y.others) L1 (min (bad_escape piece) (utf8_valid_len piece)) is y.is
     (text_stops piece behind is x (omega (arith, least.0, least.1))) (omega (arith, least.0))
-offends_found {place} {bytes} (broken_text piece behind front is x y) =
+offends_found {place} {bytes} (broken_string piece behind front is x y) =
     let least = broken_found y in
     stopped_behind place piece behind front y.behind L1 (min (bad_escape piece) (utf8_valid_len piece)) is y.is
     (text_stops piece behind is x (omega (arith, least.0, least.1))) (omega (arith, least.0))

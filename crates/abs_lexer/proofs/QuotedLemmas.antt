@@ -18,8 +18,8 @@ use Rattle.abs_lexer.specs.declared.piece.Piece.TheVariants.{Token, Offence}
 use Rattle.abs_lexer.specs.Forms.{is_escape, is_on_line, IsQuoted}
 use Rattle.abs_lexer.specs.Forms.IsForm.{text as form_text}
 use Rattle.abs_lexer.specs.Offences.{IsBadEscape, IsBroken, OffendsAt}
-use Rattle.abs_lexer.specs.Offences.OffendsAt.{open_text, bad_escape as offends_bad_escape, broken_text}
-use Rattle.abs_lexer.specs.Scans.{closing, bad_escape, checked, text_checked, text_at}
+use Rattle.abs_lexer.specs.Offences.OffendsAt.{open_string, bad_escape as offends_bad_escape, broken_string}
+use Rattle.abs_lexer.specs.Scans.{closing_quote, bad_escape, checked_piece, string_checked, string_at}
 use Rattle.abs_lexer.proofs.RunLemmas.{length_front}
 use Rattle.abs_lexer.proofs.TextLemmas.{closing_inside, closing_reads, Judged, judged, bad_step, bad_least, bad_nowhere}
 use Rattle.abs_lexer.proofs.TextLemmas.Judged.{good, bad}
@@ -34,18 +34,18 @@ length_quoted : {passes : ℕ → Bool} {piece : List ℕ} (x : IsQuoted passes 
 length_quoted x = omega (arith, ap length x.is, length-append x.inside (34 ∷ []))
 
 -- behind its quote a text closes
-pub quoted_closes : {bytes piece : List ℕ} (behind : List ℕ) → bytes ≡ piece ++ behind → (x : IsQuoted is_on_line piece) → closing (drop 1 bytes) ≡ Some (length x.inside)
+pub quoted_closes : {bytes piece : List ℕ} (behind : List ℕ) → bytes ≡ piece ++ behind → (x : IsQuoted is_on_line piece) → closing_quote (drop 1 bytes) ≡ Some (length x.inside)
 quoted_closes {bytes} {piece} behind is x =
-    ap (λ (bs : List ℕ). closing (drop 1 bs)) is
-    ∙ (ap (λ (p : List ℕ). closing (drop 1 (p ++ behind))) x.is ∙ (ap closing (append_assoc x.inside (34 ∷ []) behind) ∙ closing_inside behind x.reads))
+    ap (λ (bs : List ℕ). closing_quote (drop 1 bs)) is
+    ∙ (ap (λ (p : List ℕ). closing_quote (drop 1 (p ++ behind))) x.is ∙ (ap closing_quote (append_assoc x.inside (34 ∷ []) behind) ∙ closing_inside behind x.reads))
 
 -- so the scanner finds it
-pub text_found : {bytes piece : List ℕ} (behind : List ℕ) → bytes ≡ piece ++ behind → IsQuoted is_on_line piece → text_at bytes ≡ text_checked piece
-unfolding text_at
+pub text_found : {bytes piece : List ℕ} (behind : List ℕ) → bytes ≡ piece ++ behind → IsQuoted is_on_line piece → string_at bytes ≡ string_checked piece
+unfolding string_at
 text_found {bytes} {piece} behind is x =
     let front : take (length x.inside + 2) bytes ≡ piece =
     ap (λ (n : ℕ). take n bytes) (sym (length_quoted x)) ∙ (ap (λ (bs : List ℕ). take (length piece) bs) is ∙ take-append_seam piece behind) in
-    rw (quoted_closes behind is x) (ap text_checked front)
+    rw (quoted_closes behind is x) (ap string_checked front)
 
 some_same : (m n : ℕ) → Some m ≡ Some n → m ≡ n
 some_same m n h = cc
@@ -58,10 +58,10 @@ quoted_once behind more is e x y =
     omega (arith, same, length_quoted x, length_quoted y)
 
 -- an offence in front of the end is one, and none is found otherwise
-pub checked_offence : (sound : Piece) (at : ℕ) (piece : List ℕ) → at < length piece → checked sound at piece ≡ Offence L1 at
+pub checked_offence : (sound : Piece) (at : ℕ) (piece : List ℕ) → at < length piece → checked_piece sound at piece ≡ Offence L1 at
 checked_offence sound at piece h = let test : nat_lt at (length piece) ≡ true = grind (arith, nat_tests) in rw test refl
 
-pub checked_sound : (sound : Piece) (at : ℕ) (piece : List ℕ) → length piece ≤ at → checked sound at piece ≡ sound
+pub checked_sound : (sound : Piece) (at : ℕ) (piece : List ℕ) → length piece ≤ at → checked_piece sound at piece ≡ sound
 checked_sound sound at piece h = let test : nat_lt at (length piece) ≡ false = grind (arith, nat_tests) in rw test refl
 
 -- the quote that opens a text is no escape
@@ -81,8 +81,8 @@ pub bad_not_found : {piece : List ℕ} → IsQuoted is_escape piece → bad_esca
 bad_not_found x = omega (arith, bad_behind (x.inside ++ 34 ∷ []) x.is, bad_nowhere x.reads, length_quoted x)
 
 -- a text that is sound is a token
-pub text_is_token : {piece : List ℕ} → IsQuoted is_escape piece → IsUtf8 piece → text_checked piece ≡ Token Text (length piece)
-unfolding text_checked
+pub text_is_token : {piece : List ℕ} → IsQuoted is_escape piece → IsUtf8 piece → string_checked piece ≡ Token Text (length piece)
+unfolding string_checked
 text_is_token {piece} x valid =
     checked_sound (Token Text (length piece)) (min (bad_escape piece) (utf8_valid_len piece)) piece
     (omega (arith, bad_not_found x, utf8_valid_len-IsUtf8 piece valid))
@@ -129,12 +129,12 @@ text_offends : {bytes piece : List ℕ} (behind : List ℕ) → bytes ≡ piece 
 text_offends {bytes} {piece} behind is x short place =
     subst (λ (f : List ℕ). OffendsAt place bytes (record { code = L1; place = place_after place f }))
     (sym (front_of_piece piece behind (utf8_valid_len piece) is (omega arith)))
-    (broken_text piece behind (take (utf8_valid_len piece) piece) is x (broken_at piece short))
+    (broken_string piece behind (take (utf8_valid_len piece) piece) is x (broken_at piece short))
 
 -- a text that closes
 describe_closed : {bytes piece : List ℕ} (behind : List ℕ) → bytes ≡ piece ++ behind → class_of (slice_index bytes 0) ≡ Quote → IsQuoted is_on_line piece
-    → Describes bytes (text_checked piece)
-unfolding text_checked
+    → Describes bytes (string_checked piece)
+unfolding string_checked
 describe_closed {bytes} {piece} behind is class x = by (cases_lt (min (bad_escape piece) (utf8_valid_len piece)) (length piece)) (cases_lt (utf8_valid_len piece) (bad_escape piece))
   where
     at : ℕ
@@ -149,7 +149,7 @@ describe_closed {bytes} {piece} behind is class x = by (cases_lt (min (bad_escap
         (omega (arith, short, within))
 
     by : (at < length piece) ⊎ (length piece ≤ at) → (utf8_valid_len piece < bad_escape piece) ⊎ (bad_escape piece ≤ utf8_valid_len piece)
-        → Describes bytes (checked (Token Text (length piece)) at piece)
+        → Describes bytes (checked_piece (Token Text (length piece)) at piece)
     by (inl short) (inl valid) =
         subst (λ (p : Piece). Describes bytes p) (sym (checked_offence (Token Text (length piece)) at piece short))
         (here short (utf8_valid_len piece) (omega arith) (λ place. text_offends behind is x (omega arith) place))
@@ -170,13 +170,13 @@ describe_closed {bytes} {piece} behind is class x = by (cases_lt (min (bad_escap
             absurd (omega (arith, bad_behind (x.inside ++ 34 ∷ []) x.is, stop, ap length e, length-append front (92 ∷ byte ∷ others), length_quoted x, all))
 
 -- what begins with a quote
-pub describe_text : (others : List ℕ) → Describes (34 ∷ others) (text_at (34 ∷ others))
-unfolding text_at
-describe_text others = by (closing others) refl
+pub describe_text : (others : List ℕ) → Describes (34 ∷ others) (string_at (34 ∷ others))
+unfolding string_at
+describe_text others = by (closing_quote others) refl
   where
-    by : (closed : Option ℕ) → closing others ≡ closed → Describes (34 ∷ others) (text_at (34 ∷ others))
+    by : (closed : Option ℕ) → closing_quote others ≡ closed → Describes (34 ∷ others) (string_at (34 ∷ others))
     by None h =
-        rw h (offence L3 0 (λ place. open_text (record { inside = others; is = refl; endless = λ piece behind is x. none (length x.inside) (sym h ∙ quoted_closes behind is x) })) (omega arith))
+        rw h (offence L3 0 (λ place. open_string (record { inside = others; is = refl; endless = λ piece behind is x. none (length x.inside) (sym h ∙ quoted_closes behind is x) })) (omega arith))
       where
         none : (n : ℕ) → None ≡ Some n → ⊥
         none n e = cc

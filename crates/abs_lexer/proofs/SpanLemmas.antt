@@ -7,7 +7,7 @@ use Rattle.std.specs.Prelude.{codes}
 use Rattle.std.specs.Str.{bytes_eq}
 use Rattle.memchr.specs.Find.{OccursAt, FindsNeedle}
 use Rattle.memchr.proofs.lemmas.MatchLemmas.{OccursAt-part, OccursAt-from_part}
-use Rattle.abs_lexer.specs.Scans.{further, block_end}
+use Rattle.abs_lexer.specs.Scans.{increased_by, block_end}
 
 -- what ends a comment
 abbrev mark : List ℕ
@@ -40,7 +40,7 @@ stands_nearer byte others at stands = record {
 -- the first place of it, by the test at the first byte and the first place behind that
 found_by : (test : Bool) (byte : ℕ) (others : List ℕ) (found : Option ℕ) → bytes_eq (take 2 (byte ∷ others)) mark ≡ test
     → FindsNeedle (byte ∷ others) mark 0 found → ((behind : Option ℕ) → FindsNeedle others mark 0 behind → behind ≡ block_end others)
-    → found ≡ cond test (Some 0) (further 1 (block_end others))
+    → found ≡ cond test (Some 0) (increased_by 1 (block_end others))
 found_by true byte others None e finds more = absurd (finds 0 (omega arith) (omega arith) (stands_by (byte ∷ others) e))
 found_by true byte others (Some zero) e finds more = refl
 found_by true byte others (Some (suc at)) e finds more = absurd (finds.0.before 0 (omega arith) (omega arith) (stands_by (byte ∷ others) e))

@@ -5,7 +5,7 @@ use Rattle.std.proofs.lemmas.Bool.Decides.{Decides-eqb}
 use Rattle.std.specs.Prelude.{Option, Some, None}
 use Rattle.abs_lexer.specs.Forms.{is_escape, is_on_line, is_plain, IsInside}
 use Rattle.abs_lexer.specs.Forms.IsInside.{nothing, plain, escaped}
-use Rattle.abs_lexer.specs.Scans.{further, closing, closing_behind, bad_escape}
+use Rattle.abs_lexer.specs.Scans.{increased_by, closing_quote, closing_after_escape, bad_escape}
 
 -- What stands in a text for itself is no quote, no `\` and no line feed.
 record IsOther (byte : ℕ) : Type 0 where
@@ -38,8 +38,8 @@ byte_is : (byte other : ℕ) → (byte == other) ≡ true → byte ≡ other
 byte_is byte other h = (Decides-eqb byte other).0 h
 
 -- a text that closes is closed behind what stands in it
-pub closing_inside : {inside : List ℕ} (behind : List ℕ) → IsInside is_on_line inside → closing (inside ++ 34 ∷ behind) ≡ Some (length inside)
-unfolding closing
+pub closing_inside : {inside : List ℕ} (behind : List ℕ) → IsInside is_on_line inside → closing_quote (inside ++ 34 ∷ behind) ≡ Some (length inside)
+unfolding closing_quote
 closing_inside behind nothing = refl
 closing_inside behind (plain byte others p h) =
     let other = is_other byte p in
@@ -51,7 +51,7 @@ closing_inside behind (escaped byte others p h) =
     rw (feed, rest) (ap (λ (n : ℕ). Some n) (omega arith))
 
 -- so many more of a number is one, of which it is so many more
-pub further_some : (count : ℕ) (index : Option ℕ) (n : ℕ) → further count index ≡ Some n → (m : ℕ) × (index ≡ Some m) × (n ≡ count + m)
+pub further_some : (count : ℕ) (index : Option ℕ) (n : ℕ) → increased_by count index ≡ Some n → (m : ℕ) × (index ≡ Some m) × (n ≡ count + m)
 further_some count None n h = cc
 further_some count (Some m) n h = (m, refl, cc)
 
@@ -95,34 +95,34 @@ closes_escaped byte others n e x = record {
 }
 
 -- by the first byte: a quote closes, a line feed ends the line, a `\` has the next byte behind it, and any other is passed
-closes_by : (q f e : Bool) (byte : ℕ) (others : List ℕ) (n : ℕ) → (byte == 34) ≡ q → (byte == 10) ≡ f → (byte == 92) ≡ e → closing (byte ∷ others) ≡ Some n
-    → ((m : ℕ) → closing others ≡ Some m → Closes others m) → ((m : ℕ) → closing_behind others ≡ Some m → ClosesBehind others m) → Closes (byte ∷ others) n
-unfolding closing
+closes_by : (q f e : Bool) (byte : ℕ) (others : List ℕ) (n : ℕ) → (byte == 34) ≡ q → (byte == 10) ≡ f → (byte == 92) ≡ e → closing_quote (byte ∷ others) ≡ Some n
+    → ((m : ℕ) → closing_quote others ≡ Some m → Closes others m) → ((m : ℕ) → closing_after_escape others ≡ Some m → ClosesBehind others m) → Closes (byte ∷ others) n
+unfolding closing_quote
 closes_by true f e byte others n a b c h reads behind = closes_quote byte others n a (rw a at h)
 closes_by false true e byte others n a b c h reads behind = let h : None ≡ Some n = rw (a, b) at h in cc
 closes_by false false true byte others n a b c h reads behind = closes_escaped byte others n c (behind n (rw (a, b, c) at h))
 closes_by false false false byte others n a b c h reads behind =
-    let more = further_some 1 (closing others) n (rw (a, b, c) at h) in
+    let more = further_some 1 (closing_quote others) n (rw (a, b, c) at h) in
     closes_plain byte others more.0 n (other_is byte a c b) (reads more.0 more.1) more.2
 
-behind_by : (f : Bool) (byte : ℕ) (others : List ℕ) (n : ℕ) → (byte == 10) ≡ f → closing_behind (byte ∷ others) ≡ Some n
-    → ((m : ℕ) → closing others ≡ Some m → Closes others m) → ClosesBehind (byte ∷ others) n
-unfolding closing
+behind_by : (f : Bool) (byte : ℕ) (others : List ℕ) (n : ℕ) → (byte == 10) ≡ f → closing_after_escape (byte ∷ others) ≡ Some n
+    → ((m : ℕ) → closing_quote others ≡ Some m → Closes others m) → ClosesBehind (byte ∷ others) n
+unfolding closing_quote
 behind_by true byte others n a h reads = let h : None ≡ Some n = rw a at h in cc
 behind_by false byte others n a h reads =
-    let more = further_some 2 (closing others) n (rw a at h) in
+    let more = further_some 2 (closing_quote others) n (rw a at h) in
     record { byte = byte; others = others; is = refl; line = not_false (byte == 10) a; rest = more.0; closes = reads more.0 more.1; count_is = more.2 }
 
 mutual
-  unfolding closing
+  unfolding closing_quote
 
   -- where a text closes, it does so behind what stands in it
-  pub closing_reads : (bytes : List ℕ) (n : ℕ) → closing bytes ≡ Some n → Closes bytes n
+  pub closing_reads : (bytes : List ℕ) (n : ℕ) → closing_quote bytes ≡ Some n → Closes bytes n
   closing_reads [] n h = cc
   closing_reads (byte ∷ others) n h =
       closes_by (byte == 34) (byte == 10) (byte == 92) byte others n refl refl refl h (λ m x. closing_reads others m x) (λ m x. behind_reads others m x)
 
-  behind_reads : (bytes : List ℕ) (n : ℕ) → closing_behind bytes ≡ Some n → ClosesBehind bytes n
+  behind_reads : (bytes : List ℕ) (n : ℕ) → closing_after_escape bytes ≡ Some n → ClosesBehind bytes n
   behind_reads [] n h = cc
   behind_reads (byte ∷ others) n h = behind_by (byte == 10) byte others n refl h (λ m x. closing_reads others m x)
 

@@ -5,7 +5,7 @@ use Rattle.std.specs.Option.{option_or}
 use Rattle.std.specs.Str.{bytes_eq}
 use Rattle.abs_lexer.specs.declared.lexeme.Keyword.{Keyword}
 use Rattle.abs_lexer.specs.Words.{spelling, keyword_among}
-use Rattle.abs_lexer.specs.Scans.{long_sign}
+use Rattle.abs_lexer.specs.Scans.{long_punctuator}
 
 -- what is found is found, whatever stands behind it
 found_first : (found : Bool) (keyword : Keyword) (behind others : Option Keyword) → cond found (Some keyword) (option_or behind others) ≡ option_or (cond found (Some keyword) behind) others
@@ -29,8 +29,8 @@ among_three xs ys zs word = rw (keyword_among-append, keyword_among-append) (or_
     or_assoc None y z = refl
 
 -- fewer than two bytes make no sign of two
-pub no_long_sign : (bytes : List ℕ) → length bytes < 2 → long_sign (take 2 bytes) ≡ None
-unfolding long_sign
-no_long_sign [] few = refl
-no_long_sign (byte ∷ []) few = grind arith
-no_long_sign (byte ∷ next ∷ others) few = absurd (omega arith)
+pub no_long_punctuator : (bytes : List ℕ) → length bytes < 2 → long_punctuator (take 2 bytes) ≡ None
+unfolding long_punctuator
+no_long_punctuator [] few = refl
+no_long_punctuator (byte ∷ []) few = grind arith
+no_long_punctuator (byte ∷ next ∷ others) few = absurd (omega arith)

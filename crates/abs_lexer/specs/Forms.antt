@@ -1,10 +1,15 @@
--- The forms of what a text is cut into: of tokens and of comments, each as a whole piece of the text.
---   name        a letter, then letters, digits and "_"
---   number      digits
---   text        `"`, then bytes other than `"`, `\` and line feed, or `\` and a byte other than line feed, then `"`
---   sign        as it is written
---   comment     "//" up to the end of the line, or "/*" up to the next "*/"
--- Of an escape in a text, and of a number, Tokens.antt says more.
+-- The forms of tokens and of comments, each as a whole piece of the source.
+--   name          a letter, then letters, digits and "_"
+--   number        digits
+--   string        `"`, then bytes other than `"`, `\` and line feed, or `\` and a byte other than line feed, then `"`
+--   punctuator    as it is written
+--   comment       "//" up to the end of the line, or "/*" up to the next "*/"
+-- Tokens.antt restricts the escapes of a string and the size of a number further.
+--
+--   `IsForm`                                   a piece has the form of a token
+--   `IsName`, `IsNumber`, `IsQuoted`           the forms of names, of numbers and of strings
+--   `IsComment`, `opens_comment`               comments, and where one begins
+--   `is_white`, `is_escape`, ..                classes of bytes
 use Rattle.std.specs.Prelude.{◌≡◌, ℕ, ◌<◌, ◌==◌, ◌||◌, Bool, true, not, ⊤, List, [], ◌∷◌, ◌++◌, length, take, codes}
 use Rattle.std.specs.Char.{is_ascii_alphanumeric, is_ascii_digit, is_ascii_lowercase, is_ascii_uppercase}
 use Rattle.std.specs.List.{AllPass}
@@ -12,28 +17,28 @@ use Rattle.std.specs.Str.{bytes_eq}
 use Rattle.abs_lexer.specs.declared.lexeme.Lexeme.{Lexeme}
 use Rattle.abs_lexer.specs.declared.lexeme.Lexeme.TheVariants.{UpperName, Number, Text, Sign}
 use Rattle.abs_lexer.specs.declared.lexeme.Punctuator.{Punctuator}
-use Rattle.abs_lexer.specs.Words.{word_kind, sign_text}
+use Rattle.abs_lexer.specs.Words.{word_kind, punctuator_bytes}
 
 -- white space: space, tab, carriage return and line feed
 abbrev pub is_white : ℕ → Bool
 is_white byte = byte == 32 || byte == 9 || byte == 13 || byte == 10
 
--- the bytes of a name behind its first one
+-- the bytes of a name after its first one
 abbrev pub is_word : ℕ → Bool
 is_word byte = is_ascii_alphanumeric byte || byte == 95
 
--- what may stand behind a `\` in a text: all but a line feed, of which `n`, `t`, `r`, `"` and `\` are escapes
+-- the bytes of a line, so those that may follow a `\` in a string. Of them `n`, `t`, `r`, `"` and `\` make escapes
 abbrev pub is_on_line : ℕ → Bool
 is_on_line byte = not (byte == 10)
 
 abbrev pub is_escape : ℕ → Bool
 is_escape byte = byte == 110 || byte == 116 || byte == 114 || byte == 34 || byte == 92
 
--- what stands in a text for itself
+-- the bytes that denote themselves in a string
 abbrev pub is_plain : ℕ → Bool
 is_plain byte = not (byte == 34 || byte == 92 || byte == 10)
 
--- a name that begins so
+-- a name whose first byte is in this class
 pub record IsName (is_first : ℕ → Bool) (piece : List ℕ) : Type 0 where
   pub first : ℕ
   pub others : List ℕ
@@ -41,18 +46,18 @@ pub record IsName (is_first : ℕ → Bool) (piece : List ℕ) : Type 0 where
   pub letter : is_first first ≡ true
   pub word : AllPass is_word others
 
--- digits, and one at least
+-- one digit or more
 pub record IsNumber (piece : List ℕ) : Type 0 where
   pub some : 0 < length piece
   pub digits : AllPass is_ascii_digit piece
 
--- what stands between the quotes of a text, where a `\` may stand in front of bytes that pass
+-- the bytes between the quotes of a string; a `\` may be followed by a byte that passes
 pub data IsInside (passes : ℕ → Bool) : List ℕ → Type 0 where
   nothing : IsInside passes []
   plain : (byte : ℕ) (others : List ℕ) → is_plain byte ≡ true → IsInside passes others → IsInside passes (byte ∷ others)
   escaped : (byte : ℕ) (others : List ℕ) → passes byte ≡ true → IsInside passes others → IsInside passes (92 ∷ byte ∷ others)
 
--- a text between its quotes
+-- a string with its quotes
 pub record IsQuoted (passes : ℕ → Bool) (piece : List ℕ) : Type 0 where
   pub inside : List ℕ
   pub is : piece ≡ 34 ∷ (inside ++ 34 ∷ [])
@@ -64,22 +69,22 @@ pub data IsForm (kind : Lexeme) (piece : List ℕ) : Type 0 where
   upper : IsName is_ascii_uppercase piece → kind ≡ UpperName → IsForm kind piece
   number : IsNumber piece → kind ≡ Number → IsForm kind piece
   text : IsQuoted is_on_line piece → kind ≡ Text → IsForm kind piece
-  sign : (punctuator : Punctuator) → piece ≡ sign_text punctuator → kind ≡ Sign punctuator → IsForm kind piece
+  sign : (punctuator : Punctuator) → piece ≡ punctuator_bytes punctuator → kind ≡ Sign punctuator → IsForm kind piece
 
--- whether a comment opens here
+-- whether the bytes begin with a comment's opening
 abbrev pub opens_comment : List ℕ → Bool
 opens_comment bytes = bytes_eq (take 2 bytes) (codes "//") || bytes_eq (take 2 bytes) (codes "/*")
 
--- a line ends here, as the text does or by a line feed
+-- a line ends here, by a line feed or by the end of the source
 abbrev pub EndsLine : List ℕ → Type 0
 EndsLine [] = ⊤
 EndsLine (byte ∷ others) = byte ≡ 10
 
--- the piece stands nowhere in the bytes
+-- the piece occurs nowhere in the bytes
 abbrev pub NowhereIn : List ℕ → List ℕ → Type 0
 NowhereIn bytes piece = (front behind : List ℕ) → bytes ≡ front ++ (piece ++ behind) → ⊥
 
--- the piece is a comment, and this stands behind it
+-- the piece is a comment, and this follows it
 pub data IsComment (piece behind : List ℕ) : Type 0 where
   line : (inside : List ℕ) → piece ≡ codes "//" ++ inside → AllPass is_on_line inside → EndsLine behind → IsComment piece behind
   block : (inside : List ℕ) → piece ≡ codes "/*" ++ (inside ++ codes "*/") → NowhereIn inside (codes "*/") → IsComment piece behind

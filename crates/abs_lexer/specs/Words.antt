@@ -1,10 +1,15 @@
--- How the words and signs of the language are written, and of which kind a word is.
---   words          module import from data def case let in if then else interface extends class implements skip while await
+-- How keywords and punctuators are written, and of which kind a word is.
+--   keywords       module import from data def case let in if then else interface extends class implements skip while await
 --                  suspend return new cog get this null destiny println
 --   words outside the profile
 --                  assert catch delta die duration exception export finally foreach original productline recover switch
 --                  throw trait try
---   signs          ( ) { } < > , ; . = == != <= >= + - * / % ! ~ ? | || && => _
+--   punctuators    ( ) { } < > , ; . = == != <= >= + - * / % ! ~ ? | || && => _
+--
+--   `word_kind`                            the kind of a word
+--   `keywords`, `spelling`                 the keywords, and how each is written
+--   `foreign_words`                        the words outside the profile
+--   `punctuator_bytes`                     how a punctuator is written
 use Rattle.std.specs.Prelude.{ℕ, Bool, true, false, Option, Some, None, List, [], ◌∷◌, ◌++◌, codes, if◌then◌else◌}
 use Rattle.std.specs.List.{list_any}
 use Rattle.std.specs.Str.{bytes_eq}
@@ -15,7 +20,7 @@ use Rattle.abs_lexer.specs.declared.lexeme.Lexeme.TheVariants.{LowerName, Foreig
 use Rattle.abs_lexer.specs.declared.lexeme.Punctuator.{Punctuator}
 use Rattle.abs_lexer.specs.declared.lexeme.Punctuator.TheVariants as sign
 
--- how a word of the language is written
+-- how a keyword is written
 abbrev pub spelling : Keyword → List ℕ
 spelling word.Module = codes "module"
 spelling word.Import = codes "import"
@@ -45,21 +50,21 @@ spelling word.Null = codes "null"
 spelling word.Destiny = codes "destiny"
 spelling word.Println = codes "println"
 
--- the words of the language: those of declarations, of expressions, and of statements
-abbrev pub declaration_words : List Keyword
-declaration_words =
+-- the keywords: those of declarations, of expressions, and of statements
+abbrev pub declaration_keywords : List Keyword
+declaration_keywords =
     word.Module ∷ word.Import ∷ word.From ∷ word.Data ∷ word.Def ∷ word.Interface ∷ word.Extends ∷ word.Class ∷ word.Implements ∷ []
 
-abbrev pub expression_words : List Keyword
-expression_words =
+abbrev pub expression_keywords : List Keyword
+expression_keywords =
     word.Case ∷ word.Let ∷ word.In ∷ word.If ∷ word.Then ∷ word.Else ∷ word.This ∷ word.Null ∷ word.Destiny ∷ []
 
-abbrev pub statement_words : List Keyword
-statement_words =
+abbrev pub statement_keywords : List Keyword
+statement_keywords =
     word.Skip ∷ word.While ∷ word.Await ∷ word.Suspend ∷ word.Return ∷ word.New ∷ word.Cog ∷ word.Get ∷ word.Println ∷ []
 
 abbrev pub keywords : List Keyword
-keywords = declaration_words ++ (expression_words ++ statement_words)
+keywords = declaration_keywords ++ (expression_keywords ++ statement_keywords)
 
 -- the words outside the profile
 abbrev pub foreign_words : List (List ℕ)
@@ -68,7 +73,7 @@ foreign_words =
     ∷ codes "finally" ∷ codes "foreach" ∷ codes "original" ∷ codes "productline" ∷ codes "recover" ∷ codes "switch"
     ∷ codes "throw" ∷ codes "trait" ∷ codes "try" ∷ []
 
--- the word of these that is written so
+-- the keyword among these that is written so
 abbrev pub keyword_among : List Keyword → List ℕ → Option Keyword
 keyword_among [] word = None
 keyword_among (keyword ∷ others) word = if bytes_eq (spelling keyword) word then Some keyword else keyword_among others word
@@ -77,7 +82,7 @@ keyword_among (keyword ∷ others) word = if bytes_eq (spelling keyword) word th
 abbrev pub is_foreign : List ℕ → Bool
 is_foreign word = list_any (bytes_eq word) foreign_words
 
--- the kind of a word that begins with a lower-case letter: it is one of the language, or one outside the profile, or a name
+-- the kind of a word that begins with a lower-case letter: a keyword, a word outside the profile, or a name
 abbrev pub kind_of_word : Option Keyword → Bool → Lexeme
 kind_of_word (Some keyword) foreign = Word keyword
 kind_of_word None true = Foreign
@@ -86,32 +91,32 @@ kind_of_word None false = LowerName
 unfoldable pub word_kind : List ℕ → Lexeme
 word_kind word = kind_of_word (keyword_among keywords word) (is_foreign word)
 
--- how a sign is written
-abbrev pub sign_text : Punctuator → List ℕ
-sign_text sign.OpenParen = codes "("
-sign_text sign.CloseParen = codes ")"
-sign_text sign.OpenBrace = codes "{"
-sign_text sign.CloseBrace = codes "}"
-sign_text sign.Less = codes "<"
-sign_text sign.Greater = codes ">"
-sign_text sign.Comma = codes ","
-sign_text sign.Semicolon = codes ";"
-sign_text sign.Dot = codes "."
-sign_text sign.Assign = codes "="
-sign_text sign.Equal = codes "=="
-sign_text sign.NotEqual = codes "!="
-sign_text sign.LessEqual = codes "<="
-sign_text sign.GreaterEqual = codes ">="
-sign_text sign.Plus = codes "+"
-sign_text sign.Minus = codes "-"
-sign_text sign.Star = codes "*"
-sign_text sign.Slash = codes "/"
-sign_text sign.Percent = codes "%"
-sign_text sign.Not = codes "!"
-sign_text sign.Tilde = codes "~"
-sign_text sign.Question = codes "?"
-sign_text sign.Bar = codes "|"
-sign_text sign.Or = codes "||"
-sign_text sign.And = codes "&&"
-sign_text sign.Arrow = codes "=>"
-sign_text sign.Underscore = codes "_"
+-- how a punctuator is written
+abbrev pub punctuator_bytes : Punctuator → List ℕ
+punctuator_bytes sign.OpenParen = codes "("
+punctuator_bytes sign.CloseParen = codes ")"
+punctuator_bytes sign.OpenBrace = codes "{"
+punctuator_bytes sign.CloseBrace = codes "}"
+punctuator_bytes sign.Less = codes "<"
+punctuator_bytes sign.Greater = codes ">"
+punctuator_bytes sign.Comma = codes ","
+punctuator_bytes sign.Semicolon = codes ";"
+punctuator_bytes sign.Dot = codes "."
+punctuator_bytes sign.Assign = codes "="
+punctuator_bytes sign.Equal = codes "=="
+punctuator_bytes sign.NotEqual = codes "!="
+punctuator_bytes sign.LessEqual = codes "<="
+punctuator_bytes sign.GreaterEqual = codes ">="
+punctuator_bytes sign.Plus = codes "+"
+punctuator_bytes sign.Minus = codes "-"
+punctuator_bytes sign.Star = codes "*"
+punctuator_bytes sign.Slash = codes "/"
+punctuator_bytes sign.Percent = codes "%"
+punctuator_bytes sign.Not = codes "!"
+punctuator_bytes sign.Tilde = codes "~"
+punctuator_bytes sign.Question = codes "?"
+punctuator_bytes sign.Bar = codes "|"
+punctuator_bytes sign.Or = codes "||"
+punctuator_bytes sign.And = codes "&&"
+punctuator_bytes sign.Arrow = codes "=>"
+punctuator_bytes sign.Underscore = codes "_"

@@ -1,26 +1,27 @@
-//! A cursor over a text: what is left of it, and the place where that begins, which is carried along byte by byte.
+//! A cursor over a source: the bytes that are left, and their place, which is updated byte by byte.
 ghost use Rattle.std.specs.Prelude.{◌≡◌, ◌+◌, ◌<◌, ◌≤◌, length};
+ghost use Rattle.abs_tree.specs.Limits.{source_limit};
 
 use abs_tree::Place;
 
-/// What is left of a text, and the place where that begins.
+/// The bytes of a source that are left, and the place of the first of them.
 #[derive(Clone, Copy)]
 pub(crate) struct Cursor<'a> {
     pub rest: &'a [u8],
     pub place: Place,
-    ghost in_text: { place.offset + length rest.now ≤ 1048576 },
+    ghost in_text: { place.offset + length rest.now ≤ source_limit },
     ghost line: { place.line ≤ place.offset + 1 },
     ghost column: { place.column ≤ place.offset + 1 },
 }
 
 impl<'a> Cursor<'a> {
     ghost use Rattle.std.specs.Prelude.{drop, take};
-    ghost use Rattle.abs_tree.specs.Places.{start, behind, place_after};
+    ghost use Rattle.abs_tree.specs.Places.{start, place_after};
 
-    /// The whole text.
-    pub fn new(text: &'a [u8]) -> Cursor<'a>
-        requires { length text.now ≤ 1048576 }
-        ensures rest { result.rest.now ≡ text.now }
+    /// The cursor at the start of a source.
+    pub fn new(source: &'a [u8]) -> Cursor<'a>
+        requires { length source.now ≤ source_limit }
+        ensures rest { result.rest.now ≡ source.now }
         ensures place { result.place ≡ start }
     {
         let place = Place {
@@ -28,10 +29,13 @@ impl<'a> Cursor<'a> {
             line: 1,
             column: 1,
         };
-        Cursor { rest: text, place }
+        Cursor {
+            rest: source,
+            place,
+        }
     }
 
-    /// The cursor behind the next byte.
+    /// The cursor after the next byte.
     fn step(self) -> Cursor<'a>
         requires { 0 < length self.rest.now }
         ensures rest { result.rest.now ≡ drop 1 self.entry.rest.now }
@@ -61,7 +65,7 @@ impl<'a> Cursor<'a> {
         }
     }
 
-    /// The cursor behind the next bytes, so many of them.
+    /// The cursor after the next `count` bytes.
     pub fn advance(self, count: usize) -> Cursor<'a>
         requires { count ≤ length self.rest.now }
         ensures rest { result.rest.now ≡ drop count self.entry.rest.now }

@@ -1,4 +1,4 @@
-//! The kinds of tokens.
+//! The kinds of tokens: keywords, punctuators, names and literals.
 
 /// The kind of a token.
 #[derive(Clone, Copy, Debug, PartialEq, Eq)]
@@ -9,17 +9,17 @@ pub enum Lexeme {
     UpperName,
     /// A number, of decimal digits.
     Number,
-    /// A text between its quotes.
+    /// A string between its quotes.
     Text,
-    /// A word of the language.
+    /// A keyword.
     Word(Keyword),
     /// A word outside the profile of the language.
     Foreign,
-    /// A sign.
+    /// A punctuator.
     Sign(Punctuator),
 }
 
-/// A word of the language.
+/// A keyword: a word that the language reserves.
 #[derive(Clone, Copy, Debug, PartialEq, Eq)]
 pub enum Keyword {
     Module,
@@ -51,7 +51,7 @@ pub enum Keyword {
     Println,
 }
 
-/// A sign: a punctuation mark or an operator.
+/// A punctuator: a punctuation mark or an operator.
 #[derive(Clone, Copy, Debug, PartialEq, Eq)]
 pub enum Punctuator {
     /// `(`

@@ -5,14 +5,15 @@ mod cursor;
 pub mod lexeme;
 pub mod lexer;
 mod piece;
-mod sign;
+mod punctuator;
 mod span;
 pub mod token;
 mod word;
 
+pub use abs_tree::SourceError as LexError;
 pub use lexeme::{Keyword, Lexeme, Punctuator};
 pub use lexer::one_lexing;
-pub use token::{LexError, Token};
+pub use token::Token;
 
 #[cfg(test)]
 mod tests;

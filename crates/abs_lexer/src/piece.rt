@@ -1,28 +1,28 @@
-//! What the bytes that are left begin with.
+//! The first piece of the bytes that are left: white space, a comment, a token, or an offence.
 ghost use Rattle.std.specs.Prelude.{◌≡◌, ◌^◌, ◌<◌, ◌≤◌, length, take, nat_lt};
 ghost use Rattle.std.specs.Char.{is_ascii_digit};
 ghost use Rattle.std.specs.List.{AllPass, prefix_len};
 ghost use Rattle.std.specs.Str.Parse.{digits_value};
-ghost use Rattle.abs_lexer.specs.Scans.{text_checked, comment_checked, text_at, number_at, word_at, upper_at, line_at, block_at, long_sign as long_sign_of, sign_at, piece_at};
+ghost use Rattle.abs_lexer.specs.Scans.{string_checked, comment_checked, string_at, number_at, word_at, upper_at, line_at, block_at, long_punctuator as long_punctuator_of, punctuator_at, piece_at};
 
-use crate::sign::{long_sign, short_sign};
+use crate::punctuator::{long_punctuator, short_punctuator};
 use crate::word::word_kind;
 use crate::{Lexeme, Punctuator, span};
 use abs_tree::Code;
 use std::cmp::min;
 
-/// What some bytes begin with.
+/// The first piece of some bytes.
 #[derive(Clone, Copy, Debug, PartialEq, Eq)]
 pub(crate) enum Piece {
-    /// White space or a comment, of so many bytes.
+    /// White space or a comment, with its length.
     Blank(usize),
-    /// A token, of so many bytes.
+    /// A token, with its length.
     Token(Lexeme, usize),
-    /// An offence, behind so many bytes.
+    /// An offence, with the number of bytes before it.
     Offence(Code, usize),
 }
 
-/// What some bytes begin with.
+/// The first piece of some bytes.
 #[tactic(auto, unfolding(crate::specs::Scans::piece_at, crate::specs::Scans::upper_at))]
 pub(crate) fn next_piece(bytes: &[u8]) -> Piece
     requires { 0 < length bytes.now }
@@ -30,17 +30,17 @@ pub(crate) fn next_piece(bytes: &[u8]) -> Piece
 {
     match bytes[0] {
         b' ' | b'\t' | b'\r' | b'\n' => Piece::Blank(1),
-        b'"' => text(bytes),
+        b'"' => string(bytes),
         b'0'..=b'9' => number(bytes),
         b'a'..=b'z' => word(bytes),
         b'A'..=b'Z' => Piece::Token(Lexeme::UpperName, span::word(bytes)),
         _ if bytes.starts_with(b"//") => line(bytes),
         _ if bytes.starts_with(b"/*") => block(bytes),
-        _ => sign(bytes),
+        _ => punctuator(bytes),
     }
 }
 
-/// A word of the language, or a name, of some bytes that begin with a lower-case letter.
+/// A keyword, a word outside the profile or a name, from bytes that begin with a lower-case letter.
 #[tactic(auto, unfolding(crate::specs::Scans::word_at))]
 fn word(bytes: &[u8]) -> Piece
     ensures { result ≡ word_at bytes.now }
@@ -49,7 +49,7 @@ fn word(bytes: &[u8]) -> Piece
     Piece::Token(word_kind(word), word.len())
 }
 
-/// A number, of some bytes that begin with a digit.
+/// A number, from bytes that begin with a digit.
 #[tactic(auto, unfolding(crate::specs::Scans::number_at))]
 fn number(bytes: &[u8]) -> Piece
     requires { 0 < prefix_len is_ascii_digit bytes.now }
@@ -63,22 +63,22 @@ fn number(bytes: &[u8]) -> Piece
     }
 }
 
-/// A text, of some bytes that begin with its quote.
-#[tactic(auto, unfolding(crate::specs::Scans::text_at))]
-fn text(bytes: &[u8]) -> Piece
+/// A string, from bytes that begin with its quote.
+#[tactic(auto, unfolding(crate::specs::Scans::string_at))]
+fn string(bytes: &[u8]) -> Piece
     requires { 0 < length bytes.now }
-    ensures { result ≡ text_at bytes.now }
+    ensures { result ≡ string_at bytes.now }
 {
-    match span::closing(&bytes[1..]) {
-        Some(count) => checked_text(bytes.split_at(count + 2).0),
+    match span::closing_quote(&bytes[1..]) {
+        Some(count) => checked_string(bytes.split_at(count + 2).0),
         None => Piece::Offence(Code::L3, 0),
     }
 }
 
-/// A text between its quotes, or the first offence in it.
-#[tactic(auto, unfolding(crate::specs::Scans::text_checked))]
-fn checked_text(piece: &[u8]) -> Piece
-    ensures { result ≡ text_checked piece.now }
+/// A string with its quotes, or the first offence in it.
+#[tactic(auto, unfolding(crate::specs::Scans::string_checked))]
+fn checked_string(piece: &[u8]) -> Piece
+    ensures { result ≡ string_checked piece.now }
 {
     let at = min(span::bad_escape(piece), span::utf8(piece));
     if at < piece.len() {
@@ -87,7 +87,7 @@ fn checked_text(piece: &[u8]) -> Piece
     Piece::Token(Lexeme::Text, piece.len())
 }
 
-/// A comment up to the end of its line, of some bytes that begin with `//`.
+/// A comment up to the end of its line, from bytes that begin with `//`.
 #[tactic(auto, unfolding(crate::specs::Scans::line_at))]
 fn line(bytes: &[u8]) -> Piece
     ensures { result ≡ line_at bytes.now }
@@ -95,7 +95,7 @@ fn line(bytes: &[u8]) -> Piece
     checked_comment(bytes.split_at(span::line(bytes)).0)
 }
 
-/// A comment up to the next `*/`, of some bytes that begin with `/*`.
+/// A comment up to the next `*/`, from bytes that begin with `/*`.
 #[tactic(auto, unfolding(crate::specs::Scans::block_at))]
 fn block(bytes: &[u8]) -> Piece
     requires { 2 ≤ length bytes.now }
@@ -119,33 +119,33 @@ fn checked_comment(piece: &[u8]) -> Piece
     Piece::Blank(piece.len())
 }
 
-/// A sign, of some bytes that begin with neither a letter nor a digit.
-#[tactic(auto, unfolding(crate::specs::Scans::sign_at))]
-fn sign(bytes: &[u8]) -> Piece
+/// A punctuator, from bytes that begin with no letter, digit, quote, white space or comment.
+#[tactic(auto, unfolding(crate::specs::Scans::punctuator_at))]
+fn punctuator(bytes: &[u8]) -> Piece
     requires { 0 < length bytes.now }
-    ensures { result ≡ sign_at bytes.now }
+    ensures { result ≡ punctuator_at bytes.now }
 {
-    if let Some(long) = long_sign_at(bytes) {
+    if let Some(long) = long_punctuator_at(bytes) {
         return Piece::Token(Lexeme::Sign(long), 2);
     }
-    match short_sign(bytes[0]) {
+    match short_punctuator(bytes[0]) {
         Some(short) => Piece::Token(Lexeme::Sign(short), 1),
         None => Piece::Offence(Code::L1, 0),
     }
 }
 
-/// The sign of the two bytes that stand in front.
-#[tactic(auto, using(crate::proofs::WordLemmas::no_long_sign))]
-fn long_sign_at(bytes: &[u8]) -> Option<Punctuator>
-    ensures { result ≡ long_sign_of (take 2 bytes.now) }
+/// The punctuator of two bytes with which the bytes begin.
+#[tactic(auto, using(crate::proofs::WordLemmas::no_long_punctuator))]
+fn long_punctuator_at(bytes: &[u8]) -> Option<Punctuator>
+    ensures { result ≡ long_punctuator_of (take 2 bytes.now) }
 {
     match bytes {
-        [first, second, ..] => long_sign(*first, *second),
+        [first, second, ..] => long_punctuator(*first, *second),
         _ => None,
     }
 }
 
-/// Whether digits write a number of at most 127 bits.
+/// Whether the number that digits write has at most 127 bits.
 fn is_small(digits: &[u8]) -> bool
     requires some { 0 < length digits.now }
     requires digits { AllPass is_ascii_digit digits.now }

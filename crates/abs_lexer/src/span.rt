@@ -1,14 +1,14 @@
-//! How far the parts of a text go, found byte by byte.
+//! The lengths of the parts of a source, found byte by byte.
 ghost use Rattle.std.specs.Prelude.{◌≡◌, ◌+◌, ◌<◌, ◌≤◌, length, IfSome};
 ghost use Rattle.std.specs.Char.{is_ascii_digit};
 ghost use Rattle.std.specs.List.{prefix_len};
 ghost use Rattle.std.specs.Str.Lossy.{utf8_valid_len};
 ghost use Rattle.abs_lexer.specs.Forms.{is_word, is_on_line};
-ghost use Rattle.abs_lexer.specs.Scans.{closing as closing_of, bad_escape as bad_escape_of, block_end};
+ghost use Rattle.abs_lexer.specs.Scans.{closing_quote as closing_quote_of, bad_escape as bad_escape_of, block_end};
 
 use memchr::memmem;
 
-/// How many bytes of a word stand in front.
+/// The number of bytes of the word with which the bytes begin.
 pub(crate) fn word(bytes: &[u8]) -> usize
     ensures count { result ≡ prefix_len is_word bytes.now }
     ensures within { result ≤ length bytes.now }
@@ -19,7 +19,7 @@ pub(crate) fn word(bytes: &[u8]) -> usize
         .count()
 }
 
-/// How many digits stand in front.
+/// The number of digits with which the bytes begin.
 pub(crate) fn digits(bytes: &[u8]) -> usize
     ensures count { result ≡ prefix_len is_ascii_digit bytes.now }
     ensures within { result ≤ length bytes.now }
@@ -30,7 +30,7 @@ pub(crate) fn digits(bytes: &[u8]) -> usize
         .count()
 }
 
-/// How many bytes stand in front of the end of the line.
+/// The number of bytes before the end of the line.
 pub(crate) fn line(bytes: &[u8]) -> usize
     ensures count { result ≡ prefix_len is_on_line bytes.now }
     ensures within { result ≤ length bytes.now }
@@ -38,7 +38,7 @@ pub(crate) fn line(bytes: &[u8]) -> usize
     bytes.iter().take_while(|byte| **byte != b'\n').count()
 }
 
-/// Behind `/*`: how many bytes stand in front of the next `*/`.
+/// After `/*`: the number of bytes before the next `*/`.
 pub(crate) fn block(bytes: &[u8]) -> Option<usize>
     ensures count { result ≡ block_end bytes.now }
     ensures within { IfSome result (λ count. count + 2 ≤ length bytes.now) }
@@ -46,10 +46,10 @@ pub(crate) fn block(bytes: &[u8]) -> Option<usize>
     memmem::find(bytes, b"*/")
 }
 
-/// Behind the quote that opens a text: how many bytes stand in front of the one that closes it on its line.
-#[tactic(auto, unfolding(crate::specs::Scans::closing, crate::specs::Scans::closing_behind))]
-pub(crate) fn closing(bytes: &[u8]) -> Option<usize>
-    ensures count { result ≡ closing_of bytes.now }
+/// After the quote that opens a string: the number of bytes before the one that closes it on the same line.
+#[tactic(auto, unfolding(crate::specs::Scans::closing_quote, crate::specs::Scans::closing_after_escape))]
+pub(crate) fn closing_quote(bytes: &[u8]) -> Option<usize>
+    ensures count { result ≡ closing_quote_of bytes.now }
     ensures within { IfSome result (λ count. count < length bytes.now) }
 {
     let mut count = 0;
@@ -75,7 +75,7 @@ pub(crate) fn closing(bytes: &[u8]) -> Option<usize>
     None
 }
 
-/// How many bytes stand in front of the first `\` that makes no escape, or of the end.
+/// The number of bytes before the first `\` that begins no escape, or before the end.
 #[tactic(auto, unfolding(crate::specs::Scans::bad_escape))]
 pub(crate) fn bad_escape(bytes: &[u8]) -> usize
     ensures { result ≡ bad_escape_of bytes.now }
@@ -100,7 +100,7 @@ pub(crate) fn bad_escape(bytes: &[u8]) -> usize
     count
 }
 
-/// How many bytes stand in front of the first that is not UTF-8, or of the end.
+/// The number of bytes before the first that is not UTF-8, or before the end.
 pub(crate) fn utf8(bytes: &[u8]) -> usize
     ensures { result ≡ utf8_valid_len bytes.now }
 {

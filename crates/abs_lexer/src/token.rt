@@ -1,41 +1,12 @@
 //! Tokens, and lists of them.
 ghost use Rattle.std.specs.Prelude.{◌≡◌, ◌≤◌, ◌<◌, Some, length, map, slice_get, All};
+ghost use Rattle.abs_tree.specs.Limits.{source_limit};
 ghost use Rattle.abs_lexer.specs.Tokens.{TokenList, IsWellFormed};
 ghost use Rattle.abs_lexer.specs.Views.{lexed};
-ghost use Rattle.abs_lexer.specs.declared.token.LexError.TheVariants.{Memory, Refused};
 
 use crate::Lexeme;
-use abs_tree::{Place, Refusal};
-use std::alloc::{AllocError, AllocFailed};
+use abs_tree::Place;
 use std::marker::Model;
-use thiserror::Error;
-
-/// Why a text has no tokens.
-#[derive(Clone, Copy, Debug, PartialEq, Eq, Error)]
-pub enum LexError {
-    /// The text has a lexical offence; the first one is refused.
-    #[error("the text has a lexical offence")]
-    Refused(Refusal),
-    /// Memory ran out.
-    #[error("memory ran out")]
-    Memory,
-}
-
-impl From<AllocError> for LexError {
-    ghost from_gives = { λ _ e. e ≡ Memory };
-
-    fn from(_: AllocError) -> Self {
-        LexError::Memory
-    }
-}
-
-impl<T: Drop> From<AllocFailed<T>> for LexError {
-    ghost from_gives = { λ _ e. e ≡ Memory };
-
-    fn from(_: AllocFailed<T>) -> Self {
-        LexError::Memory
-    }
-}
 
 /// A token: its kind, the place of its first byte, and its bytes, which are those of the source at that place.
 #[derive(Clone, Copy, Debug)]
@@ -45,8 +16,8 @@ pub struct Token<'a> {
     pub slice: &'a [u8],
 }
 
-/// The tokens of a text, in its order, and the place behind its last byte. There are at most 1,048,576, and each is
-/// well formed. Contracts see a `TokenList`.
+/// The tokens of a source, in order, and the place after its last byte. There are at most as many as a source may have
+/// bytes, and each is well formed. Contracts see a `TokenList`.
 #[derive(Drop)]
 pub struct Tokens<'a> {
     pub(crate) list: Vec<Token<'a>>,
@@ -55,6 +26,7 @@ pub struct Tokens<'a> {
 
 impl<'a> Model for Tokens<'a> {
     ghost use Rattle.std.specs.Prelude.{◌≤◌, length, map, All};
+    ghost use Rattle.abs_tree.specs.Limits.{source_limit};
     ghost use Rattle.abs_lexer.specs.Tokens.{TokenList, IsWellFormed};
     ghost use Rattle.abs_lexer.specs.Views.{lexed};
 
@@ -62,19 +34,20 @@ impl<'a> Model for Tokens<'a> {
 
     ghost view = { λ s. record { tokens = map lexed s.list.items; end = s.end } };
 
-    ghost invariant = { λ s. (length s.list.items ≤ 1048576) × All (λ token. IsWellFormed (lexed token)) s.list.items };
+    ghost invariant = { λ s.
+        (length s.list.items ≤ source_limit) × All (λ token. IsWellFormed (lexed token)) s.list.items };
 }
 
 impl<'a> Tokens<'a> {
     /// How many tokens there are.
     pub fn len(&self) -> usize
         ensures len { result ≡ length self.now.tokens }
-        ensures few { result ≤ 1048576 }
+        ensures few { result ≤ source_limit }
     {
         self.list.len()
     }
 
-    /// The token with this number, which counts from 0.
+    /// The token at an index.
     pub fn at(&self, index: usize) -> Token<'a>
         requires { index < length self.now.tokens }
         ensures token { slice_get self.now.tokens index ≡ Some (lexed result) }
@@ -83,7 +56,7 @@ impl<'a> Tokens<'a> {
         self.list[index]
     }
 
-    /// The place behind the last byte of the text.
+    /// The place after the last byte of the source.
     pub fn end(&self) -> Place
         ensures { result ≡ self.now.end }
     {

@@ -1,6 +1,6 @@
-//! Which words are words of the language, and which are outside its profile.
+//! Which words are keywords, and which are outside the profile of the language.
 ghost use Rattle.std.specs.Prelude.{◌≡◌};
-ghost use Rattle.abs_lexer.specs.Words.{declaration_words, expression_words, statement_words, keywords, keyword_among, is_foreign as is_foreign_of, word_kind as word_kind_of};
+ghost use Rattle.abs_lexer.specs.Words.{declaration_keywords, expression_keywords, statement_keywords, keywords, keyword_among, is_foreign as is_foreign_of, word_kind as word_kind_of};
 
 use crate::{Keyword, Lexeme};
 
@@ -36,18 +36,18 @@ pub(crate) fn word_kind(word: &[u8]) -> Lexeme
     }
 }
 
-/// The word of the language that this is.
+/// The keyword that is written so.
 fn keyword(word: &[u8]) -> Option<Keyword>
     ensures { result ≡ keyword_among keywords word.now }
 {
-    declaration_word(word)
-        .or_else(|| expression_word(word))
-        .or_else(|| statement_word(word))
+    declaration_keyword(word)
+        .or_else(|| expression_keyword(word))
+        .or_else(|| statement_keyword(word))
 }
 
-/// The word of declarations that this is.
-fn declaration_word(word: &[u8]) -> Option<Keyword>
-    ensures { result ≡ keyword_among declaration_words word.now }
+/// The keyword of declarations that is written so.
+fn declaration_keyword(word: &[u8]) -> Option<Keyword>
+    ensures { result ≡ keyword_among declaration_keywords word.now }
 {
     match word {
         b"module" => Some(Keyword::Module),
@@ -63,9 +63,9 @@ fn declaration_word(word: &[u8]) -> Option<Keyword>
     }
 }
 
-/// The word of expressions that this is.
-fn expression_word(word: &[u8]) -> Option<Keyword>
-    ensures { result ≡ keyword_among expression_words word.now }
+/// The keyword of expressions that is written so.
+fn expression_keyword(word: &[u8]) -> Option<Keyword>
+    ensures { result ≡ keyword_among expression_keywords word.now }
 {
     match word {
         b"case" => Some(Keyword::Case),
@@ -81,9 +81,9 @@ fn expression_word(word: &[u8]) -> Option<Keyword>
     }
 }
 
-/// The word of statements that this is.
-fn statement_word(word: &[u8]) -> Option<Keyword>
-    ensures { result ≡ keyword_among statement_words word.now }
+/// The keyword of statements that is written so.
+fn statement_keyword(word: &[u8]) -> Option<Keyword>
+    ensures { result ≡ keyword_among statement_keywords word.now }
 {
     match word {
         b"skip" => Some(Keyword::Skip),

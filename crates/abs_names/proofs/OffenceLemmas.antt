@@ -1,4 +1,4 @@
--- The earliest of some offences that were noted one behind the other is the first of them.
+-- The earliest of some offences, noted one after the other, is the first of them.
 use Rattle.std.proofs.Common.{◌≡◌, ◌≤◌, Bool, true, false, List, [], ◌∷◌, ◌++◌, refl, sym, subst, fold, cond, nat_lt, arith, append_assoc}
 use Rattle.std.specs.Prelude.{Option, Some, None, All, Contains}
 use Rattle.std.proofs.lemmas.Bool.Decides.{nat_tests}
@@ -13,7 +13,7 @@ abbrev Noted : Option Offence → List Offence → Type 0
 Noted None offences = offences ≡ []
 Noted (Some first) offences = IsFirst offences first
 
--- an offence stands at or before each of a list of one
+-- an offence that comes before another comes before each of a list of that one
 before_one : (first offence : Offence) → first.place.offset ≤ offence.place.offset → All (λ (other : Offence). first.place.offset ≤ other.place.offset) (offence ∷ [])
 before_one first offence h = All-cons (λ (other : Offence). first.place.offset ≤ other.place.offset) offence [] h (All-nil (λ (other : Offence). first.place.offset ≤ other.place.offset))
 

@@ -8,7 +8,7 @@ use Rattle.abs_tree.specs.declared.place.Place.{Place}
 use Rattle.abs_tree.specs.Trees.{StmtTree, ProgramTree, Declare, Assign, Print}
 use Rattle.abs_tree.specs.declared.refusal.Code.TheVariants.{N1}
 use Rattle.abs_tree.specs.declared.refusal.Offence.{Offence}
-use Rattle.abs_names.specs.NameOffences.{unknown_in, twice, offences_from}
+use Rattle.abs_names.specs.NameOffences.{unknown_in, repeated_declaration, offences_from}
 use Rattle.abs_names.specs.Resolution.{resolved_from}
 use Rattle.abs_names.specs.Scopes.{is_declared, slot_of, with_symbol, scope_after}
 use Rattle.abs_names.specs.Slots.{declared_slots, HasOwnSlots}
@@ -22,7 +22,7 @@ nothing_right : {X : Type 0} (xs ys : List X) → xs ++ ys ≡ [] → ys ≡ []
 nothing_right [] ys e = e
 nothing_right (x ∷ xs) ys e = absurd (cc)
 
--- the first element that passes, behind those of which none does
+-- the first element that passes, after those of which none does
 behind_by : (here behind : Bool) (k m : ℕ) → (behind ≡ false → k ≡ m) → (here || behind) ≡ false → cond (not here) (1 + k) 0 ≡ 1 + m
 behind_by true behind k m same none = cc
 behind_by false behind k m same none = ap (λ (n : ℕ). 1 + n) (same none)
@@ -45,7 +45,7 @@ same_number : (n : ℕ) → nat_eq n n ≡ true
 same_number n = grind (arith, nat_tests)
 
 next_by : (scope : List ℕ) (symbol : Symbol) (place : Place) (b : Bool) → is_declared scope symbol ≡ b
-    → twice scope place (Named symbol) ≡ [] → IsNext scope symbol
+    → repeated_declaration scope place (Named symbol) ≡ [] → IsNext scope symbol
 next_by scope symbol place true known none =
     let offence : Offence = record { code = N1; place = place } in
     let found : offence ∷ [] ≡ [] = rw known at none in absurd (cc)
@@ -54,7 +54,7 @@ next_by scope symbol place false new none = record {
   slot = rw new (place_behind (nat_eq symbol.0) scope symbol.0 new (same_number symbol.0));
 }
 
--- the slots of the declarations of some statements, and the scope behind them
+-- the slots of the declarations of some statements, and the scope after them
 record Make (scope : List ℕ) (stmts : List StmtTree) : Type 0 where
   count : ℕ
   slots : declared_slots (resolved_from scope stmts) ≡ range_with_len (length scope) count
@@ -64,10 +64,10 @@ made : (scope : List ℕ) (stmts : List StmtTree) → declared_slots stmts ≡ [
 made scope [] written none = record { count = 0; slots = refl; longer = omega arith }
 made scope (Declare place name (Slot slot) value ∷ stmts) written none = absurd (cc)
 made scope (Declare place name (Named symbol) value ∷ stmts) written none =
-    let here = nothing_left (twice scope name (Named symbol) ++ unknown_in scope value) (offences_from (with_symbol scope symbol) stmts) none in
-    let next = next_by scope symbol name (is_declared scope symbol) refl (nothing_left (twice scope name (Named symbol)) (unknown_in scope value) here) in
+    let here = nothing_left (repeated_declaration scope name (Named symbol) ++ unknown_in scope value) (offences_from (with_symbol scope symbol) stmts) none in
+    let next = next_by scope symbol name (is_declared scope symbol) refl (nothing_left (repeated_declaration scope name (Named symbol)) (unknown_in scope value) here) in
     let rest = made (with_symbol scope symbol) stmts written
-    (nothing_right (twice scope name (Named symbol) ++ unknown_in scope value) (offences_from (with_symbol scope symbol) stmts) none) in
+    (nothing_right (repeated_declaration scope name (Named symbol) ++ unknown_in scope value) (offences_from (with_symbol scope symbol) stmts) none) in
     record {
       count = suc rest.count;
       slots = ap (λ (n : ℕ). n ∷ declared_slots (resolved_from (with_symbol scope symbol) stmts)) next.slot

@@ -1,5 +1,4 @@
--- Expressions of which some were looked up already, in front of those that are still to come; and that as many statements
--- are found as there were.
+-- Lists of expressions of which a prefix was resolved already; and that resolution keeps the number of statements.
 use Rattle.std.proofs.Common.{◌≡◌, ℕ, suc, ◌+◌, ◌<◌, List, [], ◌∷◌, ◌++◌, refl, sym, ap, ◌∙◌, length, get_or, drop, fold}
 use Rattle.std.specs.Prelude.{Option}
 use Rattle.std.proofs.lemmas.List.Sums.{fold-append}
@@ -19,9 +18,9 @@ use Rattle.abs_tree.proofs.TreeLemmas.{expr_tree-apply, expr_tree-operators}
 use Rattle.abs_names.specs.Answers.{earlier}
 use Rattle.abs_names.specs.NameOffences.{unknown_in, unknown_in_all, unknown_in_operands}
 use Rattle.abs_names.specs.Resolution.{resolved_expr, resolved_exprs, resolved_operands, resolved_from}
-use Rattle.abs_names.specs.Scopes.{scope_behind}
+use Rattle.abs_names.specs.Scopes.{scope_after_statement}
 
--- expressions in front of trees
+-- expressions before trees
 abbrev pub in_front : List Expr → ExprTrees → ExprTrees
 in_front [] trees = trees
 in_front (expr ∷ exprs) trees = More (expr_tree expr) (in_front exprs trees)
@@ -34,7 +33,7 @@ pub in_front_all : (exprs : List Expr) → in_front exprs NoMore ≡ trees_of ex
 in_front_all [] = refl
 in_front_all (e ∷ es) = ap (More (expr_tree e)) (in_front_all es)
 
--- an application with its arguments looked up
+-- an application with resolved arguments
 pub resolved_apply : (scope : List ℕ) (expr : Expr) (place : Place) (function : Symbol) (before found : Vec Expr Global) (exprs : List Expr)
     → expr ≡ code.Apply place function before → exprs ≡ before.items → trees_of found.items ≡ resolved_exprs scope (trees_of exprs)
     → expr_tree (code.Apply place function found) ≡ resolved_expr scope (expr_tree expr)
@@ -50,7 +49,7 @@ unknown_apply scope expr place function before exprs expr_is exprs_is =
     ap (λ (es : List Expr). unknown_in_all scope (trees_of es)) exprs_is
     ∙ sym (ap (unknown_in scope) (ap expr_tree expr_is ∙ expr_tree-apply place function before))
 
--- one more expression was looked up
+-- one more expression was resolved
 pub exprs_found : (scope : List ℕ) (exprs found : List Expr) (i : ℕ) (expr one : Expr) → i < length exprs → expr ≡ get_or exprs i expr
     → expr_tree one ≡ resolved_expr scope (expr_tree expr)
     → in_front (found ++ one ∷ []) (resolved_exprs scope (trees_of (drop (i + 1) exprs))) ≡ in_front found (resolved_exprs scope (trees_of (drop i exprs)))
@@ -69,7 +68,7 @@ exprs_noted scope exprs i expr first now there is noted =
     ∙ (sym (fold-append earlier first (unknown_in scope (expr_tree expr)) rest)
     ∙ ap (λ (es : List Expr). fold earlier first (unknown_in_all scope (trees_of es))) (sym (drop_item exprs i expr there is)))
 
--- operators with their right operands in front of trees
+-- operators with their right operands before trees
 abbrev pub operands_in_front : List Operand → OperandTrees → OperandTrees
 operands_in_front [] trees = trees
 operands_in_front (operand ∷ operands) trees = Then operand.operator (expr_tree operand.right) (operands_in_front operands trees)
@@ -82,7 +81,7 @@ pub operands_in_front_all : (operands : List Operand) → operands_in_front oper
 operands_in_front_all [] = refl
 operands_in_front_all (l ∷ ls) = ap (Then l.operator (expr_tree l.right)) (operands_in_front_all ls)
 
--- a operators with its operands looked up
+-- operators with resolved operands
 pub resolved_operators : (scope : List ℕ) (expr : Expr) (place : Place) (left made : Box Expr Global) (before found : Vec Operand Global) (operands : List Operand)
     → expr ≡ code.Operators place left before → operands ≡ before.items → expr_tree made.value ≡ resolved_expr scope (expr_tree left.value)
     → operands_of found.items ≡ resolved_operands scope (operands_of operands)
@@ -101,7 +100,7 @@ unknown_operators scope expr place left before operands expr_is operands_is =
     ap (λ (ls : List Operand). unknown_in scope (expr_tree left.value) ++ unknown_in_operands scope (operands_of ls)) operands_is
     ∙ sym (ap (unknown_in scope) (ap expr_tree expr_is ∙ expr_tree-operators place left before))
 
--- one more operand was looked up
+-- one more operand was resolved
 pub operands_found : (scope : List ℕ) (operands found : List Operand) (i : ℕ) (operand one : Operand) → i < length operands → operand ≡ get_or operands i operand
     → one.operator ≡ operand.operator → expr_tree one.right ≡ resolved_expr scope (expr_tree operand.right)
     → operands_in_front (found ++ one ∷ []) (resolved_operands scope (operands_of (drop (i + 1) operands))) ≡ operands_in_front found (resolved_operands scope (operands_of (drop i operands)))
@@ -122,7 +121,7 @@ operands_noted scope operands i operand first now there is noted =
     ∙ (sym (fold-append earlier first (unknown_in scope (expr_tree operand.right)) rest)
     ∙ ap (λ (ls : List Operand). fold earlier first (unknown_in_operands scope (operands_of ls))) (sym (drop_item operands i operand there is)))
 
--- each statement is looked up to one statement
+-- each statement is resolved to one statement
 pub resolved_length : (scope : List ℕ) (stmts : List StmtTree) → length (resolved_from scope stmts) ≡ length stmts
 resolved_length scope [] = refl
-resolved_length scope (stmt ∷ stmts) = ap (λ (n : ℕ). suc n) (resolved_length (scope_behind scope stmt) stmts)
+resolved_length scope (stmt ∷ stmts) = ap (λ (n : ℕ). suc n) (resolved_length (scope_after_statement scope stmt) stmts)

@@ -1,7 +1,8 @@
-//! The names of a program: where they offend, and which local each one stands for.
+//! The names of a program: the name offences, and the local that each name denotes.
 #![tactic(auto)]
 
 pub mod resolver;
 mod scope;
 
-pub use resolver::{NameError, own_slots, resolve};
+pub use abs_tree::SourceError as NameError;
+pub use resolver::{own_slots, resolve};

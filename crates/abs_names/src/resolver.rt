@@ -1,50 +1,23 @@
-//! Looks up the names of a program: gives each local its slot, or finds the first name offence.
+//! Resolves the names of a program: gives each local its slot, or finds the first name offence.
 ghost use Rattle.std.specs.Prelude.{◌≡◌, ◌≤◌, ◌<◌, ◌+◌, ◌^◌, [], length, fold, map, IfOk, IfErr, OnOk};
 ghost use Rattle.abs_tree.specs.Trees.{ProgramTree, expr_tree, trees_of, operands_of, stmt_tree, program_tree, named_tree};
 ghost use Rattle.abs_names.specs.Answers.{earlier, Refuses};
 ghost use Rattle.abs_names.specs.NameOffences.{unknown_in, unknown_in_all, unknown_in_operands, offences_of, offences_from, name_offences};
 ghost use Rattle.abs_names.specs.Resolution.{resolved_expr, resolved_exprs, resolved_operands, resolved_stmt, resolved_from, resolved};
-ghost use Rattle.abs_names.specs.Scopes.{scope_behind, scope_after};
+ghost use Rattle.abs_names.specs.Scopes.{scope_after_statement, scope_after};
 ghost use Rattle.abs_names.specs.Slots.{HasOwnSlots};
-ghost use Rattle.abs_names.specs.declared.resolver.NameError.TheVariants.{Memory, Refused};
 
+use crate::NameError;
 use crate::scope::Scope;
-use abs_tree::{Expr, Named, Offence, Operand, Program, Refusal, Stmt};
-use std::alloc::{AllocError, AllocFailed, Global};
+use abs_tree::{Expr, Named, Offence, Operand, Program, Stmt};
+use std::alloc::{AllocError, Global};
 use std::sync::Arc;
-use thiserror::Error;
 
-/// Why the names of a program are not looked up.
-#[derive(Clone, Copy, Debug, PartialEq, Eq, Error)]
-pub enum NameError {
-    /// A name offends; the first offence is refused.
-    #[error("a name offends")]
-    Refused(Refusal),
-    /// Memory ran out.
-    #[error("memory ran out")]
-    Memory,
-}
-
-impl From<AllocError> for NameError {
-    ghost from_gives = { λ _ e. e ≡ Memory };
-
-    fn from(_: AllocError) -> Self {
-        NameError::Memory
-    }
-}
-
-impl<T: Drop> From<AllocFailed<T>> for NameError {
-    ghost from_gives = { λ _ e. e ≡ Memory };
-
-    fn from(_: AllocFailed<T>) -> Self {
-        NameError::Memory
-    }
-}
-
-/// The program with a slot for each local that it declares, and each local as its slot.
+/// The resolved program: it has a slot for each local that it declares, and each use of a local is its slot.
 ///
 /// # Errors
-/// [`NameError::Refused`] where names offend, with the first offence, and [`NameError::Memory`] where memory runs out.
+/// [`NameError::Refused`] if the program has a name offence, for the first one; [`NameError::Memory`] if an allocation
+/// fails.
 pub fn resolve<'a>(alloc: Global, program: Program<'a>) -> Result<Named<'a>, NameError>
     ensures found { IfOk result (λ named. named_tree named ≡ resolved (program_tree program.entry)) }
     ensures accepted { OnOk result (name_offences (program_tree program.entry) ≡ []) }
@@ -64,7 +37,7 @@ pub fn resolve<'a>(alloc: Global, program: Program<'a>) -> Result<Named<'a>, Nam
     }
 }
 
-/// Statements that stand one behind the other; the scope is then the one behind them.
+/// Resolves statements in order. The scope is then the one after them.
 fn statements(
     alloc: Global,
     scope: &mut Scope,
@@ -72,9 +45,11 @@ fn statements(
     stmts: &[Stmt],
 ) -> Result<Vec<Stmt>, AllocError>
     requires { length scope.old + length stmts.now < 2 ^ 31 }
-    ensures found { IfOk result (λ found. map stmt_tree found.items ≡ resolved_from scope.old (map stmt_tree stmts.now)) }
-    ensures behind { OnOk result (scope.new ≡ scope_after scope.old (map stmt_tree stmts.now)) }
-    ensures noted { OnOk result (first.new ≡ fold earlier first.old (offences_from scope.old (map stmt_tree stmts.now))) }
+    ensures found { IfOk result
+        (λ found. map stmt_tree found.items ≡ resolved_from scope.old (map stmt_tree stmts.now)) }
+    ensures after { OnOk result (scope.new ≡ scope_after scope.old (map stmt_tree stmts.now)) }
+    ensures noted { OnOk result
+        (first.new ≡ fold earlier first.old (offences_from scope.old (map stmt_tree stmts.now))) }
     ensures few { OnOk result (length scope.new ≤ length scope.old + length stmts.now) }
 {
     let mut found = Vec::with_capacity(alloc, stmts.len())?;
@@ -84,7 +59,7 @@ fn statements(
     Ok(found)
 }
 
-/// A statement; the scope is then the one behind it.
+/// Resolves a statement. The scope is then the one after it.
 fn statement(
     alloc: Global,
     scope: &mut Scope,
@@ -93,13 +68,13 @@ fn statement(
 ) -> Result<Stmt, AllocError>
     requires { length scope.old < 2 ^ 31 }
     ensures found { IfOk result (λ found. stmt_tree found ≡ resolved_stmt scope.old (stmt_tree stmt.now)) }
-    ensures behind { OnOk result (scope.new ≡ scope_behind scope.old (stmt_tree stmt.now)) }
+    ensures after { OnOk result (scope.new ≡ scope_after_statement scope.old (stmt_tree stmt.now)) }
     ensures noted { OnOk result (first.new ≡ fold earlier first.old (offences_of scope.old (stmt_tree stmt.now))) }
 {
     match stmt {
         Stmt::Declare(place, name, variable, value) => {
-            scope.expect_new(first, *name, *variable);
-            // The value doesn't see the name that is declared.
+            scope.note_if_declared(first, *name, *variable);
+            // the value is resolved before its name is declared
             let value = Arc::new(alloc, expression(alloc, scope, first, value)?)?;
             let variable = scope.declare(*variable)?;
             Ok(Stmt::Declare(*place, *name, variable, value))
@@ -116,7 +91,7 @@ fn statement(
     }
 }
 
-/// An expression.
+/// Resolves an expression.
 #[cycle(expressions)]
 fn expression(
     alloc: Global,
@@ -150,7 +125,7 @@ fn expression(
     }
 }
 
-/// Expressions in a row.
+/// Resolves the expressions of a list.
 #[cycle(expressions)]
 fn expressions(
     alloc: Global,
@@ -169,7 +144,7 @@ fn expressions(
     Ok(found)
 }
 
-/// Operators with their right operands.
+/// Resolves the right operands of an operator list.
 #[cycle(expressions)]
 fn operands(
     alloc: Global,
@@ -178,8 +153,10 @@ fn operands(
     operands: &[Operand],
 ) -> Result<Vec<Operand>, AllocError>
     requires { length scope.now < 2 ^ 32 }
-    ensures found { IfOk result (λ found. operands_of found.items ≡ resolved_operands scope.now (operands_of operands.now)) }
-    ensures noted { OnOk result (first.new ≡ fold earlier first.old (unknown_in_operands scope.now (operands_of operands.now))) }
+    ensures found { IfOk result
+        (λ found. operands_of found.items ≡ resolved_operands scope.now (operands_of operands.now)) }
+    ensures noted { OnOk result
+        (first.new ≡ fold earlier first.old (unknown_in_operands scope.now (operands_of operands.now))) }
 {
     let mut found = Vec::with_capacity(alloc, operands.len())?;
     for operand in operands {
@@ -192,7 +169,7 @@ fn operands(
     Ok(found)
 }
 
-/// A program in which no name offends has a slot for each declaration, numbered from 0 in the order of the source.
+/// A program without a name offence has one slot for each declaration, numbered from 0 in the order of the source.
 pub fn own_slots()
     ensures { (program : ProgramTree) → HasOwnSlots program }
 {}

@@ -1,8 +1,8 @@
-//! The names that are declared so far, with their slots, and the first offence that was found so far.
+//! The names that are declared so far, with their slots, and the first offence so far.
 ghost use Rattle.std.specs.Prelude.{◌≡◌, ◌<◌, ◌^◌, [], length, fold, IfOk, OnOk};
 ghost use Rattle.abs_names.specs.Answers.{earlier};
-ghost use Rattle.abs_names.specs.NameOffences.{unknown, twice};
-ghost use Rattle.abs_names.specs.Resolution.{looked_up};
+ghost use Rattle.abs_names.specs.NameOffences.{unknown_name, repeated_declaration};
+ghost use Rattle.abs_names.specs.Resolution.{resolved_variable};
 ghost use Rattle.abs_names.specs.Scopes.{with_variable};
 
 use abs_tree::{Code, Offence, Place, Variable};
@@ -10,8 +10,8 @@ use indexmap::IndexSet;
 use std::alloc::{AllocError, Global};
 use std::marker::Model;
 
-/// The symbols that are declared so far, each once; the slot of a local is where its symbol stands. Contracts see the list
-/// of the symbols' numbers.
+/// The symbols that are declared so far, each once. The slot of a local is the index of its symbol. Contracts see the
+/// list of the symbols' numbers.
 #[derive(Drop)]
 pub(crate) struct Scope {
     symbols: IndexSet<u32>,
@@ -26,7 +26,7 @@ impl Model for Scope {
 }
 
 impl Scope {
-    /// A scope in which nothing is declared.
+    /// A scope without a declared name.
     pub fn new(alloc: Global) -> Scope
         ensures { result ≡ [] }
     {
@@ -42,11 +42,11 @@ impl Scope {
         self.symbols.len()
     }
 
-    /// What stands for a local at this place. A name that is not declared is noted as an offence.
+    /// The resolved form of a local at this place. A name that is not declared is noted as an offence.
     pub fn look_up(&self, first: &mut Option<Offence>, place: Place, variable: Variable) -> Variable
         requires { length self.now < 2 ^ 32 }
-        ensures found { result ≡ looked_up self.now variable }
-        ensures noted { first.new ≡ fold earlier first.old (unknown self.now place variable) }
+        ensures found { result ≡ resolved_variable self.now variable }
+        ensures noted { first.new ≡ fold earlier first.old (unknown_name self.now place variable) }
     {
         let Variable::Named(symbol) = variable else {
             return variable;
@@ -60,9 +60,9 @@ impl Scope {
         }
     }
 
-    /// Notes an offence where a local that is to be declared at this place is declared already.
-    pub fn expect_new(&self, first: &mut Option<Offence>, place: Place, variable: Variable)
-        ensures { first.new ≡ fold earlier first.old (twice self.now place variable) }
+    /// Notes an offence at this place if the local is declared already.
+    pub fn note_if_declared(&self, first: &mut Option<Offence>, place: Place, variable: Variable)
+        ensures { first.new ≡ fold earlier first.old (repeated_declaration self.now place variable) }
     {
         let Variable::Named(symbol) = variable else {
             return;
@@ -72,13 +72,13 @@ impl Scope {
         }
     }
 
-    /// Declares a local, and answers what stands for it.
+    /// Declares a local, and returns its resolved form.
     ///
     /// # Errors
-    /// [`AllocError`] where memory runs out.
+    /// [`AllocError`] if an allocation fails.
     pub fn declare(&mut self, variable: Variable) -> Result<Variable, AllocError>
         requires { length self.old < 2 ^ 31 }
-        ensures found { IfOk result (λ found. found ≡ looked_up self.new variable) }
+        ensures found { IfOk result (λ found. found ≡ resolved_variable self.new variable) }
         ensures declared { OnOk result (self.new ≡ with_variable self.old variable) }
     {
         let Variable::Named(symbol) = variable else {
@@ -89,7 +89,7 @@ impl Scope {
     }
 }
 
-/// Notes an offence, where none is noted that stands before it.
+/// Notes an offence, unless one is noted that comes before it in the source or at the same place.
 fn note(first: &mut Option<Offence>, code: Code, place: Place)
     ensures { first.new ≡ earlier first.old (record { code = code; place = place }) }
 {

@@ -1,14 +1,18 @@
--- What a source over the system's files has counted, and which of them it reads.
+-- What a source over the system's files has counted, and which file it reads.
+--
+--   `under_name`, `left_of`            what it tells of its bytes: nothing
+--   `missing_of`, `faults_of`          how many names were missing, and how many reads failed
+--   `selected_of`, `told_by`           the selected file, and what that file tells of its bytes
 use Rattle.std.specs.Prelude.{ℕ, List, [], Option, Some, None}
 use Rattle.abs_outside.specs.Names.{Under}
 use Rattle.abs_outside.specs.Names.Under.{Untold}
 use Rattle.abs_outside.specs.declared.file_source.FileSource.{FileSource}
 
--- what stands under a name is not told, since a file may change at any time
+-- what it holds under a name is not told, since a file may change at any time
 abbrev pub under_name : {R F D : Type 0} → FileSource R F D → List ℕ → Under
 under_name source name = Untold
 
--- the bytes that are left are not told either
+-- nor are the bytes that are left
 abbrev pub left_of : {R F D : Type 0} → FileSource R F D → Option (List ℕ)
 left_of source = None
 
@@ -24,7 +28,7 @@ faults_of source = source.faults
 abbrev pub selected_of : {R F D : Type 0} → FileSource R F D → Option F
 selected_of source = source.selected
 
--- the bytes that the selected file itself tells of what it has left, and none where no file is selected
+-- the bytes that the selected file tells that it has left; if no file is selected, none are left
 abbrev pub told_by : {F : Type 0} → (F → Option (List ℕ)) → Option F → Option (List ℕ)
 told_by tells None = Some []
 told_by tells (Some file) = tells file

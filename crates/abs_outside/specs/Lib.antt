@@ -1,3 +1,4 @@
+pub mod CallOptions
 pub mod Calls
 pub mod Counts
 pub mod FileSource

@@ -1,7 +1,14 @@
 -- What a source over memory holds and what it has counted.
+--
+--   `files_of`, `under_name`           its files, and what it holds under a name
+--   `options_of`                       how its reads go
+--   `left_of`                          the bytes that are left to read
+--   `reads_of`, `faults_of`            how many reads there were, and how many failed
+--   `missing_of`                       how many names were missing
 use Rattle.std.specs.Prelude.{ℕ, List, drop}
 use Rattle.abs_outside.specs.Names.{Under}
 use Rattle.abs_outside.specs.Files.{first_named, selected_content}
+use Rattle.abs_outside.specs.declared.call_options.CallOptions.{CallOptions}
 use Rattle.abs_outside.specs.declared.memory_source.NamedBytes.{NamedBytes}
 use Rattle.abs_outside.specs.declared.memory_source.MemorySource.{MemorySource}
 
@@ -9,13 +16,9 @@ use Rattle.abs_outside.specs.declared.memory_source.MemorySource.{MemorySource}
 abbrev pub files_of : MemorySource → List NamedBytes
 files_of source = source.files.items
 
--- the most bytes that one read hands over
-abbrev pub most_of : MemorySource → ℕ
-most_of source = source.most
-
--- the numbers of the reads that fail
-abbrev pub failing_of : MemorySource → List ℕ
-failing_of source = source.failing.items
+-- how its reads go: the most bytes that one hands over, and which fail
+abbrev pub options_of : MemorySource → CallOptions
+options_of source = source.options
 
 -- how many reads there were
 abbrev pub reads_of : MemorySource → ℕ
@@ -33,6 +36,6 @@ missing_of source = source.missing
 abbrev pub under_name : MemorySource → List ℕ → Under
 under_name source name = first_named (files_of source) name
 
--- the bytes that are left of the file that is selected
+-- the bytes of the selected file that are left to read
 abbrev pub left_of : MemorySource → List ℕ
 left_of source = drop source.position (selected_content source.files.items source.selected)

@@ -1,20 +1,24 @@
--- What a source tells of its names, and what selecting one of them does.
+-- What a source tells of its names, and what the selection of a name does.
+--
+--   `Under`                what a source holds under a name, as far as it tells
+--   `Selects`              what is left to read after the name was selected
+--   `IsNotHeld`            the source holds nothing under the name
 use Rattle.std.specs.Prelude.{◌≡◌, ℕ, List, ⊤, Option, Some, None}
 
--- what stands under a name, as far as the source tells it: nothing is told, nothing stands there, or these bytes do
+-- what a source holds under a name: it does not tell, it holds nothing, or it holds these bytes
 pub data Under : Type 0 where
   Untold : Under
   Absent : Under
   Holding : List ℕ → Under
 
--- the name was selected: where its bytes are told, just they are left to read
+-- the name was selected: if its bytes are told, exactly they are left to read
 abbrev pub Selects : Under → Option (List ℕ) → Type 0
 Selects Untold left = ⊤
 Selects Absent left = ⊥
 Selects (Holding bytes) None = ⊥
 Selects (Holding bytes) (Some left) = left ≡ bytes
 
--- where the names are told, this one is not held
+-- if the source tells what it holds under the name, it holds nothing
 abbrev pub IsNotHeld : Under → Type 0
 IsNotHeld Untold = ⊤
 IsNotHeld Absent = ⊤

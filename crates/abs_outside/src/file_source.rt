@@ -11,7 +11,7 @@ use std::fs;
 use std::io::Read;
 use std::rt::Files;
 
-/// Reads files that the runtime opens. It tells nothing of their bytes, since those may change at any time.
+/// Reads files that the runtime opens. It does not tell their bytes, since a file may change at any time.
 #[derive(Drop)]
 pub struct FileSource<'a, R: Files> {
     rt: &'a R,
@@ -21,7 +21,7 @@ pub struct FileSource<'a, R: Files> {
 }
 
 impl<'a, R: Files> FileSource<'a, R> {
-    /// Reads files of this runtime. Nothing is selected yet, so nothing is left to read.
+    /// A source of this runtime's files. Nothing is selected yet, so nothing is left to read.
     pub fn new(rt: &'a R) -> FileSource<'a, R>
         ensures selected { IsNone (selected_of result) }
         ensures missing { missing_of result ≡ 0 }
@@ -56,7 +56,7 @@ impl<R: Files> Source for FileSource<'_, R> {
         ensures never_falls { missing_of self.old ≤ missing_of self.new }
         ensures same_faults { faults_of self.new ≡ faults_of self.old }
 
-        // What this source says besides: which file is selected then, and by how much the count rises.
+        // What this source promises besides: which file is selected after the call, and by how much the count rises.
         ensures some_selected { OnOk result (IsSome (selected_of self.new)) }
         ensures same_selected { OnErr result (selected_of self.new ≡ selected_of self.old) }
         ensures one_missing { OnErr result (missing_of self.new ≡ one_more (missing_of self.old)) }
@@ -82,9 +82,11 @@ impl<R: Files> Source for FileSource<'_, R> {
         ensures never_falls { faults_of self.old ≤ faults_of self.new }
         ensures same_missing { missing_of self.new ≡ missing_of self.old }
 
-        // What this source says besides: it hands over what the selected file does, and by how much the count rises.
+        // What this source promises besides: it gives what the selected file gives, and by how much the count rises.
         ensures none_selected { IsNone (selected_of self.old) → result ≡ Ok 0 }
-        ensures handed_over { ReadConsumes (told_by R.File.Read.remaining (selected_of self.old)) (told_by R.File.Read.remaining (selected_of self.new)) result buffer.new }
+        ensures handed_over { ReadConsumes
+            (told_by R.File.Read.remaining (selected_of self.old))
+            (told_by R.File.Read.remaining (selected_of self.new)) result buffer.new }
         ensures one_fault { OnErr result (faults_of self.new ≡ one_more (faults_of self.old)) }
         ensures no_fault { OnOk result (faults_of self.new ≡ faults_of self.old) }
     {

@@ -1,10 +1,11 @@
 //! The edge of the program: where its bytes come from and where they go.
 //!
-//! [`Source`] and [`Sink`] are all that the command knows of files and streams. Each has meanings, which contracts
-//! cite: the bytes that it tells, and counts of what failed. Four fakes keep their bytes in memory, for tests and for
-//! callers that have the bytes already; two adapters stand over a real file and a real stream.
+//! [`Source`] and [`Sink`] are all that the command knows of files and streams. Contracts cite what each of them tells:
+//! its bytes, and counts of what failed. Two sources and two sinks work in memory, for tests and for callers that have
+//! the bytes already. One source reads real files, and one sink writes to a real stream.
 #![tactic(auto)]
 
+mod call_options;
 mod file_source;
 mod memory_sink;
 mod memory_source;
@@ -16,6 +17,7 @@ mod stream_sink;
 #[cfg(test)]
 mod tests;
 
+pub use call_options::CallOptions;
 pub use file_source::FileSource;
 pub use memory_sink::MemorySink;
 pub use memory_source::{MemorySource, NamedBytes};

@@ -1,14 +1,15 @@
-//! A source whose files are in memory, for tests and for callers that have the bytes already: how much a read hands
-//! over and which reads fail is chosen when it is made.
-ghost use Rattle.std.specs.Prelude.{◌≡◌, ℕ, ◌<◌, ◌≤◌, ◌↔◌, List, [], Some, length, min, IfOk, IsErr, OnOk, OnErr, Contains, position};
+//! A source whose files are in memory, for tests and for callers that have the bytes already. How many bytes a read
+//! hands over, and which reads fail, is chosen when it is made.
+ghost use Rattle.std.specs.Prelude.{◌≡◌, ℕ, ◌<◌, ◌≤◌, ◌↔◌, List, [], Some, length, min, IfOk, IsErr, OnOk, OnErr, position};
 ghost use Rattle.std.specs.Option.{ForSome};
 ghost use Rattle.std.specs.Io.KnownBytes.{ReadConsumes};
+ghost use Rattle.abs_outside.specs.CallOptions.{NextFails};
 ghost use Rattle.abs_outside.specs.Calls.{one_more};
 ghost use Rattle.abs_outside.specs.Counts.{Rose};
 ghost use Rattle.abs_outside.specs.Files.{has_name, selected_content};
 ghost use Rattle.abs_outside.specs.Names.{Selects, IsNotHeld};
 
-use crate::{Failed, Source};
+use crate::{CallOptions, Failed, Source};
 
 /// A file of a [`MemorySource`].
 #[derive(Debug, Drop)]
@@ -19,34 +20,33 @@ pub struct NamedBytes {
     pub content: Vec<u8>,
 }
 
-/// Holds files in memory. Of two files of one name the first counts.
+/// Holds files in memory. If two files have one name, the first one counts. A read fails only if its number is among
+/// those that are to fail.
 #[derive(Debug, Drop)]
 pub struct MemorySource {
     files: Vec<NamedBytes>,
-    most: usize,
-    failing: Vec<u64>,
+    options: CallOptions,
     selected: Option<usize>,
     position: usize,
     reads: u64,
     faults: u64,
     missing: u64,
-    // A read that hands over nothing is the end of the input, so each has to hand over something before that.
-    ghost hands_over: { 0 < most },
-    // What is left lies in a file that is held.
+    // A read that hands over nothing means the end of the input, so each read before the end hands over something.
+    ghost hands_over: { 0 < options.most },
+    // The bytes that are left are those of a file that it holds.
     ghost held: { ForSome selected (λ index. index < length files.items) },
     ghost within: { position ≤ length (selected_content files.items selected) },
 }
 
 impl MemorySource {
-    ghost use Rattle.abs_outside.specs.MemorySource.{files_of, most_of, failing_of, reads_of, faults_of, missing_of, left_of};
+    ghost use Rattle.abs_outside.specs.MemorySource.{files_of, options_of, reads_of, faults_of, missing_of, left_of};
 
-    /// Holds these files. A read hands over at most `most` bytes, and the reads whose numbers are among `failing` fail,
-    /// counted from 1. Nothing is selected yet, so nothing is left to read.
-    pub fn new(files: Vec<NamedBytes>, most: usize, failing: Vec<u64>) -> MemorySource
-        requires { 0 < most }
+    /// A source that holds these files, and whose reads go as the options say. Nothing is selected yet, so nothing is
+    /// left to read.
+    pub fn new(files: Vec<NamedBytes>, options: CallOptions) -> MemorySource
+        requires { 0 < options.most }
         ensures files { files_of result ≡ files.items }
-        ensures most { most_of result ≡ most }
-        ensures failing { failing_of result ≡ failing.items }
+        ensures options { options_of result ≡ options }
         ensures left { left_of result ≡ [] }
         ensures reads { reads_of result ≡ 0 }
         ensures faults { faults_of result ≡ 0 }
@@ -54,8 +54,7 @@ impl MemorySource {
     {
         MemorySource {
             files,
-            most,
-            failing,
+            options,
             selected: None,
             position: 0,
             reads: 0,
@@ -71,18 +70,11 @@ impl MemorySource {
         &self.files
     }
 
-    /// The most bytes that one read hands over.
-    pub fn most(&self) -> usize
-        ensures { result ≡ most_of self.now }
+    /// How its reads go.
+    pub fn options(&self) -> &CallOptions
+        ensures { result.now ≡ options_of self.now }
     {
-        self.most
-    }
-
-    /// The numbers of the reads that fail.
-    pub fn failing(&self) -> &Vec<u64>
-        ensures { result.now.items ≡ failing_of self.now }
-    {
-        &self.failing
+        &self.options
     }
 
     // The index of the first file of this name.
@@ -94,7 +86,7 @@ impl MemorySource {
             .position(|file| file.name.as_slice() == name)
     }
 
-    // The bytes that are left of the file that is selected.
+    // The bytes of the selected file that are left to read.
     fn left(&self) -> &[u8]
         ensures { result.now ≡ left_of self.now }
     {
@@ -106,7 +98,7 @@ impl MemorySource {
 }
 
 impl Source for MemorySource {
-    ghost use Rattle.abs_outside.specs.MemorySource.{files_of, most_of, failing_of, reads_of, faults_of, missing_of, left_of, under_name};
+    ghost use Rattle.abs_outside.specs.MemorySource.{files_of, options_of, reads_of, faults_of, missing_of, left_of, under_name};
 
     ghost under = { under_name };
 
@@ -127,12 +119,11 @@ impl Source for MemorySource {
         ensures never_falls { missing_of self.old ≤ missing_of self.new }
         ensures same_faults { faults_of self.new ≡ faults_of self.old }
 
-        // What this source says besides: by how much the count rises, and what no selection changes.
+        // What this source promises besides: by how much the count rises, and what no selection changes.
         ensures one_missing { OnErr result (missing_of self.new ≡ one_more (missing_of self.old)) }
         ensures same_reads { reads_of self.new ≡ reads_of self.old }
         ensures same_files { files_of self.new ≡ files_of self.old }
-        ensures same_most { most_of self.new ≡ most_of self.old }
-        ensures same_failing { failing_of self.new ≡ failing_of self.old }
+        ensures same_options { options_of self.new ≡ options_of self.old }
     {
         match self.index_of(name.as_bytes()) {
             Some(index) => {
@@ -156,23 +147,23 @@ impl Source for MemorySource {
         ensures never_falls { faults_of self.old ≤ faults_of self.new }
         ensures same_missing { missing_of self.new ≡ missing_of self.old }
 
-        // What this source says besides: which reads fail, how many bytes the others hand over, and what is counted.
-        ensures fails { IsErr result ↔ Contains (failing_of self.old) (one_more (reads_of self.old)) }
-        ensures count { IfOk result (λ count. count ≡ min (min (most_of self.old) (length buffer.old)) (length (left_of self.old))) }
+        // What this source promises besides: which reads fail, how many bytes the others give, and what is counted.
+        ensures fails { IsErr result ↔ NextFails (options_of self.old) (reads_of self.old) }
+        ensures count { IfOk result
+            (λ count. count ≡ min (min (options_of self.old).most (length buffer.old)) (length (left_of self.old))) }
         ensures one_read { reads_of self.new ≡ one_more (reads_of self.old) }
         ensures one_fault { OnErr result (faults_of self.new ≡ one_more (faults_of self.old)) }
         ensures no_fault { OnOk result (faults_of self.new ≡ faults_of self.old) }
         ensures same_files { files_of self.new ≡ files_of self.old }
-        ensures same_most { most_of self.new ≡ most_of self.old }
-        ensures same_failing { failing_of self.new ≡ failing_of self.old }
+        ensures same_options { options_of self.new ≡ options_of self.old }
     {
         self.reads = self.reads.saturating_add(1);
-        if self.failing.contains(&self.reads) {
+        if self.options.failing.contains(&self.reads) {
             self.faults = self.faults.saturating_add(1);
             return Err(Failed);
         }
         let left = self.left();
-        let count = self.most.min(buffer.len()).min(left.len());
+        let count = self.options.most.min(buffer.len()).min(left.len());
         buffer[..count].copy_from_slice(&left[..count]);
         self.position += count;
         Ok(count)

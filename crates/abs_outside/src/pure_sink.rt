@@ -1,4 +1,4 @@
-//! A sink that takes every piece whole, keeps nothing and never fails, for callers that want the answer alone.
+//! A sink that takes every piece whole, keeps nothing and never fails, for callers that do not want the output.
 ghost use Rattle.std.specs.Prelude.{◌≡◌, ◌<◌, ◌≤◌, Ok, length, IfOk, OnErr};
 ghost use Rattle.std.specs.Io.KnownBytes.{WriteAppends};
 ghost use Rattle.abs_outside.specs.Counts.{Rose};
@@ -11,7 +11,7 @@ use crate::{Failed, Sink};
 pub struct PureSink;
 
 impl PureSink {
-    /// Has taken nothing yet.
+    /// A sink that has taken nothing yet.
     pub fn new() -> PureSink
         ensures { faults_of result ≡ 0 }
     {
@@ -29,10 +29,11 @@ impl Sink for PureSink {
         ensures appended { WriteAppends (written_of self.old) (written_of self.new) result piece.now }
 
         ensures counted { OnErr result (Rose (faults_of self.old) (faults_of self.new)) }
-        ensures nothing_taken { IfOk result (λ count. count ≡ 0 → 0 < length piece.now → Rose (faults_of self.old) (faults_of self.new)) }
+        ensures nothing_taken { IfOk result (λ count. count ≡ 0
+            → 0 < length piece.now → Rose (faults_of self.old) (faults_of self.new)) }
         ensures never_falls { faults_of self.old ≤ faults_of self.new }
 
-        // What this sink says besides: it takes each piece whole.
+        // What this sink promises besides: it takes each piece whole.
         ensures whole { result ≡ Ok (length piece.now) }
     {
         Ok(piece.len())

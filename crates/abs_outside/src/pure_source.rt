@@ -1,4 +1,4 @@
-//! A source that has one content under every name and never fails, for callers that want the answer for given bytes.
+//! A source that has one content under every name and never fails, for callers that have the bytes already.
 ghost use Rattle.std.specs.Prelude.{◌≡◌, ℕ, ◌≤◌, List, [], Some, length, min, vec_len, IfOk, IsOk, OnOk, OnErr};
 ghost use Rattle.std.specs.Io.KnownBytes.{ReadConsumes};
 ghost use Rattle.abs_outside.specs.Counts.{Rose};
@@ -17,7 +17,7 @@ pub struct PureSource {
 impl PureSource {
     ghost use Rattle.abs_outside.specs.PureSource.{content_of, left_of};
 
-    /// Holds this content under every name. Nothing is selected yet, so nothing is left to read.
+    /// A source that holds this content under every name. Nothing is selected yet, so nothing is left to read.
     pub fn new(content: Vec<u8>) -> PureSource
         ensures content { content_of result ≡ content.items }
         ensures left { left_of result ≡ [] }
@@ -26,14 +26,14 @@ impl PureSource {
         PureSource { content, position }
     }
 
-    /// The content that stands under every name.
+    /// The content that it holds under every name.
     pub fn content(&self) -> &Vec<u8>
         ensures { result.now.items ≡ content_of self.now }
     {
         &self.content
     }
 
-    // The bytes that are left.
+    // The bytes that are left to read.
     fn left(&self) -> &[u8]
         ensures { result.now ≡ left_of self.now }
     {
@@ -63,7 +63,7 @@ impl Source for PureSource {
         ensures never_falls { missing_of self.old ≤ missing_of self.new }
         ensures same_faults { faults_of self.new ≡ faults_of self.old }
 
-        // What this source says besides: no selection fails.
+        // What this source promises besides: no selection fails.
         ensures succeeds { IsOk result }
         ensures same_content { content_of self.new ≡ content_of self.old }
     {
@@ -80,7 +80,7 @@ impl Source for PureSource {
         ensures never_falls { faults_of self.old ≤ faults_of self.new }
         ensures same_missing { missing_of self.new ≡ missing_of self.old }
 
-        // What this source says besides: no read fails, and how many bytes each hands over.
+        // What this source promises besides: no read fails, and how many bytes each hands over.
         ensures succeeds { IsOk result }
         ensures count { IfOk result (λ count. count ≡ min (length buffer.old) (length (left_of self.old))) }
         ensures same_content { content_of self.new ≡ content_of self.old }

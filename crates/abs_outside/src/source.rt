@@ -1,4 +1,5 @@
-//! Where bytes come from: a source holds bytes under names, one of which is selected and then read piece by piece.
+//! Where bytes come from. A source holds bytes under names. One name is selected, and its bytes are then read in
+//! pieces.
 ghost use Rattle.std.specs.Prelude.{◌≡◌, ℕ, ◌≤◌, List, Option, length, IfOk, OnOk, OnErr};
 ghost use Rattle.std.specs.Io.KnownBytes.{ReadConsumes};
 ghost use Rattle.abs_outside.specs.Counts.{Rose};
@@ -6,29 +7,29 @@ ghost use Rattle.abs_outside.specs.Names.{Under, Selects, IsNotHeld};
 
 use thiserror::Error;
 
-/// What lies outside failed. Why is not told: the count of the source or the sink says that it did.
+/// A call of a source or a sink failed. The cause is not told; the counts of the source or the sink rise.
 #[derive(Clone, Copy, Debug, PartialEq, Eq, Error)]
 #[error("what lies outside failed")]
 pub struct Failed;
 
-/// Holds bytes under names. One name is selected at a time, and its bytes are read from the front.
+/// Holds bytes under names. One name is selected at a time, and its bytes are read in order.
 pub trait Source {
-    /// What stands under a name, as far as the source tells it.
+    /// What the source holds under a name, as far as it tells.
     ghost under: { Self → List ℕ → Under };
 
-    /// The bytes that are left to read, where the source tells them.
+    /// The bytes that are left to read, if the source tells them.
     ghost left: { Self → Option (List ℕ) };
 
-    /// How often a name that was to be selected was missing.
+    /// How many selections failed because the name was missing.
     ghost missing: { Self → ℕ };
 
-    /// How often a read failed.
+    /// How many reads failed.
     ghost faults: { Self → ℕ };
 
-    /// Makes the bytes under the name those that are left to read.
+    /// Selects a name: its bytes are then left to read.
     ///
     /// # Errors
-    /// [`Failed`] where the source has nothing under the name; what was left to read is left still.
+    /// [`Failed`] if the source has nothing under the name. What was left to read before is still left.
     fn select(&mut self, name: &str) -> Result<(), Failed>
         ensures selected { OnOk result (Selects (under self.old name.now) (left self.new)) }
         ensures not_held { OnErr result (IsNotHeld (under self.old name.now)) }
@@ -40,11 +41,11 @@ pub trait Source {
         ensures never_falls { missing self.old ≤ missing self.new }
         ensures same_faults { faults self.new ≡ faults self.old };
 
-    /// Hands over the next bytes, at most as many as the buffer has room for, and says how many they are. No byte into
-    /// a buffer that has room is the end of the input.
+    /// Copies the next bytes to the start of the buffer, and returns how many there are. With a buffer that is not
+    /// empty, 0 means the end of the input.
     ///
     /// # Errors
-    /// [`Failed`] where the read failed; then no byte was taken.
+    /// [`Failed`] if the read failed. No byte was taken then.
     fn read(&mut self, buffer: &mut [u8]) -> Result<usize, Failed>
         ensures at_most { IfOk result (λ count. count ≤ length buffer.new) }
         ensures consumed { ReadConsumes (left self.old) (left self.new) result buffer.new }

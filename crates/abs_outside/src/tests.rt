@@ -1,15 +1,15 @@
-//! What no clause says of the sources and the sinks: that their calls succeed where they should, in memory and over the
+//! What no clause says of the sources and the sinks: that their calls succeed when they should, in memory and with the
 //! files of the system.
 use crate::{
-    Failed, FileSource, MemorySink, MemorySource, NamedBytes, PureSink, PureSource, Sink, Source,
-    StreamSink,
+    CallOptions, Failed, FileSource, MemorySink, MemorySource, NamedBytes, PureSink, PureSource,
+    Sink, Source, StreamSink,
 };
 use std::alloc::{AllocError, Global};
 use std::process::Abort;
 use std::test::Fail;
 use std::{fs, io};
 
-// A call of a source, and what it is to answer.
+// A call of a source, and the result that it must give.
 #[derive(Clone, Copy)]
 enum Step<'a> {
     Select(&'a str, Result<(), Failed>),
@@ -18,7 +18,7 @@ enum Step<'a> {
 
 use Step::{Read, Select};
 
-// Takes the steps in turn, with a buffer of 8 bytes.
+// Makes the calls in turn, with a buffer of 8 bytes.
 fn take<S: Source>(rt: &impl Abort, source: &mut S, steps: &[Step<'_>]) {
     for (turn, step) in steps.iter().enumerate() {
         match step {
@@ -33,7 +33,7 @@ fn take<S: Source>(rt: &impl Abort, source: &mut S, steps: &[Step<'_>]) {
     }
 }
 
-// Offers the pieces in turn, each with what the write is to answer.
+// Writes the pieces in turn, each with the result that the write must give.
 fn offer<S: Sink>(rt: &impl Abort, sink: &mut S, pieces: &[(&str, Result<usize, Failed>)]) {
     for (piece, want) in pieces {
         assert_eq!(rt; sink.write(piece.as_bytes()), *want, "at {piece:?}");
@@ -54,10 +54,14 @@ fn memory_source(rt: HostRuntime) -> Result<(), Fail> {
     for (name, content) in [("one", "abc"), ("two", "xy"), ("one", "later")] {
         files.push(file(alloc, name, content)?)?;
     }
-    let mut source = MemorySource::new(files, 2, vec![in alloc; 2]?);
+    let options = CallOptions {
+        most: 2,
+        failing: vec![in alloc; 2]?,
+    };
+    let mut source = MemorySource::new(files, options);
     assert_eq!(rt; source.files().len(), 3);
-    assert_eq!(rt; source.most(), 2);
-    assert_eq!(rt; source.failing().as_slice(), [2].as_slice());
+    assert_eq!(rt; source.options().most, 2);
+    assert_eq!(rt; source.options().failing.as_slice(), [2].as_slice());
     let steps = [
         Read(Ok("")),
         Select("one", Ok(())),
@@ -95,9 +99,13 @@ fn pure_source(rt: HostRuntime) -> Result<(), Fail> {
 #[test]
 fn sinks(rt: HostRuntime) -> Result<(), Fail> {
     let alloc = rt.alloc();
-    let mut memory = MemorySink::new(alloc, 8, vec![in alloc; 2]?);
-    assert_eq!(rt; memory.most(), 8);
-    assert_eq!(rt; memory.failing().as_slice(), [2].as_slice());
+    let options = CallOptions {
+        most: 8,
+        failing: vec![in alloc; 2]?,
+    };
+    let mut memory = MemorySink::new(alloc, options);
+    assert_eq!(rt; memory.options().most, 8);
+    assert_eq!(rt; memory.options().failing.as_slice(), [2].as_slice());
     let pieces = [
         ("0123456789", Ok(8)),
         ("lost", Err(Failed)),
@@ -107,7 +115,11 @@ fn sinks(rt: HostRuntime) -> Result<(), Fail> {
     offer(&rt, &mut memory, &pieces);
     assert_eq!(rt; memory.written().as_slice(), b"0123456789".as_slice());
 
-    let mut full = MemorySink::new(alloc, 0, Vec::new(alloc));
+    let options = CallOptions {
+        most: 0,
+        failing: Vec::new(alloc),
+    };
+    let mut full = MemorySink::new(alloc, options);
     offer(&rt, &mut full, &[("lost", Ok(0)), ("", Ok(0))]);
     assert_eq!(rt; full.written().as_slice(), b"".as_slice());
 
@@ -151,7 +163,7 @@ fn stream_sink(rt: HostRuntime) -> Result<(), Fail> {
     offer(&rt, &mut unwritable, &[("lost", Err(Failed))]);
     fs::remove_file(&rt, "written")?;
 
-    // A piece of nothing, since what is printed here would stand among the report of the tests.
+    // An empty piece, since output would appear in the report of the tests.
     offer(&rt, &mut StreamSink::new(io::writer(&rt)), &[("", Ok(0))]);
 
     let mut room = [0u8; 2];

@@ -12,8 +12,8 @@ use Rattle.abs_lexer.specs.declared.lexeme.Lexeme.{Lexeme}
 use Rattle.abs_lexer.specs.declared.lexeme.Lexeme.TheVariants as lexeme
 use Rattle.abs_lexer.specs.declared.lexeme.Punctuator.{Punctuator}
 use Rattle.abs_lexer.specs.declared.lexeme.Punctuator.TheVariants as punctuator
-use Rattle.abs_lexer.specs.Words.{spelling, sign_text, keywords, keyword_among}
-use Rattle.abs_lexer.specs.Scans.{sign_among, long_signs, short_signs}
+use Rattle.abs_lexer.specs.Words.{spelling, punctuator_bytes, keywords, keyword_among}
+use Rattle.abs_lexer.specs.Scans.{punctuator_among, long_punctuators, short_punctuators}
 use Rattle.abs_lexer.specs.Tokens.{Lexed}
 use Rattle.abs_parser.specs.Kinds.{Kind, Token, TextEnd, LowerName, LocalName, UpperName, AbsName, StdLibName, Number, Text, Word, Foreign, Sign, End, kind_of_lexeme, kind_of, fits, next}
 use Rattle.abs_parser.specs.Readings.{Wanted, Terminal}
@@ -21,8 +21,8 @@ use Rattle.abs_parser.specs.Refusing.{Other}
 use Rattle.abs_parser.specs.ReaderAnswers.{asked, left_at, wrong_at, RefusedAt, IsRefused}
 use Rattle.abs_parser.specs.Stops.{wrong_code}
 use Rattle.abs_parser.specs.Tokens.{Spot, TakesToken}
-use Rattle.abs_parser.specs.declared.parser.ParseError.{ParseError}
-use Rattle.abs_parser.specs.declared.parser.ParseError.TheVariants.{Refused}
+use Rattle.abs_tree.specs.declared.source_error.SourceError.{SourceError}
+use Rattle.abs_tree.specs.declared.source_error.SourceError.TheVariants.{Refused}
 
 -- each word is looked up by its spelling
 word_found : (word : Keyword) → keyword_among keywords (spelling word) ≡ Some word
@@ -37,15 +37,15 @@ spelled_alike a b alike =
     cc
 
 -- each sign is looked up by its text
-sign_is_among : (sign : Punctuator) → sign_among (long_signs ++ short_signs) (sign_text sign) ≡ Some sign
+sign_is_among : (sign : Punctuator) → punctuator_among (long_punctuators ++ short_punctuators) (punctuator_bytes sign) ≡ Some sign
 sign_is_among punctuator.OpenParen = refl
 sign_is_among _ = refl
 
 -- so two signs that are written alike are one
-written_alike : (a b : Punctuator) → bytes_eq (sign_text a) (sign_text b) ≡ true → a ≡ b
+written_alike : (a b : Punctuator) → bytes_eq (punctuator_bytes a) (punctuator_bytes b) ≡ true → a ≡ b
 written_alike a b alike =
-    let same : sign_text a ≡ sign_text b = (bytes_eq-Decides (sign_text a) (sign_text b)).0 alike in
-    let found : Some a ≡ Some b = sym (sign_is_among a) ∙ (ap (sign_among (long_signs ++ short_signs)) same ∙ sign_is_among b) in
+    let same : punctuator_bytes a ≡ punctuator_bytes b = (bytes_eq-Decides (punctuator_bytes a) (punctuator_bytes b)).0 alike in
+    let found : Some a ≡ Some b = sym (sign_is_among a) ∙ (ap (punctuator_among (long_punctuators ++ short_punctuators)) same ∙ sign_is_among b) in
     cc
 
 -- the kind of token that a kind of the grammar is of; at the end there is none
@@ -133,7 +133,7 @@ refused_at_first kind depth items (token ∷ others) end unfit = record {
 }
 
 -- where the next token does not fit the kind that is asked for, a token of that kind is refused, whatever is to follow it
-pub other_refused : (kind : Kind) (from : Spot) (error : ParseError) → error ≡ Refused (wrong_at from) → fits kind (next (left_at from)) ≡ false
+pub other_refused : (kind : Kind) (from : Spot) (error : SourceError) → error ≡ Refused (wrong_at from) → fits kind (next (left_at from)) ≡ false
     → (depth : ℕ) → IsRefused (Terminal kind depth) from error
 other_refused kind from error is unfit depth = λ items. rw is (refused_at_first kind depth items from.rest from.end unfit)
 

@@ -17,7 +17,7 @@ use Rattle.abs_parser.specs.ReaderAnswers.{left_at, TakesKind, FoundAs, IsRefuse
 use Rattle.abs_parser.specs.Stops.{limit}
 use Rattle.abs_parser.specs.Tokens.{Spot}
 use Rattle.abs_parser.specs.TreesOf.{statements_in, block_in, block_end}
-use Rattle.abs_parser.specs.declared.parser.ParseError.{ParseError}
+use Rattle.abs_tree.specs.declared.source_error.SourceError.{SourceError}
 use Rattle.abs_parser.proofs.FirstPlaceLemmas.{found_fewer}
 use Rattle.abs_parser.proofs.NameLemmas.{goes_on_further}
 use Rattle.abs_parser.proofs.PatternSteps.{nothing_found}
@@ -78,7 +78,7 @@ next_statement {depth} {listed = listed} stmt same so begun found = rw same (rec
 })
 
 -- where a further statement begins, the block is refused where that is
-pub refused_statement : {depth : ℕ} {old now : List (List ℕ)} {from here : Spot} {listed : List CodeStmt} (error : ParseError) → ReadsBlock depth old now from here listed → begins Stmt (next (left_at here)) ≡ true
+pub refused_statement : {depth : ℕ} {old now : List (List ℕ)} {from here : Spot} {listed : List CodeStmt} (error : SourceError) → ReadsBlock depth old now from here listed → begins Stmt (next (left_at here)) ≡ true
     → IsRefused (Nonterminal (One Stmt) depth) here error → IsRefused (Nonterminal (One Block) depth) from error
 refused_statement {depth} {now = now} {here = here} error so begun refused =
     refused_inside so.read error (refused_inside (opens (Repeated Stmt) depth now here _ (repeated_opened Stmt _ depth begun)) error refused)
@@ -88,7 +88,7 @@ no_statement : (depth : ℕ) (table : List (List ℕ)) (here : Spot) → begins 
 no_statement depth table here ends = nothing_found (Repeated Stmt) depth table here (repeated_ends Stmt _ depth ends)
 
 -- and the block is refused where its "}" is
-pub refused_brace : {depth : ℕ} {old now : List (List ℕ)} {from here : Spot} {listed : List CodeStmt} (error : ParseError) → ReadsBlock depth old now from here listed → begins Stmt (next (left_at here)) ≡ false
+pub refused_brace : {depth : ℕ} {old now : List (List ℕ)} {from here : Spot} {listed : List CodeStmt} (error : SourceError) → ReadsBlock depth old now from here listed → begins Stmt (next (left_at here)) ≡ false
     → IsRefused (Terminal (Sign punctuator.CloseBrace) depth) here error → IsRefused (Nonterminal (One Block) depth) from error
 refused_brace {depth} {now = now} {here = here} error so ends refused = refused_inside (over_part so.read (no_statement depth now here ends)) error refused
 

@@ -2,9 +2,9 @@
 use Rattle.std.proofs.Common.{◌≤◌, ℕ, ◌+◌, List, [], ◌∷◌, ◌++◌, length, arith}
 use Rattle.std.proofs.lemmas.List.Elements.{All-nil, All-cons, All-append}
 use Rattle.std.specs.List.{All}
-use Rattle.abs_tree.specs.Syntax.{NoValue, Value, MemberTree, FieldTree, MethodTree, DeclTree, DataTree, FunctionTree, InterfaceTree, ClassTree, TextTree}
+use Rattle.abs_tree.specs.Syntax.{NoValue, Value, MemberTree, FieldTree, MethodTree, DeclTree, DataTree, FunctionTree, InterfaceTree, ClassTree, SourceTree}
 use Rattle.abs_tree.specs.SyntaxSizes.{phrase_variables, statements_variables, field_variables, method_sizes, decl_sizes, body_sizes}
-use Rattle.abs_tree.specs.TextSizes.{member_variables, decl_variables, all_variables}
+use Rattle.abs_tree.specs.SourceSizes.{member_variables, decl_variables, all_variables}
 
 -- a number within a bound stands in front of others that are
 pub within_cons : (bound n : ℕ) (others : List ℕ) → n ≤ bound → All (λ m. m ≤ bound) others → All (λ m. m ≤ bound) (n ∷ others)
@@ -39,6 +39,6 @@ decls_within bound (ClassTree place name params implemented members ∷ others) 
     (All-append (λ n. n ≤ bound) (method_sizes members) (decl_sizes others) methods behind)
 
 -- each body of a text is within what bounds the variables of the whole
-pub bodies_within : (bound : ℕ) (text : TextTree) → all_variables text ≤ bound → All (λ n. n ≤ bound) (body_sizes text)
+pub bodies_within : (bound : ℕ) (text : SourceTree) → all_variables text ≤ bound → All (λ n. n ≤ bound) (body_sizes text)
 bodies_within bound text few =
     within_cons bound (statements_variables text.main) (decl_sizes text.declarations) (omega (arith, few)) (decls_within bound text.declarations (omega (arith, few)))

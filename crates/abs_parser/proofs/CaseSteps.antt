@@ -24,7 +24,7 @@ use Rattle.abs_parser.specs.ReaderAnswers.{left_at, TakesKind, FoundAs, IsRefuse
 use Rattle.abs_parser.specs.Stops.{limit}
 use Rattle.abs_parser.specs.Tokens.{Spot}
 use Rattle.abs_parser.specs.TreesOf.{pattern_in, primary_in, primary_by, branch_in, branches_in}
-use Rattle.abs_parser.specs.declared.parser.ParseError.{ParseError}
+use Rattle.abs_tree.specs.declared.source_error.SourceError.{SourceError}
 use Rattle.abs_parser.proofs.NameLemmas.{goes_on_further}
 use Rattle.abs_parser.proofs.StepLemmas.{HasRead, opens, over_token, over_part, all_read, refused_inside, found_goes_on, found_shorter, token_shorter}
 use Rattle.abs_parser.proofs.SymbolLemmas.{begins_with_part, part_shut, part_begun, part_opened, repeated_opened, repeated_ends}
@@ -73,7 +73,7 @@ pub pattern_read : {depth : ℕ} {old new : List (List ℕ)} {from to : Spot} {i
 pattern_read {depth} {old} {from = from} found = over_part (opens (One Branch) depth old from _ (branch_opened _ depth (part_begun Pattern _ depth found.rule_is))) found
 
 -- a branch is refused where its pattern is
-pub refused_pattern : (depth : ℕ) (from : Spot) (error : ParseError) → IsRefused (Nonterminal (One Pattern) depth) from error → IsRefused (Nonterminal (One Branch) depth) from error
+pub refused_pattern : (depth : ℕ) (from : Spot) (error : SourceError) → IsRefused (Nonterminal (One Pattern) depth) from error → IsRefused (Nonterminal (One Branch) depth) from error
 refused_pattern depth from error refused = refused_in_front Pattern depth (One Branch) depth from error (branch_opened _ depth) (branch_shut _ depth) refused
 
 -- a branch with its pattern and its expression is found
@@ -165,7 +165,7 @@ next_branch {depth} {place = place} {subject} {arms} branch same so begun found 
 })
 
 -- where a further branch begins, a `case` is refused where the branch is
-pub refused_branch : {depth : ℕ} {old now : List (List ℕ)} {from here : Spot} {place : Place} {subject : Expr} {arms : List code_branch.Branch} (error : ParseError)
+pub refused_branch : {depth : ℕ} {old now : List (List ℕ)} {from here : Spot} {place : Place} {subject : Expr} {arms : List code_branch.Branch} (error : SourceError)
     → ReadsCase depth old now from here place subject arms → begins Pattern (next (left_at here)) ≡ true → IsRefused (Nonterminal (One Branch) depth) here error
     → IsRefused (Nonterminal (One Primary) depth) from error
 refused_branch {depth} {now = now} {here = here} error so begun refused =
@@ -177,7 +177,7 @@ no_branch : (depth : ℕ) (table : List (List ℕ)) (here : Spot) → begins Pat
 no_branch depth table here ends = nothing_found (Repeated Branch) depth table here (branches_end _ depth ends)
 
 -- where no further branch begins, a `case` is refused where its "}" is
-pub refused_brace : {depth : ℕ} {old now : List (List ℕ)} {from here : Spot} {place : Place} {subject : Expr} {arms : List code_branch.Branch} (error : ParseError)
+pub refused_brace : {depth : ℕ} {old now : List (List ℕ)} {from here : Spot} {place : Place} {subject : Expr} {arms : List code_branch.Branch} (error : SourceError)
     → ReadsCase depth old now from here place subject arms → begins Pattern (next (left_at here)) ≡ false → IsRefused (Terminal (Sign punctuator.CloseBrace) depth) here error
     → IsRefused (Nonterminal (One Primary) depth) from error
 refused_brace {depth} {now = now} {here = here} error so ends refused = refused_inside (over_part so.read (no_branch depth now here ends)) error refused

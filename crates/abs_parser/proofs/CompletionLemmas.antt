@@ -16,7 +16,7 @@ use Rattle.abs_lexer.specs.declared.lexeme.Lexeme.{Lexeme}
 use Rattle.abs_lexer.specs.declared.lexeme.Lexeme.TheVariants as lexeme
 use Rattle.abs_lexer.specs.declared.lexeme.Keyword.TheVariants as keyword
 use Rattle.abs_lexer.specs.declared.lexeme.Punctuator.TheVariants as punctuator
-use Rattle.abs_lexer.specs.Words.{spelling, sign_text}
+use Rattle.abs_lexer.specs.Words.{spelling, punctuator_bytes}
 use Rattle.abs_parser.specs.Kinds.{Mark, Token, TextEnd, Kind, LowerName, LocalName, UpperName, AbsName, StdLibName, Number, Text, Word, Foreign, Sign, End, kind_of, fits, next}
 use Rattle.abs_parser.specs.Productions.{Symbol, Program, Path, Constructor, NextConstructor, Params, Extends, Implements, Type', Types, CommaType, Stmt, Else, Initial, Guard, AndTest, Test, Rhs, Args, CommaExpr, Expr, Or, OrTail, And, AndTail, Equal, EqualTail, Compare, CompareTail, Sum, SumTail, Mul, MulTail, Unary, Primary, ThisTail, Pattern, Patterns, CommaPattern, Item, Of, Part, Opt, Many, Inside, rule, items_begin, begins_within, begins, chosen}
 use Rattle.abs_parser.specs.Readings.{Goal, One, Optional, Repeated, Wanted, Terminal, Nonterminal, place_item, place, inner_depth, opened, Empty, Nothing}
@@ -38,7 +38,7 @@ sample Number = token lexeme.Number (codes "1")
 sample Text = token lexeme.Text (34 ∷ 34 ∷ [])
 sample (Word keyword) = token (lexeme.Word keyword) (spelling keyword)
 sample Foreign = token lexeme.Foreign (codes "try")
-sample (Sign punctuator) = token (lexeme.Sign punctuator) (sign_text punctuator)
+sample (Sign punctuator) = token (lexeme.Sign punctuator) (punctuator_bytes punctuator)
 sample End = TextEnd start
 
 -- the first of some alternatives
@@ -270,7 +270,7 @@ begins_not symbol kind e = starts_tell symbol kind ∙ (meets_neither (starts sy
 -- whether two kinds are one word or one sign
 abbrev is_same : Kind → Kind → Bool
 is_same (Word one) (Word other) = bytes_eq (spelling one) (spelling other)
-is_same (Sign one) (Sign other) = bytes_eq (sign_text one) (sign_text other)
+is_same (Sign one) (Sign other) = bytes_eq (punctuator_bytes one) (punctuator_bytes other)
 is_same one other = false
 
 -- A token that is not of the one is not of the other.
@@ -278,7 +278,7 @@ same_fits : (one other kind : Kind) → is_same one other ≡ true → fits othe
 same_fits (Word one) (Word other) (Word keyword) same e =
     ap (λ bytes. bytes_eq bytes (spelling keyword)) ((bytes_eq-Decides (spelling one) (spelling other)).0 same) ∙ e
 same_fits (Sign one) (Sign other) (Sign punctuator) same e =
-    ap (λ bytes. bytes_eq bytes (sign_text punctuator)) ((bytes_eq-Decides (sign_text one) (sign_text other)).0 same) ∙ e
+    ap (λ bytes. bytes_eq bytes (punctuator_bytes punctuator)) ((bytes_eq-Decides (punctuator_bytes one) (punctuator_bytes other)).0 same) ∙ e
 same_fits (Word one) (Word other) kind same e = refl
 same_fits (Sign one) (Sign other) kind same e = refl
 same_fits one other kind same e = absurd cc

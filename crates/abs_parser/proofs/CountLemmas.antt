@@ -4,7 +4,7 @@ use Rattle.std.proofs.Common.{◌≡◌, ℕ, ◌+◌, List, [], ◌∷◌, Some
 use Rattle.abs_tree.specs.SyntaxNumbers.{HasNumber, IsNumbered, RowNumbered, AreNumbered}
 use Rattle.abs_tree.specs.SyntaxSizes.{statement_count, count_of, member_statements, decl_statements, all_statements}
 use Rattle.abs_tree.specs.SyntaxViews.{statement, statement_row, statements, member_tree, decl_tree, tree_of_parts}
-use Rattle.abs_tree.specs.TextNumbers.{MembersNumbered, DeclsNumbered, IsNumberedWhole}
+use Rattle.abs_tree.specs.SourceNumbers.{MembersNumbered, DeclsNumbered, IsNumberedWhole}
 use Rattle.abs_tree.specs.declared.syntax.declaration.Body.{Body}
 use Rattle.abs_tree.specs.declared.syntax.declaration.Decl.{Decl}
 use Rattle.abs_tree.specs.declared.syntax.declaration.Decl.TheVariants as decl

@@ -12,7 +12,7 @@ use Rattle.abs_lexer.specs.declared.lexeme.Lexeme.TheVariants as lexeme
 use Rattle.abs_lexer.specs.Tokens.{Lexed}
 use Rattle.abs_tree.specs.Syntax.{DeclTree, ClassTree}
 use Rattle.abs_tree.specs.SyntaxViews.{decl_tree}
-use Rattle.abs_tree.specs.TextNumbers.{DeclNumbered, DeclsNumbered}
+use Rattle.abs_tree.specs.SourceNumbers.{DeclNumbered, DeclsNumbered}
 use Rattle.abs_tree.specs.declared.place.Place.{Place}
 use Rattle.abs_tree.specs.declared.syntax.declaration.Decl.{Decl as CodeDecl}
 use Rattle.abs_tree.specs.declared.syntax.declaration.Decl.TheVariants as code_decl
@@ -23,8 +23,8 @@ use Rattle.abs_parser.specs.Readings.{One, Repeated, Wanted, Nonterminal, Forest
 use Rattle.abs_parser.specs.ReaderAnswers.{left_at, asked, wrong_at, TakesKind, FoundAs, IsRefused}
 use Rattle.abs_parser.specs.Tokens.{Spot, TakesToken}
 use Rattle.abs_parser.specs.TreesOf.{decl_in, decl_by, decls_in}
-use Rattle.abs_parser.specs.declared.parser.ParseError.{ParseError}
-use Rattle.abs_parser.specs.declared.parser.ParseError.TheVariants.{Refused}
+use Rattle.abs_tree.specs.declared.source_error.SourceError.{SourceError}
+use Rattle.abs_tree.specs.declared.source_error.SourceError.TheVariants.{Refused}
 use Rattle.abs_parser.proofs.DeclarationSteps.{one_more, no_part}
 use Rattle.abs_parser.proofs.FirstTokens.{BeginsBy, begins_next, IsOneOf, IsNoneOf, one_passes, none_found}
 use Rattle.abs_parser.proofs.NameLemmas.{goes_on_itself, goes_on_further}
@@ -83,7 +83,7 @@ unfolding begins begins_within
 no_declaration_at_end from ended = rw (next_end from ended) refl
 
 -- where none begins, it is refused
-pub refused_no_declaration : (from : Spot) (error : ParseError) → error ≡ Refused (wrong_at from) → false ≡ begins Decl (next (left_at from))
+pub refused_no_declaration : (from : Spot) (error : SourceError) → error ≡ Refused (wrong_at from) → false ≡ begins Decl (next (left_at from))
     → IsRefused (Nonterminal (One Decl) 0) from error
 refused_no_declaration from error is none = rw is (refused_shut (One Decl) 0 from (part_shut Decl _ 0 (sym none)))
 
@@ -193,7 +193,7 @@ next_declaration {number = number} {free} {behind} {listed = listed} decl same s
 })
 
 -- where one more begins and is refused, all are refused there
-pub refused_declaration : {old now : List (List ℕ)} {number free : ℕ} {from here : Spot} {listed : List CodeDecl} (error : ParseError)
+pub refused_declaration : {old now : List (List ℕ)} {number free : ℕ} {from here : Spot} {listed : List CodeDecl} (error : SourceError)
     → DeclsSoFar old now number free from here listed
     → true ≡ begins Decl (next (left_at here)) → IsRefused (Nonterminal (One Decl) 0) here error → IsRefused (Nonterminal (Repeated Decl) 0) from error
 refused_declaration {now = now} {here = here} error so begun refused =

@@ -6,7 +6,7 @@ use Rattle.std.specs.List.{All}
 use Rattle.abs_tree.specs.declared.place.Place.{Place}
 use Rattle.abs_tree.specs.Syntax.{ParamTree, TypeTree, DeclaredTree, SignatureTree, MemberTree, DeclTree}
 use Rattle.abs_tree.specs.SyntaxSizes.{fields_among, decl_fields, body_sizes, class_sizes}
-use Rattle.abs_tree.specs.TextSizes.{signature_params, member_variables, decl_variables, all_variables}
+use Rattle.abs_tree.specs.SourceSizes.{signature_params, member_variables, decl_variables, all_variables}
 use Rattle.abs_lexer.specs.declared.lexeme.Keyword.TheVariants as keyword
 use Rattle.abs_parser.specs.Kinds.{Kind, Word, place_of_mark, kind_of}
 use Rattle.abs_parser.specs.Readings.{Forest, Leaf, Node}

@@ -24,7 +24,7 @@ use Rattle.abs_parser.specs.ReaderAnswers.{left_at, asked, TakesKind, FoundAs, I
 use Rattle.abs_parser.specs.Stops.{limit}
 use Rattle.abs_parser.specs.Tokens.{Spot}
 use Rattle.abs_parser.specs.TreesOf.{names_maybe, constructor_types, constructor_in, more_constructors, decl_in, decl_by}
-use Rattle.abs_parser.specs.declared.parser.ParseError.{ParseError}
+use Rattle.abs_tree.specs.declared.source_error.SourceError.{SourceError}
 use Rattle.abs_parser.proofs.NameLemmas.{goes_on_further}
 use Rattle.abs_parser.proofs.StepLemmas.{HasRead, is_asked, is_name, opens, over_token, over_name, over_part, all_read, refused_inside, fits_next, found_goes_on, symbol_kept}
 use Rattle.abs_parser.proofs.SymbolLemmas.{begins_with_token, part_shut, part_opened, repeated_opened, repeated_ends}
@@ -75,7 +75,7 @@ next_part {parts = parts} {whole} {depth} {listed = listed} one same so begun fo
 })
 
 -- where one more begins, the declaration is refused where that is
-pub refused_part : {Listed Tree : Type 0} {parts : Parts Listed Tree} {whole : List Name → List Tree → DeclTree} {depth : ℕ} {old now : List (List ℕ)} {from here : Spot} {listed : List Listed} (error : ParseError)
+pub refused_part : {Listed Tree : Type 0} {parts : Parts Listed Tree} {whole : List Name → List Tree → DeclTree} {depth : ℕ} {old now : List (List ℕ)} {from here : Spot} {listed : List Listed} (error : SourceError)
     → ReadsParts parts whole depth old now from here listed → begins parts.symbol (next (left_at here)) ≡ true → IsRefused (Nonterminal (One parts.symbol) depth) here error
     → IsRefused (Nonterminal (One Decl) depth) from error
 refused_part {parts = parts} {depth = depth} {now = now} {here = here} error so begun refused =
@@ -86,7 +86,7 @@ pub no_part : (symbol : Symbol) (depth : ℕ) (table : List (List ℕ)) (here : 
 no_part symbol depth table here ends = nothing_found (Repeated symbol) depth table here (repeated_ends symbol _ depth ends)
 
 -- and the declaration is refused where the token is that closes
-pub refused_closing : {Listed Tree : Type 0} {parts : Parts Listed Tree} {whole : List Name → List Tree → DeclTree} {depth : ℕ} {old now : List (List ℕ)} {from here : Spot} {listed : List Listed} (error : ParseError)
+pub refused_closing : {Listed Tree : Type 0} {parts : Parts Listed Tree} {whole : List Name → List Tree → DeclTree} {depth : ℕ} {old now : List (List ℕ)} {from here : Spot} {listed : List Listed} (error : SourceError)
     → ReadsParts parts whole depth old now from here listed → begins parts.symbol (next (left_at here)) ≡ false → IsRefused (Terminal (asked parts.closing) depth) here error
     → IsRefused (Nonterminal (One Decl) depth) from error
 refused_closing {parts = parts} {depth = depth} {now = now} {here = here} error so ends refused = refused_inside (over_part so.read (no_part parts.symbol depth now here ends)) error refused
@@ -224,7 +224,7 @@ next_constructor {bar = bar} {depth = depth} {now = now} {new = new} constructor
     ∙ sym (ap (λ inside. more_constructors (Node (One NextConstructor) inside (Node (Repeated NextConstructor) others Empty))) (next.is names more)))
 
 -- behind "|" data is refused where the constructor is
-pub refused_constructor : {whole : List Name → List ConstructorTree → DeclTree} {bar : Lexed} {from here constructor_at : Spot} {depth : ℕ} {old now : List (List ℕ)} {constructors : List CodeConstructor} (error : ParseError)
+pub refused_constructor : {whole : List Name → List ConstructorTree → DeclTree} {bar : Lexed} {from here constructor_at : Spot} {depth : ℕ} {old now : List (List ℕ)} {constructors : List CodeConstructor} (error : SourceError)
     → ReadsParts constructors_of whole depth old now from here constructors → TakesKind (lexeme.Sign punctuator.Bar) bar here constructor_at → depth ≤ limit
     → IsRefused (Nonterminal (One Constructor) depth) constructor_at error → IsRefused (Nonterminal (One Decl) depth) from error
 refused_constructor {depth = depth} {now = now} error so takes within refused =

@@ -11,8 +11,8 @@ use Rattle.abs_parser.specs.ReaderAnswers.{left_at, refusal_at, IsRefused}
 use Rattle.abs_parser.specs.Refusing.{Refuses, Behind, Other, Below, Past, Shut, Open, AllWithin}
 use Rattle.abs_parser.specs.Stops.{limit}
 use Rattle.abs_parser.specs.Tokens.{Spot}
-use Rattle.abs_parser.specs.declared.parser.ParseError.{ParseError}
-use Rattle.abs_parser.specs.declared.parser.ParseError.TheVariants.{Refused}
+use Rattle.abs_tree.specs.declared.source_error.SourceError.{SourceError}
+use Rattle.abs_tree.specs.declared.source_error.SourceError.TheVariants.{Refused}
 use Rattle.abs_parser.proofs.DecisionLemmas.{Decided, read, refused, decided}
 use Rattle.abs_parser.proofs.FirstPlaceLemmas.{one_may, may, AllBelow, OpenedTo, Standing, LeftOut, one_opened, part_opened, first_read}
 use Rattle.abs_parser.proofs.MoveLemmas.{within_first}
@@ -93,7 +93,7 @@ deep_by begun deep (read levels whole within) =
 deep_by {symbol} {depth} {items} begun deep (refused rest code refusal) = deep_first depth (Nonterminal (One symbol) depth ∷ []) items deep refl begun (omega arith, tt) refusal
 
 -- a symbol that begins with the token that stands at a spot is refused there, where it stands too deep
-pub refused_begun : (symbol : Symbol) (depth : ℕ) (spot : Spot) (error : ParseError) → error ≡ Refused (refusal_at S2 spot) → begins symbol (next (left_at spot)) ≡ true → limit < depth
+pub refused_begun : (symbol : Symbol) (depth : ℕ) (spot : Spot) (error : SourceError) → error ≡ Refused (refusal_at S2 spot) → begins symbol (next (left_at spot)) ≡ true → limit < depth
     → IsRefused (Nonterminal (One symbol) depth) spot error
 refused_begun symbol depth spot error is begun deep = rw is (λ items.
     refused_here spot S2 (λ mark behind is_left same.

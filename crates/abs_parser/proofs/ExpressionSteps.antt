@@ -21,7 +21,7 @@ use Rattle.abs_parser.specs.ReaderAnswers.{left_at, TakesKind, FoundAs, IsRefuse
 use Rattle.abs_parser.specs.Stops.{limit}
 use Rattle.abs_parser.specs.Tokens.{Spot}
 use Rattle.abs_parser.specs.TreesOf.{type_in, expr_in, or_in}
-use Rattle.abs_parser.specs.declared.parser.ParseError.{ParseError}
+use Rattle.abs_tree.specs.declared.source_error.SourceError.{SourceError}
 use Rattle.abs_parser.proofs.NameLemmas.{goes_on_further, goes_on_all}
 use Rattle.abs_parser.proofs.StepLemmas.{HasRead, opens, over_token, over_name, over_part, all_read, found_goes_on, symbol_kept}
 use Rattle.abs_parser.proofs.SymbolLemmas.{part_begun}
@@ -48,7 +48,7 @@ or_found {depth} {old} {from = from} expr no_let no_if found =
     all_read (over_part (opens (One ExprSymbol) depth old from _ (or_opened _ depth no_let no_if begun)) found) found.is
 
 -- what refuses operators refuses the expression
-pub or_refused : (depth : ℕ) (from : Spot) (error : ParseError) → fits (Word keyword.Let) (next (left_at from)) ≡ false → fits (Word keyword.If) (next (left_at from)) ≡ false
+pub or_refused : (depth : ℕ) (from : Spot) (error : SourceError) → fits (Word keyword.Let) (next (left_at from)) ≡ false → fits (Word keyword.If) (next (left_at from)) ≡ false
     → IsRefused (Nonterminal (One Or) (depth + 1)) from error → IsRefused (Nonterminal (One ExprSymbol) depth) from error
 or_refused depth from error no_let no_if refused =
     refused_in_front Or (depth + 1) (One ExprSymbol) depth from error (or_opened _ depth no_let no_if) (expression_shut _ depth no_let no_if) refused

@@ -29,8 +29,8 @@ use Rattle.abs_parser.specs.ReaderAnswers.{left_at, maybe_phrases, refusal_at, T
 use Rattle.abs_parser.specs.Stops.{limit}
 use Rattle.abs_parser.specs.Tokens.{Spot}
 use Rattle.abs_parser.specs.TreesOf.{written, arguments_maybe, rhs_in, rest_in, after_variable, after_field, after_this, statement_in, statement_by}
-use Rattle.abs_parser.specs.declared.parser.ParseError.{ParseError}
-use Rattle.abs_parser.specs.declared.parser.ParseError.TheVariants.{Refused}
+use Rattle.abs_tree.specs.declared.source_error.SourceError.{SourceError}
+use Rattle.abs_tree.specs.declared.source_error.SourceError.TheVariants.{Refused}
 use Rattle.abs_parser.specs.declared.simple_statements.First.{First}
 use Rattle.abs_parser.specs.declared.simple_statements.First.TheVariants as first
 use Rattle.abs_parser.proofs.InFrontSteps.{refused_in_front}
@@ -105,7 +105,7 @@ no_arguments : (kind : Kind) (depth : ℕ) → goes_on_by kind ≡ false → ope
 no_arguments kind depth none = optional_left_out Arguments kind depth (or_parts _ _ none).0
 
 -- it is refused where the arguments are
-pub arguments_refused : (depth : ℕ) (from : Spot) (error : ParseError) → fits (Sign punctuator.Assign) (next (left_at from)) ≡ false
+pub arguments_refused : (depth : ℕ) (from : Spot) (error : SourceError) → fits (Sign punctuator.Assign) (next (left_at from)) ≡ false
     → IsRefused (Nonterminal (Optional Arguments) (depth + 2)) from error → IsRefused (Nonterminal (One AfterName) depth) from error
 arguments_refused depth from error no_equals refused = refused_left_out (after_begins depth [] from no_equals) (no_arguments _ (depth + 2)) error refused
 
@@ -117,7 +117,7 @@ over_arguments : {from behind : Spot} {depth : ℕ} {old now : List (List ℕ)} 
 over_arguments {from} {depth = depth} {old} no_equals found = over_left_out (after_begins depth old from no_equals) (no_arguments _ (depth + 2)) found
 
 -- it is refused where the rest behind them is
-pub rest_refused : {from behind : Spot} {old now : List (List ℕ)} {is_read : List (List ℕ) → Forest → Type 0} (depth : ℕ) (error : ParseError)
+pub rest_refused : {from behind : Spot} {old now : List (List ℕ)} {is_read : List (List ℕ) → Forest → Type 0} (depth : ℕ) (error : SourceError)
     → fits (Sign punctuator.Assign) (next (left_at from)) ≡ false → FoundAs (Optional Arguments) (depth + 2) old now from behind is_read
     → IsRefused (Nonterminal (One Rest) depth) behind error → IsRefused (Nonterminal (One AfterName) depth) from error
 rest_refused {from} depth error no_equals found refused =
@@ -154,7 +154,7 @@ variable_opened LocalName depth fit = refl
 variable_opened _ depth fit = absurd cc
 
 -- where the name stands too deep, the statement is refused
-pub variable_deep : {name : Lexed} {from behind : Spot} (depth : ℕ) (error : ParseError) → error ≡ Refused (refusal_at S2 from) → TakesKind lexeme.LowerName name from behind
+pub variable_deep : {name : Lexed} {from behind : Spot} (depth : ℕ) (error : SourceError) → error ≡ Refused (refusal_at S2 from) → TakesKind lexeme.LowerName name from behind
     → limit < depth + 1 + 2 → IsRefused (Nonterminal (One Stmt) depth) from error
 variable_deep {from = from} depth error is name deep =
     let fit = fits_next {kind = lexeme.LowerName} refl name in
@@ -199,7 +199,7 @@ unfolding begins chosen begins_within
 this_opened depth = refl
 
 -- where it stands too deep, the statement is refused
-pub this_deep : {this : Lexed} {from behind : Spot} (depth : ℕ) (error : ParseError) → error ≡ Refused (refusal_at S2 from) → TakesKind (lexeme.Word keyword.This) this from behind
+pub this_deep : {this : Lexed} {from behind : Spot} (depth : ℕ) (error : SourceError) → error ≡ Refused (refusal_at S2 from) → TakesKind (lexeme.Word keyword.This) this from behind
     → limit < depth + 1 + 2 → IsRefused (Nonterminal (One Stmt) depth) from error
 this_deep {from = from} depth error is this deep =
     rw is (refused_deep (One Stmt) depth from (Word keyword.This) (depth + 1 + 2) _
@@ -235,7 +235,7 @@ this_tree : (this : Lexed) (at : ℕ) (part : Goal) (after others : Forest) → 
 this_tree this at part after others is = ap (λ (kind : Lexeme). statement_by (kind_of_lexeme kind this.bytes) (Token this) (Node part after others)) is
 
 -- where no dot stands behind `this`, the statement is refused where the rest of the right side is
-pub alone_refused : {this : Lexed} {from behind : Spot} (depth : ℕ) (error : ParseError) → TakesKind (lexeme.Word keyword.This) this from behind → depth + 1 + 2 ≤ limit
+pub alone_refused : {this : Lexed} {from behind : Spot} (depth : ℕ) (error : SourceError) → TakesKind (lexeme.Word keyword.This) this from behind → depth + 1 + 2 ≤ limit
     → fits (Sign punctuator.Dot) (next (left_at behind)) ≡ false → IsRefused (Nonterminal (One Rest) (depth + 1)) behind error → IsRefused (Nonterminal (One Stmt) depth) from error
 alone_refused {behind = behind} depth error this within no_dot refused =
     refused_inside (this_begins depth [] this within) error

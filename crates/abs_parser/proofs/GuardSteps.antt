@@ -15,7 +15,7 @@ use Rattle.abs_parser.specs.ReaderAnswers.{left_at, TakesKind, FoundAs, IsRefuse
 use Rattle.abs_parser.specs.Stops.{limit}
 use Rattle.abs_parser.specs.Tokens.{Spot, place_of}
 use Rattle.abs_parser.specs.TreesOf.{equal_in, is_asked, place_in, test_in}
-use Rattle.abs_parser.specs.declared.parser.ParseError.{ParseError}
+use Rattle.abs_tree.specs.declared.source_error.SourceError.{SourceError}
 use Rattle.abs_parser.proofs.FirstPlaceLemmas.{first_place_found}
 use Rattle.abs_parser.proofs.InFrontSteps.{refused_in_front}
 use Rattle.abs_parser.proofs.NameLemmas.{goes_on_further}
@@ -29,7 +29,7 @@ test_opened : (kind : Kind) (depth : ℕ) → begins Equal kind ≡ true
 test_opened kind depth may = part_opened Test kind depth refl refl (begins_with_part Test kind refl ∙ may)
 
 -- a test is refused where its value is
-pub test_refused : (depth : ℕ) (from : Spot) (error : ParseError) → IsRefused (Nonterminal (One Equal) depth) from error → IsRefused (Nonterminal (One Test) depth) from error
+pub test_refused : (depth : ℕ) (from : Spot) (error : SourceError) → IsRefused (Nonterminal (One Equal) depth) from error → IsRefused (Nonterminal (One Test) depth) from error
 test_refused depth from error refused =
     refused_in_front Equal depth (One Test) depth from error (test_opened _ depth) (λ none. part_shut Test _ depth (begins_with_part Test _ refl ∙ none)) refused
 

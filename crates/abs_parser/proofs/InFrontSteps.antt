@@ -5,12 +5,12 @@ use Rattle.abs_parser.specs.Productions.{Symbol, begins}
 use Rattle.abs_parser.specs.Readings.{Goal, One, Wanted, Nonterminal, opened}
 use Rattle.abs_parser.specs.ReaderAnswers.{left_at, IsRefused}
 use Rattle.abs_parser.specs.Tokens.{Spot}
-use Rattle.abs_parser.specs.declared.parser.ParseError.{ParseError}
+use Rattle.abs_tree.specs.declared.source_error.SourceError.{SourceError}
 use Rattle.abs_parser.proofs.StepLemmas.{opens, refused_inside, refused_alike}
 use Rattle.abs_parser.proofs.SymbolLemmas.{part_shut}
 
 -- by cases of whether the next token begins the first part
-by_beginning : (may : Bool) (first : Symbol) (at : ℕ) (goal : Goal) (depth : ℕ) {inner : List Wanted} (from : Spot) (error : ParseError) → begins first (next (left_at from)) ≡ may
+by_beginning : (may : Bool) (first : Symbol) (at : ℕ) (goal : Goal) (depth : ℕ) {inner : List Wanted} (from : Spot) (error : SourceError) → begins first (next (left_at from)) ≡ may
     → (begins first (next (left_at from)) ≡ true → opened goal (next (left_at from)) depth ≡ Some (Nonterminal (One first) at ∷ inner))
     → (begins first (next (left_at from)) ≡ false → opened goal (next (left_at from)) depth ≡ None)
     → IsRefused (Nonterminal (One first) at) from error → IsRefused (Nonterminal goal depth) from error
@@ -18,7 +18,7 @@ by_beginning true first at goal depth from error e is_opened is_shut refused = r
 by_beginning false first at goal depth from error e is_opened is_shut refused = refused_alike (One first) at goal depth from error (part_shut first _ at e) (is_shut e) refused
 
 -- a part that the first one opens, and nothing else does, is refused where the first one is
-pub refused_in_front : (first : Symbol) (at : ℕ) (goal : Goal) (depth : ℕ) {inner : List Wanted} (from : Spot) (error : ParseError)
+pub refused_in_front : (first : Symbol) (at : ℕ) (goal : Goal) (depth : ℕ) {inner : List Wanted} (from : Spot) (error : SourceError)
     → (begins first (next (left_at from)) ≡ true → opened goal (next (left_at from)) depth ≡ Some (Nonterminal (One first) at ∷ inner))
     → (begins first (next (left_at from)) ≡ false → opened goal (next (left_at from)) depth ≡ None)
     → IsRefused (Nonterminal (One first) at) from error → IsRefused (Nonterminal goal depth) from error

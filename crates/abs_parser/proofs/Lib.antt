@@ -55,3 +55,4 @@ pub mod BlockSteps
 pub mod CountLemmas
 pub mod WordLemmas
 pub mod WholeSteps
+pub mod LeafPlaces

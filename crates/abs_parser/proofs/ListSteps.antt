@@ -15,7 +15,7 @@ use Rattle.abs_parser.specs.Readings.{Goal, One, Optional, Repeated, Wanted, Ter
 use Rattle.abs_parser.specs.ReaderAnswers.{left_at, TakesKind, FoundAs, IsRefused}
 use Rattle.abs_parser.specs.Stops.{limit}
 use Rattle.abs_parser.specs.Tokens.{Spot}
-use Rattle.abs_parser.specs.declared.parser.ParseError.{ParseError}
+use Rattle.abs_tree.specs.declared.source_error.SourceError.{SourceError}
 use Rattle.abs_parser.proofs.NameLemmas.{goes_on_further}
 use Rattle.abs_parser.proofs.PatternSteps.{next_taken, nothing_found, refused_unfit}
 use Rattle.abs_parser.proofs.StepLemmas.{HasRead, opens, over_token, over_part, into_last, all_read, refused_inside, fits_next, found_goes_on}
@@ -143,12 +143,12 @@ all_so_far {so} {trees = trees} {depth} {now = now} {here = here} {listed = list
 -- Where a list is refused
 
 -- a list is refused where the first one is
-pub refused_first : (so : SeparatedList) (depth : ℕ) (from : Spot) (error : ParseError) → IsRefused (Nonterminal (One so.one) depth) from error → IsRefused (Nonterminal (One so.list) depth) from error
+pub refused_first : (so : SeparatedList) (depth : ℕ) (from : Spot) (error : SourceError) → IsRefused (Nonterminal (One so.one) depth) from error → IsRefused (Nonterminal (One so.list) depth) from error
 refused_first so depth from error refused = refused_in_front so.one depth (One so.list) depth from error (list_opened so _ depth) (list_shut so _ depth) refused
 
 -- behind a sign it is refused where the next one is
 pub refused_next : {so : SeparatedList} {Listed Tree Trees : Type 0} {trees : ListTrees Listed Tree Trees} {depth : ℕ} {old now : List (List ℕ)} {from here behind : Spot} {token : Lexed} {listed : List Listed}
-    → ReadsSoFar so trees depth old now from here listed → TakesKind (lexeme.Sign so.separator) token here behind → depth ≤ limit → (error : ParseError)
+    → ReadsSoFar so trees depth old now from here listed → TakesKind (lexeme.Sign so.separator) token here behind → depth ≤ limit → (error : SourceError)
     → IsRefused (Nonterminal (One so.one) depth) behind error → IsRefused (Nonterminal (One so.list) depth) from error
 refused_next {so} {depth = depth} {now = now} before takes within error refused =
     refused_inside before.read error (refused_inside (others_begin so depth now takes) error (refused_inside (sign_read so depth now takes within) error refused))
@@ -207,7 +207,7 @@ nothing_between {so} within {from = from} depth table close =
     nothing_found (Optional so.list) depth table from (optional_left_out so.list _ depth (list_begins so _ ∙ (ap (begins so.one) (next_taken close) ∙ within.none_closes)))
 
 -- in front of a token that does not close it, a list that may be left out is refused where it is, whether one may begin there or not
-between_by : (may : Bool) (so : SeparatedList) {goal : Goal} {depth at : ℕ} {old now : List (List ℕ)} {from behind : Spot} {make : Forest → Forest} {asked : Kind} {left : List Wanted} (error : ParseError)
+between_by : (may : Bool) (so : SeparatedList) {goal : Goal} {depth at : ℕ} {old now : List (List ℕ)} {from behind : Spot} {make : Forest → Forest} {asked : Kind} {left : List Wanted} (error : SourceError)
     → begins so.one (next (left_at behind)) ≡ may → HasRead goal depth old now from make (Nonterminal (Optional so.list) at ∷ Terminal asked at ∷ left) behind
     → fits asked (next (left_at behind)) ≡ false → IsRefused (Nonterminal (One so.list) at) behind error → IsRefused (Nonterminal goal depth) from error
 between_by true so {at = at} {now = now} {behind = behind} error e before differs refused =
@@ -217,7 +217,7 @@ between_by false so {at = at} {now = now} {behind = behind} {asked = asked} erro
     (refused_unfit (One so.list) at asked at behind error (list_shut so _ at e) differs refused)
 
 -- in front of a token that does not close it, a list that may be left out is refused where it is
-pub refused_between : (so : SeparatedList) {goal : Goal} {depth at : ℕ} {old now : List (List ℕ)} {from behind : Spot} {make : Forest → Forest} {asked : Kind} {left : List Wanted} (error : ParseError)
+pub refused_between : (so : SeparatedList) {goal : Goal} {depth at : ℕ} {old now : List (List ℕ)} {from behind : Spot} {make : Forest → Forest} {asked : Kind} {left : List Wanted} (error : SourceError)
     → HasRead goal depth old now from make (Nonterminal (Optional so.list) at ∷ Terminal asked at ∷ left) behind
     → fits asked (next (left_at behind)) ≡ false → IsRefused (Nonterminal (One so.list) at) behind error → IsRefused (Nonterminal goal depth) from error
 refused_between so error before differs refused = between_by _ so error refl before differs refused

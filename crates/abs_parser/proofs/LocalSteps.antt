@@ -20,7 +20,7 @@ use Rattle.abs_parser.specs.ReaderAnswers.{left_at, refusal_at, TakesKind, Found
 use Rattle.abs_parser.specs.Stops.{limit}
 use Rattle.abs_parser.specs.Tokens.{Spot, place_of}
 use Rattle.abs_parser.specs.TreesOf.{type_in, rhs_in, initial_in, statement_in}
-use Rattle.abs_parser.specs.declared.parser.ParseError.TheVariants.{Refused}
+use Rattle.abs_tree.specs.declared.source_error.SourceError.TheVariants.{Refused}
 use Rattle.abs_parser.proofs.ExpressionSteps.{goes_on_name}
 use Rattle.abs_parser.proofs.FirstPlaceLemmas.{first_place_found}
 use Rattle.abs_parser.proofs.NameLemmas.{goes_on_further}

@@ -27,7 +27,7 @@ use Rattle.abs_parser.specs.ReaderAnswers.{left_at, TakesKind, FoundAs, IsRefuse
 use Rattle.abs_parser.specs.Stops.{limit}
 use Rattle.abs_parser.specs.Tokens.{Spot}
 use Rattle.abs_parser.specs.TreesOf.{type_in, expr_in, params_maybe, member_by, member_in}
-use Rattle.abs_parser.specs.declared.parser.ParseError.{ParseError}
+use Rattle.abs_tree.specs.declared.source_error.SourceError.{SourceError}
 use Rattle.abs_parser.proofs.NameListSteps.{declared_kept}
 use Rattle.abs_parser.proofs.ExpressionSteps.{goes_on_name}
 use Rattle.abs_parser.proofs.InFrontSteps.{refused_in_front}
@@ -64,7 +64,7 @@ unfolding chosen
 tail_shut kind depth no_semicolon no_equals no_paren = rw (no_semicolon, no_equals, no_paren) refl
 
 -- a token that is none of these three is refused
-pub refused_tail : (depth : ℕ) (from : Spot) (error : ParseError) → fits (Sign punctuator.Semicolon) (next (left_at from)) ≡ false
+pub refused_tail : (depth : ℕ) (from : Spot) (error : SourceError) → fits (Sign punctuator.Semicolon) (next (left_at from)) ≡ false
     → fits (Sign punctuator.Assign) (next (left_at from)) ≡ false → fits (Sign punctuator.OpenParen) (next (left_at from)) ≡ false
     → ((at : ℕ) → IsRefused (Terminal (Sign punctuator.OpenParen) at) from error) → IsRefused (Nonterminal (One MemberTail) depth) from error
 refused_tail depth from error no_semicolon no_equals no_paren refused =
@@ -155,7 +155,7 @@ pub member_shorter : {name : Lexed} {from behind to : Spot} {depth : ℕ} {old n
 member_shorter {depth = depth} name found = row_shorter (member_opened _ depth (begins_with_token Type' _ refl ∙ fits_next refl name)) found
 
 -- a member is refused where its type is
-pub refused_type : (depth : ℕ) (from : Spot) (error : ParseError) → IsRefused (Nonterminal (One Type') depth) from error → IsRefused (Nonterminal (One Member) depth) from error
+pub refused_type : (depth : ℕ) (from : Spot) (error : SourceError) → IsRefused (Nonterminal (One Type') depth) from error → IsRefused (Nonterminal (One Member) depth) from error
 refused_type depth from error refused = refused_in_front Type' depth (One Member) depth from error (member_opened _ depth) (member_shut _ depth) refused
 
 -- over the type of a member

@@ -26,7 +26,7 @@ use Rattle.abs_parser.specs.Tokens.{Spot}
 use Rattle.abs_parser.specs.TreesOf.{declared, more_names, names_maybe}
 use Rattle.abs_parser.specs.declared.names.Heading.{Heading}
 use Rattle.abs_parser.specs.declared.names.Heading.TheVariants as heading
-use Rattle.abs_parser.specs.declared.parser.ParseError.{ParseError}
+use Rattle.abs_tree.specs.declared.source_error.SourceError.{SourceError}
 use Rattle.abs_parser.proofs.NameLemmas.{goes_on_further, few_more}
 use Rattle.abs_parser.proofs.PatternSteps.{nothing_found}
 use Rattle.abs_parser.proofs.StepLemmas.{HasRead, is_asked, is_name, opens, over_token, over_name, over_part, into_last, all_read, refused_inside, fits_next, found_weaker, found_goes_on, symbol_kept, token_shorter}
@@ -87,7 +87,7 @@ pub record NamesSoFar (old now : List (List ℕ)) (from here : Spot) (first : De
   pub found : (depth : ℕ) → depth ≤ limit → {new : List (List ℕ)} {to : Spot} (others : List Name → List DeclaredTree)
       → FoundAs (Repeated CommaUpper) depth now new here to (λ names inside. others names ≡ more_names inside)
       → FoundAs (Repeated CommaUpper) depth old new from to (λ names inside. map (declared_tree names) listed ++ others names ≡ declared_tree names first ∷ more_names inside)
-  pub refused : (depth : ℕ) → depth ≤ limit → (error : ParseError) → IsRefused (Nonterminal (Repeated CommaUpper) depth) here error
+  pub refused : (depth : ℕ) → depth ≤ limit → (error : SourceError) → IsRefused (Nonterminal (Repeated CommaUpper) depth) here error
       → IsRefused (Nonterminal (Repeated CommaUpper) depth) from error
 
 -- so far the first name
@@ -127,7 +127,7 @@ next_name_so_far {name = name} {now = now} {listed = listed} symbol before items
 }
 
 -- behind a comma they are refused where no name stands
-pub refused_next_name : {comma : Lexed} {old now : List (List ℕ)} {from here name_at : Spot} {first : Declared} {listed : List Declared} (depth : ℕ) (error : ParseError)
+pub refused_next_name : {comma : Lexed} {old now : List (List ℕ)} {from here name_at : Spot} {first : Declared} {listed : List Declared} (depth : ℕ) (error : SourceError)
     → NamesSoFar old now from here first listed → TakesKind (lexeme.Sign punctuator.Comma) comma here name_at → depth ≤ limit → IsRefused (Terminal UpperName depth) name_at error
     → IsRefused (Nonterminal (Repeated CommaUpper) depth) from error
 refused_next_name {now = now} depth error before comma within refused =

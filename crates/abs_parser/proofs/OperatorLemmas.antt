@@ -25,7 +25,7 @@ use Rattle.abs_parser.specs.Tokens.{Spot, place_of}
 use Rattle.abs_parser.specs.TreesOf.{chain, operator_of, place_in}
 use Rattle.abs_parser.specs.declared.operators.Level.{Level}
 use Rattle.abs_parser.specs.declared.operators.Level.TheVariants as level
-use Rattle.abs_parser.specs.declared.parser.ParseError.{ParseError}
+use Rattle.abs_tree.specs.declared.source_error.SourceError.{SourceError}
 use Rattle.abs_parser.proofs.FirstPlaceLemmas.{first_place_found}
 use Rattle.abs_parser.proofs.NameLemmas.{goes_on_further}
 use Rattle.abs_parser.proofs.PatternSteps.{next_taken}
@@ -167,7 +167,7 @@ one_before names (first ∷ others) operand behind = ap (Link first.operator (ph
 -- The steps
 
 -- a level is refused where its first operand is
-pub first_operand_refused : (level : Level) (depth : ℕ) (from : Spot) (error : ParseError) → IsRefused (Nonterminal (One (operand_symbol level)) depth) from error
+pub first_operand_refused : (level : Level) (depth : ℕ) (from : Spot) (error : SourceError) → IsRefused (Nonterminal (One (operand_symbol level)) depth) from error
     → IsRefused (Nonterminal (One (symbol_of level)) depth) from error
 first_operand_refused level depth from error refused =
     refused_in_front (operand_symbol level) depth (One (symbol_of level)) depth from error (level_opened level _ depth) (level_shut level _ depth) refused
@@ -205,7 +205,7 @@ no_operand_read level depth table from none = rw none (record {
 })
 
 -- behind an operator, what stands behind a first operand is refused where the next one is
-pub next_operand_refused : {level : Level} {depth : ℕ} {old now : List (List ℕ)} {from here behind : Spot} {operands : List Operand} {token : Lexed} (operator : Operator) (error : ParseError)
+pub next_operand_refused : {level : Level} {depth : ℕ} {old now : List (List ℕ)} {from here behind : Spot} {operands : List Operand} {token : Lexed} (operator : Operator) (error : SourceError)
     → OperatorsSoFar level depth old now from here operands → level_of operator ≡ level → TakesKind (lexeme.Sign (sign_of operator)) token here behind → depth ≤ limit
     → IsRefused (Nonterminal (One (operand_symbol level)) depth) behind error → IsRefused (Nonterminal (rest_of level) depth) from error
 next_operand_refused {level} {depth} {now = now} operator error so is takes within refused =

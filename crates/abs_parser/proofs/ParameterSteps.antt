@@ -20,7 +20,7 @@ use Rattle.abs_parser.specs.ReaderAnswers.{TakesKind, FoundAs, IsRefused}
 use Rattle.abs_parser.specs.Stops.{limit}
 use Rattle.abs_parser.specs.Tokens.{Spot}
 use Rattle.abs_parser.specs.TreesOf.{type_in, param_in, params_in, more_params}
-use Rattle.abs_parser.specs.declared.parser.ParseError.{ParseError}
+use Rattle.abs_tree.specs.declared.source_error.SourceError.{SourceError}
 use Rattle.abs_parser.proofs.ExpressionSteps.{goes_on_name}
 use Rattle.abs_parser.proofs.InFrontSteps.{refused_in_front}
 use Rattle.abs_parser.proofs.ListLemmas.{list_of_types}
@@ -40,7 +40,7 @@ param_shut : (kind : Kind) (depth : ℕ) → begins Type' kind ≡ false → ope
 param_shut kind depth none = part_shut Param kind depth (begins_with_part Param kind refl ∙ none)
 
 -- what refuses the type of a parameter refuses the parameter
-pub refused_param : (depth : ℕ) (from : Spot) (error : ParseError) → IsRefused (Nonterminal (One Type') depth) from error → IsRefused (Nonterminal (One Param) depth) from error
+pub refused_param : (depth : ℕ) (from : Spot) (error : SourceError) → IsRefused (Nonterminal (One Type') depth) from error → IsRefused (Nonterminal (One Param) depth) from error
 refused_param depth from error refused = refused_in_front Type' depth (One Param) depth from error (param_opened _ depth) (param_shut _ depth) refused
 
 -- over the type of a parameter

@@ -7,7 +7,7 @@ use Rattle.abs_lexer.specs.declared.lexeme.Lexeme.{Lexeme}
 use Rattle.abs_lexer.specs.declared.lexeme.Lexeme.TheVariants as lexeme
 use Rattle.abs_lexer.specs.declared.lexeme.Punctuator.TheVariants as punctuator
 use Rattle.abs_lexer.specs.Tokens.{Lexed}
-use Rattle.abs_tree.specs.Syntax.{Written, AnyValue, Binds, SameNumber, SameText, Built}
+use Rattle.abs_tree.specs.Syntax.{Written, AnyValue, Binds, SameNumber, SameString, Built}
 use Rattle.abs_parser.specs.Kinds.{Mark, Token, LowerName, LocalName, UpperName, AbsName, StdLibName, Number, End, place_of_mark, kind_of_lexeme}
 use Rattle.abs_parser.specs.Productions.{Pattern, PatternArguments, begins, chosen, begins_within}
 use Rattle.abs_parser.specs.Readings.{Goal, One, Optional, Wanted, Terminal, Nonterminal, opened, Forest, Empty, Leaf, Node}
@@ -97,7 +97,7 @@ pub minus_tree : (token digits : Lexed) (at below : ℕ) → token.kind ≡ lexe
 minus_tree token digits at below is = ap (λ (kind : Lexeme). pattern_by (kind_of_lexeme kind token.bytes) (Token token) (Leaf (Token digits) below Empty)) is
 
 -- a literal is a text
-pub text_tree : (token : Lexed) (at : ℕ) → token.kind ≡ lexeme.Text → pattern_in (Leaf (Token token) at Empty) ≡ SameText token.place (unescaped (drop 1 token.bytes))
+pub text_tree : (token : Lexed) (at : ℕ) → token.kind ≡ lexeme.Text → pattern_in (Leaf (Token token) at Empty) ≡ SameString token.place (unescaped (drop 1 token.bytes))
 text_tree token at is = ap (λ (kind : Lexeme). pattern_by (kind_of_lexeme kind token.bytes) (Token token) Empty) is
 
 -- an underscore is any value

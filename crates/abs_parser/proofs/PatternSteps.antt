@@ -21,8 +21,8 @@ use Rattle.abs_parser.specs.ReaderAnswers.{left_at, asked, refusal_at, wrong_at,
 use Rattle.abs_parser.specs.Refusing.{Refuses, Other, Shut, Open, Cut}
 use Rattle.abs_parser.specs.Stops.{limit}
 use Rattle.abs_parser.specs.Tokens.{Spot, TakesToken}
-use Rattle.abs_parser.specs.declared.parser.ParseError.{ParseError}
-use Rattle.abs_parser.specs.declared.parser.ParseError.TheVariants.{Refused, Memory}
+use Rattle.abs_tree.specs.declared.source_error.SourceError.{SourceError}
+use Rattle.abs_tree.specs.declared.source_error.SourceError.TheVariants.{Refused, Memory}
 use Rattle.abs_parser.proofs.BeginningLemmas.{may_begin, first_kinds, other_sign}
 use Rattle.abs_parser.proofs.DigitLemmas.{narrowed}
 use Rattle.abs_parser.proofs.FirstTokens.{begins_by_kind}
@@ -70,18 +70,18 @@ pub sign_begins_none : {kind : Lexeme} (sign : Punctuator) {first differs : Bool
 sign_begins_none sign kind_is tells fails tells_other differ bytes = sym (other_sign sign kind_is tells fails (sym (not_true _ (sym tells_other ∙ differ))) bytes)
 
 -- at the end of the text a pattern is refused
-pub refused_at_end : (depth : ℕ) (from : Spot) (error : ParseError) → error ≡ Refused (wrong_at from) → from.rest ≡ [] → IsRefused (Nonterminal (One Pattern) depth) from error
+pub refused_at_end : (depth : ℕ) (from : Spot) (error : SourceError) → error ≡ Refused (wrong_at from) → from.rest ≡ [] → IsRefused (Nonterminal (One Pattern) depth) from error
 refused_at_end depth from error is none =
     rw is (refused_shut (One Pattern) depth from (ap (λ (k : Kind). opened (One Pattern) k depth) (next_end from none) ∙ end_shut depth))
 
 -- a token that begins no pattern is refused
-pub refused_no_pattern : {token : Lexed} {from behind : Spot} (depth : ℕ) (error : ParseError) → error ≡ Refused (wrong_at from) → TakesToken token from behind
+pub refused_no_pattern : {token : Lexed} {from behind : Spot} (depth : ℕ) (error : SourceError) → error ≡ Refused (wrong_at from) → TakesToken token from behind
     → begins Pattern (kind_of_lexeme token.kind token.bytes) ≡ false → IsRefused (Nonterminal (One Pattern) depth) from error
 refused_no_pattern {token} {from} depth error is takes none =
     rw is (refused_shut (One Pattern) depth from (part_shut Pattern (next (left_at from)) depth (ap (begins Pattern) (next_is takes) ∙ none)))
 
 -- at the limit a token that begins a pattern is refused
-pub refused_pattern_deep : {token : Lexed} {from behind : Spot} (depth : ℕ) (error : ParseError) → error ≡ Refused (refusal_at S2 from) → TakesToken token from behind
+pub refused_pattern_deep : {token : Lexed} {from behind : Spot} (depth : ℕ) (error : SourceError) → error ≡ Refused (refusal_at S2 from) → TakesToken token from behind
     → begins Pattern (kind_of_lexeme token.kind token.bytes) ≡ true → limit < depth + 1 → IsRefused (Nonterminal (One Pattern) depth) from error
 refused_pattern_deep {token} {from} depth error is takes begun deep =
     rw is (refused_deep (One Pattern) depth from (asked token.kind) (depth + 1) (behind_first token.kind (depth + 1))
@@ -101,7 +101,7 @@ unfit_by kind depth closed differs (Open e refused) = absurd cc
 unfit_by kind depth closed differs (Cut is) = Cut is
 
 -- what refuses a part that is not opened refuses a token that does not fit
-pub refused_unfit : (part : Goal) (at : ℕ) (kind : Kind) (depth : ℕ) (spot : Spot) (error : ParseError) → opened part (next (left_at spot)) at ≡ None
+pub refused_unfit : (part : Goal) (at : ℕ) (kind : Kind) (depth : ℕ) (spot : Spot) (error : SourceError) → opened part (next (left_at spot)) at ≡ None
     → fits kind (next (left_at spot)) ≡ false → IsRefused (Nonterminal part at) spot error → IsRefused (Terminal kind depth) spot error
 refused_unfit part at kind depth spot (Refused refusal) closed differs refused = λ items.
     let found = refused items in

@@ -19,8 +19,8 @@ use Rattle.abs_parser.specs.ReaderAnswers.{left_at, refusal_at, wrong_at, TakesK
 use Rattle.abs_parser.specs.Stops.{limit}
 use Rattle.abs_parser.specs.Tokens.{Spot, place_of}
 use Rattle.abs_parser.specs.TreesOf.{rhs_in, statement_in}
-use Rattle.abs_parser.specs.declared.parser.ParseError.{ParseError}
-use Rattle.abs_parser.specs.declared.parser.ParseError.TheVariants.{Refused}
+use Rattle.abs_tree.specs.declared.source_error.SourceError.{SourceError}
+use Rattle.abs_tree.specs.declared.source_error.SourceError.TheVariants.{Refused}
 use Rattle.abs_parser.proofs.DeepLemmas.{refused_begun}
 use Rattle.abs_parser.proofs.FirstPlaceLemmas.{first_place_found}
 use Rattle.abs_parser.proofs.InFrontSteps.{refused_in_front}
@@ -52,17 +52,17 @@ plain_shut : (kind : Kind) (depth : ℕ) → begins_another kind ≡ false → b
 plain_shut kind depth no_other none = plain_told kind depth no_other ∙ cond-false (begins Rhs kind) _ None none
 
 -- the statement is refused where the right side is
-pub plain_refused : (depth : ℕ) (from : Spot) (error : ParseError) → begins_another (next (left_at from)) ≡ false → IsRefused (Nonterminal (One Rhs) (depth + 1)) from error
+pub plain_refused : (depth : ℕ) (from : Spot) (error : SourceError) → begins_another (next (left_at from)) ≡ false → IsRefused (Nonterminal (One Rhs) (depth + 1)) from error
     → IsRefused (Nonterminal (One Stmt) depth) from error
 plain_refused depth from error no_other refused = refused_in_front Rhs (depth + 1) (One Stmt) depth from error (plain_opened _ depth no_other) (plain_shut _ depth no_other) refused
 
 -- at the limit a token that begins a right side is refused
-pub plain_deep : (depth : ℕ) (from : Spot) (error : ParseError) → error ≡ Refused (refusal_at S2 from) → begins_another (next (left_at from)) ≡ false
+pub plain_deep : (depth : ℕ) (from : Spot) (error : SourceError) → error ≡ Refused (refusal_at S2 from) → begins_another (next (left_at from)) ≡ false
     → begins Rhs (next (left_at from)) ≡ true → limit < depth + 1 → IsRefused (Nonterminal (One Stmt) depth) from error
 plain_deep depth from error is no_other may deep = plain_refused depth from error no_other (refused_begun Rhs (depth + 1) from error is may deep)
 
 -- and so is one that begins none
-pub refused_no_plain : (depth : ℕ) (from : Spot) (error : ParseError) → error ≡ Refused (wrong_at from) → begins_another (next (left_at from)) ≡ false
+pub refused_no_plain : (depth : ℕ) (from : Spot) (error : SourceError) → error ≡ Refused (wrong_at from) → begins_another (next (left_at from)) ≡ false
     → begins Rhs (next (left_at from)) ≡ false → IsRefused (Nonterminal (One Stmt) depth) from error
 refused_no_plain depth from error is no_other none = rw is (refused_shut (One Stmt) depth from (plain_shut _ depth no_other none))
 

@@ -17,7 +17,7 @@ use Rattle.abs_parser.specs.Stops.{limit}
 use Rattle.abs_parser.specs.Tokens.{Spot}
 use Rattle.abs_parser.specs.declared.cursor.FixedName.{FixedName}
 use Rattle.abs_parser.specs.declared.cursor.FixedName.TheVariants as fixed
-use Rattle.abs_parser.specs.declared.parser.ParseError.{ParseError}
+use Rattle.abs_tree.specs.declared.source_error.SourceError.{SourceError}
 use Rattle.abs_parser.proofs.NameListSteps.{JoinsName, joint_begins, joint_read, joined_name_found}
 use Rattle.abs_parser.proofs.PatternSteps.{nothing_found}
 use Rattle.abs_parser.proofs.RepeatSteps.{over_one_more}
@@ -56,7 +56,7 @@ pub read_whole : {goal : Goal} {old now : List (List ℕ)} {from here : Spot} �
 read_whole so = all_read so.read (λ names more. tt)
 
 -- what refuses the next item refuses the part
-pub refused_left : {goal : Goal} {old now : List (List ℕ)} {from here : Spot} {item : Wanted} {left : List Wanted} (error : ParseError)
+pub refused_left : {goal : Goal} {old now : List (List ℕ)} {from here : Spot} {item : Wanted} {left : List Wanted} (error : SourceError)
     → ReadUpTo goal old now from here (item ∷ left) → IsRefused item here error → IsRefused (Nonterminal goal 0) from error
 refused_left error so refused = refused_inside so.read error refused
 
@@ -71,7 +71,7 @@ joined_by_dot : JoinsName DotName punctuator.Dot
 joined_by_dot = record { symbol_is = refl; symbol_counts = refl }
 
 -- where no name stands, the path is refused
-pub refused_path : (from : Spot) (error : ParseError) → fits UpperName (next (left_at from)) ≡ false → ((at : ℕ) → IsRefused (Terminal UpperName at) from error)
+pub refused_path : (from : Spot) (error : SourceError) → fits UpperName (next (left_at from)) ≡ false → ((at : ℕ) → IsRefused (Terminal UpperName at) from error)
     → IsRefused (Nonterminal (One Path) 0) from error
 refused_path from error other refused = refused_other UpperName (One Path) 0 from error other (part_shut Path _ 0 (begins_with_token Path _ refl ∙ other)) refused
 
@@ -84,7 +84,7 @@ path_begins {from = from} {old = old} name is = record {
 }
 
 -- behind a dot the path is refused where no name stands
-pub refused_dot_name : {dot : Lexed} {from here name_at : Spot} {old now : List (List ℕ)} (error : ParseError) → PathUpTo old now from here
+pub refused_dot_name : {dot : Lexed} {from here name_at : Spot} {old now : List (List ℕ)} (error : SourceError) → PathUpTo old now from here
     → TakesKind (lexeme.Sign punctuator.Dot) dot here name_at → IsRefused (Terminal UpperName 0) name_at error → IsRefused (Nonterminal (One Path) 0) from error
 refused_dot_name {here = here} {now = now} error so dot refused =
     refused_left error so (refused_inside (opens (Repeated DotName) 0 now here _ (repeated_opened DotName _ 0 (joint_begins joined_by_dot _ ∙ fits_next refl dot))) error

@@ -23,8 +23,8 @@ use Rattle.abs_parser.specs.ReaderAnswers.{left_at, asked, maybe_phrases, refusa
 use Rattle.abs_parser.specs.Stops.{limit}
 use Rattle.abs_parser.specs.Tokens.{Spot, TakesToken}
 use Rattle.abs_parser.specs.TreesOf.{unary_in, primary_in, arguments_maybe}
-use Rattle.abs_parser.specs.declared.parser.ParseError.{ParseError}
-use Rattle.abs_parser.specs.declared.parser.ParseError.TheVariants.{Refused}
+use Rattle.abs_tree.specs.declared.source_error.SourceError.{SourceError}
+use Rattle.abs_tree.specs.declared.source_error.SourceError.TheVariants.{Refused}
 use Rattle.abs_parser.proofs.FirstTokens.{begins_by_kind}
 use Rattle.abs_parser.proofs.NameLemmas.{goes_on_further}
 use Rattle.abs_parser.proofs.StepLemmas.{HasRead, opens, over_token, over_name, over_part, into_last, all_read, refused_inside, refused_deep, refused_shut, fits_next, next_is, asked_fits, is_name, found_goes_on, symbol_kept}
@@ -83,7 +83,7 @@ prefix_read {from = from} operation depth table takes within =
     (opens (One Unary) depth table from _ (ap (λ (k : Kind). opened (One Unary) k depth) (next_taken takes) ∙ prefix_opened operation depth)) takes refl refl within
 
 -- at the limit an operator before an operand is refused
-pub prefix_deep : {token : Lexed} {from behind : Spot} (operation : Prefix) (depth : ℕ) (error : ParseError) → error ≡ Refused (refusal_at S2 from)
+pub prefix_deep : {token : Lexed} {from behind : Spot} (operation : Prefix) (depth : ℕ) (error : SourceError) → error ≡ Refused (refusal_at S2 from)
     → TakesKind (lexeme.Sign (prefix_sign operation)) token from behind → limit < depth + 1 → IsRefused (Nonterminal (One Unary) depth) from error
 prefix_deep {from = from} operation depth error is takes deep =
     rw is (refused_deep (One Unary) depth from (Sign (prefix_sign operation)) (depth + 1) _
@@ -95,7 +95,7 @@ operand_begins : {token : Lexed} {from behind : Spot} (depth : ℕ) (table : Lis
 operand_begins {from = from} depth table takes is = opens (One Unary) depth table from _ (operand_opened _ depth (ap (begins Primary) (next_is takes) ∙ is))
 
 -- at the limit a token that begins a primary is refused where a unary is to stand
-pub operand_deep : {token : Lexed} {from behind : Spot} (depth : ℕ) (error : ParseError) → error ≡ Refused (refusal_at S2 from) → TakesToken token from behind
+pub operand_deep : {token : Lexed} {from behind : Spot} (depth : ℕ) (error : SourceError) → error ≡ Refused (refusal_at S2 from) → TakesToken token from behind
     → begins Primary (kind_of_lexeme token.kind token.bytes) ≡ true → limit < depth + 1 → IsRefused (Nonterminal (One Unary) depth) from error
 operand_deep {token} {from} depth error is takes begun deep =
     let first = begins_by_kind first_kinds token.kind token.bytes ∙ begun in
@@ -111,20 +111,20 @@ pub operand_found : {token : Lexed} {from behind to : Spot} {old new : List (Lis
 operand_found {old = old} depth expr takes begun found = all_read (over_part (operand_begins depth old takes begun) found) found.is
 
 -- and where that is refused, so is the unary
-pub operand_refused : {token : Lexed} {from behind : Spot} (depth : ℕ) (error : ParseError) → TakesToken token from behind → begins Primary (kind_of_lexeme token.kind token.bytes) ≡ true
+pub operand_refused : {token : Lexed} {from behind : Spot} (depth : ℕ) (error : SourceError) → TakesToken token from behind → begins Primary (kind_of_lexeme token.kind token.bytes) ≡ true
     → IsRefused (Nonterminal (One Primary) (depth + 1)) from error → IsRefused (Nonterminal (One Unary) depth) from error
 operand_refused depth error takes begun refused = refused_inside (operand_begins depth [] takes begun) error refused
 
 -- at the end of the text a unary is refused
-pub unary_refused_at_end : (depth : ℕ) (from : Spot) (error : ParseError) → error ≡ Refused (wrong_at from) → from.rest ≡ [] → IsRefused (Nonterminal (One Unary) depth) from error
+pub unary_refused_at_end : (depth : ℕ) (from : Spot) (error : SourceError) → error ≡ Refused (wrong_at from) → from.rest ≡ [] → IsRefused (Nonterminal (One Unary) depth) from error
 unary_refused_at_end depth from error is none = rw is (refused_shut (One Unary) depth from (ap (λ (k : Kind). opened (One Unary) k depth) (next_end from none) ∙ unary_end depth))
 
 -- and so is a primary
-pub primary_refused_at_end : (depth : ℕ) (from : Spot) (error : ParseError) → error ≡ Refused (wrong_at from) → from.rest ≡ [] → IsRefused (Nonterminal (One Primary) depth) from error
+pub primary_refused_at_end : (depth : ℕ) (from : Spot) (error : SourceError) → error ≡ Refused (wrong_at from) → from.rest ≡ [] → IsRefused (Nonterminal (One Primary) depth) from error
 primary_refused_at_end depth from error is none = rw is (refused_shut (One Primary) depth from (ap (λ (k : Kind). opened (One Primary) k depth) (next_end from none) ∙ primary_end depth))
 
 -- a token that is no operator before an operand and begins no primary is refused where a unary is to stand
-pub refused_no_unary : {token : Lexed} {from behind : Spot} (depth : ℕ) (error : ParseError) → error ≡ Refused (wrong_at from) → TakesToken token from behind
+pub refused_no_unary : {token : Lexed} {from behind : Spot} (depth : ℕ) (error : SourceError) → error ≡ Refused (wrong_at from) → TakesToken token from behind
     → begins Primary (kind_of_lexeme token.kind token.bytes) ≡ false → ((operation : Prefix) → token.kind ≡ lexeme.Sign (prefix_sign operation) → ⊥)
     → IsRefused (Nonterminal (One Unary) depth) from error
 refused_no_unary {token} {from} depth error is takes none no_prefix =
@@ -132,7 +132,7 @@ refused_no_unary {token} {from} depth error is takes none no_prefix =
     (ap (λ (k : Kind). opened (One Unary) k depth) (next_is takes) ∙ unary_shut token.kind token.bytes depth (begins_by_kind first_kinds token.kind token.bytes ∙ none) no_prefix))
 
 -- a token of a kind that may begin no primary is refused where one is to stand
-pub refused_no_primary : (kind : Lexeme) (bytes : List ℕ) (depth : ℕ) (from : Spot) (error : ParseError) → error ≡ Refused (wrong_at from) → next (left_at from) ≡ kind_of_lexeme kind bytes
+pub refused_no_primary : (kind : Lexeme) (bytes : List ℕ) (depth : ℕ) (from : Spot) (error : SourceError) → error ≡ Refused (wrong_at from) → next (left_at from) ≡ kind_of_lexeme kind bytes
     → may_begin kind ≡ false → IsRefused (Nonterminal (One Primary) depth) from error
 refused_no_primary kind bytes depth from error is stands none =
     rw is (refused_shut (One Primary) depth from (ap (λ (k : Kind). opened (One Primary) k depth) stands ∙ primary_shut kind bytes depth none))

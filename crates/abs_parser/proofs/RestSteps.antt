@@ -23,8 +23,8 @@ use Rattle.abs_parser.specs.Tokens.{Spot}
 use Rattle.abs_parser.specs.TreesOf.{chain, tail_in, rest_in}
 use Rattle.abs_parser.specs.declared.operators.Level.{Level}
 use Rattle.abs_parser.specs.declared.operators.Level.TheVariants as level
-use Rattle.abs_parser.specs.declared.parser.ParseError.{ParseError}
-use Rattle.abs_parser.specs.declared.parser.ParseError.TheVariants.{Refused, Memory}
+use Rattle.abs_tree.specs.declared.source_error.SourceError.{SourceError}
+use Rattle.abs_tree.specs.declared.source_error.SourceError.TheVariants.{Refused, Memory}
 use Rattle.abs_parser.proofs.NameLemmas.{goes_on_further}
 use Rattle.abs_parser.proofs.StepLemmas.{HasRead, opens, over_token, over_part, all_read, refused_inside, refused_other, fits_next, found_goes_on}
 use Rattle.abs_parser.proofs.SymbolLemmas.{begins_by, part_opened, part_shut, optional_left_out}
@@ -51,7 +51,7 @@ behind_by {item = item} {items} {ts} {rest} {code} none (Open is refused) =
 behind_by none (Cut is) = Cut is
 
 -- what refuses a part of nothing refuses whatever stands behind it
-refused_behind : (part : Goal) (at : ℕ) (item : Wanted) (spot : Spot) (error : ParseError) → opened part (next (left_at spot)) at ≡ Some []
+refused_behind : (part : Goal) (at : ℕ) (item : Wanted) (spot : Spot) (error : SourceError) → opened part (next (left_at spot)) at ≡ Some []
     → IsRefused (Nonterminal part at) spot error → IsRefused item spot error
 refused_behind part at item spot (Refused refusal) none refused = λ items.
     let found = refused (item ∷ items) in
@@ -59,7 +59,7 @@ refused_behind part at item spot (Refused refusal) none refused = λ items.
 refused_behind part at item spot Memory none refused = λ items. tt
 
 -- what is refused at a spot is refused at each one with the same tokens
-pub refused_there : (item : Wanted) (here there : Spot) (error : ParseError) → left_at here ≡ left_at there → IsRefused item here error → IsRefused item there error
+pub refused_there : (item : Wanted) (here there : Spot) (error : SourceError) → left_at here ≡ left_at there → IsRefused item here error → IsRefused item there error
 refused_there item here there error same refused = λ items. subst (λ (ts : List Mark). RefusedAs (item ∷ items) ts error) same (refused items)
 
 -- A reader of a part that not each token opens has come to rest where these items are left: if the next token may open the part, the reader
@@ -88,20 +88,20 @@ over_left_out {part = part} {at = at} so left_out found = record {
 
 -- the part is refused where the next item is, by cases of whether the next token may open the part
 refused_by : (is : Bool) {may : Bool} {goal : Goal} {depth : ℕ} {old now : List (List ℕ)} {from here : Spot} {make : Forest → Forest} {item : Wanted} {left : List Wanted} → may ≡ is
-    → MayHaveRead may goal depth old now from make (item ∷ left) here → (error : ParseError) → IsRefused item here error
+    → MayHaveRead may goal depth old now from make (item ∷ left) here → (error : SourceError) → IsRefused item here error
     → (may ≡ false → left_at here ≡ left_at from → IsRefused (Nonterminal goal depth) from error) → IsRefused (Nonterminal goal depth) from error
 refused_by true e so error refused otherwise = refused_inside (so.read e) error refused
 refused_by false e so error refused otherwise = otherwise e (so.still e)
 
 -- the part is refused where the next item is, if it is also where no token opens it
 pub refused_either_way : {may : Bool} {goal : Goal} {depth : ℕ} {old now : List (List ℕ)} {from here : Spot} {make : Forest → Forest} {item : Wanted} {left : List Wanted}
-    → MayHaveRead may goal depth old now from make (item ∷ left) here → (error : ParseError) → IsRefused item here error
+    → MayHaveRead may goal depth old now from make (item ∷ left) here → (error : SourceError) → IsRefused item here error
     → (may ≡ false → left_at here ≡ left_at from → IsRefused (Nonterminal goal depth) from error) → IsRefused (Nonterminal goal depth) from error
 refused_either_way {may} so error refused otherwise = refused_by may refl so error refused otherwise
 
 -- so it is where the next item is a part that is left out then
 pub refused_left_out : {may : Bool} {goal part : Goal} {depth at : ℕ} {old now : List (List ℕ)} {from here : Spot} {make : Forest → Forest} {left : List Wanted}
-    → MayHaveRead may goal depth old now from make (Nonterminal part at ∷ left) here → (may ≡ false → opened part (next (left_at from)) at ≡ Some []) → (error : ParseError)
+    → MayHaveRead may goal depth old now from make (Nonterminal part at ∷ left) here → (may ≡ false → opened part (next (left_at from)) at ≡ Some []) → (error : SourceError)
     → IsRefused (Nonterminal part at) here error → IsRefused (Nonterminal goal depth) from error
 refused_left_out {goal = goal} {part} {depth} {at} {from = from} so left_out error refused =
     refused_either_way so error refused (λ none same.
@@ -110,7 +110,7 @@ refused_left_out {goal = goal} {part} {depth} {at} {from = from} so left_out err
 -- and where it is a token that does not fit then
 pub refused_unfit_either_way : {may : Bool} {kind : Kind} {goal : Goal} {depth at : ℕ} {old now : List (List ℕ)} {from here : Spot} {make : Forest → Forest} {left : List Wanted}
     → MayHaveRead may goal depth old now from make (Terminal kind at ∷ left) here → (may ≡ false → fits kind (next (left_at from)) ≡ false)
-    → (may ≡ false → opened goal (next (left_at from)) depth ≡ None) → (error : ParseError) → ((in_many : ℕ) → IsRefused (Terminal kind in_many) here error)
+    → (may ≡ false → opened goal (next (left_at from)) depth ≡ None) → (error : SourceError) → ((in_many : ℕ) → IsRefused (Terminal kind in_many) here error)
     → IsRefused (Nonterminal goal depth) from error
 refused_unfit_either_way {kind = kind} {goal} {depth} {at} {from = from} so differs shut error refused =
     refused_either_way so error (refused at) (λ none same.
@@ -184,7 +184,7 @@ pub over_level : {depth : ℕ} {old now new : List (List ℕ)} {from here behind
 over_level {depth} level so found = over_left_out so (level_left_out level _ (depth + 1)) found
 
 -- it is refused where they are
-pub level_refused : {depth : ℕ} {old now : List (List ℕ)} {from here : Spot} {make : Forest → Forest} {left : List Wanted} (level : Level) (error : ParseError)
+pub level_refused : {depth : ℕ} {old now : List (List ℕ)} {from here : Spot} {make : Forest → Forest} {left : List Wanted} (level : Level) (error : SourceError)
     → RestRead depth old now from make (Nonterminal (rest_of level) (depth + 1) ∷ left) here → IsRefused (Nonterminal (rest_of level) (depth + 1)) here error
     → IsRefused (Nonterminal (One Rest) depth) from error
 level_refused {depth} level error so refused = refused_left_out so (level_left_out level _ (depth + 1)) error refused
@@ -200,13 +200,13 @@ pub over_tail : {depth : ℕ} {old now new : List (List ℕ)} {from here behind 
 over_tail {depth} so found = over_left_out so (tail_left_out _ depth) found
 
 -- it is refused where that is
-pub tail_refused : {depth : ℕ} {old now : List (List ℕ)} {from here : Spot} {make : Forest → Forest} (error : ParseError)
+pub tail_refused : {depth : ℕ} {old now : List (List ℕ)} {from here : Spot} {make : Forest → Forest} (error : SourceError)
     → RestRead depth old now from make (behind_operators depth) here → IsRefused (Nonterminal (Optional RhsTail) depth) here error
     → IsRefused (Nonterminal (One Rest) depth) from error
 tail_refused {depth} error so refused = refused_left_out so (tail_left_out _ depth) error refused
 
 -- and where the `;` is
-pub semicolon_refused : {depth : ℕ} {old now : List (List ℕ)} {from here : Spot} {make : Forest → Forest} (error : ParseError)
+pub semicolon_refused : {depth : ℕ} {old now : List (List ℕ)} {from here : Spot} {make : Forest → Forest} (error : SourceError)
     → RestRead depth old now from make (Terminal (Sign punctuator.Semicolon) depth ∷ []) here → ((at : ℕ) → IsRefused (Terminal (Sign punctuator.Semicolon) at) here error)
     → IsRefused (Nonterminal (One Rest) depth) from error
 semicolon_refused {depth} error so refused =

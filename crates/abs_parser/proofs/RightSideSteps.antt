@@ -25,7 +25,7 @@ use Rattle.abs_parser.specs.Stops.{limit}
 use Rattle.abs_parser.specs.Tokens.{Spot, place_of}
 use Rattle.abs_parser.specs.TreesOf.{expr_in, arguments_in, mode_by, mode_in, selected_in, tail_in, rhs_in}
 use Rattle.abs_parser.specs.declared.cursor.FixedName.TheVariants as fixed
-use Rattle.abs_parser.specs.declared.parser.ParseError.{ParseError}
+use Rattle.abs_tree.specs.declared.source_error.SourceError.{SourceError}
 use Rattle.abs_parser.proofs.FirstPlaceLemmas.{first_place_found}
 use Rattle.abs_parser.proofs.InFrontSteps.{refused_in_front}
 use Rattle.abs_parser.proofs.NameLemmas.{goes_on_itself, goes_on_further}
@@ -75,7 +75,7 @@ get_found {from = from} depth table place first get within =
     all_read (over_token (opens (One Selected) depth table from _ (ap (λ (k : Kind). opened (One Selected) k depth) (next_taken get) ∙ get_opened depth)) get refl refl within) (λ names more. refl)
 
 -- what is neither `get` nor a name is refused
-pub refused_selected : (depth : ℕ) (from : Spot) (error : ParseError) → fits (Word keyword.Get) (next (left_at from)) ≡ false → fits LowerName (next (left_at from)) ≡ false
+pub refused_selected : (depth : ℕ) (from : Spot) (error : SourceError) → fits (Word keyword.Get) (next (left_at from)) ≡ false → fits LowerName (next (left_at from)) ≡ false
     → ((at : ℕ) → IsRefused (Terminal LowerName at) from error) → IsRefused (Nonterminal (One Selected) depth) from error
 refused_selected depth from error no_get no_name refused = refused_other LowerName (One Selected) depth from error no_name (selected_shut _ depth no_get no_name) refused
 
@@ -207,7 +207,7 @@ unfolding chosen
 rhs_shut kind depth no_new none = rw (no_new, none) refl
 
 -- it is refused where the expression is
-pub refused_rhs : (depth : ℕ) (from : Spot) (error : ParseError) → fits (Word keyword.New) (next (left_at from)) ≡ false → IsRefused (Nonterminal (One Expr) depth) from error
+pub refused_rhs : (depth : ℕ) (from : Spot) (error : SourceError) → fits (Word keyword.New) (next (left_at from)) ≡ false → IsRefused (Nonterminal (One Expr) depth) from error
     → IsRefused (Nonterminal (One Rhs) depth) from error
 refused_rhs depth from error no_new refused = refused_in_front Expr depth (One Rhs) depth from error (rhs_opened _ depth no_new) (rhs_shut _ depth no_new) refused
 

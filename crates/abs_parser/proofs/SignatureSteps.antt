@@ -26,7 +26,7 @@ use Rattle.abs_parser.specs.ReaderAnswers.{TakesKind, FoundAs, IsRefused}
 use Rattle.abs_parser.specs.Stops.{limit}
 use Rattle.abs_parser.specs.Tokens.{Spot}
 use Rattle.abs_parser.specs.TreesOf.{type_in, expr_in, names_maybe, params_maybe, signature_in, signatures_in, decl_in}
-use Rattle.abs_parser.specs.declared.parser.ParseError.{ParseError}
+use Rattle.abs_tree.specs.declared.source_error.SourceError.{SourceError}
 use Rattle.abs_parser.proofs.DeclarationSteps.{Parts, ReadsParts, next_part, heading_read, by_word}
 use Rattle.abs_parser.proofs.NameListSteps.{declared_kept}
 use Rattle.abs_parser.proofs.WordSteps.{word_read}
@@ -69,7 +69,7 @@ pub signature_shorter : {name : Lexed} {from behind to : Spot} {depth : ℕ} {ol
 signature_shorter {depth = depth} name found = row_shorter (signature_opened _ depth (begins_with_token Type' _ refl ∙ fits_next refl name)) found
 
 -- a method is refused where its type is
-pub refused_result : (depth : ℕ) (from : Spot) (error : ParseError) → IsRefused (Nonterminal (One Type') depth) from error → IsRefused (Nonterminal (One Signature) depth) from error
+pub refused_result : (depth : ℕ) (from : Spot) (error : SourceError) → IsRefused (Nonterminal (One Type') depth) from error → IsRefused (Nonterminal (One Signature) depth) from error
 refused_result depth from error refused = refused_in_front Type' depth (One Signature) depth from error (signature_opened _ depth) (signature_shut _ depth) refused
 
 -- over the type of a method

@@ -26,8 +26,8 @@ use Rattle.abs_parser.specs.ReaderAnswers.{left_at, refusal_at, wrong_at, TakesK
 use Rattle.abs_parser.specs.Stops.{limit}
 use Rattle.abs_parser.specs.Tokens.{Spot, place_of}
 use Rattle.abs_parser.specs.TreesOf.{place_in, statement_in, branch_of, else_in}
-use Rattle.abs_parser.specs.declared.parser.ParseError.{ParseError}
-use Rattle.abs_parser.specs.declared.parser.ParseError.TheVariants.{Refused}
+use Rattle.abs_tree.specs.declared.source_error.SourceError.{SourceError}
+use Rattle.abs_tree.specs.declared.source_error.SourceError.TheVariants.{Refused}
 use Rattle.abs_parser.proofs.ExpressionSteps.{IsExpression}
 use Rattle.abs_parser.proofs.FirstPlaceLemmas.{first_place_found}
 use Rattle.abs_parser.proofs.NameLemmas.{goes_on_further}
@@ -200,6 +200,6 @@ unfolding begins chosen begins_within
 statement_end depth = refl
 
 -- so a statement is refused there
-pub statement_refused_at_end : (depth : ℕ) (from : Spot) (error : ParseError) → error ≡ Refused (wrong_at from) → from.rest ≡ [] → IsRefused (Nonterminal (One Stmt) depth) from error
+pub statement_refused_at_end : (depth : ℕ) (from : Spot) (error : SourceError) → error ≡ Refused (wrong_at from) → from.rest ≡ [] → IsRefused (Nonterminal (One Stmt) depth) from error
 statement_refused_at_end depth from error is none =
     rw is (refused_shut (One Stmt) depth from (ap (λ (k : Kind). opened (One Stmt) k depth) (next_end from none) ∙ statement_end depth))

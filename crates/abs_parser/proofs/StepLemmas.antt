@@ -21,7 +21,7 @@ use Rattle.abs_tree.specs.declared.place.Place.{Place}
 use Rattle.abs_lexer.specs.declared.lexeme.Lexeme.{Lexeme}
 use Rattle.abs_lexer.specs.declared.lexeme.Lexeme.TheVariants as lexeme
 use Rattle.abs_lexer.specs.Tokens.{Lexed}
-use Rattle.abs_lexer.specs.Words.{spelling, sign_text}
+use Rattle.abs_lexer.specs.Words.{spelling, punctuator_bytes}
 use Rattle.abs_parser.specs.Answers.{GoesOn}
 use Rattle.abs_parser.specs.Kinds.{Mark, Token, TextEnd, Kind, LowerName, LocalName, UpperName, AbsName, StdLibName, place_of_mark, kind_of, kind_of_lexeme, fits, next}
 use Rattle.abs_parser.specs.Readings.{Goal, Wanted, Terminal, Nonterminal, opened, Forest, Empty, Leaf, Node, Reads, Nothing, Taken, Opened, depths}
@@ -32,8 +32,8 @@ use Rattle.abs_parser.specs.TreesOf.{written}
 use Rattle.abs_parser.specs.ReaderAnswers.{left_at, name_first, names_before, asked, fixed_kind, refusal_at, wrong_at, TakesKind, TakesFixed, FoundAs, RefusedAt, IsRefused}
 use Rattle.abs_parser.specs.declared.cursor.FixedName.{FixedName}
 use Rattle.abs_parser.specs.declared.cursor.FixedName.TheVariants as fixed
-use Rattle.abs_parser.specs.declared.parser.ParseError.{ParseError}
-use Rattle.abs_parser.specs.declared.parser.ParseError.TheVariants.{Refused, Memory}
+use Rattle.abs_tree.specs.declared.source_error.SourceError.{SourceError}
+use Rattle.abs_tree.specs.declared.source_error.SourceError.TheVariants.{Refused, Memory}
 use Rattle.abs_parser.proofs.NameLemmas.{goes_on_itself, goes_on_further, goes_on_all, number_stays, few_more}
 use Rattle.abs_parser.proofs.MoveLemmas.{refuses_behind, within_first}
 
@@ -84,7 +84,7 @@ asked_fits lexeme.Number bytes is = refl
 asked_fits lexeme.Text bytes is = refl
 asked_fits (lexeme.Word keyword) bytes is = (bytes_eq-Decides (spelling keyword) (spelling keyword)).1 refl
 asked_fits lexeme.Foreign bytes is = absurd cc
-asked_fits (lexeme.Sign punctuator) bytes is = (bytes_eq-Decides (sign_text punctuator) (sign_text punctuator)).1 refl
+asked_fits (lexeme.Sign punctuator) bytes is = (bytes_eq-Decides (punctuator_bytes punctuator) (punctuator_bytes punctuator)).1 refl
 
 -- a name that begins with a lower-case letter stands in front of others
 lower_named : (is_local : Bool) (name : List ℕ) (others : List (List ℕ)) → name_first (cond is_local LocalName LowerName) name others ≡ name ∷ others
@@ -423,7 +423,7 @@ all_read {here = here} {make = make} so is = record {
 
 -- what refuses the next item, whatever follows it, refuses the part
 pub refused_inside : {goal : Goal} {depth : ℕ} {old now : List (List ℕ)} {from here : Spot} {make : Forest → Forest} {item : Wanted} {left : List Wanted}
-    → HasRead goal depth old now from make (item ∷ left) here → (error : ParseError) → IsRefused item here error → IsRefused (Nonterminal goal depth) from error
+    → HasRead goal depth old now from make (item ∷ left) here → (error : SourceError) → IsRefused item here error → IsRefused (Nonterminal goal depth) from error
 refused_inside {left = left} so (Refused refusal) refused = λ items.
     let at = refused (left ++ items) in
     record { mark = at.mark; behind = at.behind; code = at.code; refuses = so.refuses items (at.mark ∷ at.behind) at.code at.refuses; refusal_is = at.refusal_is }
@@ -481,7 +481,7 @@ other_by differs shut (Past e within refused) = absurd cc
 other_by differs shut (Cut is) = Cut is
 
 -- what refuses a token that does not fit refuses a part that it does not open
-pub refused_other : (kind : Kind) (goal : Goal) (depth : ℕ) (spot : Spot) (error : ParseError) → fits kind (next (left_at spot)) ≡ false
+pub refused_other : (kind : Kind) (goal : Goal) (depth : ℕ) (spot : Spot) (error : SourceError) → fits kind (next (left_at spot)) ≡ false
     → opened goal (next (left_at spot)) depth ≡ None → ((at : ℕ) → IsRefused (Terminal kind at) spot error) → IsRefused (Nonterminal goal depth) spot error
 refused_other kind goal depth spot (Refused refusal) differs shut refused = λ items.
     let at = refused depth items in
@@ -496,7 +496,7 @@ shut_by closed shut (Open e refused) = absurd cc
 shut_by closed shut (Cut is) = Cut is
 
 -- what refuses a part that is not opened refuses another one that is not
-pub refused_alike : (part : Goal) (at : ℕ) (goal : Goal) (depth : ℕ) (spot : Spot) (error : ParseError) → opened part (next (left_at spot)) at ≡ None
+pub refused_alike : (part : Goal) (at : ℕ) (goal : Goal) (depth : ℕ) (spot : Spot) (error : SourceError) → opened part (next (left_at spot)) at ≡ None
     → opened goal (next (left_at spot)) depth ≡ None → IsRefused (Nonterminal part at) spot error → IsRefused (Nonterminal goal depth) spot error
 refused_alike part at goal depth spot (Refused refusal) closed shut refused = λ items.
     let found = refused items in

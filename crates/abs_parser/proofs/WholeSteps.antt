@@ -4,11 +4,12 @@ use Rattle.std.proofs.Common.{◌≡◌, ◌≤◌, ℕ, ◌+◌, false, List, [
 use Rattle.std.specs.Prelude.{⊤, All}
 use Rattle.std.proofs.lemmas.Bool.{or_parts}
 use Rattle.std.proofs.lemmas.List.Elements.{All-same, All-weaker}
-use Rattle.abs_tree.specs.Syntax.{TextTree}
+use Rattle.abs_tree.specs.Syntax.{SourceTree}
+use Rattle.abs_tree.specs.Limits.{source_limit}
 use Rattle.abs_tree.specs.Names.{with_name}
 use Rattle.abs_tree.specs.SyntaxSizes.{all_statements, body_sizes, class_sizes}
-use Rattle.abs_tree.specs.TextNumbers.{IsNumberedWhole}
-use Rattle.abs_tree.specs.TextSizes.{all_variables}
+use Rattle.abs_tree.specs.SourceNumbers.{IsNumberedWhole}
+use Rattle.abs_tree.specs.SourceSizes.{all_variables}
 use Rattle.abs_tree.specs.SyntaxViews.{decl_tree, tree_of_parts}
 use Rattle.abs_tree.specs.Refusals.{refusal_of}
 use Rattle.abs_tree.specs.declared.refusal.Refusal.{Refusal}
@@ -27,8 +28,8 @@ use Rattle.abs_parser.specs.Tokens.{Spot, whole}
 use Rattle.abs_parser.specs.TreesOf.{decls_in, tree_of}
 use Rattle.abs_parser.specs.Views.{spot}
 use Rattle.abs_parser.specs.declared.cursor.Cursor.{Cursor}
-use Rattle.abs_parser.specs.declared.parser.ParseError.{ParseError}
-use Rattle.abs_parser.specs.declared.parser.ParseError.TheVariants.{Refused, Memory}
+use Rattle.abs_tree.specs.declared.source_error.SourceError.{SourceError}
+use Rattle.abs_tree.specs.declared.source_error.SourceError.TheVariants.{Refused, Memory}
 use Rattle.abs_parser.proofs.CountLemmas.{text_counted}
 use Rattle.abs_parser.proofs.DeclarationSizes.{variables_of_text, bodies_of_text, fields_of_text}
 use Rattle.abs_parser.proofs.EndLemmas.{text_refused}
@@ -111,25 +112,25 @@ over_block so found =
     cc)) found
 
 -- the text is refused where the `module` line is
-pub heading_refused : {old now : List (List ℕ)} {from here : Spot} {make : Forest → Forest} {left : List Wanted} (error : ParseError)
+pub heading_refused : {old now : List (List ℕ)} {from here : Spot} {make : Forest → Forest} {left : List Wanted} (error : SourceError)
     → ProgramRead old now from make (Nonterminal (Optional Module) 0 ∷ left) here → IsRefused (Nonterminal (Optional Module) 0) here error
     → IsRefused (Nonterminal (One Program) 0) from error
 heading_refused error so refused = refused_left_out so (heading_left_out _) error refused
 
 -- and where the `import` line is
-pub import_refused : {old now : List (List ℕ)} {from here : Spot} {make : Forest → Forest} {left : List Wanted} (error : ParseError)
+pub import_refused : {old now : List (List ℕ)} {from here : Spot} {make : Forest → Forest} {left : List Wanted} (error : SourceError)
     → ProgramRead old now from make (Nonterminal (Optional Import) 0 ∷ left) here → IsRefused (Nonterminal (Optional Import) 0) here error
     → IsRefused (Nonterminal (One Program) 0) from error
 import_refused error so refused = refused_left_out so (import_left_out _) error refused
 
 -- and where the declarations are
-pub declarations_refused : {old now : List (List ℕ)} {from here : Spot} {make : Forest → Forest} {left : List Wanted} (error : ParseError)
+pub declarations_refused : {old now : List (List ℕ)} {from here : Spot} {make : Forest → Forest} {left : List Wanted} (error : SourceError)
     → ProgramRead old now from make (Nonterminal (Repeated Decl) 0 ∷ left) here → IsRefused (Nonterminal (Repeated Decl) 0) here error
     → IsRefused (Nonterminal (One Program) 0) from error
 declarations_refused error so refused = refused_left_out so (decls_left_out _) error refused
 
 -- and where the main block is
-pub block_refused : {old now : List (List ℕ)} {from here : Spot} {make : Forest → Forest} {left : List Wanted} (error : ParseError)
+pub block_refused : {old now : List (List ℕ)} {from here : Spot} {make : Forest → Forest} {left : List Wanted} (error : SourceError)
     → ProgramRead old now from make (Nonterminal (One Block) 0 ∷ left) here → IsRefused (Nonterminal (One Block) 0) here error
     → IsRefused (Nonterminal (One Program) 0) from error
 block_refused {from = from} error so refused =
@@ -151,12 +152,12 @@ stops_with list refusal at =
     }
 
 -- where a program is refused, its text stops
-text_stops : (list : TokenList) (error : ParseError) → IsRefused (Nonterminal (One Program) 0) (whole list) error → RefusesText error list
+text_stops : (list : TokenList) (error : SourceError) → IsRefused (Nonterminal (One Program) 0) (whole list) error → RefusesText error list
 text_stops list (Refused refusal) refused = stops_with list refusal (refused [])
 text_stops list Memory refused = tt
 
 -- the same where its first spot is given a name of its own
-pub stops_from : {list : TokenList} {from : Spot} (error : ParseError) → from ≡ whole list → IsRefused (Nonterminal (One Program) 0) from error → RefusesText error list
+pub stops_from : {list : TokenList} {from : Spot} (error : SourceError) → from ≡ whole list → IsRefused (Nonterminal (One Program) 0) from error → RefusesText error list
 stops_from {list} error is refused = text_stops list error (subst (λ (spot : Spot). IsRefused (Nonterminal (One Program) 0) spot error) is refused)
 
 -- A whole text was read as a program that consists of this, and these are its names.
@@ -198,7 +199,7 @@ pub record ProgramFound (list : TokenList) (names : List (List ℕ)) (declaratio
   pub tree_is : tree_of_parts names declarations main ≡ tree_of (Node (One Program) inside Empty)
 
 -- two trees of texts with the same parts are one
-same_text : (a b : TextTree) → a.declarations ≡ b.declarations → a.main ≡ b.main → a.end ≡ b.end → a ≡ b
+same_text : (a b : SourceTree) → a.declarations ≡ b.declarations → a.main ≡ b.main → a.end ≡ b.end → a ≡ b
 same_text a b decls main end = rw (decls, main, end)
 
 -- declarations were found, as many as stand at a spot
@@ -257,7 +258,7 @@ pub bodies_found : {list : TokenList} {names : List (List ℕ)} {declarations : 
     → length list.tokens + 1 ≤ bound → All (λ (n : ℕ). n ≤ bound) (body_sizes (tree_of_parts names declarations main))
 bodies_found bound found within =
     let forest = Node (One Program) found.inside Empty in
-    subst (λ (tree : TextTree). All (λ (n : ℕ). n ≤ bound) (body_sizes tree)) (sym found.tree_is)
+    subst (λ (tree : SourceTree). All (λ (n : ℕ). n ≤ bound) (body_sizes tree)) (sym found.tree_is)
     (All-weaker (λ (n : ℕ). n ≤ leaves forest) (λ (n : ℕ). n ≤ bound) (λ n few. omega (arith, few, few_leaves found.read)) (body_sizes (tree_of forest)) (bodies_of_text forest))
 
 -- and no class has more fields
@@ -265,7 +266,7 @@ pub fields_found : {list : TokenList} {names : List (List ℕ)} {declarations : 
     → length list.tokens + 1 ≤ bound → All (λ (n : ℕ). n ≤ bound) (class_sizes (tree_of_parts names declarations main))
 fields_found bound found within =
     let forest = Node (One Program) found.inside Empty in
-    subst (λ (tree : TextTree). All (λ (n : ℕ). n ≤ bound) (class_sizes tree)) (sym found.tree_is)
+    subst (λ (tree : SourceTree). All (λ (n : ℕ). n ≤ bound) (class_sizes tree)) (sym found.tree_is)
     (All-weaker (λ (n : ℕ). n ≤ leaves forest) (λ (n : ℕ). n ≤ bound) (λ n few. omega (arith, few, few_leaves found.read)) (class_sizes (tree_of forest)) (fields_of_text forest))
 
 -- it has no more statements than tokens, if each part takes no more numbers than tokens
@@ -279,9 +280,9 @@ statements_found {declarations = declarations} {main} {all} main_at end names is
     omega (arith, text_counted names declarations main all numbered, few_declarations, few_main, found_shorter imported, found_shorter heading, tokens)
 
 -- no more tokens are left at a cursor than a list may have
-pub few_at : (cursor : Cursor) → length (spot cursor).rest ≤ 1048576
+pub few_at : (cursor : Cursor) → length (spot cursor).rest ≤ source_limit
 few_at cursor = omega (arith, length-drop cursor.index cursor.tokens.now.tokens, cursor.few)
 
 -- so a list of which all are left there has no more
-pub few_tokens : (cursor : Cursor) {list : TokenList} → spot cursor ≡ whole list → length list.tokens ≤ 1048576
+pub few_tokens : (cursor : Cursor) {list : TokenList} → spot cursor ≡ whole list → length list.tokens ≤ source_limit
 few_tokens cursor is = omega (arith, ap (λ (spot : Spot). length spot.rest) is, few_at cursor)

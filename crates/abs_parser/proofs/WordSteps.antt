@@ -9,7 +9,7 @@ use Rattle.abs_parser.specs.Readings.{Goal, Wanted, Terminal, Nonterminal, opene
 use Rattle.abs_parser.specs.ReaderAnswers.{refusal_at, TakesKind, IsRefused}
 use Rattle.abs_parser.specs.Stops.{limit}
 use Rattle.abs_parser.specs.Tokens.{Spot}
-use Rattle.abs_parser.specs.declared.parser.ParseError.TheVariants.{Refused}
+use Rattle.abs_tree.specs.declared.source_error.SourceError.TheVariants.{Refused}
 use Rattle.abs_parser.proofs.PatternSteps.{next_taken}
 use Rattle.abs_parser.proofs.StepLemmas.{HasRead, opens, over_token, refused_deep, fits_next}
 

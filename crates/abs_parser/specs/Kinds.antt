@@ -14,7 +14,7 @@ use Rattle.abs_lexer.specs.declared.lexeme.Lexeme.{Lexeme}
 use Rattle.abs_lexer.specs.declared.lexeme.Lexeme.TheVariants as lexeme
 use Rattle.abs_lexer.specs.declared.lexeme.Punctuator.{Punctuator}
 use Rattle.abs_lexer.specs.Tokens.{Lexed, TokenList}
-use Rattle.abs_lexer.specs.Words.{spelling, sign_text}
+use Rattle.abs_lexer.specs.Words.{spelling, punctuator_bytes}
 
 -- a token of the text, or its end
 pub data Mark : Type 0 where
@@ -71,7 +71,7 @@ fits StdLibName StdLibName = true
 fits Number Number = true
 fits Text Text = true
 fits (Word asked) (Word keyword) = bytes_eq (spelling asked) (spelling keyword)
-fits (Sign asked) (Sign punctuator) = bytes_eq (sign_text asked) (sign_text punctuator)
+fits (Sign asked) (Sign punctuator) = bytes_eq (punctuator_bytes asked) (punctuator_bytes punctuator)
 fits End End = true
 fits _ _ = false
 

@@ -7,7 +7,7 @@
 --   `refusal_at`, `wrong_at`                           the refusal of the next token
 --   `FoundAs`                                          what a reader found
 --   `IsRefused`                                        where it refuses, whatever is to follow
-use Rattle.std.specs.Prelude.{◌≡◌, ⊤, ℕ, List, [], ◌∷◌, ◌++◌, fold, map, Option, Some, None}
+use Rattle.std.specs.Prelude.{◌≡◌, ℕ, List, [], ◌∷◌, ◌++◌, fold, map, Option, Some, None}
 use Rattle.std.specs.declared.alloc.Global.{Global}
 use Rattle.std.specs.declared.vec.Vec.{Vec}
 use Rattle.abs_tree.specs.Syntax.{Name, Phrases}
@@ -15,6 +15,7 @@ use Rattle.abs_tree.specs.SyntaxViews.{phrases}
 use Rattle.abs_tree.specs.declared.syntax.expression.Expr.{Expr}
 use Rattle.abs_tree.specs.Names.{with_name}
 use Rattle.abs_tree.specs.Refusals.{refusal_of}
+use Rattle.abs_tree.specs.SourceErrors.{HasCause}
 use Rattle.abs_tree.specs.declared.refusal.Code.{Code}
 use Rattle.abs_tree.specs.declared.refusal.Refusal.{Refusal}
 use Rattle.abs_parser.specs.Answers.{GoesOn}
@@ -29,8 +30,7 @@ use Rattle.abs_parser.specs.Refusing.{Refuses, AllWithin}
 use Rattle.abs_parser.specs.Stops.{wrong_code}
 use Rattle.abs_parser.specs.Tokens.{Spot, place_of, TakesToken}
 use Rattle.abs_parser.specs.TreesOf.{written}
-use Rattle.abs_parser.specs.declared.parser.ParseError.{ParseError}
-use Rattle.abs_parser.specs.declared.parser.ParseError.TheVariants.{Refused, Memory}
+use Rattle.abs_tree.specs.declared.source_error.SourceError.{SourceError}
 
 -- the tokens that are left at a spot, and the end behind them
 abbrev pub left_at : Spot → List Mark
@@ -114,10 +114,9 @@ pub record RefusedAt (items : List Wanted) (ts : List Mark) (refusal : Refusal) 
   pub refuses : Refuses items ts (mark ∷ behind) code
   pub refusal_is : refusal ≡ refusal_of (record { code = code; place = place_of_mark mark })
 
-abbrev pub RefusedAs : List Wanted → List Mark → ParseError → Type 0
-RefusedAs items ts (Refused refusal) = RefusedAt items ts refusal
-RefusedAs items ts Memory = ⊤
+abbrev pub RefusedAs : List Wanted → List Mark → SourceError → Type 0
+RefusedAs items ts error = HasCause (RefusedAt items ts) error
 
 -- one that is wanted is refused, whatever is to follow it
-abbrev pub IsRefused : Wanted → Spot → ParseError → Type 0
+abbrev pub IsRefused : Wanted → Spot → SourceError → Type 0
 IsRefused item from error = (items : List Wanted) → RefusedAs (item ∷ items) (left_at from) error

@@ -10,17 +10,17 @@ use Rattle.abs_parser.specs.Kinds.{Mark, marks}
 use Rattle.abs_parser.specs.Readings.{Forest, IsProgram}
 use Rattle.abs_parser.specs.Stops.{StopsAt, IsAccepted}
 use Rattle.abs_parser.specs.TreesOf.{tree_of}
-use Rattle.abs_tree.specs.Syntax.{TextTree}
+use Rattle.abs_tree.specs.Syntax.{SourceTree}
 
 -- the tree is that of a reading of the list
-pub record IsTreeOf (ts : List Mark) (tree : TextTree) : Type 0 where
+pub record IsTreeOf (ts : List Mark) (tree : SourceTree) : Type 0 where
   pub forest : Forest
   pub reads : IsProgram ts forest
   pub is : tree ≡ tree_of forest
 
 pub data Outcome (ts : List Mark) : Type 0 where
   accepts : (forest : Forest) → IsAccepted ts forest → ((other : Forest) → IsProgram ts other → other ≡ forest)
-      → ((tree : TextTree) → IsTreeOf ts tree → tree ≡ tree_of forest) → Outcome ts
+      → ((tree : SourceTree) → IsTreeOf ts tree → tree ≡ tree_of forest) → Outcome ts
   stops : (before : List Mark) (mark : Mark) (code : Code) → StopsAt ts before mark code
       → ((front : List Mark) (other : Mark) (by : Code) → StopsAt ts front other by → (front ≡ before) × (other ≡ mark) × (by ≡ code))
       → ((forest : Forest) → IsAccepted ts forest → ⊥) → Outcome ts

@@ -6,6 +6,7 @@
 --   `StopsAt`                                          the first token that is refused
 --   `IsAccepted`                                       a list that is read and does not stop
 use Rattle.std.specs.Prelude.{◌≡◌, ℕ, ◌<◌, List, ◌∷◌, ◌++◌, length}
+use Rattle.abs_tree.specs.Limits.{nesting_limit}
 use Rattle.abs_tree.specs.declared.refusal.Code.{Code}
 use Rattle.abs_tree.specs.declared.refusal.Code.TheVariants.{S1, S2, S3}
 use Rattle.abs_parser.specs.Kinds.{Mark, Kind, Foreign, kind_of}
@@ -13,7 +14,7 @@ use Rattle.abs_parser.specs.Readings.{Forest, depths, IsProgram}
 
 -- how many counted symbols may be open at once
 abbrev pub limit : ℕ
-limit = 100
+limit = nesting_limit
 
 -- a token is deep: some list that is read as a program begins with those before it and it, and there it stands in more
 pub record IsDeep (before : List Mark) (mark : Mark) : Type 0 where

@@ -3,11 +3,12 @@
 --   `IsTextOf`                                         a text is accepted, and these are its names and its tree
 --   `StopsWith`                                        a text stops with this refusal
 --   `RefusesText`                                      why there is no tree
-use Rattle.std.specs.Prelude.{◌≡◌, ⊤, List, []}
+use Rattle.std.specs.Prelude.{◌≡◌, List, []}
 use Rattle.abs_lexer.specs.Tokens.{TokenList}
 use Rattle.abs_tree.specs.Refusals.{refusal_of}
+use Rattle.abs_tree.specs.SourceErrors.{HasCause}
 use Rattle.abs_tree.specs.Names.{by_first_appearance}
-use Rattle.abs_tree.specs.Syntax.{Name, TextTree}
+use Rattle.abs_tree.specs.Syntax.{Name, SourceTree}
 use Rattle.abs_tree.specs.declared.refusal.Code.{Code}
 use Rattle.abs_tree.specs.declared.refusal.Refusal.{Refusal}
 use Rattle.abs_parser.specs.Kinds.{Mark, marks, place_of_mark}
@@ -15,11 +16,10 @@ use Rattle.abs_parser.specs.Readings.{Forest}
 use Rattle.abs_parser.specs.ReaderAnswers.{names_before}
 use Rattle.abs_parser.specs.Stops.{StopsAt, IsAccepted}
 use Rattle.abs_parser.specs.TreesOf.{tree_of}
-use Rattle.abs_parser.specs.declared.parser.ParseError.{ParseError}
-use Rattle.abs_parser.specs.declared.parser.ParseError.TheVariants.{Refused, Memory}
+use Rattle.abs_tree.specs.declared.source_error.SourceError.{SourceError}
 
 -- the text of these tokens is accepted; these are its names, each once, in the order of first appearance, and this is its tree
-pub record IsTextOf (list : TokenList) (names : List Name) (tree : TextTree) : Type 0 where
+pub record IsTextOf (list : TokenList) (names : List Name) (tree : SourceTree) : Type 0 where
   pub forest : Forest
   pub accepted : IsAccepted (marks list) forest
   pub names_are : names ≡ by_first_appearance (names_before forest [])
@@ -34,6 +34,5 @@ pub record StopsWith (list : TokenList) (refusal : Refusal) : Type 0 where
   pub refusal_is : refusal ≡ refusal_of (record { code = code; place = place_of_mark mark })
 
 -- why there is no tree: the text stops; want of memory needs no cause
-abbrev pub RefusesText : ParseError → TokenList → Type 0
-RefusesText (Refused refusal) list = StopsWith list refusal
-RefusesText Memory list = ⊤
+abbrev pub RefusesText : SourceError → TokenList → Type 0
+RefusesText error list = HasCause (StopsWith list) error

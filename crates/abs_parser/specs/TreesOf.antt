@@ -14,7 +14,7 @@ use Rattle.std.specs.Prelude.{ℕ, pos, neg_ℤ, Bool, true, false, List, [], �
 use Rattle.std.specs.Str.Parse.{digits_value}
 use Rattle.abs_tree.specs.declared.place.Place.{Place}
 use Rattle.abs_tree.specs.Places.{start}
-use Rattle.abs_tree.specs.Syntax.{Name, Written, TypeTree, TypeName, TypeTrees, NoType, NextType, PatternTree, AnyValue, Binds, SameNumber, SameText, Built, PatternTrees, NoPattern, NextPattern, Phrase, LetIn, IfElse, Chain, Prefixed, NumberOf, TextOf, NullOf, DestinyOf, ThisOf, FieldOf, OwnCallOf, VariableOf, ApplyOf, BuildOf, CaseOf, Phrases, NoPhrase, NextPhrase, Links, NoLink, Link, Branches, NoBranch, NextBranch, SideTree, NewOf, ValueOf, SendOf, GetOf, CallOf, Tests, NoTest, NextTest, ToVariable, ToField, MaybeSide, NoSide, SomeSide, Statement, BlockOf, SkipOf, SuspendOf, AwaitOf, ReturnOf, PrintOf, IfOf, WhileOf, DeclareOf, AssignOf, DoOf, MaybeStatements, NoElse, Else, Statements, NoStatement, NextStatement, ParamTree, DeclaredTree, ConstructorTree, SignatureTree, NoValue, Value, MemberTree, FieldTree, MethodTree, DeclTree, DataTree, FunctionTree, InterfaceTree, ClassTree, TextTree}
+use Rattle.abs_tree.specs.Syntax.{Name, Written, TypeTree, TypeName, TypeTrees, NoType, NextType, PatternTree, AnyValue, Binds, SameNumber, SameString, Built, PatternTrees, NoPattern, NextPattern, Phrase, LetIn, IfElse, Chain, Prefixed, NumberOf, StringOf, NullOf, DestinyOf, ThisOf, FieldOf, OwnCallOf, VariableOf, ApplyOf, BuildOf, CaseOf, Phrases, NoPhrase, NextPhrase, Links, NoLink, Link, Branches, NoBranch, NextBranch, SideTree, NewOf, ValueOf, SendOf, GetOf, CallOf, Tests, NoTest, NextTest, ToVariable, ToField, MaybeSide, NoSide, SomeSide, Statement, BlockOf, SkipOf, SuspendOf, AwaitOf, ReturnOf, PrintOf, IfOf, WhileOf, DeclareOf, AssignOf, DoOf, MaybeStatements, NoElse, Else, Statements, NoStatement, NextStatement, ParamTree, DeclaredTree, ConstructorTree, SignatureTree, NoValue, Value, MemberTree, FieldTree, MethodTree, DeclTree, DataTree, FunctionTree, InterfaceTree, ClassTree, SourceTree}
 use Rattle.abs_tree.specs.declared.syntax.expression.Operator.{Operator}
 use Rattle.abs_tree.specs.declared.syntax.expression.Operator.TheVariants as operator
 use Rattle.abs_tree.specs.declared.syntax.expression.Prefix.{Prefix}
@@ -88,7 +88,7 @@ abbrev mutual
   pattern_by LocalName mark others = Binds (place_of_mark mark) (Written (written mark))
   pattern_by Number mark others = SameNumber (place_of_mark mark) (pos (number_of mark))
   pattern_by (Sign punctuator.Minus) mark (Leaf number _ _) = SameNumber (place_of_mark mark) (neg_ℤ (pos (number_of number)))
-  pattern_by Text mark others = SameText (place_of_mark mark) (text_of mark)
+  pattern_by Text mark others = SameString (place_of_mark mark) (text_of mark)
   pattern_by UpperName mark (Node _ arguments _) = Built (place_of_mark mark) (written mark) (pattern_arguments arguments)
   pattern_by AbsName mark (Node _ arguments _) = Built (place_of_mark mark) (written mark) (pattern_arguments arguments)
   pattern_by StdLibName mark (Node _ arguments _) = Built (place_of_mark mark) (written mark) (pattern_arguments arguments)
@@ -226,7 +226,7 @@ abbrev mutual
 
   pub primary_by : Kind → Mark → Forest → Phrase
   primary_by Number mark others = NumberOf (place_of_mark mark) (pos (number_of mark))
-  primary_by Text mark others = TextOf (place_of_mark mark) (text_of mark)
+  primary_by Text mark others = StringOf (place_of_mark mark) (text_of mark)
   primary_by (Word keyword.Destiny) mark others = DestinyOf (place_of_mark mark)
   primary_by (Word keyword.This) mark (Node _ tail _) = this_in (place_of_mark mark) tail
   primary_by LowerName mark (Node _ arguments _) = named (place_of_mark mark) (written mark) (arguments_maybe arguments)
@@ -507,11 +507,11 @@ decls_in (Node _ decl (Node _ more _)) = decl_in decl (decls_in more)
 decls_in _ = []
 
 -- Program: "module" and "import" lines are read and leave nothing
-abbrev pub text_in : Forest → TextTree
+abbrev pub text_in : Forest → SourceTree
 text_in (Node _ heading (Node _ imported (Node _ decls (Node _ block _)))) = record { declarations = decls_in decls; main = block_in block; end = block_end block }
 text_in _ = record { declarations = []; main = NoStatement; end = start }
 
 -- the tree of a text, from its one reading
-abbrev pub tree_of : Forest → TextTree
+abbrev pub tree_of : Forest → SourceTree
 tree_of (Node _ program _) = text_in program
 tree_of _ = text_in Empty

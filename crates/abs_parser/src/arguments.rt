@@ -29,9 +29,11 @@ pub(crate) fn arguments_maybe<'a, 'b>(
 ) -> Result<(Option<Vec<Expr>>, Cursor<'a, 'b>), ParseError>
     requires names { length symbols.old + length (spot from).rest < 2 ^ 31 }
     requires depth { depth ≤ limit }
-    ensures found { IfOk result (λ found. FoundAs (Optional Arguments) depth symbols.old symbols.new (spot from.entry) (spot found.1)
+    ensures found { IfOk result (λ found. FoundAs (Optional Arguments) depth symbols.old symbols.new (spot from.entry)
+        (spot found.1)
         (λ names inside. maybe_phrases names found.0 ≡ maybe_arguments_in inside)) }
-    ensures refused { IfErr result (λ error. IsRefused (Nonterminal (Optional Arguments) depth) (spot from.entry) error) }
+    ensures refused { IfErr result (λ error. IsRefused (Nonterminal (Optional Arguments) depth)
+        (spot from.entry) error) }
 {
     let Ok(_) = from.expect(Lexeme::Sign(Punctuator::OpenParen)) else {
         return Ok((None, from));
@@ -53,7 +55,8 @@ pub(crate) fn arguments<'a, 'b>(
 ) -> Result<(Vec<Expr>, Cursor<'a, 'b>), ParseError>
     requires names { length symbols.old + length (spot from).rest < 2 ^ 31 }
     requires depth { depth ≤ limit }
-    ensures found { IfOk result (λ found. FoundAs (One Arguments) depth symbols.old symbols.new (spot from.entry) (spot found.1)
+    ensures found { IfOk result (λ found. FoundAs (One Arguments) depth symbols.old symbols.new (spot from.entry)
+        (spot found.1)
         (λ names inside. phrases names found.0.items ≡ arguments_in inside)) }
     ensures refused { IfErr result (λ error. IsRefused (Nonterminal (One Arguments) depth) (spot from.entry) error) }
 {
@@ -76,7 +79,8 @@ fn expressions<'a, 'b>(
 ) -> Result<(Vec<Expr>, Cursor<'a, 'b>), ParseError>
     requires names { length symbols.old + length (spot from).rest < 2 ^ 31 }
     requires depth { depth ≤ limit }
-    ensures found { IfOk result (λ found. FoundAs (One Args) depth symbols.old symbols.new (spot from.entry) (spot found.1)
+    ensures found { IfOk result (λ found. FoundAs (One Args) depth symbols.old symbols.new (spot from.entry)
+        (spot found.1)
         (λ names inside. phrases names found.0.items ≡ args_in inside)) }
     ensures refused { IfErr result (λ error. IsRefused (Nonterminal (One Args) depth) (spot from.entry) error) }
 {

@@ -34,7 +34,8 @@ pub(crate) fn case_of<'a, 'b>(
     requires begins { fits (Word keyword.Case) (next (left_at (spot from))) ≡ true }
     requires names { length symbols.old + length (spot from).rest < 2 ^ 31 }
     requires depth { depth ≤ limit }
-    ensures found { IfOk result (λ found. FoundAs (One Primary) depth symbols.old symbols.new (spot from.entry) (spot found.1)
+    ensures found { IfOk result (λ found. FoundAs (One Primary) depth symbols.old symbols.new (spot from.entry)
+        (spot found.1)
         (λ names inside. phrase names found.0 ≡ primary_in inside)) }
     ensures refused { IfErr result (λ error. IsRefused (Nonterminal (One Primary) depth) (spot from.entry) error) }
 {
@@ -63,8 +64,10 @@ fn branch<'a, 'b>(
 ) -> Result<(Branch, Cursor<'a, 'b>), ParseError>
     requires names { length symbols.old + length (spot from).rest < 2 ^ 31 }
     requires depth { depth ≤ limit }
-    ensures found { IfOk result (λ found. FoundAs (One BranchSymbol) depth symbols.old symbols.new (spot from.entry) (spot found.1)
-        (λ names inside. (others : Branches) → NextBranch (pattern_tree names found.0.pattern) (phrase names found.0.value) others ≡ branch_in inside others)) }
+    ensures found { IfOk result (λ found. FoundAs (One BranchSymbol) depth symbols.old symbols.new (spot from.entry)
+        (spot found.1)
+        (λ names inside. (others : Branches) → NextBranch (pattern_tree names found.0.pattern)
+        (phrase names found.0.value) others ≡ branch_in inside others)) }
     ensures refused { IfErr result (λ error. IsRefused (Nonterminal (One BranchSymbol) depth) (spot from.entry) error) }
 {
     let (pattern, arrow) = pattern(alloc, symbols, depth, from)?;

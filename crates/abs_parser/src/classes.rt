@@ -2,7 +2,7 @@
 ghost use Rattle.std.specs.Prelude.{◌≡◌, true, List, ◌∷◌, ◌+◌, ◌<◌, ◌≤◌, ◌^◌, length, IfOk, IfErr};
 ghost use Rattle.abs_lexer.specs.declared.lexeme.Keyword.TheVariants as keyword;
 ghost use Rattle.abs_tree.specs.Syntax.{MemberTree, DeclTree};
-ghost use Rattle.abs_tree.specs.TextNumbers.{MemberNumbered, DeclNumbered};
+ghost use Rattle.abs_tree.specs.SourceNumbers.{MemberNumbered, DeclNumbered};
 ghost use Rattle.abs_tree.specs.SyntaxViews.{type_tree, declared as declared_tree, member_tree, decl_tree};
 ghost use Rattle.abs_parser.specs.Kinds.{Word, fits, next};
 ghost use Rattle.abs_parser.specs.Productions.{Decl as DeclSymbol, Member as MemberSymbol, MemberTail};
@@ -41,7 +41,8 @@ pub(crate) fn class<'a, 'b>(
     requires names { length symbols.old + length (spot from).rest < 2 ^ 31 }
     requires few { number + length (spot from).rest < 2 ^ 31 }
     requires depth { depth ≤ limit }
-    ensures found { IfOk result (λ found. FoundAs (One DeclSymbol) depth symbols.old symbols.new (spot from.entry) (spot found.2)
+    ensures found { IfOk result (λ found. FoundAs (One DeclSymbol) depth symbols.old symbols.new (spot from.entry)
+        (spot found.2)
         (λ names inside. (others : List DeclTree) → decl_tree names found.0 ∷ others ≡ decl_in inside others)) }
     ensures numbered { IfOk result (λ found. DeclNumbered number found.0 found.1) }
     ensures few { IfOk result (λ found. found.1 + length (spot found.2).rest ≤ number + length (spot from.entry).rest) }
@@ -81,7 +82,8 @@ fn member<'a, 'b>(
     requires names { length symbols.old + length (spot from).rest < 2 ^ 31 }
     requires few { number + length (spot from).rest < 2 ^ 31 }
     requires depth { depth ≤ limit }
-    ensures found { IfOk result (λ found. FoundAs (One MemberSymbol) depth symbols.old symbols.new (spot from.entry) (spot found.2)
+    ensures found { IfOk result (λ found. FoundAs (One MemberSymbol) depth symbols.old symbols.new (spot from.entry)
+        (spot found.2)
         (λ names inside. (others : List MemberTree) → member_tree names found.0 ∷ others ≡ member_in inside others)) }
     ensures numbered { IfOk result (λ found. MemberNumbered number found.0 found.1) }
     ensures few { IfOk result (λ found. found.1 + length (spot found.2).rest ≤ number + length (spot from.entry).rest) }
@@ -109,8 +111,10 @@ fn member_behind<'a, 'b>(
     requires names { length symbols.old + length (spot from).rest < 2 ^ 31 }
     requires few { number + length (spot from).rest < 2 ^ 31 }
     requires depth { depth ≤ limit }
-    ensures found { IfOk result (λ found. FoundAs (One MemberTail) depth symbols.old symbols.new (spot from.entry) (spot found.2)
-        (λ names inside. member_tree names found.0 ≡ member_by (type_tree names type_of) (declared_tree names name) inside)) }
+    ensures found { IfOk result (λ found. FoundAs (One MemberTail) depth symbols.old symbols.new (spot from.entry)
+        (spot found.2)
+        (λ names inside. member_tree names found.0 ≡ member_by (type_tree names type_of)
+        (declared_tree names name) inside)) }
     ensures numbered { IfOk result (λ found. MemberNumbered number found.0 found.1) }
     ensures few { IfOk result (λ found. found.1 + length (spot found.2).rest ≤ number + length (spot from.entry).rest) }
     ensures refused { IfErr result (λ error. IsRefused (Nonterminal (One MemberTail) depth) (spot from.entry) error) }

@@ -1,13 +1,15 @@
 //! A cursor over the tokens of a text: which of them are left, and what the next one is.
 ghost use Rattle.std.specs.Prelude.{◌≡◌, ℕ, false, ◌^◌, ◌<◌, ◌≤◌, [], length, IfOk, OnOk, IfErr, IfSome, IfNone, pos, List};
+ghost use Rattle.abs_tree.specs.Limits.{source_limit};
 
 use crate::ParseError;
 use abs_lexer::token::Tokens;
 use abs_lexer::{Lexeme, Token};
+use abs_tree::limits::{NESTING_LIMIT, SOURCE_LIMIT};
 use abs_tree::{Code, Offence, Place, Refusal};
 
 /// How many counted symbols may be open at once.
-pub(crate) const LIMIT: u32 = 100;
+pub(crate) const LIMIT: u32 = NESTING_LIMIT;
 
 /// A name with a text of its own, for which the grammar asks in one place.
 #[derive(Clone, Copy, Debug, PartialEq, Eq)]
@@ -26,7 +28,7 @@ pub(crate) struct Cursor<'a, 'b> {
     tokens: &'b Tokens<'a>,
     index: usize,
     ghost within: { index ≤ length tokens.now.tokens },
-    ghost few: { length tokens.now.tokens ≤ 1048576 },
+    ghost few: { length tokens.now.tokens ≤ source_limit },
 }
 
 impl<'a, 'b> Cursor<'a, 'b> {
@@ -37,7 +39,7 @@ impl<'a, 'b> Cursor<'a, 'b> {
     ghost use Rattle.abs_parser.specs.Kinds.{End, fits, next};
     ghost use Rattle.abs_parser.specs.Readings.{Terminal};
     ghost use Rattle.abs_parser.specs.ReaderAnswers.{asked, fixed_kind, left_at, refusal_at, wrong_at, TakesKind, TakesFixed, IsRefused};
-    ghost use Rattle.abs_parser.specs.declared.parser.ParseError.TheVariants.{Refused};
+    ghost use Rattle.abs_tree.specs.declared.source_error.SourceError.TheVariants.{Refused};
     ghost use Rattle.abs_tree.specs.declared.refusal.Code.TheVariants.{S2};
 
     /// All the tokens.
@@ -45,7 +47,7 @@ impl<'a, 'b> Cursor<'a, 'b> {
         ensures { spot result ≡ whole tokens.now }
     {
         // read for the bound alone, which no clause of the list itself gives
-        let few = tokens.len() <= 1_048_576;
+        let few = tokens.len() <= SOURCE_LIMIT;
         prove!(few);
         Cursor { tokens, index: 0 }
     }
@@ -77,8 +79,8 @@ impl<'a, 'b> Cursor<'a, 'b> {
         }
     }
 
-    /// The refusal of the token that stands here, where nothing that is read has it there: a word outside the profile has
-    /// a code of its own.
+    /// The refusal of the token that stands here, where nothing that is read has it there: a word outside the profile
+    /// has a code of its own.
     pub fn wrong(self) -> ParseError
         ensures { result ≡ Refused (wrong_at (spot self.entry)) }
     {
@@ -116,7 +118,8 @@ impl<'a, 'b> Cursor<'a, 'b> {
         ensures well_formed { IfOk result (λ found. IsWellFormed (lexed found.0)) }
         ensures other { IfErr result (λ error. fits (asked kind) (next (left_at (spot self.entry))) ≡ false) }
         ensures refusal { IfErr result (λ error. error ≡ Refused (wrong_at (spot self.entry))) }
-        ensures refused { IfErr result (λ error. (depth : ℕ) → IsRefused (Terminal (asked kind) depth) (spot self.entry) error) }
+        ensures refused { IfErr result (λ error. (depth : ℕ)
+            → IsRefused (Terminal (asked kind) depth) (spot self.entry) error) }
     {
         match self.next() {
             Some((token, behind)) if token.kind == kind => Ok((token, behind)),
@@ -131,7 +134,8 @@ impl<'a, 'b> Cursor<'a, 'b> {
     pub fn expect_name(self, name: FixedName) -> Result<(Token<'a>, Cursor<'a, 'b>), ParseError>
         ensures found { IfOk result (λ found. TakesFixed name (lexed found.0) (spot self.entry) (spot found.1)) }
         ensures other { IfErr result (λ error. fits (fixed_kind name) (next (left_at (spot self.entry))) ≡ false) }
-        ensures refused { IfErr result (λ error. (depth : ℕ) → IsRefused (Terminal (fixed_kind name) depth) (spot self.entry) error) }
+        ensures refused { IfErr result (λ error. (depth : ℕ)
+            → IsRefused (Terminal (fixed_kind name) depth) (spot self.entry) error) }
     {
         let text: &[u8] = match name {
             FixedName::Local => b"local",

@@ -32,9 +32,12 @@ fn constructor<'a, 'b>(
 ) -> Result<(Constructor, Cursor<'a, 'b>), ParseError>
     requires names { length symbols.old + length (spot from).rest < 2 ^ 31 }
     requires depth { depth ≤ limit }
-    ensures found { IfOk result (λ found. FoundAs (One ConstructorSymbol) depth symbols.old symbols.new (spot from.entry) (spot found.1)
-        (λ names inside. (others : List ConstructorTree) → constructor_tree names found.0 ∷ others ≡ constructor_in inside others)) }
-    ensures refused { IfErr result (λ error. IsRefused (Nonterminal (One ConstructorSymbol) depth) (spot from.entry) error) }
+    ensures found { IfOk result (λ found. FoundAs (One ConstructorSymbol) depth symbols.old symbols.new
+        (spot from.entry) (spot found.1)
+        (λ names inside. (others : List ConstructorTree)
+        → constructor_tree names found.0 ∷ others ≡ constructor_in inside others)) }
+    ensures refused { IfErr result (λ error. IsRefused (Nonterminal (One ConstructorSymbol) depth)
+        (spot from.entry) error) }
 {
     let (name, open) = from.expect(Lexeme::UpperName)?;
     let place = name.place;
@@ -57,7 +60,8 @@ pub(crate) fn data<'a, 'b>(
     requires begins { fits (Word keyword.Data) (next (left_at (spot from))) ≡ true }
     requires names { length symbols.old + length (spot from).rest < 2 ^ 31 }
     requires depth { depth ≤ limit }
-    ensures found { IfOk result (λ found. FoundAs (One DeclSymbol) depth symbols.old symbols.new (spot from.entry) (spot found.1)
+    ensures found { IfOk result (λ found. FoundAs (One DeclSymbol) depth symbols.old symbols.new (spot from.entry)
+        (spot found.1)
         (λ names inside. (others : List DeclTree) → decl_tree names found.0 ∷ others ≡ decl_in inside others)) }
     ensures refused { IfErr result (λ error. IsRefused (Nonterminal (One DeclSymbol) depth) (spot from.entry) error) }
 {
@@ -94,7 +98,8 @@ pub(crate) fn function<'a, 'b>(
     requires begins { fits (Word keyword.Def) (next (left_at (spot from))) ≡ true }
     requires names { length symbols.old + length (spot from).rest < 2 ^ 31 }
     requires depth { depth ≤ limit }
-    ensures found { IfOk result (λ found. FoundAs (One DeclSymbol) depth symbols.old symbols.new (spot from.entry) (spot found.1)
+    ensures found { IfOk result (λ found. FoundAs (One DeclSymbol) depth symbols.old symbols.new (spot from.entry)
+        (spot found.1)
         (λ names inside. (others : List DeclTree) → decl_tree names found.0 ∷ others ≡ decl_in inside others)) }
     ensures refused { IfErr result (λ error. IsRefused (Nonterminal (One DeclSymbol) depth) (spot from.entry) error) }
 {
@@ -130,7 +135,8 @@ pub(crate) fn interface<'a, 'b>(
     requires begins { fits (Word keyword.Interface) (next (left_at (spot from))) ≡ true }
     requires names { length symbols.old + length (spot from).rest < 2 ^ 31 }
     requires depth { depth ≤ limit }
-    ensures found { IfOk result (λ found. FoundAs (One DeclSymbol) depth symbols.old symbols.new (spot from.entry) (spot found.1)
+    ensures found { IfOk result (λ found. FoundAs (One DeclSymbol) depth symbols.old symbols.new (spot from.entry)
+        (spot found.1)
         (λ names inside. (others : List DeclTree) → decl_tree names found.0 ∷ others ≡ decl_in inside others)) }
     ensures refused { IfErr result (λ error. IsRefused (Nonterminal (One DeclSymbol) depth) (spot from.entry) error) }
 {
@@ -162,9 +168,12 @@ fn signature<'a, 'b>(
 ) -> Result<(Signature, Cursor<'a, 'b>), ParseError>
     requires names { length symbols.old + length (spot from).rest < 2 ^ 31 }
     requires depth { depth ≤ limit }
-    ensures found { IfOk result (λ found. FoundAs (One SignatureSymbol) depth symbols.old symbols.new (spot from.entry) (spot found.1)
-        (λ names inside. (others : List SignatureTree) → signature_tree names found.0 ∷ others ≡ signature_in inside others)) }
-    ensures refused { IfErr result (λ error. IsRefused (Nonterminal (One SignatureSymbol) depth) (spot from.entry) error) }
+    ensures found { IfOk result (λ found. FoundAs (One SignatureSymbol) depth symbols.old symbols.new
+        (spot from.entry) (spot found.1)
+        (λ names inside. (others : List SignatureTree)
+        → signature_tree names found.0 ∷ others ≡ signature_in inside others)) }
+    ensures refused { IfErr result (λ error. IsRefused (Nonterminal (One SignatureSymbol) depth)
+        (spot from.entry) error) }
 {
     let (result, name_at) = type_term(alloc, symbols, depth, from)?;
     let (name, open) = name_at.expect(Lexeme::LowerName)?;

@@ -32,7 +32,8 @@ pub(crate) fn expression<'a, 'b>(
 ) -> Result<(Expr, Cursor<'a, 'b>), ParseError>
     requires names { length symbols.old + length (spot from).rest < 2 ^ 31 }
     requires depth { depth ≤ limit }
-    ensures found { IfOk result (λ found. FoundAs (One ExprSymbol) depth symbols.old symbols.new (spot from.entry) (spot found.1)
+    ensures found { IfOk result (λ found. FoundAs (One ExprSymbol) depth symbols.old symbols.new (spot from.entry)
+        (spot found.1)
         (λ names inside. phrase names found.0 ≡ expr_in inside)) }
     ensures refused { IfErr result (λ error. IsRefused (Nonterminal (One ExprSymbol) depth) (spot from.entry) error) }
 {
@@ -56,7 +57,8 @@ fn let_in<'a, 'b>(
     requires begins { fits (Word keyword.Let) (next (left_at (spot from))) ≡ true }
     requires names { length symbols.old + length (spot from).rest < 2 ^ 31 }
     requires depth { depth ≤ limit }
-    ensures found { IfOk result (λ found. FoundAs (One ExprSymbol) depth symbols.old symbols.new (spot from.entry) (spot found.1)
+    ensures found { IfOk result (λ found. FoundAs (One ExprSymbol) depth symbols.old symbols.new (spot from.entry)
+        (spot found.1)
         (λ names inside. phrase names found.0 ≡ expr_in inside)) }
     ensures refused { IfErr result (λ error. IsRefused (Nonterminal (One ExprSymbol) depth) (spot from.entry) error) }
 {
@@ -89,7 +91,8 @@ fn if_else<'a, 'b>(
     requires begins { fits (Word keyword.If) (next (left_at (spot from))) ≡ true }
     requires names { length symbols.old + length (spot from).rest < 2 ^ 31 }
     requires depth { depth ≤ limit }
-    ensures found { IfOk result (λ found. FoundAs (One ExprSymbol) depth symbols.old symbols.new (spot from.entry) (spot found.1)
+    ensures found { IfOk result (λ found. FoundAs (One ExprSymbol) depth symbols.old symbols.new (spot from.entry)
+        (spot found.1)
         (λ names inside. phrase names found.0 ≡ expr_in inside)) }
     ensures refused { IfErr result (λ error. IsRefused (Nonterminal (One ExprSymbol) depth) (spot from.entry) error) }
 {

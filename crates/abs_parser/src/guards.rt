@@ -30,7 +30,8 @@ pub(crate) fn guard<'a, 'b>(
 ) -> Result<(Vec<Test>, Cursor<'a, 'b>), ParseError>
     requires names { length symbols.old + length (spot from).rest < 2 ^ 31 }
     requires depth { depth ≤ limit }
-    ensures found { IfOk result (λ found. FoundAs (One Guard) depth symbols.old symbols.new (spot from.entry) (spot found.1)
+    ensures found { IfOk result (λ found. FoundAs (One Guard) depth symbols.old symbols.new (spot from.entry)
+        (spot found.1)
         (λ names inside. test_trees names found.0.items ≡ guard_in inside)) }
     ensures refused { IfErr result (λ error. IsRefused (Nonterminal (One Guard) depth) (spot from.entry) error) }
 {
@@ -54,8 +55,10 @@ fn test<'a, 'b>(
 ) -> Result<(Test, Cursor<'a, 'b>), ParseError>
     requires names { length symbols.old + length (spot from).rest < 2 ^ 31 }
     requires depth { depth ≤ limit }
-    ensures found { IfOk result (λ found. FoundAs (One TestSymbol) depth symbols.old symbols.new (spot from.entry) (spot found.1)
-        (λ names inside. (others : Tests) → NextTest found.0.place (phrase names found.0.value.value) found.0.asks others ≡ test_in inside others)) }
+    ensures found { IfOk result (λ found. FoundAs (One TestSymbol) depth symbols.old symbols.new (spot from.entry)
+        (spot found.1)
+        (λ names inside. (others : Tests) → NextTest found.0.place
+        (phrase names found.0.value.value) found.0.asks others ≡ test_in inside others)) }
     ensures refused { IfErr result (λ error. IsRefused (Nonterminal (One TestSymbol) depth) (spot from.entry) error) }
 {
     let place = from.place();

@@ -23,4 +23,5 @@ mod simple_statements;
 mod statements;
 mod types;
 
-pub use parser::{ParseError, parse};
+pub use abs_tree::SourceError as ParseError;
+pub use parser::parse;

@@ -1,4 +1,5 @@
-//! Reads lists of upper-case names: the parameters of a type, and the interfaces that an interface extends or a class implements.
+//! Reads lists of upper-case names: the parameters of a type, and the interfaces that an interface extends or a class
+//! implements.
 ghost use Rattle.std.specs.Prelude.{◌≡◌, ℕ, ◌+◌, ◌<◌, ◌≤◌, ◌^◌, ◌∷◌, length, map, IfOk, IfErr};
 ghost use Rattle.abs_tree.specs.SyntaxViews.{declared as declared_tree};
 ghost use Rattle.abs_parser.specs.Headings.{symbol_of};
@@ -36,9 +37,11 @@ pub(crate) fn names_behind<'a, 'b>(
     from: Cursor<'a, 'b>,
 ) -> Result<(Vec<Declared>, Cursor<'a, 'b>), ParseError>
     requires names { length symbols.old + length (spot from).rest < 2 ^ 31 }
-    ensures found { IfOk result (λ found. (depth : ℕ) → depth ≤ limit → FoundAs (Optional (symbol_of heading)) depth symbols.old symbols.new (spot from.entry) (spot found.1)
+    ensures found { IfOk result (λ found. (depth : ℕ) → depth ≤ limit
+        → FoundAs (Optional (symbol_of heading)) depth symbols.old symbols.new (spot from.entry) (spot found.1)
         (λ names inside. map (declared_tree names) found.0.items ≡ names_maybe inside)) }
-    ensures refused { IfErr result (λ error. (depth : ℕ) → depth ≤ limit → IsRefused (Nonterminal (Optional (symbol_of heading)) depth) (spot from.entry) error) }
+    ensures refused { IfErr result (λ error. (depth : ℕ) → depth ≤ limit
+        → IsRefused (Nonterminal (Optional (symbol_of heading)) depth) (spot from.entry) error) }
 {
     let word = match heading {
         Heading::Extends => Keyword::Extends,
@@ -65,9 +68,11 @@ pub(crate) fn type_parameters<'a, 'b>(
     from: Cursor<'a, 'b>,
 ) -> Result<(Vec<Declared>, Cursor<'a, 'b>), ParseError>
     requires names { length symbols.old + length (spot from).rest < 2 ^ 31 }
-    ensures found { IfOk result (λ found. (depth : ℕ) → depth ≤ limit → FoundAs (Optional TypeParameters) depth symbols.old symbols.new (spot from.entry) (spot found.1)
+    ensures found { IfOk result (λ found. (depth : ℕ) → depth ≤ limit
+        → FoundAs (Optional TypeParameters) depth symbols.old symbols.new (spot from.entry) (spot found.1)
         (λ names inside. map (declared_tree names) found.0.items ≡ names_maybe inside)) }
-    ensures refused { IfErr result (λ error. (depth : ℕ) → depth ≤ limit → IsRefused (Nonterminal (Optional TypeParameters) depth) (spot from.entry) error) }
+    ensures refused { IfErr result (λ error. (depth : ℕ) → depth ≤ limit
+        → IsRefused (Nonterminal (Optional TypeParameters) depth) (spot from.entry) error) }
 {
     let Ok((_, name_at)) = from.expect(Lexeme::Sign(Punctuator::Less)) else {
         return Ok((Vec::new(alloc), from));
@@ -90,9 +95,11 @@ fn more_names<'a, 'b>(
     from: Cursor<'a, 'b>,
 ) -> Result<(Vec<Declared>, Cursor<'a, 'b>), ParseError>
     requires names { length symbols.old + length (spot from).rest < 2 ^ 31 }
-    ensures found { IfOk result (λ found. (depth : ℕ) → depth ≤ limit → FoundAs (Repeated CommaUpper) depth symbols.old symbols.new (spot from.entry) (spot found.1)
+    ensures found { IfOk result (λ found. (depth : ℕ) → depth ≤ limit
+        → FoundAs (Repeated CommaUpper) depth symbols.old symbols.new (spot from.entry) (spot found.1)
         (λ names inside. map (declared_tree names) found.0.items ≡ declared_tree names first ∷ more_names_in inside)) }
-    ensures refused { IfErr result (λ error. (depth : ℕ) → depth ≤ limit → IsRefused (Nonterminal (Repeated CommaUpper) depth) (spot from.entry) error) }
+    ensures refused { IfErr result (λ error. (depth : ℕ) → depth ≤ limit
+        → IsRefused (Nonterminal (Repeated CommaUpper) depth) (spot from.entry) error) }
 {
     let mut listed = vec![in alloc; first]?;
     let mut here = from;

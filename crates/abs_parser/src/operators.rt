@@ -92,7 +92,8 @@ fn operator_of(sign: Punctuator) -> Option<Operator>
 fn operator_at<'a, 'b>(level: Level, from: Cursor<'a, 'b>) -> Option<(Operator, Cursor<'a, 'b>)>
     ensures level { IfSome result (λ found. on_level found.0 ≡ level) }
     ensures some { IfSome result (λ found. Passes (lexeme.Sign (sign_of found.0)) (spot from.entry) (spot found.1)) }
-    ensures none { IfNone result ((operator : operator_type.Operator) → on_level operator ≡ level → fits (Sign (sign_of operator)) (next (left_at (spot from.entry))) ≡ false) }
+    ensures none { IfNone result ((operator : operator_type.Operator) → on_level operator ≡ level
+        → fits (Sign (sign_of operator)) (next (left_at (spot from.entry))) ≡ false) }
 {
     let (token, behind) = from.next()?;
     let Lexeme::Sign(sign) = token.kind else {
@@ -119,16 +120,18 @@ pub(crate) fn operators<'a, 'b>(
 ) -> Result<(Expr, Cursor<'a, 'b>), ParseError>
     requires names { length symbols.old + length (spot from).rest < 2 ^ 31 }
     requires depth { depth ≤ limit + 1 }
-    ensures found { IfOk result (λ found. FoundAs (One (symbol_of level)) depth symbols.old symbols.new (spot from.entry) (spot found.1)
+    ensures found { IfOk result (λ found. FoundAs (One (symbol_of level)) depth symbols.old symbols.new
+        (spot from.entry) (spot found.1)
         (λ names inside. phrase names found.0 ≡ level_in level inside)) }
-    ensures refused { IfErr result (λ error. IsRefused (Nonterminal (One (symbol_of level)) depth) (spot from.entry) error) }
+    ensures refused { IfErr result (λ error. IsRefused (Nonterminal (One (symbol_of level)) depth)
+        (spot from.entry) error) }
 {
     let (first, here) = operand(alloc, symbols, level, depth, from)?;
     operators_behind(alloc, symbols, level, depth, from.place(), first, here)
 }
 
-/// A first operand of a level, which begins at `place`, with the operators and operands that stand behind it; and the cursor
-/// behind them.
+/// A first operand of a level, which begins at `place`, with the operators and operands that stand behind it; and the
+/// cursor behind them.
 ///
 /// # Errors
 /// The refusal of the first token that stands in nothing of this form, or that stands too deep.
@@ -144,7 +147,8 @@ pub(crate) fn operators_behind<'a, 'b>(
 ) -> Result<(Expr, Cursor<'a, 'b>), ParseError>
     requires names { length symbols.old + length (spot from).rest < 2 ^ 31 }
     requires depth { depth ≤ limit }
-    ensures found { IfOk result (λ found. FoundAs (rest_of level) depth symbols.old symbols.new (spot from.entry) (spot found.1)
+    ensures found { IfOk result (λ found. FoundAs (rest_of level) depth symbols.old symbols.new (spot from.entry)
+        (spot found.1)
         (λ names inside. phrase names found.0 ≡ chain place (phrase names first) (links_in level inside))) }
     ensures refused { IfErr result (λ error. IsRefused (Nonterminal (rest_of level) depth) (spot from.entry) error) }
 {
@@ -172,9 +176,11 @@ fn operand<'a, 'b>(
 ) -> Result<(Expr, Cursor<'a, 'b>), ParseError>
     requires names { length symbols.old + length (spot from).rest < 2 ^ 31 }
     requires depth { depth ≤ limit + 1 }
-    ensures found { IfOk result (λ found. FoundAs (One (operand_symbol level)) depth symbols.old symbols.new (spot from.entry) (spot found.1)
+    ensures found { IfOk result (λ found. FoundAs (One (operand_symbol level)) depth symbols.old symbols.new
+        (spot from.entry) (spot found.1)
         (λ names inside. phrase names found.0 ≡ operand_in level inside)) }
-    ensures refused { IfErr result (λ error. IsRefused (Nonterminal (One (operand_symbol level)) depth) (spot from.entry) error) }
+    ensures refused { IfErr result (λ error. IsRefused (Nonterminal (One (operand_symbol level)) depth)
+        (spot from.entry) error) }
 {
     match level {
         Level::Or => operators(alloc, symbols, Level::And, depth, from),
@@ -193,7 +199,8 @@ fn node(
     first: Expr,
     operands: Vec<Operand>,
 ) -> Result<Expr, AllocError>
-    ensures { IfOk result (λ expr. (names : List (List ℕ)) → phrase names expr ≡ chain place (phrase names first) (links names operands.items)) }
+    ensures { IfOk result (λ expr. (names : List (List ℕ))
+        → phrase names expr ≡ chain place (phrase names first) (links names operands.items)) }
 {
     if operands.is_empty() {
         return Ok(first);

@@ -26,7 +26,8 @@ fn param<'a, 'b>(
 ) -> Result<(Param, Cursor<'a, 'b>), ParseError>
     requires names { length symbols.old + length (spot from).rest < 2 ^ 31 }
     requires depth { depth ≤ limit }
-    ensures found { IfOk result (λ found. FoundAs (One ParamSymbol) depth symbols.old symbols.new (spot from.entry) (spot found.1)
+    ensures found { IfOk result (λ found. FoundAs (One ParamSymbol) depth symbols.old symbols.new (spot from.entry)
+        (spot found.1)
         (λ names inside. (others : List ParamTree) → param_tree names found.0 ∷ others ≡ param_in inside others)) }
     ensures refused { IfErr result (λ error. IsRefused (Nonterminal (One ParamSymbol) depth) (spot from.entry) error) }
 {
@@ -50,7 +51,8 @@ fn params<'a, 'b>(
 ) -> Result<(Vec<Param>, Cursor<'a, 'b>), ParseError>
     requires names { length symbols.old + length (spot from).rest < 2 ^ 31 }
     requires depth { depth ≤ limit }
-    ensures found { IfOk result (λ found. FoundAs (One Params) depth symbols.old symbols.new (spot from.entry) (spot found.1)
+    ensures found { IfOk result (λ found. FoundAs (One Params) depth symbols.old symbols.new (spot from.entry)
+        (spot found.1)
         (λ names inside. map (param_tree names) found.0.items ≡ params_in inside)) }
     ensures refused { IfErr result (λ error. IsRefused (Nonterminal (One Params) depth) (spot from.entry) error) }
 {
@@ -77,7 +79,8 @@ pub(crate) fn params_maybe<'a, 'b>(
 ) -> Result<(Vec<Param>, Cursor<'a, 'b>), ParseError>
     requires names { length symbols.old + length (spot from).rest < 2 ^ 31 }
     requires depth { depth ≤ limit }
-    ensures found { IfOk result (λ found. FoundAs (Optional Params) depth symbols.old symbols.new (spot from.entry) (spot found.1)
+    ensures found { IfOk result (λ found. FoundAs (Optional Params) depth symbols.old symbols.new (spot from.entry)
+        (spot found.1)
         (λ names inside. map (param_tree names) found.0.items ≡ maybe_params_in inside)) }
     ensures refused { IfErr result (λ error. IsRefused (Nonterminal (Optional Params) depth) (spot from.entry) error) }
 {
@@ -99,9 +102,11 @@ pub(crate) fn class_parameters<'a, 'b>(
 ) -> Result<(Vec<Param>, Cursor<'a, 'b>), ParseError>
     requires names { length symbols.old + length (spot from).rest < 2 ^ 31 }
     requires depth { depth ≤ limit }
-    ensures found { IfOk result (λ found. FoundAs (Optional ClassParameters) depth symbols.old symbols.new (spot from.entry) (spot found.1)
+    ensures found { IfOk result (λ found. FoundAs (Optional ClassParameters) depth symbols.old symbols.new
+        (spot from.entry) (spot found.1)
         (λ names inside. map (param_tree names) found.0.items ≡ class_params_maybe inside)) }
-    ensures refused { IfErr result (λ error. IsRefused (Nonterminal (Optional ClassParameters) depth) (spot from.entry) error) }
+    ensures refused { IfErr result (λ error. IsRefused (Nonterminal (Optional ClassParameters) depth)
+        (spot from.entry) error) }
 {
     let Ok((_, behind)) = from.expect(Lexeme::Sign(Punctuator::OpenParen)) else {
         return Ok((Vec::new(alloc), from));
@@ -123,9 +128,11 @@ pub(crate) fn constructor_types<'a, 'b>(
 ) -> Result<(Vec<TypeTerm>, Cursor<'a, 'b>), ParseError>
     requires names { length symbols.old + length (spot from).rest < 2 ^ 31 }
     requires depth { depth ≤ limit }
-    ensures found { IfOk result (λ found. FoundAs (Optional ConstructorTypes) depth symbols.old symbols.new (spot from.entry) (spot found.1)
+    ensures found { IfOk result (λ found. FoundAs (Optional ConstructorTypes) depth symbols.old symbols.new
+        (spot from.entry) (spot found.1)
         (λ names inside. type_trees names found.0.items ≡ types_of_constructor inside)) }
-    ensures refused { IfErr result (λ error. IsRefused (Nonterminal (Optional ConstructorTypes) depth) (spot from.entry) error) }
+    ensures refused { IfErr result (λ error. IsRefused (Nonterminal (Optional ConstructorTypes) depth)
+        (spot from.entry) error) }
 {
     let Ok((_, behind)) = from.expect(Lexeme::Sign(Punctuator::OpenParen)) else {
         return Ok((Vec::new(alloc), from));

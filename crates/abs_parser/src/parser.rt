@@ -1,64 +1,38 @@
 //! Reads a whole text: its declarations and its main block, and nothing behind it.
 ghost use Rattle.std.specs.Prelude.{◌≡◌, ◌≤◌, ℕ, length, All, IfOk, IfErr};
+ghost use Rattle.abs_tree.specs.Limits.{parsed_table_limit};
 ghost use Rattle.abs_tree.specs.SyntaxSizes.{all_statements};
-ghost use Rattle.abs_tree.specs.TextNumbers.{IsNumberedWhole};
-ghost use Rattle.abs_tree.specs.TextSizes.{all_variables};
-ghost use Rattle.abs_tree.specs.TextViews.{text_tree};
+ghost use Rattle.abs_tree.specs.SourceNumbers.{IsNumberedWhole};
+ghost use Rattle.abs_tree.specs.SourceSizes.{all_variables};
+ghost use Rattle.abs_tree.specs.SourceViews.{source_tree};
 ghost use Rattle.abs_parser.specs.Answers.{IsWritten};
 ghost use Rattle.abs_parser.specs.Texts.{IsTextOf, RefusesText};
-ghost use Rattle.abs_parser.specs.declared.parser.ParseError.TheVariants.{Memory};
 
+use crate::ParseError;
 use crate::cursor::Cursor;
 use crate::preamble::{import_line, module_line};
 use crate::programs::declarations;
 use crate::statements::block;
 use abs_lexer::token::Tokens;
+use abs_tree::Symbols;
 use abs_tree::syntax::Program;
-use abs_tree::{Refusal, Symbols};
-use std::alloc::{AllocError, AllocFailed, Global};
-use thiserror::Error;
+use std::alloc::Global;
 
-/// Why a text has no tree.
-#[derive(Clone, Copy, Debug, PartialEq, Eq, Error)]
-pub enum ParseError {
-    /// It is not in the grammar; the first token that can't stand where it does is refused.
-    #[error("the text is not in the grammar")]
-    Refused(Refusal),
-    /// Memory ran out.
-    #[error("memory ran out")]
-    Memory,
-}
-
-impl From<AllocError> for ParseError {
-    ghost from_gives = { λ _ e. e ≡ Memory };
-
-    fn from(_: AllocError) -> Self {
-        ParseError::Memory
-    }
-}
-
-impl<T: Drop> From<AllocFailed<T>> for ParseError {
-    ghost from_gives = { λ _ e. e ≡ Memory };
-
-    fn from(_: AllocFailed<T>) -> Self {
-        ParseError::Memory
-    }
-}
-
-/// The tree of the text of these tokens, where the text is accepted. Its statements that are no blocks are numbered from 0, in the order in
-/// which they begin.
+/// The tree of the text of these tokens, where the text is accepted. Its statements that are no blocks are numbered
+/// from 0, in the order in which they begin.
 ///
 /// # Errors
-/// [`ParseError::Refused`] where the text stops, with the code and the place of the token at which it does (the end of the text
-/// counts as one): S2 for one that would stand in more than 100 of the symbols that count, S3 for a word outside the
-/// profile, and S1 for any other; and [`ParseError::Memory`] where memory runs out.
+/// [`ParseError::Refused`] where the text stops, with the code and the place of the token at which it does (the end
+/// of the text counts as one): S2 for one that would stand in more than 100 of the symbols that count, S3 for a word
+/// outside the profile, and S1 for any other; and [`ParseError::Memory`] where memory runs out.
 pub fn parse<'a>(alloc: Global, list: &Tokens<'a>) -> Result<Program<'a>, ParseError>
-    ensures found { IfOk result (λ program. IsTextOf list.now program.symbols (text_tree program)) }
-    ensures numbered { IfOk result (λ program. (all : ℕ) × IsNumberedWhole program.declarations.items program.main all) }
+    ensures found { IfOk result (λ program. IsTextOf list.now program.symbols (source_tree program)) }
+    ensures numbered { IfOk result (λ program. (all : ℕ)
+        × IsNumberedWhole program.declarations.items program.main all) }
     ensures names { IfOk result (λ program. All (IsWritten list.now.tokens) program.symbols) }
-    ensures few_symbols { IfOk result (λ program. length program.symbols ≤ 4194304) }
-    ensures few_statements { IfOk result (λ program. all_statements (text_tree program) ≤ 4194304) }
-    ensures few_variables { IfOk result (λ program. all_variables (text_tree program) ≤ 4194304) }
+    ensures few_symbols { IfOk result (λ program. length program.symbols ≤ parsed_table_limit) }
+    ensures few_statements { IfOk result (λ program. all_statements (source_tree program) ≤ parsed_table_limit) }
+    ensures few_variables { IfOk result (λ program. all_variables (source_tree program) ≤ parsed_table_limit) }
     ensures refused { IfErr result (λ error. RefusesText error list.now) }
 {
     let mut symbols = Symbols::new(alloc);

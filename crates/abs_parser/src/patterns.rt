@@ -51,9 +51,11 @@ pub(crate) fn pattern<'a, 'b>(
 ) -> Result<(Pattern, Cursor<'a, 'b>), ParseError>
     requires names { length symbols.old + length (spot from).rest < 2 ^ 31 }
     requires depth { depth ≤ limit }
-    ensures found { IfOk result (λ found. FoundAs (One PatternSymbol) depth symbols.old symbols.new (spot from.entry) (spot found.1)
+    ensures found { IfOk result (λ found. FoundAs (One PatternSymbol) depth symbols.old symbols.new (spot from.entry)
+        (spot found.1)
         (λ names inside. pattern_tree names found.0 ≡ pattern_in inside)) }
-    ensures refused { IfErr result (λ error. IsRefused (Nonterminal (One PatternSymbol) depth) (spot from.entry) error) }
+    ensures refused { IfErr result (λ error. IsRefused (Nonterminal (One PatternSymbol) depth)
+        (spot from.entry) error) }
 {
     let Some((token, behind)) = from.next() else {
         return Err(from.wrong());
@@ -104,9 +106,11 @@ fn pattern_arguments<'a, 'b>(
 ) -> Result<(Vec<Pattern>, Cursor<'a, 'b>), ParseError>
     requires names { length symbols.old + length (spot from).rest < 2 ^ 31 }
     requires depth { depth ≤ limit }
-    ensures found { IfOk result (λ found. FoundAs (Optional PatternArguments) depth symbols.old symbols.new (spot from.entry) (spot found.1)
+    ensures found { IfOk result (λ found. FoundAs (Optional PatternArguments) depth symbols.old symbols.new
+        (spot from.entry) (spot found.1)
         (λ names inside. pattern_trees names found.0.items ≡ arguments_in inside)) }
-    ensures refused { IfErr result (λ error. IsRefused (Nonterminal (Optional PatternArguments) depth) (spot from.entry) error) }
+    ensures refused { IfErr result (λ error. IsRefused (Nonterminal (Optional PatternArguments) depth)
+        (spot from.entry) error) }
 {
     let Ok((_, behind)) = from.expect(Lexeme::Sign(Punctuator::OpenParen)) else {
         return Ok((Vec::new(alloc), from));
@@ -129,7 +133,8 @@ fn patterns<'a, 'b>(
 ) -> Result<(Vec<Pattern>, Cursor<'a, 'b>), ParseError>
     requires names { length symbols.old + length (spot from).rest < 2 ^ 31 }
     requires depth { depth ≤ limit }
-    ensures found { IfOk result (λ found. FoundAs (One Patterns) depth symbols.old symbols.new (spot from.entry) (spot found.1)
+    ensures found { IfOk result (λ found. FoundAs (One Patterns) depth symbols.old symbols.new (spot from.entry)
+        (spot found.1)
         (λ names inside. pattern_trees names found.0.items ≡ patterns_in inside)) }
     ensures refused { IfErr result (λ error. IsRefused (Nonterminal (One Patterns) depth) (spot from.entry) error) }
 {

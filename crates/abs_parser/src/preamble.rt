@@ -19,7 +19,8 @@ pub(crate) fn module_line<'a, 'b>(
     from: Cursor<'a, 'b>,
 ) -> Result<Cursor<'a, 'b>, ParseError>
     requires names { length symbols.old + length (spot from).rest < 2 ^ 31 }
-    ensures found { IfOk result (λ to. FoundAs (Optional Module) 0 symbols.old symbols.new (spot from.entry) (spot to) (λ names inside. ⊤)) }
+    ensures found { IfOk result (λ to. FoundAs (Optional Module) 0 symbols.old symbols.new (spot from.entry) (spot to)
+        (λ names inside. ⊤)) }
     ensures refused { IfErr result (λ error. IsRefused (Nonterminal (Optional Module) 0) (spot from.entry) error) }
 {
     let Ok((_, path_at)) = from.expect(Lexeme::Word(Keyword::Module)) else {
@@ -36,7 +37,8 @@ fn path<'a, 'b>(
     from: Cursor<'a, 'b>,
 ) -> Result<Cursor<'a, 'b>, ParseError>
     requires names { length symbols.old + length (spot from).rest < 2 ^ 31 }
-    ensures found { IfOk result (λ to. FoundAs (One Path) 0 symbols.old symbols.new (spot from.entry) (spot to) (λ names inside. ⊤)) }
+    ensures found { IfOk result (λ to. FoundAs (One Path) 0 symbols.old symbols.new (spot from.entry) (spot to)
+        (λ names inside. ⊤)) }
     ensures refused { IfErr result (λ error. IsRefused (Nonterminal (One Path) 0) (spot from.entry) error) }
 {
     let (first, mut here) = from.expect(Lexeme::UpperName)?;
@@ -58,7 +60,8 @@ pub(crate) fn import_line<'a, 'b>(
     from: Cursor<'a, 'b>,
 ) -> Result<Cursor<'a, 'b>, ParseError>
     requires names { length symbols.old + length (spot from).rest < 2 ^ 31 }
-    ensures found { IfOk result (λ to. FoundAs (Optional Import) 0 symbols.old symbols.new (spot from.entry) (spot to) (λ names inside. ⊤)) }
+    ensures found { IfOk result (λ to. FoundAs (Optional Import) 0 symbols.old symbols.new (spot from.entry) (spot to)
+        (λ names inside. ⊤)) }
     ensures refused { IfErr result (λ error. IsRefused (Nonterminal (Optional Import) 0) (spot from.entry) error) }
 {
     let Ok((_, star)) = from.expect(Lexeme::Word(Keyword::Import)) else {

@@ -1,5 +1,5 @@
-//! Reads unaries and primaries: an operator before its operand, numbers and texts, names with their arguments, `this` with what
-//! stands behind it, and what stands in parentheses.
+//! Reads unaries and primaries: an operator before its operand, numbers and texts, names with their arguments, `this`
+//! with what stands behind it, and what stands in parentheses.
 ghost use Rattle.std.specs.Prelude.{◌≡◌, ℕ, List, true, ◌+◌, ◌<◌, ◌≤◌, ◌^◌, length, IfOk, IfErr, IfSome, IfNone};
 ghost use Rattle.abs_lexer.specs.declared.lexeme.Keyword.TheVariants as keyword;
 ghost use Rattle.abs_lexer.specs.declared.lexeme.Lexeme.TheVariants as lexeme;
@@ -69,7 +69,8 @@ pub(crate) fn unary<'a, 'b>(
 ) -> Result<(Expr, Cursor<'a, 'b>), ParseError>
     requires names { length symbols.old + length (spot from).rest < 2 ^ 31 }
     requires depth { depth ≤ limit + 1 }
-    ensures found { IfOk result (λ found. FoundAs (One Unary) depth symbols.old symbols.new (spot from.entry) (spot found.1)
+    ensures found { IfOk result (λ found. FoundAs (One Unary) depth symbols.old symbols.new (spot from.entry)
+        (spot found.1)
         (λ names inside. phrase names found.0 ≡ unary_in inside)) }
     ensures refused { IfErr result (λ error. IsRefused (Nonterminal (One Unary) depth) (spot from.entry) error) }
 {
@@ -103,7 +104,8 @@ fn primary<'a, 'b>(
 ) -> Result<(Expr, Cursor<'a, 'b>), ParseError>
     requires names { length symbols.old + length (spot from).rest < 2 ^ 31 }
     requires depth { depth ≤ limit }
-    ensures found { IfOk result (λ found. FoundAs (One Primary) depth symbols.old symbols.new (spot from.entry) (spot found.1)
+    ensures found { IfOk result (λ found. FoundAs (One Primary) depth symbols.old symbols.new (spot from.entry)
+        (spot found.1)
         (λ names inside. phrase names found.0 ≡ primary_in inside)) }
     ensures refused { IfErr result (λ error. IsRefused (Nonterminal (One Primary) depth) (spot from.entry) error) }
 {
@@ -132,7 +134,8 @@ fn named<'a, 'b>(
     requires begins { fits LowerName (next (left_at (spot from))) ≡ true }
     requires names { length symbols.old + length (spot from).rest < 2 ^ 31 }
     requires depth { depth ≤ limit }
-    ensures found { IfOk result (λ found. FoundAs (One Primary) depth symbols.old symbols.new (spot from.entry) (spot found.1)
+    ensures found { IfOk result (λ found. FoundAs (One Primary) depth symbols.old symbols.new (spot from.entry)
+        (spot found.1)
         (λ names inside. phrase names found.0 ≡ primary_in inside)) }
     ensures refused { IfErr result (λ error. IsRefused (Nonterminal (One Primary) depth) (spot from.entry) error) }
 {
@@ -157,7 +160,8 @@ fn built<'a, 'b>(
     requires begins { fits UpperName (next (left_at (spot from))) ≡ true }
     requires names { length symbols.old + length (spot from).rest < 2 ^ 31 }
     requires depth { depth ≤ limit }
-    ensures found { IfOk result (λ found. FoundAs (One Primary) depth symbols.old symbols.new (spot from.entry) (spot found.1)
+    ensures found { IfOk result (λ found. FoundAs (One Primary) depth symbols.old symbols.new (spot from.entry)
+        (spot found.1)
         (λ names inside. phrase names found.0 ≡ primary_in inside)) }
     ensures refused { IfErr result (λ error. IsRefused (Nonterminal (One Primary) depth) (spot from.entry) error) }
 {
@@ -183,7 +187,8 @@ fn worded<'a, 'b>(
     requires begins { next (left_at (spot from)) ≡ Word word }
     requires names { length symbols.old + length (spot from).rest < 2 ^ 31 }
     requires depth { depth ≤ limit }
-    ensures found { IfOk result (λ found. FoundAs (One Primary) depth symbols.old symbols.new (spot from.entry) (spot found.1)
+    ensures found { IfOk result (λ found. FoundAs (One Primary) depth symbols.old symbols.new (spot from.entry)
+        (spot found.1)
         (λ names inside. phrase names found.0 ≡ primary_in inside)) }
     ensures refused { IfErr result (λ error. IsRefused (Nonterminal (One Primary) depth) (spot from.entry) error) }
 {
@@ -208,7 +213,8 @@ fn this_of<'a, 'b>(
     requires begins { fits (Word keyword.This) (next (left_at (spot from))) ≡ true }
     requires names { length symbols.old + length (spot from).rest < 2 ^ 31 }
     requires depth { depth ≤ limit }
-    ensures found { IfOk result (λ found. FoundAs (One Primary) depth symbols.old symbols.new (spot from.entry) (spot found.1)
+    ensures found { IfOk result (λ found. FoundAs (One Primary) depth symbols.old symbols.new (spot from.entry)
+        (spot found.1)
         (λ names inside. phrase names found.0 ≡ primary_in inside)) }
     ensures refused { IfErr result (λ error. IsRefused (Nonterminal (One Primary) depth) (spot from.entry) error) }
 {
@@ -238,7 +244,8 @@ fn group<'a, 'b>(
     requires begins { next (left_at (spot from)) ≡ Sign sign }
     requires names { length symbols.old + length (spot from).rest < 2 ^ 31 }
     requires depth { depth ≤ limit }
-    ensures found { IfOk result (λ found. FoundAs (One Primary) depth symbols.old symbols.new (spot from.entry) (spot found.1)
+    ensures found { IfOk result (λ found. FoundAs (One Primary) depth symbols.old symbols.new (spot from.entry)
+        (spot found.1)
         (λ names inside. phrase names found.0 ≡ primary_in inside)) }
     ensures refused { IfErr result (λ error. IsRefused (Nonterminal (One Primary) depth) (spot from.entry) error) }
 {

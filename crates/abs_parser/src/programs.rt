@@ -2,7 +2,7 @@
 ghost use Rattle.std.specs.Prelude.{◌≡◌, List, ◌∷◌, ◌+◌, ◌<◌, ◌≤◌, ◌^◌, length, map, IfOk, IfErr};
 ghost use Rattle.abs_tree.specs.Syntax.{DeclTree};
 ghost use Rattle.abs_tree.specs.SyntaxViews.{decl_tree};
-ghost use Rattle.abs_tree.specs.TextNumbers.{DeclNumbered, DeclsNumbered};
+ghost use Rattle.abs_tree.specs.SourceNumbers.{DeclNumbered, DeclsNumbered};
 ghost use Rattle.abs_parser.specs.Kinds.{next};
 ghost use Rattle.abs_parser.specs.Productions.{begins, Decl as DeclSymbol};
 ghost use Rattle.abs_parser.specs.Readings.{One, Repeated, Nonterminal};
@@ -19,8 +19,8 @@ use abs_tree::Symbols;
 use abs_tree::syntax::Decl;
 use std::alloc::Global;
 
-/// Declarations, as many as stand here, whose first statement has the number that is free; the number that is free behind
-/// them; and the cursor behind them.
+/// Declarations, as many as stand here, whose first statement has the number that is free; the number that is free
+/// behind them; and the cursor behind them.
 ///
 /// # Errors
 /// The refusal of the first token that no declaration has there, or that stands too deep.
@@ -32,7 +32,8 @@ pub(crate) fn declarations<'a, 'b>(
 ) -> Result<(Vec<Decl>, u32, Cursor<'a, 'b>), ParseError>
     requires names { length symbols.old + length (spot from).rest < 2 ^ 31 }
     requires few { number + length (spot from).rest < 2 ^ 31 }
-    ensures found { IfOk result (λ found. FoundAs (Repeated DeclSymbol) 0 symbols.old symbols.new (spot from.entry) (spot found.2)
+    ensures found { IfOk result (λ found. FoundAs (Repeated DeclSymbol) 0 symbols.old symbols.new (spot from.entry)
+        (spot found.2)
         (λ names inside. map (decl_tree names) found.0.items ≡ decls_in inside)) }
     ensures numbered { IfOk result (λ found. DeclsNumbered number found.0.items found.1) }
     ensures few { IfOk result (λ found. found.1 + length (spot found.2).rest ≤ number + length (spot from.entry).rest) }
@@ -76,7 +77,8 @@ fn declaration<'a, 'b>(
 ) -> Result<(Decl, u32, Cursor<'a, 'b>), ParseError>
     requires names { length symbols.old + length (spot from).rest < 2 ^ 31 }
     requires few { number + length (spot from).rest < 2 ^ 31 }
-    ensures found { IfOk result (λ found. FoundAs (One DeclSymbol) 0 symbols.old symbols.new (spot from.entry) (spot found.2)
+    ensures found { IfOk result (λ found. FoundAs (One DeclSymbol) 0 symbols.old symbols.new (spot from.entry)
+        (spot found.2)
         (λ names inside. (others : List DeclTree) → decl_tree names found.0 ∷ others ≡ decl_in inside others)) }
     ensures numbered { IfOk result (λ found. DeclNumbered number found.0 found.1) }
     ensures few { IfOk result (λ found. found.1 + length (spot found.2).rest ≤ number + length (spot from.entry).rest) }

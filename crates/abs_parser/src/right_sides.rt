@@ -32,7 +32,8 @@ pub(crate) fn right_side<'a, 'b>(
 ) -> Result<(RightSide, Cursor<'a, 'b>), ParseError>
     requires names { length symbols.old + length (spot from).rest < 2 ^ 31 }
     requires depth { depth ≤ limit }
-    ensures found { IfOk result (λ found. FoundAs (One Rhs) depth symbols.old symbols.new (spot from.entry) (spot found.1)
+    ensures found { IfOk result (λ found. FoundAs (One Rhs) depth symbols.old symbols.new (spot from.entry)
+        (spot found.1)
         (λ names inside. side_tree names found.0 ≡ rhs_in inside)) }
     ensures refused { IfErr result (λ error. IsRefused (Nonterminal (One Rhs) depth) (spot from.entry) error) }
 {
@@ -53,7 +54,8 @@ fn new_object<'a, 'b>(
     requires begins { fits (Word keyword.New) (next (left_at (spot from))) ≡ true }
     requires names { length symbols.old + length (spot from).rest < 2 ^ 31 }
     requires depth { depth ≤ limit }
-    ensures found { IfOk result (λ found. FoundAs (One Rhs) depth symbols.old symbols.new (spot from.entry) (spot found.1)
+    ensures found { IfOk result (λ found. FoundAs (One Rhs) depth symbols.old symbols.new (spot from.entry)
+        (spot found.1)
         (λ names inside. side_tree names found.0 ≡ rhs_in inside)) }
     ensures refused { IfErr result (λ error. IsRefused (Nonterminal (One Rhs) depth) (spot from.entry) error) }
 {
@@ -66,14 +68,15 @@ fn new_object<'a, 'b>(
     Ok((RightSide::New(word.place, mode, class, arguments), end))
 }
 
-/// Where a new object is to live, by the word behind `new`, and the cursor behind that word. `local` is a name like others, so
-/// the table has it then.
+/// Where a new object is to live, by the word behind `new`, and the cursor behind that word. `local` is a name like
+/// others, so the table has it then.
 fn mode<'a, 'b>(
     symbols: &mut Symbols<'a>,
     from: Cursor<'a, 'b>,
 ) -> Result<(Mode, Cursor<'a, 'b>), AllocError>
     requires names { length symbols.old + length (spot from).rest < 2 ^ 31 }
-    ensures found { IfOk result (λ found. (depth : ℕ) → depth ≤ limit → FoundAs (Optional Where) depth symbols.old symbols.new (spot from.entry) (spot found.1)
+    ensures found { IfOk result (λ found. (depth : ℕ) → depth ≤ limit
+        → FoundAs (Optional Where) depth symbols.old symbols.new (spot from.entry) (spot found.1)
         (λ names inside. found.0 ≡ mode_in inside)) }
 {
     if let Ok((_, behind)) = from.expect(Lexeme::Word(Keyword::Cog)) {
@@ -86,8 +89,8 @@ fn mode<'a, 'b>(
     Ok((Mode::Plain, from))
 }
 
-/// An expression, which begins at `place`, with what stands behind it: `!` and a call, `.get`, `.` and a call, or nothing; and
-/// the cursor behind that.
+/// An expression, which begins at `place`, with what stands behind it: `!` and a call, `.get`, `.` and a call, or
+/// nothing; and the cursor behind that.
 ///
 /// # Errors
 /// The refusal of the first token that is nothing of this form, or that stands too deep.
@@ -101,7 +104,8 @@ pub(crate) fn side_behind<'a, 'b>(
 ) -> Result<(RightSide, Cursor<'a, 'b>), ParseError>
     requires names { length symbols.old + length (spot from).rest < 2 ^ 31 }
     requires depth { depth ≤ limit }
-    ensures found { IfOk result (λ found. FoundAs (Optional RhsTail) depth symbols.old symbols.new (spot from.entry) (spot found.1)
+    ensures found { IfOk result (λ found. FoundAs (Optional RhsTail) depth symbols.old symbols.new (spot from.entry)
+        (spot found.1)
         (λ names inside. side_tree names found.0 ≡ tail_in place (phrase names first) inside)) }
     ensures refused { IfErr result (λ error. IsRefused (Nonterminal (Optional RhsTail) depth) (spot from.entry) error) }
 {
@@ -130,7 +134,8 @@ fn selected<'a, 'b>(
 ) -> Result<(RightSide, Cursor<'a, 'b>), ParseError>
     requires names { length symbols.old + length (spot from).rest < 2 ^ 31 }
     requires depth { depth ≤ limit }
-    ensures found { IfOk result (λ found. FoundAs (One Selected) depth symbols.old symbols.new (spot from.entry) (spot found.1)
+    ensures found { IfOk result (λ found. FoundAs (One Selected) depth symbols.old symbols.new (spot from.entry)
+        (spot found.1)
         (λ names inside. side_tree names found.0 ≡ selected_in place (phrase names first.value) inside)) }
     ensures refused { IfErr result (λ error. IsRefused (Nonterminal (One Selected) depth) (spot from.entry) error) }
 {

@@ -80,7 +80,8 @@ pub(crate) fn skip<'a, 'b>(
     requires begins { fits (Word keyword.Skip) (next (left_at (spot from))) ≡ true }
     requires names { length symbols.old + length (spot from).rest < 2 ^ 31 }
     requires depth { depth ≤ limit }
-    ensures found { IfOk result (λ found. FoundAs (One StmtSymbol) depth symbols.old symbols.new (spot from.entry) (spot found.1)
+    ensures found { IfOk result (λ found. FoundAs (One StmtSymbol) depth symbols.old symbols.new (spot from.entry)
+        (spot found.1)
         (λ names inside. statement_tree names found.0 ≡ statement_in inside)) }
     ensures numbered { IfOk result (λ found. IsNumbered number found.0 (1 + number)) }
     ensures shorter { IfOk result (λ found. length (spot found.1).rest < length (spot from.entry).rest) }
@@ -105,7 +106,8 @@ pub(crate) fn suspend<'a, 'b>(
     requires begins { fits (Word keyword.Suspend) (next (left_at (spot from))) ≡ true }
     requires names { length symbols.old + length (spot from).rest < 2 ^ 31 }
     requires depth { depth ≤ limit }
-    ensures found { IfOk result (λ found. FoundAs (One StmtSymbol) depth symbols.old symbols.new (spot from.entry) (spot found.1)
+    ensures found { IfOk result (λ found. FoundAs (One StmtSymbol) depth symbols.old symbols.new (spot from.entry)
+        (spot found.1)
         (λ names inside. statement_tree names found.0 ≡ statement_in inside)) }
     ensures numbered { IfOk result (λ found. IsNumbered number found.0 (1 + number)) }
     ensures shorter { IfOk result (λ found. length (spot found.1).rest < length (spot from.entry).rest) }
@@ -130,7 +132,8 @@ pub(crate) fn awaiting<'a, 'b>(
     requires begins { fits (Word keyword.Await) (next (left_at (spot from))) ≡ true }
     requires names { length symbols.old + length (spot from).rest < 2 ^ 31 }
     requires depth { depth ≤ limit }
-    ensures found { IfOk result (λ found. FoundAs (One StmtSymbol) depth symbols.old symbols.new (spot from.entry) (spot found.1)
+    ensures found { IfOk result (λ found. FoundAs (One StmtSymbol) depth symbols.old symbols.new (spot from.entry)
+        (spot found.1)
         (λ names inside. statement_tree names found.0 ≡ statement_in inside)) }
     ensures numbered { IfOk result (λ found. IsNumbered number found.0 (1 + number)) }
     ensures shorter { IfOk result (λ found. length (spot found.1).rest < length (spot from.entry).rest) }
@@ -156,7 +159,8 @@ pub(crate) fn returning<'a, 'b>(
     requires begins { fits (Word keyword.Return) (next (left_at (spot from))) ≡ true }
     requires names { length symbols.old + length (spot from).rest < 2 ^ 31 }
     requires depth { depth ≤ limit }
-    ensures found { IfOk result (λ found. FoundAs (One StmtSymbol) depth symbols.old symbols.new (spot from.entry) (spot found.1)
+    ensures found { IfOk result (λ found. FoundAs (One StmtSymbol) depth symbols.old symbols.new (spot from.entry)
+        (spot found.1)
         (λ names inside. statement_tree names found.0 ≡ statement_in inside)) }
     ensures numbered { IfOk result (λ found. IsNumbered number found.0 (1 + number)) }
     ensures shorter { IfOk result (λ found. length (spot found.1).rest < length (spot from.entry).rest) }
@@ -183,7 +187,8 @@ pub(crate) fn printing<'a, 'b>(
     requires begins { fits (Word keyword.Println) (next (left_at (spot from))) ≡ true }
     requires names { length symbols.old + length (spot from).rest < 2 ^ 31 }
     requires depth { depth ≤ limit }
-    ensures found { IfOk result (λ found. FoundAs (One StmtSymbol) depth symbols.old symbols.new (spot from.entry) (spot found.1)
+    ensures found { IfOk result (λ found. FoundAs (One StmtSymbol) depth symbols.old symbols.new (spot from.entry)
+        (spot found.1)
         (λ names inside. statement_tree names found.0 ≡ statement_in inside)) }
     ensures numbered { IfOk result (λ found. IsNumbered number found.0 (1 + number)) }
     ensures shorter { IfOk result (λ found. length (spot found.1).rest < length (spot from.entry).rest) }
@@ -212,7 +217,8 @@ pub(crate) fn declaration<'a, 'b>(
     requires begins { fits UpperName (next (left_at (spot from))) ≡ true }
     requires names { length symbols.old + length (spot from).rest < 2 ^ 31 }
     requires depth { depth ≤ limit }
-    ensures found { IfOk result (λ found. FoundAs (One StmtSymbol) depth symbols.old symbols.new (spot from.entry) (spot found.1)
+    ensures found { IfOk result (λ found. FoundAs (One StmtSymbol) depth symbols.old symbols.new (spot from.entry)
+        (spot found.1)
         (λ names inside. statement_tree names found.0 ≡ statement_in inside)) }
     ensures numbered { IfOk result (λ found. IsNumbered number found.0 (1 + number)) }
     ensures shorter { IfOk result (λ found. length (spot found.1).rest < length (spot from.entry).rest) }
@@ -239,7 +245,8 @@ fn initial<'a, 'b>(
 ) -> Result<(Option<RightSide>, Cursor<'a, 'b>), ParseError>
     requires names { length symbols.old + length (spot from).rest < 2 ^ 31 }
     requires depth { depth ≤ limit }
-    ensures found { IfOk result (λ found. FoundAs (Optional Initial) depth symbols.old symbols.new (spot from.entry) (spot found.1)
+    ensures found { IfOk result (λ found. FoundAs (Optional Initial) depth symbols.old symbols.new (spot from.entry)
+        (spot found.1)
         (λ names inside. maybe_side names found.0 ≡ initial_in inside)) }
     ensures refused { IfErr result (λ error. IsRefused (Nonterminal (Optional Initial) depth) (spot from.entry) error) }
 {
@@ -261,7 +268,8 @@ pub(crate) fn from_variable<'a, 'b>(
     requires begins { fits LowerName (next (left_at (spot from))) ≡ true }
     requires names { length symbols.old + length (spot from).rest < 2 ^ 31 }
     requires depth { depth ≤ limit }
-    ensures found { IfOk result (λ found. FoundAs (One StmtSymbol) depth symbols.old symbols.new (spot from.entry) (spot found.1)
+    ensures found { IfOk result (λ found. FoundAs (One StmtSymbol) depth symbols.old symbols.new (spot from.entry)
+        (spot found.1)
         (λ names inside. statement_tree names found.0 ≡ statement_in inside)) }
     ensures numbered { IfOk result (λ found. IsNumbered number found.0 (1 + number)) }
     ensures shorter { IfOk result (λ found. length (spot found.1).rest < length (spot from.entry).rest) }
@@ -287,7 +295,8 @@ pub(crate) fn from_this<'a, 'b>(
     requires begins { fits (Word keyword.This) (next (left_at (spot from))) ≡ true }
     requires names { length symbols.old + length (spot from).rest < 2 ^ 31 }
     requires depth { depth ≤ limit }
-    ensures found { IfOk result (λ found. FoundAs (One StmtSymbol) depth symbols.old symbols.new (spot from.entry) (spot found.1)
+    ensures found { IfOk result (λ found. FoundAs (One StmtSymbol) depth symbols.old symbols.new (spot from.entry)
+        (spot found.1)
         (λ names inside. statement_tree names found.0 ≡ statement_in inside)) }
     ensures numbered { IfOk result (λ found. IsNumbered number found.0 (1 + number)) }
     ensures shorter { IfOk result (λ found. length (spot found.1).rest < length (spot from.entry).rest) }
@@ -314,8 +323,8 @@ pub(crate) fn from_this<'a, 'b>(
     behind_first(alloc, symbols, number, depth + 1, first, last)
 }
 
-/// What stands behind the variable or the field with which a statement begins: `= r;`, or the rest of a right side; and the cursor
-/// behind it.
+/// What stands behind the variable or the field with which a statement begins: `= r;`, or the rest of a right side;
+/// and the cursor behind it.
 fn behind_first<'a, 'b>(
     alloc: Global,
     symbols: &mut Symbols<'a>,
@@ -326,7 +335,8 @@ fn behind_first<'a, 'b>(
 ) -> Result<(Stmt, Cursor<'a, 'b>), ParseError>
     requires within { depth + 2 ≤ limit }
     requires names { length symbols.old + length (spot from).rest < 2 ^ 31 }
-    ensures found { IfOk result (λ found. FoundAs (One AfterName) depth symbols.old symbols.new (spot from.entry) (spot found.1)
+    ensures found { IfOk result (λ found. FoundAs (One AfterName) depth symbols.old symbols.new (spot from.entry)
+        (spot found.1)
         (λ names inside. statement_tree names found.0 ≡ after_first names first inside)) }
     ensures numbered { IfOk result (λ found. IsNumbered number found.0 (1 + number)) }
     ensures refused { IfErr result (λ error. IsRefused (Nonterminal (One AfterName) depth) (spot from.entry) error) }
@@ -353,7 +363,8 @@ fn rest<'a, 'b>(
 ) -> Result<(RightSide, Cursor<'a, 'b>), ParseError>
     requires within { depth + 2 ≤ limit }
     requires names { length symbols.old + length (spot from).rest < 2 ^ 31 }
-    ensures found { IfOk result (λ found. FoundAs (One Rest) depth symbols.old symbols.new (spot from.entry) (spot found.1)
+    ensures found { IfOk result (λ found. FoundAs (One Rest) depth symbols.old symbols.new (spot from.entry)
+        (spot found.1)
         (λ names inside. side_tree names found.0 ≡ rest_in place (phrase names first) inside)) }
     ensures refused { IfErr result (λ error. IsRefused (Nonterminal (One Rest) depth) (spot from.entry) error) }
 {
@@ -464,7 +475,8 @@ pub(crate) fn plain<'a, 'b>(
     requires plain { begins_another (next (left_at (spot from))) ≡ false }
     requires names { length symbols.old + length (spot from).rest < 2 ^ 31 }
     requires depth { depth ≤ limit }
-    ensures found { IfOk result (λ found. FoundAs (One StmtSymbol) depth symbols.old symbols.new (spot from.entry) (spot found.1)
+    ensures found { IfOk result (λ found. FoundAs (One StmtSymbol) depth symbols.old symbols.new (spot from.entry)
+        (spot found.1)
         (λ names inside. statement_tree names found.0 ≡ statement_in inside)) }
     ensures numbered { IfOk result (λ found. IsNumbered number found.0 (1 + number)) }
     ensures shorter { IfOk result (λ found. length (spot found.1).rest < length (spot from.entry).rest) }

@@ -27,8 +27,8 @@ use abs_tree::syntax::{Body, Stmt};
 use std::alloc::{AllocError, Global};
 use std::sync::Arc;
 
-/// A statement that stands in so many counted symbols, whose first number is free; the number that is free behind it; and the
-/// cursor behind it.
+/// A statement that stands in so many counted symbols, whose first number is free; the number that is free behind it;
+/// and the cursor behind it.
 ///
 /// # Errors
 /// The refusal of the first token that no statement has there, or that stands too deep.
@@ -43,7 +43,8 @@ pub(crate) fn statement<'a, 'b>(
     requires names { length symbols.old + length (spot from).rest < 2 ^ 31 }
     requires few { number + length (spot from).rest < 2 ^ 31 }
     requires depth { depth ≤ limit }
-    ensures found { IfOk result (λ found. FoundAs (One StmtSymbol) depth symbols.old symbols.new (spot from.entry) (spot found.2)
+    ensures found { IfOk result (λ found. FoundAs (One StmtSymbol) depth symbols.old symbols.new (spot from.entry)
+        (spot found.2)
         (λ names inside. statement_tree names found.0 ≡ statement_in inside)) }
     ensures numbered { IfOk result (λ found. IsNumbered number found.0 found.1) }
     ensures few { IfOk result (λ found. found.1 + length (spot found.2).rest ≤ number + length (spot from.entry).rest) }
@@ -83,7 +84,8 @@ fn worded<'a, 'b>(
     requires names { length symbols.old + length (spot from).rest < 2 ^ 31 }
     requires few { number + length (spot from).rest < 2 ^ 31 }
     requires depth { depth ≤ limit }
-    ensures found { IfOk result (λ found. FoundAs (One StmtSymbol) depth symbols.old symbols.new (spot from.entry) (spot found.2)
+    ensures found { IfOk result (λ found. FoundAs (One StmtSymbol) depth symbols.old symbols.new (spot from.entry)
+        (spot found.2)
         (λ names inside. statement_tree names found.0 ≡ statement_in inside)) }
     ensures numbered { IfOk result (λ found. IsNumbered number found.0 found.1) }
     ensures few { IfOk result (λ found. found.1 + length (spot found.2).rest ≤ number + length (spot from.entry).rest) }
@@ -116,7 +118,8 @@ fn nested<'a, 'b>(
     requires names { length symbols.old + length (spot from).rest < 2 ^ 31 }
     requires few { number + length (spot from).rest < 2 ^ 31 }
     requires depth { depth ≤ limit }
-    ensures found { IfOk result (λ found. FoundAs (One StmtSymbol) depth symbols.old symbols.new (spot from.entry) (spot found.2)
+    ensures found { IfOk result (λ found. FoundAs (One StmtSymbol) depth symbols.old symbols.new (spot from.entry)
+        (spot found.2)
         (λ names inside. statement_tree names found.0 ≡ statement_in inside)) }
     ensures numbered { IfOk result (λ found. IsNumbered number found.0 found.1) }
     ensures few { IfOk result (λ found. found.1 + length (spot found.2).rest ≤ number + length (spot from.entry).rest) }
@@ -143,7 +146,8 @@ fn conditional<'a, 'b>(
     requires names { length symbols.old + length (spot from).rest < 2 ^ 31 }
     requires few { number + length (spot from).rest < 2 ^ 31 }
     requires depth { depth ≤ limit }
-    ensures found { IfOk result (λ found. FoundAs (One StmtSymbol) depth symbols.old symbols.new (spot from.entry) (spot found.2)
+    ensures found { IfOk result (λ found. FoundAs (One StmtSymbol) depth symbols.old symbols.new (spot from.entry)
+        (spot found.2)
         (λ names inside. statement_tree names found.0 ≡ statement_in inside)) }
     ensures numbered { IfOk result (λ found. IsNumbered number found.0 found.1) }
     ensures few { IfOk result (λ found. found.1 + length (spot found.2).rest ≤ number + length (spot from.entry).rest) }
@@ -176,7 +180,8 @@ fn otherwise<'a, 'b>(
     requires names { length symbols.old + length (spot from).rest < 2 ^ 31 }
     requires few { number + length (spot from).rest < 2 ^ 31 }
     requires depth { depth ≤ limit }
-    ensures found { IfOk result (λ found. FoundAs (Optional Else) depth symbols.old symbols.new (spot from.entry) (spot found.2)
+    ensures found { IfOk result (λ found. FoundAs (Optional Else) depth symbols.old symbols.new (spot from.entry)
+        (spot found.2)
         (λ names inside. maybe_statements names found.0 ≡ else_in inside)) }
     ensures numbered { IfOk result (λ found. BranchNumbered number found.0 found.1) }
     ensures few { IfOk result (λ found. found.1 + length (spot found.2).rest ≤ number + length (spot from.entry).rest) }
@@ -202,7 +207,8 @@ fn looping<'a, 'b>(
     requires names { length symbols.old + length (spot from).rest < 2 ^ 31 }
     requires few { number + length (spot from).rest < 2 ^ 31 }
     requires depth { depth ≤ limit }
-    ensures found { IfOk result (λ found. FoundAs (One StmtSymbol) depth symbols.old symbols.new (spot from.entry) (spot found.2)
+    ensures found { IfOk result (λ found. FoundAs (One StmtSymbol) depth symbols.old symbols.new (spot from.entry)
+        (spot found.2)
         (λ names inside. statement_tree names found.0 ≡ statement_in inside)) }
     ensures numbered { IfOk result (λ found. IsNumbered number found.0 found.1) }
     ensures few { IfOk result (λ found. found.1 + length (spot found.2).rest ≤ number + length (spot from.entry).rest) }
@@ -221,7 +227,8 @@ fn looping<'a, 'b>(
     Ok((Stmt::While(number, word.place, test, body), behind, end))
 }
 
-/// The statements between `{` and `}`, with the place of the `}`; the number that is free behind them; and the cursor behind it.
+/// The statements between `{` and `}`, with the place of the `}`; the number that is free behind them; and the cursor
+/// behind it.
 ///
 /// # Errors
 /// The refusal of the first token that no block has there, or that stands too deep.
@@ -236,7 +243,8 @@ pub(crate) fn block<'a, 'b>(
     requires names { length symbols.old + length (spot from).rest < 2 ^ 31 }
     requires few { number + length (spot from).rest < 2 ^ 31 }
     requires depth { depth ≤ limit }
-    ensures found { IfOk result (λ found. FoundAs (One BlockSymbol) depth symbols.old symbols.new (spot from.entry) (spot found.2)
+    ensures found { IfOk result (λ found. FoundAs (One BlockSymbol) depth symbols.old symbols.new (spot from.entry)
+        (spot found.2)
         (λ names inside. IsBlock names found.0 inside)) }
     ensures numbered { IfOk result (λ found. AreNumbered number found.0.statements.items found.1) }
     ensures few { IfOk result (λ found. found.1 + length (spot found.2).rest ≤ number + length (spot from.entry).rest) }
@@ -261,8 +269,10 @@ pub(crate) fn block<'a, 'b>(
 
 /// The statements of a branch: those of a block, or the one that it is.
 fn branch(alloc: Global, stmt: Stmt) -> Result<Vec<Stmt>, AllocError>
-    ensures found { IfOk result (λ branch. (names : List Name) → statement_trees names branch.items ≡ branch_of (statement_tree names stmt)) }
-    ensures numbered { IfOk result (λ branch. (first behind : ℕ) → IsNumbered first stmt behind → AreNumbered first branch.items behind) }
+    ensures found { IfOk result (λ branch. (names : List Name)
+        → statement_trees names branch.items ≡ branch_of (statement_tree names stmt)) }
+    ensures numbered { IfOk result (λ branch. (first behind : ℕ) → IsNumbered first stmt behind
+        → AreNumbered first branch.items behind) }
 {
     match stmt {
         Stmt::Block(_, statements) => Ok(statements),

@@ -29,7 +29,8 @@ pub(crate) fn type_term<'a, 'b>(
 ) -> Result<(TypeTerm, Cursor<'a, 'b>), ParseError>
     requires names { length symbols.old + length (spot from).rest < 2 ^ 31 }
     requires depth { depth ≤ limit }
-    ensures found { IfOk result (λ found. FoundAs (One Type') depth symbols.old symbols.new (spot from.entry) (spot found.1)
+    ensures found { IfOk result (λ found. FoundAs (One Type') depth symbols.old symbols.new (spot from.entry)
+        (spot found.1)
         (λ names inside. type_tree names found.0 ≡ type_in inside)) }
     ensures refused { IfErr result (λ error. IsRefused (Nonterminal (One Type') depth) (spot from.entry) error) }
 {
@@ -53,9 +54,11 @@ fn type_arguments<'a, 'b>(
 ) -> Result<(Vec<TypeTerm>, Cursor<'a, 'b>), ParseError>
     requires names { length symbols.old + length (spot from).rest < 2 ^ 31 }
     requires depth { depth ≤ limit }
-    ensures found { IfOk result (λ found. FoundAs (Optional ArgumentsOfType) depth symbols.old symbols.new (spot from.entry) (spot found.1)
+    ensures found { IfOk result (λ found. FoundAs (Optional ArgumentsOfType) depth symbols.old symbols.new
+        (spot from.entry) (spot found.1)
         (λ names inside. type_trees names found.0.items ≡ arguments_in inside)) }
-    ensures refused { IfErr result (λ error. IsRefused (Nonterminal (Optional ArgumentsOfType) depth) (spot from.entry) error) }
+    ensures refused { IfErr result (λ error. IsRefused (Nonterminal (Optional ArgumentsOfType) depth)
+        (spot from.entry) error) }
 {
     let Ok((_, behind)) = from.expect(Lexeme::Sign(Punctuator::Less)) else {
         return Ok((Vec::new(alloc), from));
@@ -75,7 +78,8 @@ pub(crate) fn types<'a, 'b>(
 ) -> Result<(Vec<TypeTerm>, Cursor<'a, 'b>), ParseError>
     requires names { length symbols.old + length (spot from).rest < 2 ^ 31 }
     requires depth { depth ≤ limit }
-    ensures found { IfOk result (λ found. FoundAs (One Types) depth symbols.old symbols.new (spot from.entry) (spot found.1)
+    ensures found { IfOk result (λ found. FoundAs (One Types) depth symbols.old symbols.new (spot from.entry)
+        (spot found.1)
         (λ names inside. type_trees names found.0.items ≡ types_in inside)) }
     ensures refused { IfErr result (λ error. IsRefused (Nonterminal (One Types) depth) (spot from.entry) error) }
 {

@@ -5,3 +5,4 @@ pub mod SyntaxLemmas
 pub mod StatementLemmas
 pub mod EntryLemmas
 pub mod NumberLemmas
+pub mod Subsequences

@@ -1,4 +1,6 @@
 -- The names of faults.
+--
+--   `fault_name`           the name of a fault
 use Rattle.std.specs.Prelude.{ℕ, List, codes}
 use Rattle.abs_tree.specs.declared.value.Fault.{Fault}
 use Rattle.abs_tree.specs.declared.value.Fault.TheVariants as fault

@@ -1,3 +1,4 @@
+pub mod Limits
 pub mod Places
 pub mod Names
 pub mod Trees
@@ -6,12 +7,13 @@ pub mod Numbers
 pub mod Evaluation
 pub mod Rules
 pub mod Refusals
+pub mod SourceErrors
 pub mod Faults
 pub mod Syntax
 pub mod SyntaxViews
 pub mod SyntaxPlaces
 pub mod SyntaxSizes
 pub mod SyntaxNumbers
-pub mod TextNumbers
-pub mod TextSizes
-pub mod TextViews
+pub mod SourceNumbers
+pub mod SourceSizes
+pub mod SourceViews

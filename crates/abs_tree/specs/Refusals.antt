@@ -1,4 +1,8 @@
--- Offences and refusals: which offence of a source is its first, the names of the codes, and what they say in words.
+-- Offences and refusals.
+--
+--   `IsFirst`                      an offence is the first one of some
+--   `refusal_of`                   the refusal for an offence
+--   `code_name`, `code_words`      the name of a code, and the offence in words
 use Rattle.std.specs.Prelude.{ℕ, ◌≤◌, List, codes, All, Contains}
 use Rattle.abs_tree.specs.declared.refusal.Code.{Code}
 use Rattle.abs_tree.specs.declared.refusal.Code.TheVariants as code
@@ -9,7 +13,7 @@ use Rattle.abs_tree.specs.declared.refusal.Refusal.{Refusal}
 abbrev pub refusal_of : Offence → Refusal
 refusal_of offence = record { code = offence.code; line = offence.place.line; column = offence.place.column }
 
--- One of some offences, and none of them stands before it.
+-- One of some offences, and none of them comes before it in the source.
 pub record IsFirst (offences : List Offence) (offence : Offence) : Type 0 where
   pub among : Contains offences offence
   pub least : All (λ (other : Offence). offence.place.offset ≤ other.place.offset) offences
@@ -38,7 +42,7 @@ code_name code.P3 = codes "P3"
 code_name code.P4 = codes "P4"
 code_name code.P5 = codes "P5"
 
--- what an offence is, in words
+-- an offence in words
 abbrev pub code_words : Code → List ℕ
 code_words code.L1 = codes "byte outside the alphabet"
 code_words code.L2 = codes "comment without end"

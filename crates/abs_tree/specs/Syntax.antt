@@ -1,13 +1,13 @@
--- The tree of a text without its memory, for every kind of phrase: one constructor for each alternative of its rule, with a field for
--- each name, literal, operator and part, in their order, and the place of its first token. Names are written out. Operators of one
--- precedence stand in one node, so a long sum is not deep; parentheses, and a rule with one operand, leave no node.
+-- The tree of a source without its memory, for every kind of phrase: one constructor for each alternative of its rule. A constructor
+-- has the place of the first token and a field for each name, literal, operator and part, in order. Names are written out. Operators
+-- of one precedence make one node, so a long sum is not deep. Parentheses, and a rule with one operand, make no node.
 --
 --   `VariableTree`                                     variables
 --   `TypeTree`, `PatternTree`                          types, patterns
 --   `Phrase`, `Links`, `Branches`                      expressions, operators of one precedence, branches of a `case`
 --   `SideTree`, `Tests`, `TargetTree`                  right sides, guards, where a value goes
 --   `Statement`                                        statements
---   `MemberTree`, `DeclTree`, `TextTree`               members, declarations, a text
+--   `MemberTree`, `DeclTree`, `SourceTree`             members, declarations, a source
 use Rattle.std.specs.Prelude.{ℕ, ℤ, Bool, List}
 use Rattle.abs_tree.specs.declared.place.Place.{Place}
 use Rattle.abs_tree.specs.declared.syntax.expression.Operator.{Operator}
@@ -18,12 +18,12 @@ use Rattle.abs_tree.specs.declared.syntax.statement.Mode.{Mode}
 abbrev pub Name : Type 0
 Name = List ℕ
 
--- a variable: its name, as it is written, until that was looked up; and then its slot
+-- a variable: unresolved, its name; resolved, its slot
 pub data VariableTree : Type 0 where
   Written : Name → VariableTree
   AtSlot : ℕ → VariableTree
 
--- a type: a name, and its arguments; or a type that no text writes: of no value, of null, or of an object of a class
+-- a type: a name with its arguments; or one that no source writes: of no value, of `null`, or of an object of a class
 mutual
   pub data TypeTree : Type 0 where
     TypeName : Place → Name → TypeTrees → TypeTree
@@ -35,13 +35,13 @@ mutual
     NoType : TypeTrees
     NextType : TypeTree → TypeTrees → TypeTrees
 
--- a pattern: any value, a variable, a number, a text, or a constructor with its patterns
+-- a pattern: any value, a variable, a number, a string, or a constructor with its patterns
 mutual
   pub data PatternTree : Type 0 where
     AnyValue : Place → PatternTree
     Binds : Place → VariableTree → PatternTree
     SameNumber : Place → ℤ → PatternTree
-    SameText : Place → List ℕ → PatternTree
+    SameString : Place → List ℕ → PatternTree
     Built : Place → Name → PatternTrees → PatternTree
 
   pub data PatternTrees : Type 0 where
@@ -56,7 +56,7 @@ mutual
     Chain : Place → Phrase → Links → Phrase
     Prefixed : Place → Prefix → Phrase → Phrase
     NumberOf : Place → ℤ → Phrase
-    TextOf : Place → List ℕ → Phrase
+    StringOf : Place → List ℕ → Phrase
     NullOf : Place → Phrase
     DestinyOf : Place → Phrase
     ThisOf : Place → Phrase
@@ -80,7 +80,7 @@ mutual
     NoBranch : Branches
     NextBranch : PatternTree → Phrase → Branches → Branches
 
--- what stands on the right of "=", or alone as a statement: a new object, an expression, a call by "!" or by ".", or what a future holds
+-- the right side of "=", which may also be a statement: a new object, an expression, a call by "!" or by ".", or the value of a future
 pub data SideTree : Type 0 where
   NewOf : Place → Mode → Name → Phrases → SideTree
   ValueOf : Place → Phrase → SideTree
@@ -88,7 +88,7 @@ pub data SideTree : Type 0 where
   GetOf : Place → Phrase → SideTree
   CallOf : Place → Phrase → Name → Phrases → SideTree
 
--- a part of a guard, and whether a "?" stands behind it
+-- a part of a guard, and whether a "?" follows it
 pub data Tests : Type 0 where
   NoTest : Tests
   NextTest : Place → Phrase → Bool → Tests → Tests
@@ -161,8 +161,8 @@ pub data DeclTree : Type 0 where
   InterfaceTree : Place → DeclaredTree → List DeclaredTree → List SignatureTree → DeclTree
   ClassTree : Place → DeclaredTree → List ParamTree → List DeclaredTree → List MemberTree → DeclTree
 
--- a text: its declarations, and its main block with the place of its closing brace
-pub record TextTree : Type 0 where
+-- a source: its declarations, and its main block with the place of the closing brace
+pub record SourceTree : Type 0 where
   pub declarations : List DeclTree
   pub main : Statements
   pub end : Place

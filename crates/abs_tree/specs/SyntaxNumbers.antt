@@ -1,20 +1,20 @@
--- How the statements of a body are numbered: in the order in which they begin, without a gap. A block has no number, and stands for its
--- statements; so a branch does.
+-- How the statements of a body are numbered: in the order in which they begin, without a gap. A block and a branch have no number,
+-- only their statements do. In each definition the first number is the one that is free before, the last the one that is free after.
 --
---   `IsNumbered`                                       a statement is numbered from a first number on, and behind it the next one is free
---   `InARow`                                           a list is numbered from a first number on, entry by entry
+--   `IsNumbered`                                       a statement is numbered from a first number
+--   `InARow`                                           a list is numbered from a first number, entry by entry
 --   `AreNumbered`                                      so are the statements of a list
 use Rattle.std.specs.Prelude.{◌≡◌, ℕ, ◌+◌, List, [], ◌∷◌, Option, Some, None}
 use Rattle.std.specs.declared.alloc.Global.{Global}
 use Rattle.std.specs.declared.vec.Vec.{Vec}
 use Rattle.abs_tree.specs.declared.syntax.statement.Stmt as code_stmt
 
--- the numbers of each entry of a list go on where those of the entry before it end; what the numbers of an entry are, the relation says
+-- the numbers of an entry of a list begin where those of the entry before it end; the relation says how an entry is numbered
 abbrev pub InARow : {A : Type 0} → (ℕ → A → ℕ → Type 0) → ℕ → List A → ℕ → Type 0
 InARow One first [] behind = behind ≡ first
 InARow One first (one ∷ others) behind = (middle : ℕ) × One first one middle × InARow One middle others behind
 
--- one that holds no others has the first number, and behind it the next one is free
+-- a statement without others in it has the first number, and the next number is free after it
 pub record HasNumber (first number behind : ℕ) : Type 0 where
   pub number_is : number ≡ first
   pub behind_is : behind ≡ 1 + first

@@ -2,17 +2,17 @@
 --
 --   `phrase_place`, `side_place`                       expressions, right sides
 --   `statement_place`, `decl_place`                    statements, declarations
-use Rattle.abs_tree.specs.Syntax.{Phrase, LetIn, IfElse, Chain, Prefixed, NumberOf, TextOf, NullOf, DestinyOf, ThisOf, FieldOf, OwnCallOf, VariableOf, ApplyOf, BuildOf, CaseOf, SideTree, NewOf, ValueOf, SendOf, GetOf, CallOf, Statement, BlockOf, SkipOf, SuspendOf, AwaitOf, ReturnOf, PrintOf, IfOf, WhileOf, DeclareOf, AssignOf, DoOf, DeclTree, DataTree, FunctionTree, InterfaceTree, ClassTree}
+use Rattle.abs_tree.specs.Syntax.{Phrase, LetIn, IfElse, Chain, Prefixed, NumberOf, StringOf, NullOf, DestinyOf, ThisOf, FieldOf, OwnCallOf, VariableOf, ApplyOf, BuildOf, CaseOf, SideTree, NewOf, ValueOf, SendOf, GetOf, CallOf, Statement, BlockOf, SkipOf, SuspendOf, AwaitOf, ReturnOf, PrintOf, IfOf, WhileOf, DeclareOf, AssignOf, DoOf, DeclTree, DataTree, FunctionTree, InterfaceTree, ClassTree}
 use Rattle.abs_tree.specs.declared.place.Place.{Place}
 
--- parentheses around an expression leave no node, so they do not count
+-- the place of an expression; parentheses around it make no node, so they do not count
 abbrev pub phrase_place : Phrase → Place
 phrase_place (LetIn place type variable value body) = place
 phrase_place (IfElse place test first second) = place
 phrase_place (Chain place first others) = place
 phrase_place (Prefixed place prefix operand) = place
 phrase_place (NumberOf place number) = place
-phrase_place (TextOf place text) = place
+phrase_place (StringOf place text) = place
 phrase_place (NullOf place) = place
 phrase_place (DestinyOf place) = place
 phrase_place (ThisOf place) = place

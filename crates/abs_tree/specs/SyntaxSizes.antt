@@ -1,13 +1,13 @@
--- How large a text is, by its tree.
+-- How large a source is, by its tree.
 --
 --   `all_statements`                                   how many statements it has
 --   `pattern_variables`, `phrase_variables`, ..        how many variables are declared in a part of it
 --   `body_sizes`                                       how many variables each of its bodies has, with its parameters
 --   `class_sizes`                                      how many fields each of its classes has, with its parameters
 use Rattle.std.specs.Prelude.{ℕ, ◌+◌, List, [], ◌∷◌, ◌++◌, length}
-use Rattle.abs_tree.specs.Syntax.{PatternTree, Binds, Built, PatternTrees, NoPattern, NextPattern, Phrase, LetIn, IfElse, Chain, Prefixed, OwnCallOf, ApplyOf, BuildOf, CaseOf, Phrases, NoPhrase, NextPhrase, Links, NoLink, Link, Branches, NoBranch, NextBranch, SideTree, NewOf, ValueOf, SendOf, GetOf, CallOf, Tests, NoTest, NextTest, NoSide, SomeSide, Statement, BlockOf, AwaitOf, ReturnOf, PrintOf, IfOf, WhileOf, DeclareOf, AssignOf, DoOf, MaybeStatements, NoElse, Else, Statements, NoStatement, NextStatement, Value, MemberTree, FieldTree, MethodTree, DeclTree, FunctionTree, ClassTree, TextTree}
+use Rattle.abs_tree.specs.Syntax.{PatternTree, Binds, Built, PatternTrees, NoPattern, NextPattern, Phrase, LetIn, IfElse, Chain, Prefixed, OwnCallOf, ApplyOf, BuildOf, CaseOf, Phrases, NoPhrase, NextPhrase, Links, NoLink, Link, Branches, NoBranch, NextBranch, SideTree, NewOf, ValueOf, SendOf, GetOf, CallOf, Tests, NoTest, NextTest, NoSide, SomeSide, Statement, BlockOf, AwaitOf, ReturnOf, PrintOf, IfOf, WhileOf, DeclareOf, AssignOf, DoOf, MaybeStatements, NoElse, Else, Statements, NoStatement, NextStatement, Value, MemberTree, FieldTree, MethodTree, DeclTree, FunctionTree, ClassTree, SourceTree}
 
--- Statements: a block stands for those in it
+-- statements; a block counts as those in it
 abbrev mutual
   pub statement_count : Statements → ℕ
   statement_count NoStatement = 0
@@ -23,7 +23,7 @@ abbrev mutual
   count_of_else NoElse = 0
   count_of_else (Else other) = statement_count other
 
--- the statements of the methods of a class, of a declaration, and of a text
+-- the statements of the methods of a class, of a declaration, and of a source
 abbrev pub member_statements : List MemberTree → ℕ
 member_statements [] = 0
 member_statements (MethodTree _ _ body ∷ others) = statement_count body + member_statements others
@@ -34,10 +34,10 @@ decl_statements [] = 0
 decl_statements (ClassTree _ _ _ _ members ∷ others) = member_statements members + decl_statements others
 decl_statements (_ ∷ others) = decl_statements others
 
-abbrev pub all_statements : TextTree → ℕ
-all_statements text = decl_statements text.declarations + statement_count text.main
+abbrev pub all_statements : SourceTree → ℕ
+all_statements source = decl_statements source.declarations + statement_count source.main
 
--- Variables: those of patterns
+-- variables: those of patterns
 abbrev mutual
   pub pattern_variables : PatternTree → ℕ
   pattern_variables (Binds _ _) = 1
@@ -110,7 +110,7 @@ field_variables [] = 0
 field_variables (FieldTree _ _ (Value value) ∷ others) = phrase_variables value + field_variables others
 field_variables (_ ∷ others) = field_variables others
 
--- Bodies: the methods of a class
+-- bodies: the methods of a class
 abbrev pub method_sizes : List MemberTree → List ℕ
 method_sizes [] = []
 method_sizes (MethodTree signature _ body ∷ others) = (length signature.params + statements_variables body) ∷ method_sizes others
@@ -124,10 +124,10 @@ decl_sizes (ClassTree _ _ _ _ members ∷ others) = field_variables members ∷ 
 decl_sizes (_ ∷ others) = decl_sizes others
 
 -- and the main block
-abbrev pub body_sizes : TextTree → List ℕ
-body_sizes text = statements_variables text.main ∷ decl_sizes text.declarations
+abbrev pub body_sizes : SourceTree → List ℕ
+body_sizes source = statements_variables source.main ∷ decl_sizes source.declarations
 
--- Fields: the parameters of a class, and those among its members
+-- fields: the parameters of a class, and the fields among its members
 abbrev pub fields_among : List MemberTree → ℕ
 fields_among [] = 0
 fields_among (FieldTree _ _ _ ∷ others) = 1 + fields_among others
@@ -138,5 +138,5 @@ decl_fields [] = []
 decl_fields (ClassTree _ _ params _ members ∷ others) = (length params + fields_among members) ∷ decl_fields others
 decl_fields (_ ∷ others) = decl_fields others
 
-abbrev pub class_sizes : TextTree → List ℕ
-class_sizes text = decl_fields text.declarations
+abbrev pub class_sizes : SourceTree → List ℕ
+class_sizes source = decl_fields source.declarations

@@ -1,14 +1,14 @@
--- The code's trees without their memory: the same with each symbol's name written out, by the table of the names.
+-- The code's trees without their memory: the same trees with the name of each symbol written out.
 --
 --   `type_tree`, `pattern_tree`, `phrase`              types, patterns, expressions
 --   `side_tree`, `tests`, `statement`                  right sides, guards, statements
---   `member_tree`, `decl_tree`, `tree_of_parts`        members, declarations, a text from its parts
---   `.._row`                                           the children inside a tree
---   `type_trees`, `phrases`, `links`, ..               a list that is still apart
+--   `member_tree`, `decl_tree`, `tree_of_parts`        members, declarations, a source from its parts
+--   `.._row`                                           the children of a tree
+--   `type_trees`, `phrases`, `links`, ..               a list of trees by itself
 use Rattle.std.specs.Prelude.{List, [], ◌∷◌, map, Option, Some, None}
 use Rattle.std.specs.declared.alloc.Global.{Global}
 use Rattle.std.specs.declared.vec.Vec.{Vec}
-use Rattle.abs_tree.specs.Syntax.{Name, VariableTree, Written, AtSlot, TypeTree, TypeName, BottomType, NullType, ClassType, TypeTrees, NoType, NextType, PatternTree, AnyValue, Binds, SameNumber, SameText, Built, PatternTrees, NoPattern, NextPattern, Phrase, LetIn, IfElse, Chain, Prefixed, NumberOf, TextOf, NullOf, DestinyOf, ThisOf, FieldOf, OwnCallOf, VariableOf, ApplyOf, BuildOf, CaseOf, Phrases, NoPhrase, NextPhrase, Links, NoLink, Link, Branches, NoBranch, NextBranch, SideTree, NewOf, ValueOf, SendOf, GetOf, CallOf, Tests, NoTest, NextTest, TargetTree, ToVariable, ToField, MaybeSide, NoSide, SomeSide, Statement, BlockOf, SkipOf, SuspendOf, AwaitOf, ReturnOf, PrintOf, IfOf, WhileOf, DeclareOf, AssignOf, DoOf, MaybeStatements, NoElse, Else, Statements, NoStatement, NextStatement, ParamTree, DeclaredTree, ConstructorTree, SignatureTree, NoValue, Value, MemberTree, FieldTree, MethodTree, DeclTree, DataTree, FunctionTree, InterfaceTree, ClassTree, TextTree}
+use Rattle.abs_tree.specs.Syntax.{Name, VariableTree, Written, AtSlot, TypeTree, TypeName, BottomType, NullType, ClassType, TypeTrees, NoType, NextType, PatternTree, AnyValue, Binds, SameNumber, SameString, Built, PatternTrees, NoPattern, NextPattern, Phrase, LetIn, IfElse, Chain, Prefixed, NumberOf, StringOf, NullOf, DestinyOf, ThisOf, FieldOf, OwnCallOf, VariableOf, ApplyOf, BuildOf, CaseOf, Phrases, NoPhrase, NextPhrase, Links, NoLink, Link, Branches, NoBranch, NextBranch, SideTree, NewOf, ValueOf, SendOf, GetOf, CallOf, Tests, NoTest, NextTest, TargetTree, ToVariable, ToField, MaybeSide, NoSide, SomeSide, Statement, BlockOf, SkipOf, SuspendOf, AwaitOf, ReturnOf, PrintOf, IfOf, WhileOf, DeclareOf, AssignOf, DoOf, MaybeStatements, NoElse, Else, Statements, NoStatement, NextStatement, ParamTree, DeclaredTree, ConstructorTree, SignatureTree, NoValue, Value, MemberTree, FieldTree, MethodTree, DeclTree, DataTree, FunctionTree, InterfaceTree, ClassTree, SourceTree}
 use Rattle.abs_tree.specs.Trees.{name_of}
 use Rattle.abs_tree.specs.declared.program.Variable.{Variable}
 use Rattle.abs_tree.specs.declared.program.Variable.TheVariants as variable
@@ -61,7 +61,7 @@ abbrev mutual
   pattern_tree names (code_pattern.Any place) = AnyValue place
   pattern_tree names (code_pattern.Binds place variable) = Binds place (variable_tree names variable)
   pattern_tree names (code_pattern.Number place number) = SameNumber place number
-  pattern_tree names (code_pattern.Text place text) = SameText place text
+  pattern_tree names (code_pattern.Text place text) = SameString place text
   pattern_tree names (code_pattern.Built' place symbol shape arguments) = Built place (name_of names symbol) (pattern_row names arguments)
 
   pub pattern_row : {n : _} → List Name → code_pattern.Row_of-Pattern n → PatternTrees
@@ -82,7 +82,7 @@ abbrev mutual
   phrase names (code_expr.Chain' place at_first first shape operands) = Chain place (phrase names first) (link_row names operands)
   phrase names (code_expr.Prefixed' place prefix at_operand operand) = Prefixed place prefix (phrase names operand)
   phrase names (code_expr.Number place number) = NumberOf place number
-  phrase names (code_expr.Text place text) = TextOf place text
+  phrase names (code_expr.Text place text) = StringOf place text
   phrase names (code_expr.Null place) = NullOf place
   phrase names (code_expr.Destiny place) = DestinyOf place
   phrase names (code_expr.This place) = ThisOf place
@@ -208,8 +208,8 @@ decl_tree names (decl.Interface place name extended signatures) =
 decl_tree names (decl.Class place name params implemented members) =
     ClassTree place (declared names name) (map (param_tree names) params.items) (map (declared names) implemented.items) (map (member_tree names) members.items)
 
--- the tree of a text, from its parts: its names, its declarations and its main block
-abbrev pub tree_of_parts : List Name → List code_decl.Decl → code_body.Body → TextTree
+-- the tree of a source, from its names, its declarations and its main block
+abbrev pub tree_of_parts : List Name → List code_decl.Decl → code_body.Body → SourceTree
 tree_of_parts names declarations main = record {
   declarations = map (decl_tree names) declarations;
   main = statements names main.statements.items;

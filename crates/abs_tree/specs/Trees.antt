@@ -1,5 +1,10 @@
--- The tree of a program of the part of the language that runs, without its memory: what the rules of a run speak of. In the tree
--- of a text each local is its name; in that of a program whose names were looked up, its slot.
+-- The tree of a program of the part of the language that runs, without its memory. The rules of a run are about these trees. In an
+-- unresolved program each local is its name, in a resolved one its slot.
+--
+--   `ExprTree`, `StmtTree`                         expressions, statements
+--   `ProgramTree`, `NamedTree`                     unresolved programs, resolved programs
+--   `expr_tree`, `stmt_tree`, `program_tree`, ..   the tree without memory of the code's tree
+--   `name_of`                                      the name of a symbol
 use Rattle.std.specs.Prelude.{ℕ, ℤ, List, [], ◌∷◌, map, slice_get, unwrap_or}
 use Rattle.abs_tree.specs.declared.place.Place.{Place}
 use Rattle.abs_tree.specs.declared.symbol.Symbol.{Symbol}
@@ -30,25 +35,24 @@ mutual
     NoOperand : OperandTrees
     Then : Operator → ExprTree → OperandTrees → OperandTrees
 
--- a declaration, with the place of its name, or an assignment of what an expression gives; or a statement that prints the
--- text that one gives
+-- a declaration, with the place of its name; an assignment; or a statement that prints the string of an expression
 pub data StmtTree : Type 0 where
   Declare : Place → Place → Variable → ExprTree → StmtTree
   Assign : Place → Variable → ExprTree → StmtTree
   Print : Place → ExprTree → StmtTree
 
--- the names, by the numbers of their symbols, and the statements of the main block, which are numbered from 0
+-- an unresolved program: its names, by the numbers of their symbols, and the statements of its main block
 pub record ProgramTree : Type 0 where
   pub names : List (List ℕ)
   pub main : List StmtTree
 
--- the same of a program that runs, and how many slots its main block has
+-- a resolved program, which also has the number of slots of its main block
 pub record NamedTree : Type 0 where
   pub names : List (List ℕ)
   pub main : List StmtTree
   pub slots : ℕ
 
--- the name of a symbol; a symbol that the program does not have has the empty name
+-- the name of a symbol; one that the program does not have gets the empty name
 abbrev pub name_of : List (List ℕ) → Symbol → List ℕ
 name_of names symbol = unwrap_or (slice_get names symbol.0) []
 
@@ -85,10 +89,10 @@ stmt_tree (stmt_variant.Declare place name variable value) = Declare place name 
 stmt_tree (stmt_variant.Assign place variable value) = Assign place variable (expr_tree value.value)
 stmt_tree (stmt_variant.Print place text) = Print place (expr_tree text.value)
 
--- the tree of a program
+-- the tree of an unresolved program
 abbrev pub program_tree : code_program.Program → ProgramTree
 program_tree program = record { names = program.symbols; main = map stmt_tree program.main.items }
 
--- the tree of a program that runs
+-- the tree of a resolved program
 abbrev pub named_tree : code_named.Named → NamedTree
 named_tree named = record { names = named.symbols; main = map stmt_tree named.main.items; slots = named.slots }

@@ -1,12 +1,14 @@
-//! What every other crate speaks of: places, symbols, refusals, values, and the tree of a program with the definition
-//! of evaluation over it.
+//! The types that all other crates use: places, symbols, refusals, limits, values, and the trees of a source and of a
+//! program, with the definition of evaluation.
 #![tactic(auto)]
 
 pub mod laws;
+pub mod limits;
 pub mod operator;
 pub mod place;
 pub mod program;
 pub mod refusal;
+pub mod source_error;
 pub mod symbol;
 pub mod syntax;
 pub mod text;
@@ -17,6 +19,7 @@ pub use operator::{Operator, negated};
 pub use place::Place;
 pub use program::{Expr, Named, Operand, Program, Stmt, Variable};
 pub use refusal::{Code, Offence, Refusal};
+pub use source_error::SourceError;
 pub use symbol::{Symbol, Symbols};
 pub use text::Text;
 pub use value::{Evaluated, Fault, Output, Value, Values, value_text};

@@ -2,7 +2,7 @@
 ghost use Rattle.std.specs.Prelude.{◌≡◌, ℤ, neg_ℤ, Option, FitsSigned};
 ghost use Rattle.std.specs.Int.{w128};
 ghost use Rattle.std.specs.Option.{SomeIff};
-ghost use Rattle.abs_tree.specs.Numbers.{within, operated};
+ghost use Rattle.abs_tree.specs.Numbers.{number_result, operator_number};
 
 use crate::{Evaluated, Fault, Value};
 
@@ -18,9 +18,9 @@ pub enum Operator {
 }
 
 impl Operator {
-    /// What the operator gives for two numbers: the fault Overflow for one that has no 128 bits.
+    /// The result for two numbers. If it does not fit in 128 bits, that is the fault Overflow.
     pub fn apply(self, left: i128, right: i128) -> Evaluated
-        ensures { result ≡ within (operated self left right) }
+        ensures { result ≡ number_result (operator_number self left right) }
     {
         match self {
             Operator::Plus => checked(left.checked_add(right)),
@@ -30,16 +30,16 @@ impl Operator {
     }
 }
 
-/// The negative of a number; the fault Overflow where that has no 128 bits.
+/// The negative of a number. If it does not fit in 128 bits, the result is the fault Overflow.
 pub fn negated(number: i128) -> Evaluated
-    ensures { result ≡ within (neg_ℤ number) }
+    ensures { result ≡ number_result (neg_ℤ number) }
 {
     checked(number.checked_neg())
 }
 
-/// The number that was found, or the fault Overflow where it has no 128 bits.
+/// The number, or the fault Overflow without one.
 fn checked(found: Option<i128>) -> Evaluated
-    ensures { (number : ℤ) → SomeIff found (FitsSigned w128 number) number → result ≡ within number }
+    ensures { (number : ℤ) → SomeIff found (FitsSigned w128 number) number → result ≡ number_result number }
 {
     match found {
         Some(number) => Evaluated::Good(Value::Int(number)),

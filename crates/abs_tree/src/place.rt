@@ -1,7 +1,7 @@
 //! Places in a source.
 
-/// Where something stands in a source: how many bytes stand before it, and its line and column, which count from 1. A
-/// column counts bytes, and a line feed ends its line.
+/// A place in a source: the number of bytes before it, and its line and column, which count from 1. A column counts
+/// bytes, and a line feed ends its line.
 #[derive(Clone, Copy, Debug, PartialEq, Eq)]
 pub struct Place {
     pub offset: u32,

@@ -1,15 +1,17 @@
-//! The tree of a program of the part of the language that runs, as its text has it, and as it is run once its names were looked up.
+//! The tree of a program of the part of the language that runs: unresolved, as its source has it, and resolved, as it
+//! is run.
 ghost use Rattle.std.specs.Prelude.{◌≤◌, length};
+ghost use Rattle.abs_tree.specs.Limits.{table_limit};
 
 use crate::{Operator, Place, Symbol, Symbols};
 use std::sync::Arc;
 
-/// What stands for a local: its name, as it is written, until that was looked up; and then its slot.
+/// A local: unresolved, its name; resolved, its slot.
 #[derive(Clone, Copy, Debug, PartialEq, Eq)]
 pub enum Variable {
     /// The name.
     Named(Symbol),
-    /// The slot of a declaration. The declarations of a body are numbered from 0 in the order of the source.
+    /// The slot of its declaration. The declarations of a body are numbered from 0 in the order of the source.
     Slot(u32),
 }
 
@@ -21,11 +23,11 @@ pub enum Expr {
     Number(Place, i128),
     /// A local.
     Local(Place, Variable),
-    /// The name of a function, and its arguments.
+    /// `f(es)`
     Apply(Place, Symbol, Vec<Expr>),
     /// `-e`
     Negate(Place, Box<Expr>),
-    /// Operators of one precedence, which are applied from the left: the first operand, and each operator with its right one.
+    /// Operators of one precedence, applied from the left: the first operand, and each operator with its right operand.
     Operators(Place, Box<Expr>, Vec<Operand>),
 }
 
@@ -37,8 +39,8 @@ pub struct Operand {
     pub right: Expr,
 }
 
-/// A statement, with the place of its first token. Its expressions stand behind shared pointers, so that to take them
-/// along costs the same whatever their size.
+/// A statement, with the place of its first token. Copies share its expressions, so a copy costs the same whatever
+/// their size.
 #[derive(Drop)]
 pub enum Stmt {
     /// `Int x = e;`, with the place of the name that it declares.
@@ -49,23 +51,24 @@ pub enum Stmt {
     Print(Place, Arc<Expr>),
 }
 
-/// A program: its names, and the statements of its main block, which are numbered from 0 in the order of the source.
+/// An unresolved program: its names, and the statements of its main block. Each container has at most
+/// [`TABLE_LIMIT`](crate::limits::TABLE_LIMIT) entries.
 #[derive(Drop)]
 pub struct Program<'a> {
     pub symbols: Symbols<'a>,
     pub main: Vec<Stmt>,
-    ghost few_names: { length symbols ≤ 268435456 },
-    ghost few_statements: { length main.items ≤ 268435456 },
+    ghost few_names: { length symbols ≤ table_limit },
+    ghost few_statements: { length main.items ≤ table_limit },
 }
 
-/// A program whose names were looked up: each local is a slot of the main block.
+/// A resolved program: each local is a slot of the main block.
 #[derive(Drop)]
 pub struct Named<'a> {
     pub symbols: Symbols<'a>,
     pub main: Vec<Stmt>,
-    /// How many slots the main block has.
+    /// The number of slots of the main block.
     pub slots: u32,
-    ghost few_names: { length symbols ≤ 268435456 },
-    ghost few_statements: { length main.items ≤ 268435456 },
-    ghost few_slots: { slots ≤ 268435456 },
+    ghost few_names: { length symbols ≤ table_limit },
+    ghost few_statements: { length main.items ≤ table_limit },
+    ghost few_slots: { slots ≤ table_limit },
 }

@@ -5,29 +5,29 @@ ghost use Rattle.abs_tree.specs.Refusals.{code_name, code_words, refusal_of};
 use crate::Place;
 use std::fmt;
 
-/// The offence for which a source is refused. The letters are those of the tokens (L), the grammar (S), the names (N),
-/// the types (T) and the profile of the language (P), and a source is refused in this order.
+/// The offence for which a source is refused. The letter says what it offends: tokens (L), the grammar (S), names (N),
+/// types (T) or the profile of the language (P). They are checked in this order.
 #[derive(Clone, Copy, Debug, PartialEq, Eq)]
 pub enum Code {
-    /// A byte outside of the alphabet.
+    /// A byte outside the alphabet.
     L1,
     /// A comment without an end.
     L2,
-    /// A text without an end.
+    /// A string without an end.
     L3,
-    /// A number past 128 bits.
+    /// A number above 127 bits.
     L4,
-    /// A token that can't stand where it does.
+    /// A token that no valid program continues with.
     S1,
-    /// More than 100 nested symbols.
+    /// A token past the nesting limit.
     S2,
-    /// A word that the language has and this profile has not.
+    /// A word outside the profile of the language.
     S3,
     /// A name that is declared twice.
     N1,
     /// A name without a declaration.
     N2,
-    /// Another number of arguments than declared.
+    /// Another number of arguments than parameters.
     N3,
     /// An interface that extends itself.
     N4,
@@ -35,13 +35,13 @@ pub enum Code {
     T1,
     /// No method of this name and number of parameters.
     T2,
-    /// A declaration that needs a value and has none.
+    /// A declaration without the value that it needs.
     T3,
-    /// A class that lacks what its interfaces ask for.
+    /// A class without a method that one of its interfaces asks for.
     T4,
-    /// A `return` that is missing or stands where none may.
+    /// A `return` that is missing or misplaced.
     T5,
-    /// A guard that is no future.
+    /// A guard that is not a future.
     P1,
     /// A future in a field or in data.
     P2,
@@ -54,7 +54,7 @@ pub enum Code {
 }
 
 impl Code {
-    /// What the offence is, in words.
+    /// The offence in words.
     pub fn words(self) -> &'static str
         ensures { result.now ≡ code_words self }
     {
@@ -84,7 +84,7 @@ impl Code {
     }
 }
 
-/// A code is shown by its name.
+/// The code's name.
 impl fmt::Display for Code {
     ghost output = { λ code. Some (code_name code) };
 
@@ -115,7 +115,7 @@ impl fmt::Display for Code {
     }
 }
 
-/// An offence of a source, at its place.
+/// An offence of a source, and its place.
 #[derive(Clone, Copy, Debug, PartialEq, Eq)]
 pub struct Offence {
     pub code: Code,
@@ -135,7 +135,7 @@ impl Offence {
     }
 }
 
-/// The refusal of a source: the code of its first offence, and where that stands.
+/// The refusal of a source: the code of its first offence, with the line and the column of that.
 #[derive(Clone, Copy, Debug, PartialEq, Eq)]
 pub struct Refusal {
     pub code: Code,

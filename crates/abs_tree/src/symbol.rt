@@ -7,12 +7,12 @@ use indexmap::IndexSet;
 use std::alloc::{AllocError, Global};
 use std::marker::Model;
 
-/// A name of a program, by its number in the program's table.
+/// A name of a program, as its number in the program's table.
 #[derive(Clone, Copy, Debug, PartialEq, Eq)]
 pub struct Symbol(pub u32);
 
-/// The table of a program's symbols: each name once, as a piece of the source, numbered by first appearance. Contracts
-/// see the list of the names.
+/// The table of a program's names: each name once, in the order of first appearance. A name borrows its bytes from the
+/// source. Contracts see the list of the names.
 #[derive(Drop)]
 pub struct Symbols<'a> {
     names: IndexSet<&'a [u8]>,
@@ -27,7 +27,7 @@ impl<'a> Model for Symbols<'a> {
 }
 
 impl<'a> Symbols<'a> {
-    /// A table without names.
+    /// An empty table.
     pub fn new(alloc: Global) -> Symbols<'a>
         ensures { result ≡ [] }
     {
@@ -36,14 +36,14 @@ impl<'a> Symbols<'a> {
         }
     }
 
-    /// How many names there are.
+    /// The number of names.
     pub fn len(&self) -> usize
         ensures { result ≡ length self.now }
     {
         self.names.len()
     }
 
-    /// The name of a symbol; a symbol that is not of this table has the empty name.
+    /// The name of a symbol. A symbol that this table does not have gets the empty name.
     pub fn name(&self, symbol: Symbol) -> &'a [u8]
         ensures { result.now ≡ name_of self.now symbol }
     {
@@ -53,7 +53,7 @@ impl<'a> Symbols<'a> {
         }
     }
 
-    /// The symbol of a name that the table has.
+    /// The symbol of a name, if the table has it.
     pub fn find(&self, name: &[u8]) -> Option<Symbol>
         requires { length self.now ≤ 2 ^ 32 }
         ensures { result ≡ symbol_in self.now name.now }
@@ -64,10 +64,10 @@ impl<'a> Symbols<'a> {
         }
     }
 
-    /// The symbol of a name, which is put behind the others where it is new.
+    /// The symbol of a name. A new name is added after the others.
     ///
     /// # Errors
-    /// [`AllocError`] where memory runs out; the table is as before.
+    /// [`AllocError`] if an allocation fails. The table is unchanged then.
     pub fn intern(&mut self, name: &'a [u8]) -> Result<Symbol, AllocError>
         requires { length self.old < 2 ^ 32 }
         ensures symbol { IfOk result (λ symbol. symbol.0 ≡ number_of_name self.old name.now) }

@@ -1,8 +1,8 @@
-//! That the calls can succeed, of which no contract speaks, and that the clauses mean what they are to mean.
+//! That the calls can succeed, of which no contract speaks, and that the clauses mean what they should.
 use super::*;
 use std::test::Fail;
 
-/// A name has the number of its first appearance, and a name that comes again keeps it.
+/// A name is numbered at its first appearance, and keeps that number.
 #[test]
 fn names_are_numbered(rt: HostRuntime) -> Result<(), Fail> {
     let mut symbols = Symbols::new(rt.alloc());
@@ -19,7 +19,7 @@ fn names_are_numbered(rt: HostRuntime) -> Result<(), Fail> {
             Symbol(number),
             "for {name}"
         );
-        assert_eq!(rt; symbols.len(), count, "behind {name}");
+        assert_eq!(rt; symbols.len(), count, "after {name}");
     }
     for (number, name) in [
         (0, "toString"),
@@ -37,7 +37,7 @@ fn names_are_numbered(rt: HostRuntime) -> Result<(), Fail> {
     Ok(())
 }
 
-/// Numbers in decimal, without a sign where they are not negative, at the ends of their range too.
+/// Numbers in decimal, at the ends of their range too.
 #[test]
 fn numbers_print(rt: HostRuntime) -> Result<(), Fail> {
     for (number, text) in [
@@ -53,7 +53,7 @@ fn numbers_print(rt: HostRuntime) -> Result<(), Fail> {
     Ok(())
 }
 
-/// A text prints as it is, without quotes, and the value that is no object as `null`.
+/// A string prints as it is, without quotes, and the value that is no object as `null`.
 #[test]
 fn others_print(rt: HostRuntime) -> Result<(), Fail> {
     let text = Text::new(rt.alloc(), b"a\"\n ".to_vec(rt.alloc())?)?;
@@ -64,7 +64,7 @@ fn others_print(rt: HostRuntime) -> Result<(), Fail> {
     Ok(())
 }
 
-/// A shared text outlives the one that it was made of.
+/// A copy of a string outlives the string.
 #[test]
 fn texts_share(rt: HostRuntime) -> Result<(), Fail> {
     let text = Text::new(rt.alloc(), b"abc".to_vec(rt.alloc())?)?;
@@ -103,7 +103,7 @@ fn is_number(value: &Value, wanted: i128) -> bool {
     }
 }
 
-/// A value that is put at an index stands there alone, and a copy that was made before keeps what it had.
+/// A value is replaced at one index, and an earlier copy keeps the old value.
 #[test]
 fn values_are_set(rt: HostRuntime) -> Result<(), Fail> {
     let mut values = Values::nulls(rt.alloc(), 3)?;

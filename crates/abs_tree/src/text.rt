@@ -1,11 +1,11 @@
-//! Texts that share their bytes.
+//! Strings whose copies share their bytes.
 ghost use Rattle.std.specs.Prelude.{◌≡◌, ◌<◌, ◌==◌, length, slice_get, Some, IfOk};
 
 use std::alloc::{AllocError, Global};
 use std::marker::Model;
 use std::sync::Arc;
 
-/// Bytes that all copies of the text share, so that a copy costs the same whatever its length. Contracts see the list
+/// The bytes of a string. All copies share them, so a copy costs the same whatever its length. Contracts see the list
 /// of the bytes.
 #[derive(Drop)]
 pub struct Text {
@@ -21,10 +21,10 @@ impl Model for Text {
 }
 
 impl Text {
-    /// The text of these bytes.
+    /// The string of these bytes.
     ///
     /// # Errors
-    /// [`AllocError`] where memory runs out.
+    /// [`AllocError`] if an allocation fails.
     pub fn new(alloc: Global, bytes: Vec<u8>) -> Result<Text, AllocError>
         ensures { IfOk result (λ text. text ≡ bytes.items) }
     {
@@ -32,21 +32,21 @@ impl Text {
         Ok(Text { bytes })
     }
 
-    /// The bytes of the text.
+    /// The bytes of the string.
     pub fn as_bytes(&self) -> &[u8]
         ensures { result.now ≡ self.now }
     {
         self.bytes.as_slice()
     }
 
-    /// How many bytes the text has.
+    /// The number of bytes.
     pub fn len(&self) -> usize
         ensures { result ≡ length self.now }
     {
         self.bytes.len()
     }
 
-    /// Whether the text has no byte.
+    /// Whether the string is empty.
     pub fn is_empty(&self) -> bool
         ensures { result ≡ (length self.now == 0) }
     {
@@ -61,10 +61,10 @@ impl Text {
         &self.bytes[index]
     }
 
-    /// The same text, which shares its bytes with this one.
+    /// A copy, which shares its bytes with this string.
     ///
     /// # Errors
-    /// [`AllocError`] where there are as many copies as can be counted.
+    /// [`AllocError`] if there are as many copies already as can be counted.
     pub fn share(&self) -> Result<Text, AllocError>
         ensures { IfOk result (λ text. text ≡ self.now) }
     {

@@ -1,7 +1,7 @@
-//! Values, what evaluation gives, and the printed text of a value.
+//! Values, the results of evaluation, and the output for a value.
 ghost use Rattle.std.specs.Prelude.{◌≡◌, ◌<◌, ◌==◌, length, slice_get, slice_set, replicate, Some, IfOk, OnOk, OnErr};
 ghost use Rattle.abs_tree.specs.Faults.{fault_name};
-ghost use Rattle.abs_tree.specs.Values.{text_of};
+ghost use Rattle.abs_tree.specs.Values.{string_of};
 
 use crate::Text;
 use std::alloc::{AllocError, Global};
@@ -9,28 +9,28 @@ use std::fmt;
 use std::marker::Model;
 use std::sync::Arc;
 
-/// Why an evaluation or an event went wrong.
+/// Why an evaluation or an event failed.
 #[derive(Clone, Copy, Debug, PartialEq, Eq)]
 pub enum Fault {
-    /// A receiver or a future that is null.
+    /// A receiver or a future is null.
     Null,
-    /// A `case` of which no branch matches.
+    /// No branch of a `case` matches.
     Match,
-    /// A divisor of 0.
+    /// A divisor is 0.
     Zero,
-    /// A number outside of 128 bits.
+    /// A number does not fit in 128 bits.
     Overflow,
-    /// More than 1,000,000 function applications in one statement.
+    /// A statement applies more than [`APPLICATION_LIMIT`](crate::limits::APPLICATION_LIMIT) functions.
     Calls,
-    /// More than 2,000 levels of evaluation.
+    /// There are more than [`LEVEL_LIMIT`](crate::limits::LEVEL_LIMIT) levels of evaluation.
     Levels,
-    /// A text or a value past its greatest size.
+    /// A string is longer than [`STRING_LIMIT`](crate::limits::STRING_LIMIT), or a value is too large.
     Large,
-    /// A value of another sort than its place asks for.
+    /// A value has another type than is needed.
     Mistyped,
 }
 
-/// A fault is shown by its name.
+/// The fault's name.
 impl fmt::Display for Fault {
     ghost output = { λ fault. Some (fault_name fault) };
 
@@ -48,22 +48,22 @@ impl fmt::Display for Fault {
     }
 }
 
-/// A value of a program. A copy of it costs the same whatever its size.
+/// A value of a program. A copy costs the same whatever its size.
 #[derive(Drop)]
 pub enum Value {
     /// A number.
     Int(i128),
-    /// A text.
+    /// A string.
     Text(Text),
-    /// No object and no future.
+    /// `null`, which is no object and no future.
     Null,
 }
 
 impl Value {
-    /// The same value, which shares its parts with this one.
+    /// A copy, which shares its parts with this value.
     ///
     /// # Errors
-    /// [`AllocError`] where there are as many copies of a part as can be counted.
+    /// [`AllocError`] if there are as many copies of a part already as can be counted.
     pub fn share(&self) -> Result<Value, AllocError>
         ensures { IfOk result (λ value. value ≡ self.now) }
     {
@@ -75,7 +75,7 @@ impl Value {
     }
 }
 
-/// What an evaluation gives.
+/// The result of an evaluation.
 #[derive(Drop)]
 pub enum Evaluated {
     /// A value.
@@ -84,8 +84,8 @@ pub enum Evaluated {
     Bad(Fault),
 }
 
-/// Values in a row, which all copies share, so that a copy costs the same whatever their number. Contracts see the list
-/// of the values.
+/// A list of values. All copies share it, so a copy costs the same whatever its length. Contracts see the list of the
+/// values.
 #[derive(Drop)]
 pub struct Values {
     items: Arc<Vec<Value>>,
@@ -101,10 +101,10 @@ impl Model for Values {
 }
 
 impl Values {
-    /// These values.
+    /// The list of these values.
     ///
     /// # Errors
-    /// [`AllocError`] where memory runs out.
+    /// [`AllocError`] if an allocation fails.
     pub fn new(alloc: Global, items: Vec<Value>) -> Result<Values, AllocError>
         ensures { IfOk result (λ values. values ≡ items.items) }
     {
@@ -112,10 +112,10 @@ impl Values {
         Ok(Values { items })
     }
 
-    /// So many values, none of which is an object or a future.
+    /// A list of `count` values, each of them `null`.
     ///
     /// # Errors
-    /// [`AllocError`] where memory runs out.
+    /// [`AllocError`] if an allocation fails.
     pub fn nulls(alloc: Global, count: usize) -> Result<Values, AllocError>
         ensures { IfOk result (λ values. values ≡ replicate count Value.Null) }
     {
@@ -126,7 +126,7 @@ impl Values {
         Values::new(alloc, items)
     }
 
-    /// How many values there are.
+    /// The number of values.
     pub fn len(&self) -> usize
         ensures { result ≡ length self.now }
     {
@@ -148,17 +148,17 @@ impl Values {
         &self.items[index]
     }
 
-    /// The values in their order.
+    /// The values in order.
     pub fn as_slice(&self) -> &[Value]
         ensures { result.now ≡ self.now }
     {
         self.items.as_slice()
     }
 
-    /// The same values, which this copy shares with these.
+    /// A copy, which shares its values with this list.
     ///
     /// # Errors
-    /// [`AllocError`] where there are as many copies as can be counted.
+    /// [`AllocError`] if there are as many copies already as can be counted.
     pub fn share(&self) -> Result<Values, AllocError>
         ensures { IfOk result (λ values. values ≡ self.now) }
     {
@@ -166,10 +166,10 @@ impl Values {
         Ok(Values { items })
     }
 
-    /// Puts a value at an index: in its place where no copy shares these values, and otherwise into a copy of them.
+    /// Replaces the value at an index. If a copy shares the values, it keeps the old ones.
     ///
     /// # Errors
-    /// [`AllocError`] where memory runs out; the values are as before.
+    /// [`AllocError`] if an allocation fails. The values are unchanged then.
     pub fn set(&mut self, alloc: Global, index: usize, value: Value) -> Result<(), AllocError>
         requires { index < length self.old }
         ensures ok { OnOk result (self.new ≡ slice_set self.old index value) }
@@ -197,7 +197,7 @@ fn copies(alloc: Global, values: &[Value]) -> Result<Vec<Value>, AllocError>
     Ok(copies)
 }
 
-/// What the evaluation of a list of expressions gives.
+/// The result of the evaluation of a list of expressions.
 #[derive(Drop)]
 pub enum Output {
     /// All their values.
@@ -206,12 +206,12 @@ pub enum Output {
     Bad(Fault),
 }
 
-/// The printed text of a value: a number in decimal, with `-` where it is negative, and a text as it is.
+/// The string of a value: a number in decimal, with `-` if it is negative; a string as it is; `null`.
 ///
 /// # Errors
-/// [`AllocError`] where memory runs out.
+/// [`AllocError`] if an allocation fails.
 pub fn value_text(alloc: Global, value: &Value) -> Result<Text, AllocError>
-    ensures { IfOk result (λ text. text ≡ text_of value.now) }
+    ensures { IfOk result (λ text. text ≡ string_of value.now) }
 {
     match value {
         Value::Int(number) => Text::new(alloc, format!(in alloc; "{number}")?.into_bytes()),

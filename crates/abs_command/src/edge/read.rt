@@ -1,15 +1,13 @@
-//! Reads what is left of a source, up to the limit of a program's text.
+//! Reads what is left of a source, up to the limit on its size.
 ghost use Rattle.std.specs.Prelude.{◌≡◌, ℕ, ◌≤◌, List, IfOk, OnOk, OnErr, IsErrOf};
 ghost use Rattle.abs_outside.specs.Counts.{Rose};
 ghost use Rattle.abs_command.specs.Bytes.{TakesWhole, TakesSome};
 ghost use Rattle.abs_command.specs.declared.edge.read.ReadError.TheVariants.{Memory};
 
 use abs_outside::{Failed, Source};
+use abs_tree::limits::SOURCE_LIMIT;
 use std::alloc::{AllocError, Global};
 use thiserror::Error;
-
-/// The bytes that a source may have.
-pub const SOURCE_LIMIT: usize = 1_048_576;
 
 /// Why a source was not read to its end.
 #[derive(Clone, Copy, Debug, PartialEq, Eq, Error)]
@@ -17,7 +15,7 @@ pub enum ReadError {
     /// The source failed.
     #[error("the source failed")]
     Failed,
-    /// Memory ran out.
+    /// An allocation failed.
     #[error("memory ran out")]
     Memory,
 }
@@ -30,10 +28,10 @@ impl From<AllocError> for ReadError {
     }
 }
 
-/// What is left of the source, all of it; of more than [`SOURCE_LIMIT`] bytes, the first ones up to one past the limit.
+/// All that is left of the source. Of more than [`SOURCE_LIMIT`] bytes it is a prefix, one byte longer than the limit.
 ///
 /// # Errors
-/// [`ReadError::Failed`] where a read failed, and [`ReadError::Memory`] where memory runs out.
+/// [`ReadError::Failed`] if a read failed, and [`ReadError::Memory`] if an allocation fails.
 pub fn read_rest<S: Source>(alloc: Global, source: &mut S) -> Result<Vec<u8>, ReadError>
     ensures whole { IfOk result (λ bytes. TakesWhole (S.left source.old) (S.left source.new) bytes.items) }
     ensures some { OnErr result (TakesSome (S.left source.old) (S.left source.new)) }

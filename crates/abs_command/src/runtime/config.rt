@@ -1,4 +1,4 @@
-//! Configurations: what there is at a moment of a run.
+//! Configurations: the state of a program between two events of its run.
 
 use abs_tree::{Evaluated, Text, Values};
 use std::marker::Model;
@@ -19,24 +19,24 @@ pub enum State {
     Running,
 }
 
-/// A body that a task is at work on.
+/// A body that a task executes.
 #[derive(Drop)]
 pub struct Frame {
-    /// The number of the first statement that is left; none is where no statement is left.
+    /// The index of the next statement, or `None` if no statement is left.
     pub next: Option<u32>,
     /// The values of its locals, by their slots.
     pub slots: Values,
 }
 
-/// A task, which is known by its number in the configuration.
+/// A task, which is identified by its index in the configuration.
 #[derive(Drop)]
 pub struct TaskCell {
     /// The cog whose holder it is while it runs.
     pub cog: u32,
-    /// The bodies it is at work on, the innermost one last; none where it has ended.
+    /// The bodies that it executes, the innermost one last; empty if it has ended.
     pub frames: Frames,
     pub state: State,
-    /// What it ended with.
+    /// Its result, once it has ended.
     pub outcome: Option<Evaluated>,
 }
 
@@ -89,14 +89,14 @@ impl Model for Tasks {
     ghost invariant = { λ t. length t.items.items < 2 ^ 32 };
 }
 
-/// What there is at a moment of a run. Task 0 is the main block's.
+/// The state of a program between two events of its run. Task 0 is the main block's.
 #[derive(Drop)]
 pub struct Config {
     pub cogs: Cogs,
     pub tasks: Tasks,
 }
 
-/// Texts that were printed, each a line. Contracts see the list of their bytes.
+/// The strings that were printed, a line each. Contracts see the list of their bytes.
 #[derive(Drop)]
 pub struct Lines {
     pub items: Vec<Text>,

@@ -1,24 +1,16 @@
-//! Evaluates expressions by recursion, as the definition goes.
+//! Evaluates expressions by recursion, in the same way as the definition of evaluation.
 ghost use Rattle.std.specs.Prelude.{◌≡◌, IfOk};
 ghost use Rattle.abs_tree.specs.Trees.{expr_tree, trees_of, operands_of};
-ghost use Rattle.abs_tree.specs.Evaluation.{evaluate as evaluated, local_gives, negative as negative_of, operated_on, operand_gives, operators_give, each, applied, called, built as built_of, result_of};
+ghost use Rattle.abs_tree.specs.Evaluation.{evaluate as evaluated, local_result, negation_result, operator_result, operand_outcome, operators_outcome, outcomes_of, application_outcome, function_result, string_result, result_of};
 
+use abs_tree::limits::{APPLICATION_LIMIT, LEVEL_LIMIT, STRING_LIMIT};
 use abs_tree::{
     Evaluated, Expr, Fault, Operand, Operator, Output, Symbols, Text, Value, Values, Variable,
     negated, value_text,
 };
 use std::alloc::{AllocError, Global};
 
-/// The levels of evaluation, of which a statement's own expressions have the first.
-const LEVELS: u32 = 2_000;
-
-/// The function applications that a statement may make.
-const APPLICATIONS: u32 = 1_000_000;
-
-/// The bytes that a text may have.
-const TEXT_BYTES: usize = 65_536;
-
-/// What a statement's own expression gives, in a program with these names, where the slots have these values.
+/// The result of a statement's own expression, in a program with these names, where the slots have these values.
 ///
 /// # Errors
 /// [`AllocError`] where memory runs out.
@@ -31,10 +23,10 @@ pub fn eval(
     ensures { IfOk result (λ found. found ≡ result_of names.now slots.now (expr_tree expr.now)) }
 {
     let mut made = 0;
-    evaluate(alloc, names, slots, LEVELS, expr, &mut made)
+    evaluate(alloc, names, slots, LEVEL_LIMIT, expr, &mut made)
 }
 
-/// What an expression gives with so many levels left. The applications that its statement has made are counted along.
+/// The result of an expression with `left` levels left. `made` counts the applications of its statement.
 #[cycle(evaluation)]
 #[tactic(auto, unfolding(abs_tree::specs::Evaluation::evaluate))]
 fn evaluate(
@@ -45,7 +37,8 @@ fn evaluate(
     expr: &Expr,
     made: &mut u32,
 ) -> Result<Evaluated, AllocError>
-    ensures { IfOk result (λ found. evaluated names.now slots.now left (expr_tree expr.now) made.old ≡ record { result = found; applications = made.new }) }
+    ensures { IfOk result (λ found. evaluated names.now slots.now left (expr_tree expr.now) made.old
+        ≡ record { result = found; applications = made.new }) }
 {
     if left == 0 {
         return Ok(Evaluated::Bad(Fault::Levels));
@@ -59,7 +52,7 @@ fn evaluate(
         }
         Expr::Negate(_, operand) => {
             let found = evaluate(alloc, names, slots, left - 1, operand, made)?;
-            Ok(negative(found))
+            Ok(negation(found))
         }
         Expr::Operators(_, first, operands) => {
             let first = evaluate(alloc, names, slots, left - 1, first, made)?;
@@ -68,7 +61,7 @@ fn evaluate(
     }
 }
 
-/// What operators give from the left, where the first operand gave this.
+/// The result of an operator list, applied from the left, given the result of its first operand.
 #[cycle(evaluation)]
 fn operators(
     alloc: Global,
@@ -79,7 +72,9 @@ fn operators(
     operands: &[Operand],
     made: &mut u32,
 ) -> Result<Evaluated, AllocError>
-    ensures { IfOk result (λ found. operators_give (evaluated names.now slots.now left) (record { result = first; applications = made.old }) (operands_of operands.now) ≡ record { result = found; applications = made.new }) }
+    ensures { IfOk result (λ found. operators_outcome (evaluated names.now slots.now left)
+        (record { result = first; applications = made.old }) (operands_of operands.now)
+        ≡ record { result = found; applications = made.new }) }
 {
     let mut so_far = first;
     for operand in operands {
@@ -88,8 +83,7 @@ fn operators(
     Ok(so_far)
 }
 
-/// What stands on the left of the next operator, once that was applied to what stands on its left. Behind a fault nothing
-/// is evaluated.
+/// The result of one operator of a list, given the result of all before it. After a fault the operand is not evaluated.
 #[cycle(evaluation)]
 fn behind(
     alloc: Global,
@@ -100,7 +94,8 @@ fn behind(
     operand: &Operand,
     made: &mut u32,
 ) -> Result<Evaluated, AllocError>
-    ensures { IfOk result (λ found. operand_gives (evaluated names.now slots.now left) operand.now.operator (expr_tree operand.now.right) so_far made.old ≡ record { result = found; applications = made.new }) }
+    ensures { IfOk result (λ found. operand_outcome (evaluated names.now slots.now left) operand.now.operator
+        (expr_tree operand.now.right) so_far made.old ≡ record { result = found; applications = made.new }) }
 {
     match so_far {
         Evaluated::Good(value) => {
@@ -111,9 +106,9 @@ fn behind(
     }
 }
 
-/// What an operator gives, once its right operand was evaluated.
+/// The result of an operator, given the value of its left operand and the result of its right one.
 fn operate(operator: Operator, left: Value, right: Evaluated) -> Evaluated
-    ensures { result ≡ operated_on operator left right }
+    ensures { result ≡ operator_result operator left right }
 {
     match right {
         Evaluated::Good(Value::Int(right)) => match left {
@@ -125,9 +120,9 @@ fn operate(operator: Operator, left: Value, right: Evaluated) -> Evaluated
     }
 }
 
-/// What a minus gives for its operand.
-fn negative(operand: Evaluated) -> Evaluated
-    ensures { result ≡ negative_of operand }
+/// The result of a minus, given that of its operand.
+fn negation(operand: Evaluated) -> Evaluated
+    ensures { result ≡ negation_result operand }
 {
     match operand {
         Evaluated::Good(Value::Int(number)) => negated(number),
@@ -136,9 +131,9 @@ fn negative(operand: Evaluated) -> Evaluated
     }
 }
 
-/// What a local gives.
+/// The result of a local: the value of its slot.
 fn local(slots: &[Value], variable: Variable) -> Result<Evaluated, AllocError>
-    ensures { IfOk result (λ found. found ≡ local_gives slots.now variable) }
+    ensures { IfOk result (λ found. found ≡ local_result slots.now variable) }
 {
     let Variable::Slot(slot) = variable else {
         return Ok(Evaluated::Bad(Fault::Mistyped));
@@ -149,7 +144,7 @@ fn local(slots: &[Value], variable: Variable) -> Result<Evaluated, AllocError>
     }
 }
 
-/// What expressions give, from the left, up to the first fault.
+/// The values of expressions, evaluated from the left, or the first fault.
 #[cycle(evaluation)]
 fn evaluate_all(
     alloc: Global,
@@ -159,7 +154,8 @@ fn evaluate_all(
     exprs: &[Expr],
     made: &mut u32,
 ) -> Result<Output, AllocError>
-    ensures { IfOk result (λ found. each (evaluated names.now slots.now left) (trees_of exprs.now) made.old ≡ record { output = found; applications = made.new }) }
+    ensures { IfOk result (λ found. outcomes_of (evaluated names.now slots.now left) (trees_of exprs.now) made.old
+        ≡ record { output = found; applications = made.new }) }
 {
     let mut values = Vec::new(alloc);
     for expr in exprs {
@@ -171,19 +167,20 @@ fn evaluate_all(
     Ok(Output::Values(Values::new(alloc, values)?))
 }
 
-/// What the application of a function gives, once its arguments were evaluated.
+/// The result of an application, given the output of its arguments. It is counted in `made`.
 fn apply(
     alloc: Global,
     name: &[u8],
     arguments: Output,
     made: &mut u32,
 ) -> Result<Evaluated, AllocError>
-    ensures { IfOk result (λ found. applied name.now arguments made.old ≡ record { result = found; applications = made.new }) }
+    ensures { IfOk result (λ found. application_outcome name.now arguments made.old
+        ≡ record { result = found; applications = made.new }) }
 {
     match arguments {
         Output::Bad(fault) => Ok(Evaluated::Bad(fault)),
         Output::Values(values) => {
-            if *made >= APPLICATIONS {
+            if *made >= APPLICATION_LIMIT {
                 return Ok(Evaluated::Bad(Fault::Calls));
             }
             *made += 1;
@@ -192,21 +189,21 @@ fn apply(
     }
 }
 
-/// What a function gives for its arguments.
+/// The result of a function for these arguments.
 fn call(alloc: Global, name: &[u8], arguments: &[Value]) -> Result<Evaluated, AllocError>
-    ensures { IfOk result (λ found. found ≡ called name.now arguments.now) }
+    ensures { IfOk result (λ found. found ≡ function_result name.now arguments.now) }
 {
     match arguments {
-        [value] if name == b"toString".as_slice() => Ok(built(value_text(alloc, value)?)),
+        [value] if name == b"toString".as_slice() => Ok(string(value_text(alloc, value)?)),
         _ => Ok(Evaluated::Bad(Fault::Mistyped)),
     }
 }
 
-/// A text, where it is not too large.
-fn built(text: Text) -> Evaluated
-    ensures { result ≡ built_of text }
+/// A string as a value, or the fault for one that is too large.
+fn string(text: Text) -> Evaluated
+    ensures { result ≡ string_result text }
 {
-    if text.as_bytes().len() <= TEXT_BYTES {
+    if text.as_bytes().len() <= STRING_LIMIT {
         Evaluated::Good(Value::Text(text))
     } else {
         Evaluated::Bad(Fault::Large)

@@ -4,8 +4,8 @@ ghost use Rattle.std.specs.Prelude.{◌≡◌, ◌+◌, ◌<◌, ◌≤◌, [], 
 use std::alloc::{AllocError, Global};
 use std::marker::Model;
 
-/// The tasks whose events were recorded, in their order. Contracts see their list, and how many more can be recorded
-/// without taking memory.
+/// The tasks whose events were recorded, in order. Contracts see their list, and how many more events can be recorded
+/// without an allocation.
 #[derive(Drop)]
 pub struct History {
     tasks: Vec<u32>,
@@ -21,7 +21,7 @@ impl Model for History {
 }
 
 impl History {
-    /// An empty history with room for so many events. It takes memory for them alone.
+    /// An empty history with room for this many events. With room for none it allocates nothing.
     ///
     /// # Errors
     /// [`AllocError`] where memory runs out.

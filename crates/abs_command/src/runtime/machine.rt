@@ -1,4 +1,4 @@
-//! Runs a program: one task after the other takes its steps, and each is recorded.
+//! Runs a program: makes one event after the other, and records whose event it was.
 ghost use Rattle.std.specs.Prelude.{◌≡◌, ◌<◌, ℕ, List, IfOk, IfSome, IfNone, IsSome, MatchBool};
 ghost use Rattle.abs_tree.specs.Trees.{NamedTree, named_tree};
 ghost use Rattle.abs_command.specs.Events.{event_of};
@@ -18,11 +18,11 @@ pub enum End {
     Done,
     /// A task is unfinished, and none has an event.
     Stalled,
-    /// The history has as many events as are permitted, and a task is unfinished.
+    /// The history has the greatest permitted number of events, and a task is unfinished.
     Spent,
 }
 
-/// A run that is over: where it led to, whose events it had, what they printed, and how it ended.
+/// A finished run: the last configuration, the history, what was printed, and how the run ended.
 #[derive(Drop)]
 pub struct Ran {
     pub config: Config,
@@ -31,7 +31,7 @@ pub struct Ran {
     pub end: End,
 }
 
-/// Runs a program for at most so many events.
+/// Runs a program for at most `steps` events.
 ///
 /// # Errors
 /// [`AllocError`] where memory runs out.
@@ -98,7 +98,7 @@ fn first(alloc: Global, program: &Named<'_>) -> Result<Config, AllocError>
     })
 }
 
-/// A task that has an event, the first one in the order of their numbers.
+/// The index of the first task that has an event.
 fn next_task(program: &Named<'_>, config: &Config) -> Option<u32>
     ensures some { IfSome result (λ task. IsSome (event_of (named_tree program.now) config.now task)) }
     ensures none { IfNone result (HasStep (named_tree program.now) config.now → ⊥) }
@@ -112,7 +112,7 @@ fn next_task(program: &Named<'_>, config: &Config) -> Option<u32>
     None
 }
 
-/// Done, where every task has a result; otherwise this end.
+/// `Done` if every task has a result, and otherwise this end.
 fn settle(config: &Config, otherwise: End) -> End
     ensures { Settles config.now otherwise result }
 {
@@ -135,7 +135,7 @@ fn is_done(config: &Config) -> bool
     true
 }
 
-/// Whatever legal list of events comes, the configuration that it reaches has a step while a task of it is unfinished.
+/// Whatever legal history comes, the configuration that it reaches has a step while a task in it is unfinished.
 pub fn never_stuck()
     ensures { (program : NamedTree) → NeverStuck program }
 {}

@@ -1,7 +1,7 @@
 //! The events of tasks: whether a task has one, and what it changes.
 ghost use Rattle.std.specs.Prelude.{◌≡◌, ◌<◌, ℕ, List, length, Option, slice_get, Some, None, IsTrue, IsSome, ◌↔◌, IfOk, OnOk, OnErr};
 ghost use Rattle.abs_tree.specs.Trees.{named_tree};
-ghost use Rattle.abs_command.specs.Events.{takes, ends_with, assigns, prints, executes, slots_of, runs, runs_body, by_state, event_of, held, following as following_of, Steps, Makes};
+ghost use Rattle.abs_command.specs.Events.{take_change, ended_change, assign_change, print_change, statement_change, slots_of, body_change, running_change, change_by_state, event_of, with_holder, statement_after, Steps, Makes};
 ghost use Rattle.abs_command.specs.declared.runtime.config.TaskCell.{TaskCell};
 
 use crate::runtime::config::{Cog, Config, Lines, State, TaskCell};
@@ -25,9 +25,10 @@ pub fn has_step(program: &Named<'_>, config: &Config, task: u32) -> bool
     }
 }
 
-/// Whether a cog is there and has no holder.
+/// Whether the cog at this index exists and has no holder.
 fn is_free(cogs: &[Cog], cog: u32) -> bool
-    ensures { (number : ℕ) (task : TaskCell) → IsTrue result ↔ IsSome (takes number task (slice_get cogs.now cog)) }
+    ensures { (number : ℕ) (task : TaskCell) → IsTrue result ↔ IsSome (take_change number task
+        (slice_get cogs.now cog)) }
 {
     match cogs.get(cog as usize) {
         Some(cog) => cog.holder.is_none(),
@@ -35,9 +36,10 @@ fn is_free(cogs: &[Cog], cog: u32) -> bool
     }
 }
 
-/// Whether a task that holds its cog is at a statement or at the end of its body.
+/// Whether a task that holds its cog has one body, and is at a statement of it or at its end.
 fn body_has_step(program: &Named<'_>, cell: &TaskCell) -> bool
-    ensures { (number : ℕ) → IsTrue result ↔ IsSome (runs_body (named_tree program.now) number cell.now cell.now.frames) }
+    ensures { (number : ℕ) → IsTrue result ↔ IsSome (running_change
+        (named_tree program.now) number cell.now cell.now.frames) }
 {
     match cell.frames.items.as_slice() {
         [frame] => match frame.next {
@@ -48,10 +50,10 @@ fn body_has_step(program: &Named<'_>, cell: &TaskCell) -> bool
     }
 }
 
-/// Makes the event of a task, and adds the lines that it prints.
+/// Makes the event of a task, and appends the line that it prints, if any.
 ///
 /// # Errors
-/// [`AllocError`] where memory runs out; configuration and lines are as before.
+/// [`AllocError`] where memory runs out. Configuration and lines are as before then.
 pub fn step(
     alloc: Global,
     program: &Named<'_>,
@@ -72,7 +74,7 @@ pub fn step(
     Ok(())
 }
 
-/// Makes of a task and of the lines what its event makes of them, and answers who holds its cog then.
+/// Makes the event of this task in the task and the lines, and returns the new holder of its cog.
 fn advance(
     alloc: Global,
     program: &Named<'_>,
@@ -81,8 +83,9 @@ fn advance(
     cell: &mut TaskCell,
     lines: &mut Lines,
 ) -> Result<Option<u32>, AllocError>
-    requires { IsSome (by_state (named_tree program.now) cogs.now task cell.old cell.old.state) }
-    ensures ok { IfOk result (λ holder. Makes (by_state (named_tree program.now) cogs.now task cell.old cell.old.state) cell.new holder lines.old lines.new) }
+    requires { IsSome (change_by_state (named_tree program.now) cogs.now task cell.old cell.old.state) }
+    ensures ok { IfOk result (λ holder. Makes (change_by_state
+        (named_tree program.now) cogs.now task cell.old cell.old.state) cell.new holder lines.old lines.new) }
     ensures cell_err { OnErr result (cell.new ≡ cell.old) }
     ensures lines_err { OnErr result (lines.new ≡ lines.old) }
 {
@@ -95,7 +98,7 @@ fn advance(
     }
 }
 
-/// The same of a task that holds its cog.
+/// The same for a task that holds its cog.
 fn run_body(
     alloc: Global,
     program: &Named<'_>,
@@ -103,8 +106,9 @@ fn run_body(
     cell: &mut TaskCell,
     lines: &mut Lines,
 ) -> Result<Option<u32>, AllocError>
-    requires { IsSome (runs_body (named_tree program.now) task cell.old cell.old.frames) }
-    ensures ok { IfOk result (λ holder. Makes (runs_body (named_tree program.now) task cell.old cell.old.frames) cell.new holder lines.old lines.new) }
+    requires { IsSome (running_change (named_tree program.now) task cell.old cell.old.frames) }
+    ensures ok { IfOk result (λ holder. Makes (running_change
+        (named_tree program.now) task cell.old cell.old.frames) cell.new holder lines.old lines.new) }
     ensures cell_err { OnErr result (cell.new ≡ cell.old) }
     ensures lines_err { OnErr result (lines.new ≡ lines.old) }
 {
@@ -115,7 +119,7 @@ fn run_body(
     execute(alloc, program, task, cell, statement, lines)
 }
 
-/// The same of a task that executes this statement.
+/// The same for a task whose next statement is this one.
 fn execute(
     alloc: Global,
     program: &Named<'_>,
@@ -126,7 +130,9 @@ fn execute(
 ) -> Result<Option<u32>, AllocError>
     requires body { length cell.old.frames ≡ 1 }
     requires statement { statement < length program.now.main.items }
-    ensures ok { IfOk result (λ holder. Makes (executes (named_tree program.now) task cell.old statement (slots_of cell.old.frames) (slice_get (named_tree program.now).main statement)) cell.new holder lines.old lines.new) }
+    ensures ok { IfOk result (λ holder. Makes (statement_change (named_tree program.now) task cell.old statement
+        (slots_of cell.old.frames) (slice_get (named_tree program.now).main statement)) cell.new holder lines.old
+        lines.new) }
     ensures cell_err { OnErr result (cell.new ≡ cell.old) }
     ensures lines_err { OnErr result (lines.new ≡ lines.old) }
 {
@@ -143,7 +149,7 @@ fn execute(
     }
 }
 
-/// The same of a task that puts what was found into a slot, at this statement. It prints nothing.
+/// The same for a task at a declaration or an assignment, with the result of its expression. It prints nothing.
 fn assign(
     alloc: Global,
     program: &Named<'_>,
@@ -155,7 +161,9 @@ fn assign(
 ) -> Result<Option<u32>, AllocError>
     requires body { length cell.old.frames ≡ 1 }
     requires statement { statement < length program.now.main.items }
-    ensures ok { IfOk result (λ holder. (lines : List (List ℕ)) → Makes (Some (assigns (named_tree program.now) task cell.old statement (slots_of cell.old.frames) target found)) cell.new holder lines lines) }
+    ensures ok { IfOk result (λ holder. (lines : List (List ℕ))
+        → Makes (Some (assign_change (named_tree program.now) task cell.old statement
+        (slots_of cell.old.frames) target found)) cell.new holder lines lines) }
     ensures cell_err { OnErr result (cell.new ≡ cell.old) }
 {
     let value = match found {
@@ -179,7 +187,7 @@ fn assign(
     }
 }
 
-/// The same of a task that prints what was found, at this statement.
+/// The same for a task at a print, with the result of its expression.
 fn print(
     program: &Named<'_>,
     task: u32,
@@ -190,7 +198,8 @@ fn print(
 ) -> Result<Option<u32>, AllocError>
     requires body { length cell.old.frames ≡ 1 }
     requires statement { statement < length program.now.main.items }
-    ensures ok { IfOk result (λ holder. Makes (Some (prints (named_tree program.now) task cell.old statement (slots_of cell.old.frames) found)) cell.new holder lines.old lines.new) }
+    ensures ok { IfOk result (λ holder. Makes (Some (print_change (named_tree program.now) task cell.old statement
+        (slots_of cell.old.frames) found)) cell.new holder lines.old lines.new) }
     ensures cell_err { OnErr result (cell.new ≡ cell.old) }
     ensures lines_err { OnErr result (lines.new ≡ lines.old) }
 {
@@ -211,10 +220,10 @@ fn print(
     }
 }
 
-/// The statement behind one of the main block.
+/// The index of the statement after one of the main block.
 fn following(program: &Named<'_>, statement: u32) -> Option<u32>
     requires { statement < length program.now.main.items }
-    ensures { result ≡ following_of (named_tree program.now) statement }
+    ensures { result ≡ statement_after (named_tree program.now) statement }
 {
     let next = statement + 1;
     ((next as usize) < program.main.len()).then_some(next)
@@ -222,16 +231,16 @@ fn following(program: &Named<'_>, statement: u32) -> Option<u32>
 
 /// Ends a task with this result.
 fn finish(cell: &mut TaskCell, outcome: Evaluated)
-    ensures { cell.new ≡ (ends_with cell.old outcome).task }
+    ensures { cell.new ≡ (ended_change cell.old outcome).task }
 {
     cell.frames.items.clear();
     cell.state = State::Ready;
     cell.outcome = Some(outcome);
 }
 
-/// Gives a cog this holder.
+/// Sets the holder of a cog.
 fn hold(cogs: &mut Vec<Cog>, cog: u32, holder: Option<u32>)
-    ensures { cogs.new.items ≡ held cogs.old.items cog holder }
+    ensures { cogs.new.items ≡ with_holder cogs.old.items cog holder }
 {
     if let Some(cog) = cogs.get_mut(cog as usize) {
         cog.holder = holder;

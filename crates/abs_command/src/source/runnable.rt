@@ -1,7 +1,9 @@
-//! The part of the language that runs today, out of the tree of a whole text.
-ghost use Rattle.std.specs.Prelude.{◌≡◌, ◌≤◌, Some, None, length, map, IfOk, IfErr};
+//! From the tree of a source to the smaller tree of what runs today, or to the place of the first unsupported thing.
+ghost use Rattle.std.specs.Prelude.{◌≡◌, ◌≤◌, Ok, Err, length, map, IfOk, IfErr};
+ghost use Rattle.std.specs.Option.{ok_or};
 ghost use Rattle.abs_tree.specs.SyntaxViews.{variable_tree, type_tree, phrase, links, side_tree, statement as statement_tree, statements as statement_trees};
-ghost use Rattle.abs_tree.specs.TextViews.{text_tree};
+ghost use Rattle.abs_tree.specs.Limits.{table_limit};
+ghost use Rattle.abs_tree.specs.SourceViews.{source_tree};
 ghost use Rattle.abs_tree.specs.Trees.{expr_tree, operands_of, stmt_tree, program_tree};
 ghost use Rattle.abs_command.specs.NotYet.{ForNotYet};
 ghost use Rattle.abs_command.specs.Runnable.{runnable_variable, runnable_operator, runnable_expr, runnable_operands, runnable_side, runnable_text, is_int as is_int_type, runnable_statement, runnable_statements, runnable as runnable_part};
@@ -12,13 +14,13 @@ use std::alloc::{AllocError, AllocFailed, Global};
 use std::sync::Arc;
 use thiserror::Error;
 
-/// Why a text does not run.
+/// Why a source has no program.
 #[derive(Clone, Copy, Debug, PartialEq, Eq, Error)]
 pub enum RunnableError {
-    /// What begins here does not run yet.
+    /// Something is unsupported; the first such thing begins here.
     #[error("this does not run yet")]
     NotYet(Place),
-    /// Memory ran out.
+    /// An allocation failed.
     #[error("memory ran out")]
     Memory,
 }
@@ -39,14 +41,16 @@ impl<T: Drop> From<AllocFailed<T>> for RunnableError {
     }
 }
 
-/// The program of a text of the part that runs today.
+/// The program of a source of which everything is supported.
 ///
 /// # Errors
-/// [`RunnableError::NotYet`] where the text has something else, with the place of the first such thing, and
-/// [`RunnableError::Memory`] where memory runs out.
+/// [`RunnableError::NotYet`] if something in it is unsupported, with the place where the first such thing begins.
+/// [`RunnableError::Memory`] if an allocation fails.
 pub fn runnable<'a>(alloc: Global, text: syntax::Program<'a>) -> Result<Program<'a>, RunnableError>
-    ensures found { IfOk result (λ program. runnable_part text.entry.symbols (text_tree text.entry) ≡ Some (program_tree program)) }
-    ensures not_yet { IfErr result (λ error. ForNotYet error (runnable_part text.entry.symbols (text_tree text.entry) ≡ None)) }
+    ensures found { IfOk result (λ program. runnable_part text.entry.symbols (source_tree text.entry)
+        ≡ Ok (program_tree program)) }
+    ensures not_yet { IfErr result (λ error. ForNotYet error (λ place. runnable_part text.entry.symbols
+        (source_tree text.entry) ≡ Err place)) }
 {
     let syntax::Program {
         symbols,
@@ -60,15 +64,17 @@ pub fn runnable<'a>(alloc: Global, text: syntax::Program<'a>) -> Result<Program<
     Ok(Program { symbols, main })
 }
 
-/// Statements that stand one behind the other.
+/// Statements in order.
 fn statements(
     alloc: Global,
     symbols: &Symbols<'_>,
     stmts: &[syntax::Stmt],
 ) -> Result<Vec<Stmt>, RunnableError>
-    requires few { length symbols.now ≤ 268435456 }
-    ensures found { IfOk result (λ found. runnable_statements symbols.now (statement_trees symbols.now stmts.now) ≡ Some (map stmt_tree found.items)) }
-    ensures not_yet { IfErr result (λ error. ForNotYet error (runnable_statements symbols.now (statement_trees symbols.now stmts.now) ≡ None)) }
+    requires few { length symbols.now ≤ table_limit }
+    ensures found { IfOk result (λ found. runnable_statements symbols.now (statement_trees symbols.now stmts.now)
+        ≡ Ok (map stmt_tree found.items)) }
+    ensures not_yet { IfErr result (λ error. ForNotYet error (λ place. runnable_statements symbols.now
+        (statement_trees symbols.now stmts.now) ≡ Err place)) }
 {
     let mut found = Vec::with_capacity(alloc, stmts.len())?;
     for stmt in stmts {
@@ -83,9 +89,11 @@ fn statement(
     symbols: &Symbols<'_>,
     stmt: &syntax::Stmt,
 ) -> Result<Stmt, RunnableError>
-    requires few { length symbols.now ≤ 268435456 }
-    ensures found { IfOk result (λ found. runnable_statement symbols.now (statement_tree symbols.now stmt.now) ≡ Some (stmt_tree found)) }
-    ensures not_yet { IfErr result (λ error. ForNotYet error (runnable_statement symbols.now (statement_tree symbols.now stmt.now) ≡ None)) }
+    requires few { length symbols.now ≤ table_limit }
+    ensures found { IfOk result (λ found. runnable_statement symbols.now (statement_tree symbols.now stmt.now)
+        ≡ Ok (stmt_tree found)) }
+    ensures not_yet { IfErr result (λ error. ForNotYet error (λ place. runnable_statement symbols.now
+        (statement_tree symbols.now stmt.now) ≡ Err place)) }
 {
     match stmt {
         syntax::Stmt::Declare(_, place, type_of, at, variable, Some(side)) => {
@@ -121,11 +129,13 @@ fn is_int(symbols: &Symbols<'_>, type_of: &syntax::TypeTerm) -> bool
     }
 }
 
-/// A local. It is looked up by its name, since no clause of its tree says that its symbol is one of the table.
+/// A local. It is found by its name, since no clause says that the symbol in the tree is one of the table.
 fn local(symbols: &Symbols<'_>, at: Place, variable: Variable) -> Result<Variable, RunnableError>
-    requires few { length symbols.now ≤ 268435456 }
-    ensures found { IfOk result (λ found. runnable_variable symbols.now (variable_tree symbols.now variable) ≡ Some found) }
-    ensures not_yet { IfErr result (λ error. ForNotYet error (runnable_variable symbols.now (variable_tree symbols.now variable) ≡ None)) }
+    requires few { length symbols.now ≤ table_limit }
+    ensures found { IfOk result (λ found. ok_or (runnable_variable symbols.now
+        (variable_tree symbols.now variable)) at ≡ Ok found) }
+    ensures not_yet { IfErr result (λ error. ForNotYet error (λ place. ok_or (runnable_variable symbols.now
+        (variable_tree symbols.now variable)) at ≡ Err place)) }
 {
     let Variable::Named(symbol) = variable else {
         return Err(RunnableError::NotYet(at));
@@ -142,9 +152,11 @@ fn value_of(
     symbols: &Symbols<'_>,
     side: &syntax::RightSide,
 ) -> Result<Expr, RunnableError>
-    requires few { length symbols.now ≤ 268435456 }
-    ensures found { IfOk result (λ found. runnable_side symbols.now (side_tree symbols.now side.now) ≡ Some (expr_tree found)) }
-    ensures not_yet { IfErr result (λ error. ForNotYet error (runnable_side symbols.now (side_tree symbols.now side.now) ≡ None)) }
+    requires few { length symbols.now ≤ table_limit }
+    ensures found { IfOk result (λ found. runnable_side symbols.now (side_tree symbols.now side.now)
+        ≡ Ok (expr_tree found)) }
+    ensures not_yet { IfErr result (λ error. ForNotYet error (λ place. runnable_side symbols.now
+        (side_tree symbols.now side.now) ≡ Err place)) }
 {
     match side {
         syntax::RightSide::Value(_, value) => expression(alloc, symbols, value),
@@ -152,11 +164,13 @@ fn value_of(
     }
 }
 
-/// `toString` of a number.
+/// The argument of a print: `toString` of one value.
 fn printed(alloc: Global, symbols: &Symbols<'_>, text: &syntax::Expr) -> Result<Expr, RunnableError>
-    requires few { length symbols.now ≤ 268435456 }
-    ensures found { IfOk result (λ found. runnable_text symbols.now (phrase symbols.now text.now) ≡ Some (expr_tree found)) }
-    ensures not_yet { IfErr result (λ error. ForNotYet error (runnable_text symbols.now (phrase symbols.now text.now) ≡ None)) }
+    requires few { length symbols.now ≤ table_limit }
+    ensures found { IfOk result (λ found. runnable_text symbols.now (phrase symbols.now text.now)
+        ≡ Ok (expr_tree found)) }
+    ensures not_yet { IfErr result (λ error. ForNotYet error (λ place. runnable_text symbols.now
+        (phrase symbols.now text.now) ≡ Err place)) }
 {
     let syntax::Expr::Apply(place, function, arguments) = text else {
         return Err(RunnableError::NotYet(text.place()));
@@ -173,16 +187,18 @@ fn printed(alloc: Global, symbols: &Symbols<'_>, text: &syntax::Expr) -> Result<
     Ok(Expr::Apply(*place, function, arguments))
 }
 
-/// A number, a local, a minus, or sums, differences and products.
+/// A number, a local, a minus, or an operator list of sums and differences or of products.
 #[cycle(runnable)]
 fn expression(
     alloc: Global,
     symbols: &Symbols<'_>,
     expr: &syntax::Expr,
 ) -> Result<Expr, RunnableError>
-    requires few { length symbols.now ≤ 268435456 }
-    ensures found { IfOk result (λ found. runnable_expr symbols.now (phrase symbols.now expr.now) ≡ Some (expr_tree found)) }
-    ensures not_yet { IfErr result (λ error. ForNotYet error (runnable_expr symbols.now (phrase symbols.now expr.now) ≡ None)) }
+    requires few { length symbols.now ≤ table_limit }
+    ensures found { IfOk result (λ found. runnable_expr symbols.now (phrase symbols.now expr.now)
+        ≡ Ok (expr_tree found)) }
+    ensures not_yet { IfErr result (λ error. ForNotYet error (λ place. runnable_expr symbols.now
+        (phrase symbols.now expr.now) ≡ Err place)) }
 {
     match expr {
         syntax::Expr::Number(place, number) => Ok(Expr::Number(*place, *number)),
@@ -203,7 +219,7 @@ fn expression(
     }
 }
 
-/// Operators of one precedence with their right operands; the first operand begins at `place`.
+/// The operators of an operator list with their right operands; the list begins at `place`.
 #[cycle(runnable)]
 fn operands(
     alloc: Global,
@@ -211,9 +227,11 @@ fn operands(
     place: Place,
     others: &[syntax::Operand],
 ) -> Result<Vec<Operand>, RunnableError>
-    requires few { length symbols.now ≤ 268435456 }
-    ensures found { IfOk result (λ found. runnable_operands symbols.now (links symbols.now others.now) ≡ Some (operands_of found.items)) }
-    ensures not_yet { IfErr result (λ error. ForNotYet error (runnable_operands symbols.now (links symbols.now others.now) ≡ None)) }
+    requires few { length symbols.now ≤ table_limit }
+    ensures found { IfOk result (λ found. runnable_operands symbols.now place (links symbols.now others.now)
+        ≡ Ok (operands_of found.items)) }
+    ensures not_yet { IfErr result (λ error. ForNotYet error (λ told. runnable_operands symbols.now place
+        (links symbols.now others.now) ≡ Err told)) }
 {
     let mut found = Vec::with_capacity(alloc, others.len())?;
     for other in others {
@@ -226,7 +244,7 @@ fn operands(
     Ok(found)
 }
 
-/// An operator between numbers.
+/// The operator of the smaller tree, for one that is supported.
 fn operator(operator: syntax::Operator) -> Option<Operator>
     ensures { result ≡ runnable_operator operator }
 {

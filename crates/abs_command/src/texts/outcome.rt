@@ -1,4 +1,4 @@
-//! The texts of a report and of a run.
+//! The output for a report, and for a run.
 ghost use Rattle.std.specs.Prelude.{◌≡◌, ◌++◌, ℕ, List, length, IfOk, OnOk, codes, string_bytes};
 ghost use Rattle.abs_command.specs.Texts.{report_lines, lines_text, end_line, fault_line as line_of, fault_lines, end_text as text_of, unfinished_of};
 
@@ -8,7 +8,7 @@ use crate::runtime::machine::End;
 use abs_tree::{Evaluated, Text};
 use std::alloc::{AllocError, Global};
 
-/// The text of a report.
+/// The lines of a report.
 ///
 /// # Errors
 /// [`AllocError`] where memory runs out.
@@ -19,7 +19,8 @@ pub fn report_text(alloc: Global, report: &Report) -> Result<Text, AllocError>
     Text::new(alloc, text.into_bytes())
 }
 
-/// What a run of so many events printed, how it ended, and the faults of its tasks.
+/// The output for a run, after its report: what it printed, how it ended, and the faults of its tasks. `events` is how
+/// many events it had.
 ///
 /// # Errors
 /// [`AllocError`] where memory runs out.
@@ -40,7 +41,7 @@ pub fn end_text(
     Text::new(alloc, out)
 }
 
-/// Adds each printed text as a line.
+/// Appends each printed string as a line.
 fn push_lines(out: &mut Vec<u8>, lines: &Lines) -> Result<(), AllocError>
     ensures { OnOk result (out.new.items ≡ out.old.items ++ lines_text lines.now) }
 {
@@ -51,7 +52,7 @@ fn push_lines(out: &mut Vec<u8>, lines: &Lines) -> Result<(), AllocError>
     Ok(())
 }
 
-/// The line that says how a run of so many events ended.
+/// The line that says how a run with this many events ended.
 fn ending(alloc: Global, end: End, events: u64, tasks: &[TaskCell]) -> Result<String, AllocError>
     ensures { IfOk result (λ line. string_bytes line ≡ end_line end events tasks.now) }
 {
@@ -66,7 +67,7 @@ fn ending(alloc: Global, end: End, events: u64, tasks: &[TaskCell]) -> Result<St
     }
 }
 
-/// Adds a line for each task that ended by a fault.
+/// Appends a line for each task that ended by a fault.
 fn push_faults(alloc: Global, out: &mut Vec<u8>, tasks: &[TaskCell]) -> Result<(), AllocError>
     ensures { OnOk result (out.new.items ≡ out.old.items ++ fault_lines 0 tasks.now) }
 {
@@ -76,7 +77,7 @@ fn push_faults(alloc: Global, out: &mut Vec<u8>, tasks: &[TaskCell]) -> Result<(
     Ok(())
 }
 
-/// Adds the line of a task of this number, where it ended by a fault.
+/// Appends the line of the task at this index, if it ended by a fault.
 fn push_fault(
     alloc: Global,
     out: &mut Vec<u8>,

@@ -1,11 +1,11 @@
-//! The text of a refusal.
+//! The output for a refusal.
 ghost use Rattle.std.specs.Prelude.{◌≡◌, IfOk};
 ghost use Rattle.abs_command.specs.Texts.{refusal_line};
 
 use abs_tree::{Refusal, Text};
 use std::alloc::{AllocError, Global};
 
-/// The line that a refused source is answered with.
+/// The line of a refusal.
 ///
 /// # Errors
 /// [`AllocError`] where memory runs out.

@@ -17,7 +17,7 @@ use Rattle.abs_parser.specs.ReaderAnswers.{TakesKind}
 use Rattle.abs_parser.specs.Readings.{One, Optional, Empty, opened}
 use Rattle.abs_parser.specs.TreesOf.{args_maybe}
 use Rattle.abs_parser.specs.Views.{spot}
-use Rattle.abs_tree.specs.Syntax.{NumberOf, TextOf}
+use Rattle.abs_tree.specs.Syntax.{NumberOf, StringOf}
 use Rattle.abs_tree.specs.SyntaxViews.{phrase, phrases}
 use Rattle.abs_tree.specs.declared.syntax.expression.Branch.{Branch}
 use Rattle.abs_tree.specs.declared.syntax.expression.Operand.{Operand}
@@ -306,7 +306,7 @@ primaries::primary-returns-in-Number-clause-found t c =
 pub primaries::primary-returns-in_ok-text-in-Text-clause-found : goal.primaries::primary-returns-in_ok-text-in-Text-clause-found
 primaries::primary-returns-in_ok-text-in-Text-clause-found t c =
     all_read (first_read c.args.depth c.args.symbols.now (stands c.in-Some.ensures.some c.in-Text.is) refl refl c.requires.depth)
-    (λ names more. ap (TextOf c.in-Some.token.place) c.in_ok-text-in-Text.ensures ∙ sym (tree_by (lexed c.in-Some.token) c.args.depth Empty c.in-Text.is))
+    (λ names more. ap (StringOf c.in-Some.token.place) c.in_ok-text-in-Text.ensures ∙ sym (tree_by (lexed c.in-Some.token) c.args.depth Empty c.in-Text.is))
 
 pub primaries::primary-returns-in-Foreign-clause-refused : goal.primaries::primary-returns-in-Foreign-clause-refused
 primaries::primary-returns-in-Foreign-clause-refused t c =

@@ -4,6 +4,7 @@ ghost use Rattle.abs_tree.specs.Syntax.{Name};
 ghost use Rattle.abs_tree.specs.SyntaxPlaces.{decl_place};
 ghost use Rattle.abs_tree.specs.SyntaxSizes.{all_statements, body_sizes, class_sizes};
 ghost use Rattle.abs_tree.specs.SyntaxViews.{decl_tree, tree_of_parts};
+ghost use Rattle.abs_tree.specs.Limits.{table_limit};
 
 use crate::syntax::{Expr, Stmt, TypeTerm};
 use crate::{Place, Symbol, Symbols, Variable};
@@ -39,7 +40,7 @@ pub struct Signature {
     pub params: Vec<Param>,
 }
 
-/// The statements of a method or of the main block, and the place of the brace that closes it.
+/// The statements of a method or of the main block, and the place of its closing brace.
 #[derive(Drop)]
 pub struct Body {
     pub statements: Vec<Stmt>,
@@ -88,8 +89,10 @@ pub struct Program<'a> {
     pub symbols: Symbols<'a>,
     pub declarations: Vec<Decl>,
     pub main: Body,
-    ghost few_names: { length symbols ≤ 268435456 },
-    ghost few_statements: { all_statements (tree_of_parts symbols declarations.items main) ≤ 268435456 },
-    ghost few_slots: { All (λ variables. variables ≤ 268435456) (body_sizes (tree_of_parts symbols declarations.items main)) },
-    ghost few_fields: { All (λ fields. fields ≤ 268435456) (class_sizes (tree_of_parts symbols declarations.items main)) },
+    ghost few_names: { length symbols ≤ table_limit },
+    ghost few_statements: { all_statements (tree_of_parts symbols declarations.items main) ≤ table_limit },
+    ghost few_slots: { All (λ variables. variables ≤ table_limit)
+        (body_sizes (tree_of_parts symbols declarations.items main)) },
+    ghost few_fields: { All (λ fields. fields ≤ table_limit)
+        (class_sizes (tree_of_parts symbols declarations.items main)) },
 }

@@ -57,13 +57,13 @@ pub enum Expr {
     Let(Place, TypeTerm, Variable, Box<Expr>, Box<Expr>),
     /// `if e then e else e`
     If(Place, Box<Expr>, Box<Expr>, Box<Expr>),
-    /// Operators of one precedence: the first operand, and each operator with its right one.
+    /// Operators of one precedence: the first operand, and each operator with its right operand.
     Chain(Place, Box<Expr>, Vec<Operand>),
     /// `!e`, `~e` or `-e`
     Prefixed(Place, Prefix, Box<Expr>),
     /// A number.
     Number(Place, i128),
-    /// A text.
+    /// A string.
     Text(Place, Text),
     /// `null`
     Null(Place),
@@ -86,7 +86,7 @@ pub enum Expr {
 }
 
 impl Expr {
-    /// Where it begins; parentheses around it do not count.
+    /// Where it begins. Parentheses around it do not count.
     pub fn place(&self) -> Place
         ensures { (names : List Name) → result ≡ phrase_place (phrase names self.now) }
     {
@@ -110,7 +110,7 @@ impl Expr {
     }
 }
 
-/// An operator, and its right operand.
+/// An operator with its right operand.
 #[derive(Drop)]
 #[cycle(syntax_expressions)]
 pub struct Operand {

@@ -7,12 +7,12 @@ use crate::{Place, Symbol, Text, Variable};
 pub enum Pattern {
     /// `_`
     Any(Place),
-    /// A variable, which takes the value.
+    /// A variable, which gets the value.
     Binds(Place, Variable),
-    /// A number, perhaps with a minus before it.
+    /// A number, perhaps after a minus.
     Number(Place, i128),
-    /// A text.
+    /// A string.
     Text(Place, Text),
-    /// A constructor, and the patterns of its arguments.
+    /// A constructor with the patterns of its arguments.
     Built(Place, Symbol, Vec<Pattern>),
 }

@@ -1,4 +1,4 @@
-//! Statements. Their expressions stand behind shared pointers, so that to take them along costs the same whatever their size.
+//! Statements. Copies share their expressions, so a copy costs the same whatever their size.
 ghost use Rattle.std.specs.Prelude.{◌≡◌, List};
 ghost use Rattle.abs_tree.specs.Syntax.{Name};
 ghost use Rattle.abs_tree.specs.SyntaxPlaces.{side_place, statement_place};
@@ -19,7 +19,7 @@ pub enum Mode {
     Local,
 }
 
-/// What stands on the right of `=`, or alone as a statement.
+/// The right side of `=`, which may also be a statement of its own.
 #[derive(Drop)]
 pub enum RightSide {
     /// `new C(es)`
@@ -54,7 +54,7 @@ impl RightSide {
 pub struct Test {
     pub place: Place,
     pub value: Arc<Expr>,
-    /// Whether a `?` stands behind it.
+    /// Whether a `?` follows it.
     pub asks: bool,
 }
 
@@ -67,9 +67,9 @@ pub enum Target {
     Field(Place, Symbol),
 }
 
-/// A statement, with the place of its first token. Those that are no block have a number before it: they are numbered from
-/// 0 in the order in which they begin. A block stands for its statements, also as a branch; a branch without braces is
-/// a list of one statement.
+/// A statement, with the place of its first token. Each statement that is not a block has its index before the place:
+/// statements are numbered from 0 in the order in which they begin. A branch is a list of statements; without braces it
+/// has one.
 #[derive(Drop)]
 #[cycle(statements)]
 pub enum Stmt {

@@ -2,12 +2,12 @@
 use crate::{Place, Symbol};
 use std::sync::Arc;
 
-/// A type, as a text writes it or as checking finds it. Copies of it share its arguments, so that a copy costs the same
-/// whatever its size.
+/// A type, as a source writes it or as checking finds it. Copies share its arguments, so a copy costs the same whatever
+/// its size.
 #[derive(Drop)]
 #[cycle(types)]
 pub enum TypeTerm {
-    /// A name with its arguments, where it stands.
+    /// A name with its place and its arguments.
     Name(Place, Symbol, Arc<Vec<TypeTerm>>),
     /// The type of no value.
     Bottom,

@@ -1,12 +1,68 @@
-use Rattle.std.proofs.Common.{◌∙◌, ap, subst, refl}
+use Rattle.std.proofs.Common.{◌≡◌, ◌≤◌, ◌∙◌, ◌++◌, refl, ap, sym, subst, ℕ, List, length, arith}
 use Rattle.std.specs.Io.KnownBytes.{Appends}
+use Rattle.std.specs.Prelude.{Some, None}
 use Rattle.abs_tree.specs.Trees.{named_tree}
-use Rattle.abs_command.specs.Texts.{report_lines}
+use Rattle.abs_tree.specs.Limits.{event_limit}
+use Rattle.abs_command.specs.Promises.Answer.{prefix}
+use Rattle.abs_command.specs.Promises.CameTo.{reported, ran}
+use Rattle.abs_command.specs.Promises.WrittenBefore.{report}
+use Rattle.abs_command.specs.Recorded.{Recorded}
+use Rattle.abs_command.specs.Runs.{run_of, EndsAs}
+use Rattle.abs_command.specs.Texts.{report_lines, end_text}
+use Rattle.abs_command.proofs.AnswerLemmas.{delivered, analysed_by}
+use Rattle.abs_command.proofs.ResultLemmas.{on_error}
 use Rattle.abs_command.proofs.command.answer_program.Goals as goal
 
-pub returns-in-Ok-run-clause-answer : goal.returns-in-Ok-run-clause-answer
-returns-in-Ok-run-clause-answer g c = λ words bytes named small read.
-    c.finish.ensures.answer words bytes (named_tree c.args.program.now) (g.K.Sink.written c.args.sink.now) named
-    (record { small = small; read = read; refusal = c.new-ended.ensures.refusal; facts = refl; pairs = c.new-ended.ensures.empty.pairs; report = c.new-ended.ensures.empty.report })
-    c.in-Ok-run.ensures
-    (subst (Appends (g.K.Sink.written c.args.sink.now) (g.K.Sink.written c.write_all.new.sink)) (c.as_bytes.ensures ∙ (c.in-Ok.ensures ∙ ap report_lines c.new-ended.ensures.empty.report)) c.in-Ok-write_all.ensures.whole)
+pub returns-in_default-clause-answered : goal.returns-in_default-clause-answered
+returns-in_default-clause-answered g c = λ words bytes source source' named accepted.
+    prefix None c.as_bytes.result.now
+    (reported (record {
+      named = named;
+      program = named_tree c.args.program.now;
+      analysed = analysed_by bytes c.unwritten.result (named_tree c.args.program.now) accepted c.unwritten.ensures.refusal
+          (c.unwritten.ensures.facts ∙ c.analyse-analysis.ensures.facts) (c.unwritten.ensures.pairs ∙ c.analyse-analysis.ensures.pairs)
+          (c.unwritten.ensures.report ∙ c.analyse-analysis.ensures.report);
+      history = c.unwritten.ensures.history;
+      end = c.unwritten.ensures.end;
+      status = refl;
+      printed = c.as_bytes.ensures ∙ (c.in_ok-text.ensures ∙ sym (ap report_lines c.unwritten.ensures.report));
+    }))
+    c.unwritten.ensures.status c.in_default.ensures.prefix c.in_default.ensures.counted
+
+pub returns-in_err-config-clause-exhausted : goal.returns-in_err-config-clause-exhausted
+returns-in_err-config-clause-exhausted g c = on_error c.from_residual-in_err-config.result (λ words bytes named accepted.
+    report named (named_tree c.args.program.now) accepted
+    (subst (Appends (g.K.Sink.written c.args.sink.now) (g.K.Sink.written c.write_all.new.sink))
+    (c.as_bytes.ensures ∙ (c.in_ok-text.ensures ∙ ap report_lines c.analyse-analysis.ensures.report)) c.in-Ok.ensures.whole))
+
+pub returns-in_err-text-2-clause-exhausted : goal.returns-in_err-text-2-clause-exhausted
+returns-in_err-text-2-clause-exhausted g c = on_error c.from_residual-in_err-text-2.result (λ words bytes named accepted.
+    report named (named_tree c.args.program.now) accepted
+    (subst (Appends (g.K.Sink.written c.args.sink.now) (g.K.Sink.written c.write_all.new.sink))
+    (c.as_bytes.ensures ∙ (c.in_ok-text.ensures ∙ ap report_lines c.analyse-analysis.ensures.report)) c.in-Ok.ensures.whole))
+
+pub returns-clause-answered : goal.returns-clause-answered
+returns-clause-answered g c = λ words bytes source source' named accepted.
+    let run = c.in_ok-config.field-0 in
+    let outcome : c.as_bytes-2.result.now ≡ end_text run.lines run.end (length run.history.tasks) run.config.tasks =
+    c.as_bytes-2.ensures ∙ (c.in_ok-text-2.ensures ∙ ap (λ (n : ℕ). end_text run.lines run.end n run.config.tasks) c.len.ensures) in
+    let tasks : run.history.tasks ≡ c.ran-ended.result.history.tasks = ap (λ (history : Recorded). history.tasks) (sym c.ran-ended.ensures.history) in
+    let program = named_tree c.args.program.now in
+    delivered words bytes source source' c.ran-ended.result c.deliver.result _ _ _ c.as_bytes.result.now c.as_bytes-2.result.now _ _ _
+    (ran (record {
+      named = named;
+      program = program;
+      analysed = analysed_by bytes c.ran-ended.result program accepted c.ran-ended.ensures.refusal
+          (c.ran-ended.ensures.facts ∙ c.analyse-analysis.ensures.facts) (c.ran-ended.ensures.pairs ∙ c.analyse-analysis.ensures.pairs)
+          (c.ran-ended.ensures.report ∙ c.analyse-analysis.ensures.report);
+      ran = record { config = run.config; lines = run.lines };
+      legal = subst (λ (history : List ℕ). run_of program history ≡ Some (record { config = run.config; lines = run.lines })) tasks c.in_ok-config.ensures.legal;
+      few = subst (λ (history : List ℕ). length history ≤ event_limit) tasks c.in_ok-config.ensures.few;
+      end = run.end;
+      end_is = c.ran-ended.ensures.end;
+      ends = subst (λ (history : List ℕ). EndsAs program event_limit history run.config run.end) tasks c.in_ok-config.ensures.ends;
+      status = ap Some c.ran-ended.ensures.status;
+      printed = ap (λ (output : List ℕ). output ++ c.as_bytes-2.result.now) (c.as_bytes.ensures ∙ (c.in_ok-text.ensures ∙ sym (ap report_lines c.ran-ended.ensures.report)))
+          ∙ ap (λ (output : List ℕ). report_lines c.ran-ended.result.report ++ output) (outcome
+          ∙ ap (λ (history : List ℕ). end_text run.lines run.end (length history) run.config.tasks) tasks);
+    })) c.in-Ok.ensures.whole c.deliver.ensures.delivered (λ rose room. let more = rose room in let kept = c.in-Ok.ensures.never_falls in omega arith)

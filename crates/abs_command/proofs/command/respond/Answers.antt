@@ -1,20 +1,49 @@
-use Rattle.std.proofs.Common.{subst, [], List, ℕ}
-use Rattle.abs_command.specs.Answer.{Answers}
-use Rattle.abs_command.specs.Words.{spelled}
-use Rattle.abs_command.proofs.AnswerLemmas.{told_usage, took_named}
+use Rattle.std.proofs.Common.{ap, sym, subst, refl, List, [], ℕ}
+use Rattle.std.specs.Prelude.{Some, Err}
+use Rattle.abs_command.specs.Promises.Answer.{whole, exhausted}
+use Rattle.abs_command.specs.Promises.CameTo.{misused, unread}
+use Rattle.abs_command.specs.Statuses.{WasRead}
+use Rattle.abs_command.specs.Taking.{TookWhole}
+use Rattle.abs_command.proofs.AnswerLemmas.{appends_nothing, delivered}
+use Rattle.abs_command.proofs.ResultLemmas.{ok_follows, error_follows}
+use Rattle.abs_command.proofs.PromiseLemmas.{promised}
+use Rattle.abs_command.proofs.TakingLemmas.{read_whole, some_taken, read_in_part, nothing_read}
 use Rattle.abs_command.proofs.command.respond.Goals as goal
 
-pub returns-in_default-clause-answer : goal.returns-in_default-clause-answer
-returns-in_default-clause-answer g c = record {
-  bytes = [];
-  answers = told_usage _ _ c.tell.result _ _ _ _ _ c.new-ended.ensures.status (record { cause = c.in_default.ensures.none; empty = c.new-ended.ensures.empty; refusal = c.new-ended.ensures.refusal; text_is = c.as_bytes.ensures.value }) c.tell.ensures.told;
-  took = λ file named read. absurd (c.in_default.ensures.none (file, named));
-}
+pub returns-in_default-clause-promises : goal.returns-in_default-clause-promises
+returns-in_default-clause-promises g c = promised _ [] _ _ _ _ _ (nothing_read _ _ _ c.in_default.ensures.none)
+    (delivered _ [] _ _ c.before_analysis-ended.result c.deliver.result _ _ _ [] c.as_bytes.result.now _ _ _
+    (misused (record {
+      cause = c.in_default.ensures.none;
+      fields = c.before_analysis-ended.ensures.fields;
+      status = ap Some c.before_analysis-ended.ensures.status;
+      printed = c.as_bytes.ensures.value;
+    })) (appends_nothing _) c.deliver.ensures.delivered (λ rose. rose))
 
-pub returns-in-Ok-clause-answer : goal.returns-in-Ok-clause-answer
-returns-in-Ok-clause-answer g c = record {
-  bytes = c.in-Ok.bytes.items;
-  answers = subst (λ (bytes : List ℕ). Answers (spelled c.args.words.now) bytes c.answer_bytes.result (g.K.Sink.written c.args.sink.now) (g.K.Sink.written c.answer_bytes.new.sink) c.answer_bytes.result.status) c.as_slice.ensures.value
-      (c.answer_bytes.ensures.answer (spelled c.args.words.now) (c.in-Some.file.now, c.in-Some.ensures.some));
-  took = λ file named read. took_named (spelled c.args.words.now) c.in-Some.file.now file (g.S.Source.under c.args.source.now) (g.S.Source.left c.take.new.source) c.in-Ok.bytes.items c.in-Some.ensures.some named c.in-Ok.ensures.took;
-}
+pub returns-in-Ok-clause-promises : goal.returns-in-Ok-clause-promises
+returns-in-Ok-clause-promises g c =
+    let took = subst (λ (bytes : List ℕ). TookWhole (g.S.Source.under c.args.source.now c.in-Some.file.now) (g.S.Source.left c.take.new.source) bytes) (sym c.as_slice.ensures.value) c.in-Ok.ensures.took in
+    ok_follows c.answer.result c.answer.ensures.answered (λ ended answer. promised _ c.as_slice.result.now _ _ _ _ ended
+    (read_whole _ _ _ c.in-Some.file.now c.as_slice.result.now ended.status c.in-Some.ensures.some took c.in-Ok.ensures.missing c.in-Ok.ensures.same_names)
+    (answer _ _ _ (c.in-Some.file.now, c.in-Some.ensures.some)))
+
+pub returns-in-Ok-clause-exhausted : goal.returns-in-Ok-clause-exhausted
+returns-in-Ok-clause-exhausted g c =
+    let took = subst (λ (bytes : List ℕ). TookWhole (g.S.Source.under c.args.source.now c.in-Some.file.now) (g.S.Source.left c.take.new.source) bytes) (sym c.as_slice.ensures.value) c.in-Ok.ensures.took in
+    error_follows c.answer.result c.answer.ensures.exhausted (λ written ended is. promised _ c.as_slice.result.now _ _ _ _ ended
+    (read_whole _ _ _ c.in-Some.file.now c.as_slice.result.now ended.status c.in-Some.ensures.some took c.in-Ok.ensures.missing c.in-Ok.ensures.same_names)
+    (exhausted is (written _ (c.in-Some.file.now, c.in-Some.ensures.some))))
+
+pub returns-in-Err-Failed-clause-promises : goal.returns-in-Err-Failed-clause-promises
+returns-in-Err-Failed-clause-promises g c =
+    let part = some_taken (g.S.Source.under c.args.source.now c.in-Some.file.now) (g.S.Source.left c.args.source.now) (g.S.Source.left c.take.new.source) c.in-Err-Failed.ensures.some in
+    promised _ part.bytes _ _ _ _ _
+    (read_in_part _ _ _ c.in-Some.file.now _ c.in-Some.ensures.some (λ read. subst WasRead c.before_analysis.ensures.status read) part c.in-Err-Failed.ensures.same_names)
+    (whole [] (unread (record {
+      file = c.in-Some.file.now;
+      named = c.in-Some.ensures.some;
+      cause = c.in-Err-Failed.ensures.failed (ap Err c.in-Err-Failed.field-0-is);
+      fields = c.before_analysis.ensures.fields;
+      status = ap Some c.before_analysis.ensures.status;
+      printed = refl;
+    })) (appends_nothing _))

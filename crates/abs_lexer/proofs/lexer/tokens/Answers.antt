@@ -17,7 +17,7 @@ pub loop-count-init : goal.loop-count-init
 loop-count-init c =
     let none = c.new-list.ensures.items in
     record {
-      leads = subst (λ (items : List Token). Leads c.args.text.now (map lexed items) c.new-here.result.place c.new-here.result.rest.now) (sym none)
+      leads = subst (λ (items : List Token). Leads c.args.source.now (map lexed items) c.new-here.result.place c.new-here.result.rest.now) (sym none)
           (begin c.new-here.result.rest.now c.new-here.result.place c.new-here.ensures.rest c.new-here.ensures.place);
       few = omega (arith, ap length none, ap length c.new-here.ensures.rest);
       well_formed = All-same (λ token. IsWellFormed (lexed token)) c.new-list.result.items [] none (All-nil (λ token. IsWellFormed (lexed token)));
@@ -89,7 +89,7 @@ pub returns-in-Offence-clause-refused : goal.returns-in-Offence-clause-refused
 returns-in-Offence-clause-refused c =
     let some = some_left c.is_empty.result (length c.loop-count.here.rest.now) c.is_empty.ensures c.loop-count-test.true in
     let first = stop_refuses c.loop-count.here.place c.loop-count.here.rest.now c.in-Offence.code c.in-Offence.count some c.loop-count.invariant.leads c.in-Offence.ensures in
-    subst (λ (refusal : Refusal). RefusesLexing c.args.text.now refusal)
+    subst (λ (refusal : Refusal). RefusesLexing c.args.source.now refusal)
     (sym (c.refusal.ensures ∙ ap (λ (place : Place). refusal_of (record { code = c.in-Offence.code; place = place })) c.advance.ensures.place)) first
 
 pub returns-clause-found : goal.returns-clause-found

@@ -8,8 +8,8 @@ use Rattle.abs_lexer.proofs.lexer.tokens.Given as goal
 -- the text was cut so far, each token takes a byte at least, and each is well formed
 abbrev pub invariant-loop-count : goal.invariant-loop-count
 invariant-loop-count l = record {
-  leads : Leads l.text (map lexed l.list.items) l.here.place l.here.rest.now;
-  few : length l.list.items + length l.here.rest.now ≤ length l.text;
+  leads : Leads l.source (map lexed l.list.items) l.here.place l.here.rest.now;
+  few : length l.list.items + length l.here.rest.now ≤ length l.source;
   well_formed : All (λ token. IsWellFormed (lexed token)) l.list.items;
 }
 

@@ -5,7 +5,7 @@ use Rattle.abs_parser.proofs.WordSteps.{word_read}
 use Rattle.abs_parser.proofs.DeclarationSteps.{heading_read, refused_part, refused_closing, all_parts}
 use Rattle.abs_parser.proofs.MemberSteps.{member_begins_named, member_shorter}
 use Rattle.abs_tree.proofs.NumberLemmas.{numbered_more}
-use Rattle.abs_tree.specs.TextNumbers.{MemberNumbered}
+use Rattle.abs_tree.specs.SourceNumbers.{MemberNumbered}
 use Rattle.abs_parser.proofs.StepLemmas.{over_part, refused_inside, fits_next}
 use Rattle.abs_parser.proofs.classes.class.Goals as goal
 

@@ -1,5 +1,5 @@
 use Rattle.std.proofs.Common.{◌+◌, ◌≤◌, length}
-use Rattle.abs_tree.specs.TextNumbers.{MembersNumbered}
+use Rattle.abs_tree.specs.SourceNumbers.{MembersNumbered}
 use Rattle.abs_parser.specs.Views.{spot}
 use Rattle.abs_parser.proofs.ClassSteps.{members_of, class_of}
 use Rattle.abs_parser.proofs.DeclarationSteps.{ReadsParts}

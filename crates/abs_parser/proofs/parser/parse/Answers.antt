@@ -1,6 +1,7 @@
 use Rattle.std.proofs.Common.{[], ap, length, arith}
 use Rattle.std.proofs.lemmas.Result.{err_from_is_err_and}
-use Rattle.abs_tree.specs.TextNumbers.{IsNumberedWhole}
+use Rattle.abs_tree.specs.Limits.{table_limit}
+use Rattle.abs_tree.specs.SourceNumbers.{IsNumberedWhole}
 use Rattle.abs_parser.specs.Views.{spot}
 use Rattle.abs_parser.proofs.StepLemmas.{found_few, refused_inside}
 use Rattle.abs_parser.proofs.WholeSteps.{program_begins, over_heading, over_import, over_declarations, over_block, heading_refused, import_refused, declarations_refused, block_refused, stops_from, ProgramFound, program_found, text_found, names_found, variables_found, bodies_found, fields_found, statements_found, few_at, few_tokens}
@@ -71,8 +72,8 @@ invariant_of-result c =
     record {
       few_names = omega (arith, found.read.few);
       few_statements = omega (arith, statements);
-      few_slots = bodies_found 268435456 found (omega arith);
-      few_fields = fields_found 268435456 found (omega arith);
+      few_slots = bodies_found table_limit found (omega arith);
+      few_fields = fields_found table_limit found (omega arith);
     }
 
 -- the program that was found

@@ -3,7 +3,7 @@ use Rattle.std.proofs.lemmas.Result.{err_from_is_err_and}
 use Rattle.abs_lexer.specs.declared.lexeme.Lexeme.TheVariants as lexeme
 use Rattle.abs_lexer.specs.declared.lexeme.Punctuator.TheVariants as punctuator
 use Rattle.abs_lexer.specs.Views.{lexed}
-use Rattle.abs_tree.specs.Syntax.{Written, Binds, SameNumber, SameText, Built}
+use Rattle.abs_tree.specs.Syntax.{Written, Binds, SameNumber, SameString, Built}
 use Rattle.abs_tree.specs.SyntaxViews.{pattern_trees}
 use Rattle.abs_tree.specs.declared.syntax.pattern.Pattern as code
 use Rattle.abs_parser.specs.Readings.{Optional}
@@ -59,7 +59,7 @@ pattern-returns-in_ok-text-in-Text-clause-found t c =
     let within : c.args.depth + 1 ≤ limit = omega arith in
     let takes : TakesKind lexeme.Text (lexed c.in-Some.token) (spot c.args.from) (spot c.in-Some.behind) = record { kind_is = c.in-Text.is; takes = c.in-Some.ensures.some } in
     all_read (over_token {kind = lexeme.Text} (pattern_begins c.args.depth c.args.symbols.now takes refl) takes refl refl within)
-    (λ names more. ap (SameText c.in-Some.token.place) c.in_ok-text-in-Text.ensures ∙ sym (text_tree (lexed c.in-Some.token) (c.args.depth + 1) takes.kind_is))
+    (λ names more. ap (SameString c.in-Some.token.place) c.in_ok-text-in-Text.ensures ∙ sym (text_tree (lexed c.in-Some.token) (c.args.depth + 1) takes.kind_is))
 
 pub pattern-returns-in_ok-arguments-in-UpperName-clause-found : goal.pattern-returns-in_ok-arguments-in-UpperName-clause-found
 pattern-returns-in_ok-arguments-in-UpperName-clause-found t c =

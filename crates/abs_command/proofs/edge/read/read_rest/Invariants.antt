@@ -1,7 +1,7 @@
 -- The bytes so far are those that were taken, and each turn adds to them, up to one past the limit.
 use Rattle.std.proofs.Common.{◌≡◌, ℕ, ◌+◌, ◌-◌, ◌≤◌, List, length}
 use Rattle.std.specs.Io.KnownBytes.{Consumes}
-use Rattle.abs_command.specs.Bytes.{source_limit}
+use Rattle.abs_tree.specs.Limits.{source_limit}
 use Rattle.abs_command.proofs.edge.read.read_rest.Given as goal
 
 abbrev pub invariant-loop-buffer : goal.invariant-loop-buffer

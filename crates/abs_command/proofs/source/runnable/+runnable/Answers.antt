@@ -1,4 +1,4 @@
-use Rattle.std.proofs.Common.{◌∙◌, Some, refl, sym, ap}
+use Rattle.std.proofs.Common.{◌∙◌, Ok, refl, sym, ap}
 use Rattle.std.proofs.lemmas.Result.{err_from_is_err_and}
 use Rattle.abs_tree.specs.declared.program.Expr.{Expr}
 use Rattle.abs_tree.specs.declared.program.Operand.{Operand}
@@ -13,7 +13,10 @@ pub expression-returns-in_err-operands-in-Chain-clause-not_yet : goal.expression
 expression-returns-in_err-operands-in-Chain-clause-not_yet t c =
     let p = err_from_is_err_and c.from_residual-in_err-operands-in-Chain.result c.from_residual-in_err-operands-in-Chain.ensures.1 in
     rw (p.1, p.2) (not_yet_for c.in_err-operands-in-Chain.field-0.0
-    (chain_not_yet c.args.symbols.now c.args.expr.now c.in-Chain.place c.in-Chain.first c.in-Chain.others c.deref-in-Chain-2.result.now c.in-Chain.is c.deref-in-Chain-2.ensures.value)
+    (chain_not_yet c.args.symbols.now c.args.expr.now c.in-Chain.place c.in-Chain.first c.in-Chain.others c.deref-in-Chain-2.result.now c.in_ok-first-in-Chain.first.value
+    c.in-Chain.is c.deref-in-Chain-2.ensures.value
+    (ap (λ (expr : SyntaxExpr). runnable_expr c.args.symbols.now (phrase c.args.symbols.now expr)) (sym c.deref-in-Chain.ensures)
+    ∙ (c.in_ok-expression-in-Chain.ensures.found ∙ ap (λ (expr : Expr). Ok (expr_tree expr)) (sym c.in_ok-first-in-Chain.ensures.ok))))
     c.in_err-operands-in-Chain.ensures.not_yet)
 
 pub expression-returns-in_ok-operands-in-Chain-clause-found : goal.expression-returns-in_ok-operands-in-Chain-clause-found
@@ -21,36 +24,40 @@ expression-returns-in_ok-operands-in-Chain-clause-found t c =
     chain_runs c.args.symbols.now c.args.expr.now c.in-Chain.place c.in-Chain.first c.in-Chain.others c.deref-in-Chain-2.result.now c.in_ok-first-in-Chain.first
     c.in_ok-operands-in-Chain.operands c.in-Chain.is c.deref-in-Chain-2.ensures.value
     (ap (λ (expr : SyntaxExpr). runnable_expr c.args.symbols.now (phrase c.args.symbols.now expr)) (sym c.deref-in-Chain.ensures)
-    ∙ (c.in_ok-expression-in-Chain.ensures.found ∙ ap (λ (expr : Expr). Some (expr_tree expr)) (sym c.in_ok-first-in-Chain.ensures.ok)))
+    ∙ (c.in_ok-expression-in-Chain.ensures.found ∙ ap (λ (expr : Expr). Ok (expr_tree expr)) (sym c.in_ok-first-in-Chain.ensures.ok)))
     c.in_ok-operands-in-Chain.ensures.found
 
 pub operands-loop-other-init : goal.operands-loop-other-init
-operands-loop-other-init t c = rw c.in_ok-found.ensures.items (record { found = λ rest given. given; not_yet = λ none. none })
+operands-loop-other-init t c = rw c.in_ok-found.ensures.items (record { found = λ rest given. given; not_yet = λ place none. none })
 
 pub operands-returns-in_default-clause-not_yet : goal.operands-returns-in_default-clause-not_yet
 operands-returns-in_default-clause-not_yet t c =
     let names = c.args.symbols.now in
-    read_no_further (operands_run names) operands_of c.args.others.now c.loop-other.other-index c.loop-other.found.items c.other-item.result
-    c.loop-other-test.true c.other-item.is (operator_not_yet names c.other-item.result (sym c.operator.ensures ∙ c.in_default.is)) c.loop-other.invariant
+    read_no_further (operands_run names c.args.place) operands_of c.args.others.now c.loop-other.other-index c.loop-other.found.items c.other-item.result c.args.place
+    c.loop-other-test.true c.other-item.is (operator_not_yet names c.args.place c.other-item.result (sym c.operator.ensures ∙ c.in_default.is)) c.loop-other.invariant
 
 pub operands-returns-in_err-right-clause-not_yet : goal.operands-returns-in_err-right-clause-not_yet
 operands-returns-in_err-right-clause-not_yet t c =
     let names = c.args.symbols.now in
     let p = err_from_is_err_and c.from_residual-in_err-right.result c.from_residual-in_err-right.ensures.1 in
     rw (p.1, p.2) (not_yet_for c.in_err-right.field-0.0
-    (λ none. read_no_further (operands_run names) operands_of c.args.others.now c.loop-other.other-index c.loop-other.found.items c.other-item.result
-    c.loop-other-test.true c.other-item.is (operand_not_yet names c.other-item.result none) c.loop-other.invariant)
+    (λ at none. read_no_further (operands_run names c.args.place) operands_of c.args.others.now c.loop-other.other-index c.loop-other.found.items c.other-item.result at
+    c.loop-other-test.true c.other-item.is
+    (operand_not_yet names c.args.place at c.other-item.result c.in-Some.operator (sym c.operator.ensures ∙ c.in-Some.is) none) c.loop-other.invariant)
     c.in_err-right.ensures.not_yet)
 
 pub operands-loop-other-preserved : goal.operands-loop-other-preserved
 operands-loop-other-preserved t c =
     let names = c.args.symbols.now in
+    let place = c.args.place in
     let other = c.other-item.result in
     let made : Operand = record { operator = c.in-Some.operator; right = c.in_ok-right.right } in
+    let operator = sym c.operator.ensures ∙ c.in-Some.is in
     rw c.in_ok-push.ensures.items
-    (read_more (operands_run names) operands_of c.args.others.now c.loop-other.other-index c.loop-other.found.items other made c.loop-other-test.true c.other-item.is
-    (operand_runs names other made (sym c.operator.ensures ∙ c.in-Some.is) c.in_ok-right.ensures.found) (operands_not_yet names other) c.loop-other.invariant)
+    (read_more (operands_run names place) operands_of c.args.others.now c.loop-other.other-index c.loop-other.found.items other made c.loop-other-test.true c.other-item.is
+    (operand_runs names place other made operator c.in_ok-right.ensures.found) (operands_not_yet names place other made operator c.in_ok-right.ensures.found) c.loop-other.invariant)
 
 pub operands-returns-clause-found : goal.operands-returns-clause-found
 operands-returns-clause-found t c =
-    read_all (operands_run c.args.symbols.now) operands_of c.args.others.now c.loop-other.other-index c.loop-other.found.items c.loop-other-test.false refl c.loop-other.invariant
+    read_all (operands_run c.args.symbols.now c.args.place) operands_of c.args.others.now c.loop-other.other-index c.loop-other.found.items c.loop-other-test.false refl
+    c.loop-other.invariant

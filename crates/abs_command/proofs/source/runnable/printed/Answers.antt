@@ -19,9 +19,10 @@ pub returns-in_err-value-clause-not_yet : goal.returns-in_err-value-clause-not_y
 returns-in_err-value-clause-not_yet c =
     let p = err_from_is_err_and c.from_residual.result c.from_residual.ensures.1 in
     rw (p.1, p.2) (not_yet_for c.in_err-value.field-0.0
-    (text_not_yet c.args.symbols.now c.args.text.now c.in-Apply.place c.in-Apply.function c.in-Apply.arguments c.index.result.now c.in-Apply.is
+    (text_not_yet c.args.symbols.now c.args.text.now c.in-Apply.place c.in-Apply.function c.in-Apply.arguments c.index.result.now c.in-Some.function c.in-Apply.is
     (omega (arith, c.len.ensures, c.in-Apply.arguments.ok.0, c.if-len-ne1.false)) c.index.ensures
-    (rw (← c.name-name.ensures, ← c.as_slice.ensures) (not-false _ (sym c.if-ne.ensures))))
+    (rw (← c.name-name.ensures, ← c.as_slice.ensures) (not-false _ (sym c.if-ne.ensures)))
+    (rw (← c.name-name.ensures) (sym c.find.ensures ∙ c.in-Some.is)))
     c.in_err-value.ensures.not_yet)
 
 pub returns-clause-found : goal.returns-clause-found

@@ -1,0 +1,33 @@
+use Rattle.std.proofs.Common.{ap, subst, arith, []}
+use Rattle.std.specs.Prelude.{Some}
+use Rattle.abs_tree.specs.SourceErrors.{HasCause}
+use Rattle.abs_tree.specs.declared.source_error.SourceError.{SourceError}
+use Rattle.abs_command.specs.Promises.CameTo.{oversized}
+use Rattle.abs_command.specs.Sources.{FirstOffence}
+use Rattle.abs_command.proofs.AnswerLemmas.{appends_nothing, delivered}
+use Rattle.abs_command.proofs.ResultLemmas.{ok_follows, error_follows}
+use Rattle.abs_command.proofs.command.answer.Goals as goal
+
+pub returns-then-bytes-gt-SOURCE_LIMIT-clause-answered : goal.returns-then-bytes-gt-SOURCE_LIMIT-clause-answered
+returns-then-bytes-gt-SOURCE_LIMIT-clause-answered g c = λ words source source' named.
+    delivered words c.args.bytes.now source source' c.before_analysis-ended.result c.deliver.result _ _ _ [] c.as_bytes.result.now _ _ _
+    (oversized (record {
+      named = named;
+      cause = omega arith;
+      fields = c.before_analysis-ended.ensures.fields;
+      status = ap Some c.before_analysis-ended.ensures.status;
+      printed = c.as_bytes.ensures.value;
+    })) (appends_nothing _) c.deliver.ensures.delivered (λ rose. rose)
+
+pub returns-in-Ok-clause-answered : goal.returns-in-Ok-clause-answered
+returns-in-Ok-clause-answered g c = ok_follows c.answer_program.result c.answer_program.ensures.answered
+    (λ ended answer words source source' named. answer words c.args.bytes.now source source' named (record { small = omega arith; read = c.in-Ok.ensures.found }))
+
+pub returns-in-Ok-clause-exhausted : goal.returns-in-Ok-clause-exhausted
+returns-in-Ok-clause-exhausted g c = error_follows c.answer_program.result c.answer_program.ensures.exhausted
+    (λ written words named. written words c.args.bytes.now named (record { small = omega arith; read = c.in-Ok.ensures.found }))
+
+pub returns-in-Err-Refused-clause-answered : goal.returns-in-Err-Refused-clause-answered
+returns-in-Err-Refused-clause-answered g c = ok_follows c.refuse.result c.refuse.ensures.answered
+    (λ ended answer words source source' named. answer words c.args.bytes.now source source' named (omega arith)
+    (subst (λ (e : SourceError). HasCause (FirstOffence c.args.bytes.now) e) c.in-Err-Refused.field-0-is c.in-Err-Refused.ensures.refused))
