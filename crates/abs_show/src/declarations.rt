@@ -1,0 +1,149 @@
+//! Prints declarations, and a program as a whole.
+use crate::printer::Printer;
+use abs_tree::syntax::{Body, Constructor, Decl, Declared, Member, Param, Program, Signature};
+use std::alloc::AllocError;
+
+impl Printer<'_, '_> {
+    /// A program: its declarations, each before a semicolon, and its main block.
+    pub(crate) fn program(&mut self, program: &Program<'_>) -> Result<(), AllocError> {
+        for decl in program.declarations.iter() {
+            self.decl(decl)?;
+            self.push("; ")?;
+        }
+        self.body(&program.main)
+    }
+
+    /// A declaration: its word, its name, and its parts, with a bar before each constructor, signature or member.
+    fn decl(&mut self, decl: &Decl) -> Result<(), AllocError> {
+        self.at(decl.place())?;
+        match decl {
+            Decl::Data(_, name, parameters, constructors) => {
+                self.push("data ")?;
+                self.generic(name, parameters)?;
+                self.constructors(constructors)
+            }
+            Decl::Function(_, result, name, parameters, params, value) => {
+                self.push("def ")?;
+                self.type_term(result)?;
+                self.push(" ")?;
+                self.generic(name, parameters)?;
+                self.params(params)?;
+                self.push(" = ")?;
+                self.expr(value)
+            }
+            Decl::Interface(_, name, extended, signatures) => {
+                self.push("interface ")?;
+                self.declared(name)?;
+                self.push(" extends")?;
+                self.names(extended)?;
+                self.signatures(signatures)
+            }
+            Decl::Class(_, name, params, implemented, members) => {
+                self.push("class ")?;
+                self.declared(name)?;
+                self.params(params)?;
+                self.push(" implements")?;
+                self.names(implemented)?;
+                self.members(members)
+            }
+        }
+    }
+
+    /// A name, and its type parameters between angle brackets.
+    fn generic(&mut self, name: &Declared, parameters: &Vec<Declared>) -> Result<(), AllocError> {
+        self.declared(name)?;
+        self.push("<")?;
+        self.names(parameters)?;
+        self.push(">")
+    }
+
+    /// Names, each after a space.
+    fn names(&mut self, names: &Vec<Declared>) -> Result<(), AllocError> {
+        for name in names.iter() {
+            self.push(" ")?;
+            self.declared(name)?;
+        }
+        Ok(())
+    }
+
+    /// Parameters between parentheses, each after a space.
+    fn params(&mut self, params: &Vec<Param>) -> Result<(), AllocError> {
+        self.push("(")?;
+        for param in params.iter() {
+            self.push(" ")?;
+            self.type_term(&param.type_of)?;
+            self.push(" ")?;
+            self.at(param.place)?;
+            self.variable(param.variable)?;
+        }
+        self.push(")")
+    }
+
+    /// Constructors, each after a bar, with the types of its arguments.
+    fn constructors(&mut self, constructors: &Vec<Constructor>) -> Result<(), AllocError> {
+        for constructor in constructors.iter() {
+            self.push(" | ")?;
+            self.declared(&constructor.name)?;
+            self.types(&constructor.types)?;
+        }
+        Ok(())
+    }
+
+    /// Signatures, each after a bar.
+    fn signatures(&mut self, signatures: &Vec<Signature>) -> Result<(), AllocError> {
+        for signature in signatures.iter() {
+            self.push(" | ")?;
+            self.signature(signature)?;
+        }
+        Ok(())
+    }
+
+    /// The head of a method.
+    fn signature(&mut self, signature: &Signature) -> Result<(), AllocError> {
+        self.type_term(&signature.result)?;
+        self.push(" ")?;
+        self.declared(&signature.name)?;
+        self.params(&signature.params)
+    }
+
+    /// Members of a class, each after a bar.
+    fn members(&mut self, members: &Vec<Member>) -> Result<(), AllocError> {
+        for member in members.iter() {
+            self.push(" | ")?;
+            self.member(member)?;
+        }
+        Ok(())
+    }
+
+    /// A member of a class.
+    fn member(&mut self, member: &Member) -> Result<(), AllocError> {
+        match member {
+            Member::Field(type_of, name, value) => {
+                self.type_term(type_of)?;
+                self.push(" ")?;
+                self.declared(name)?;
+                match value {
+                    Some(value) => {
+                        self.push(" = ")?;
+                        self.expr(value)
+                    }
+                    None => Ok(()),
+                }
+            }
+            Member::Method(signature, body) => {
+                self.signature(signature)?;
+                self.push(" ")?;
+                self.body(body)
+            }
+        }
+    }
+
+    /// The statements of a body, and the place of the brace that closes it.
+    fn body(&mut self, body: &Body) -> Result<(), AllocError> {
+        self.push("{")?;
+        self.stmts(&body.statements)?;
+        self.push(" ")?;
+        self.place(body.end)?;
+        self.push("}")
+    }
+}

@@ -1,0 +1,89 @@
+//! What is shown of a source: its tree, its names or its tokens, as text.
+ghost use Rattle.std.specs.Prelude.{◌≤◌, length};
+ghost use Rattle.abs_tree.specs.Limits.{source_limit};
+
+use crate::failure::Failure;
+use crate::printer::Printer;
+use abs_lexer::lexer::tokens;
+use abs_lexer::token::Tokens;
+use abs_parser::parse;
+use abs_tree::{Symbol, Symbols};
+use std::alloc::{AllocError, Global};
+
+/// What is shown of a source.
+#[derive(Clone, Copy, Debug, PartialEq, Eq)]
+pub(crate) enum What {
+    /// The tree.
+    Tree,
+    /// The table of names, in the order of their symbols.
+    Names,
+    /// The tokens, and the place after the last byte.
+    Tokens,
+}
+
+impl What {
+    /// What a word of the command line names.
+    pub(crate) fn named(word: &str) -> Option<What> {
+        match word {
+            "tree" => Some(What::Tree),
+            "names" => Some(What::Names),
+            "tokens" => Some(What::Tokens),
+            _ => None,
+        }
+    }
+}
+
+/// What is asked for of a source, as whole lines.
+///
+/// # Errors
+/// [`Failure::Refused`] where the lexer refuses the source, or the parser where its tree or its names are asked for;
+/// [`Failure::Memory`] where memory runs out.
+pub(crate) fn show(alloc: Global, what: What, source: &[u8]) -> Result<String, Failure>
+    requires { length source.now ≤ source_limit }
+{
+    let list = tokens(alloc, source)?;
+    if what == What::Tokens {
+        return Ok(token_lines(alloc, &list)?);
+    }
+    let program = parse(alloc, &list)?;
+    match what {
+        What::Names => Ok(name_lines(alloc, &program.symbols)?),
+        What::Tree | What::Tokens => {
+            let mut printer = Printer::new(alloc, &program.symbols);
+            printer.program(&program)?;
+            Ok(printer.finish()?)
+        }
+    }
+}
+
+/// A line for each token: its offset, its place, its kind and its bytes. The last line is the end of the source.
+fn token_lines(alloc: Global, list: &Tokens<'_>) -> Result<String, AllocError> {
+    let mut out = String::new(alloc);
+    for index in 0..list.len() {
+        let token = list.at(index);
+        let slice = str::from_utf8(token.slice).unwrap_or("?");
+        let place = token.place;
+        let kind = token.kind;
+        writeln!(
+            out,
+            "{} {}:{} {kind:?} {slice}",
+            place.offset, place.line, place.column
+        )?;
+    }
+    let end = list.end();
+    writeln!(out, "{} {}:{} end", end.offset, end.line, end.column)?;
+    Ok(out)
+}
+
+/// A line for each name, in the order of the symbols.
+fn name_lines(alloc: Global, symbols: &Symbols<'_>) -> Result<String, AllocError> {
+    let mut out = String::new(alloc);
+    for number in 0..symbols.len() {
+        let name = match u32::try_from(number) {
+            Ok(number) => symbols.name(Symbol(number)),
+            Err(_) => b"?",
+        };
+        writeln!(out, "{}", str::from_utf8(name).unwrap_or("?"))?;
+    }
+    Ok(out)
+}
