@@ -53,6 +53,7 @@ read_whole words source source' file bytes came named took missing same = record
   at_most = most_taken (source.under file) source'.left bytes took;
   taken = λ content given. (subst (λ (u : Under). TookWhole u source'.left bytes) (told words source file content named given) took).taken;
   whole = λ content given read. taken_whole content source'.left bytes (subst (λ (u : Under). TookWhole u source'.left bytes) (told words source file content named given) took);
+  absent = λ other names gone read. subst (λ (u : Under). TookWhole u source'.left bytes) (ap source.under (named_once words file other named names) ∙ gone) took;
   missing = λ read. missing;
   same_names = same;
 }
@@ -80,6 +81,7 @@ read_in_part words source source' file came named failed part same = record {
   at_most = part.at_most;
   taken = λ content given. part.taken content (told words source file content named given);
   whole = λ content given read. absurd (failed read);
+  absent = λ other names gone read. failed read;
   missing = λ read. absurd (failed read);
   same_names = same;
 }
@@ -90,6 +92,7 @@ nothing_read words source came none = record {
   at_most = omega arith;
   taken = λ content given. absurd (none (given.file, given.named));
   whole = λ content given read. absurd (none (given.file, given.named));
+  absent = λ file names gone read. none (file, names);
   missing = λ read. refl;
   same_names = λ name. refl;
 }

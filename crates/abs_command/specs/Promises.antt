@@ -11,7 +11,7 @@
 use Rattle.std.specs.Prelude.{◌≡◌, ◌≢◌, ◌<◌, ◌≤◌, ◌+◌, ◌⊎◌, ℕ, List, [], ◌++◌, length, take, Option, Some, None}
 use Rattle.std.specs.Io.KnownBytes.{Appends, Consumes}
 use Rattle.abs_outside.specs.Counts.{Rose}
-use Rattle.abs_outside.specs.Names.{Under, Holding, IsNotHeld}
+use Rattle.abs_outside.specs.Names.{Under, Absent, Holding, IsNotHeld}
 use Rattle.abs_tree.specs.Trees.{NamedTree}
 use Rattle.abs_tree.specs.declared.refusal.Refusal.{Refusal}
 use Rattle.abs_command.specs.declared.command.Ended.{Ended}
@@ -103,7 +103,7 @@ pub record IsAnalysed (bytes : List ℕ) (ended : Ended) (program : NamedTree) :
   pub report : ended.report ≡ report_of program
   pub headline : ended.report ≡ [] → NeverStuck program
 
--- The program was analysed and nothing was run. No status is due for that yet: it is what a fault of the sink or of memory leaves.
+-- The program was analysed and nothing was run. No status is due for that yet: it is what a fault of the sink leaves.
 pub record IsReported (words : List (List ℕ)) (bytes : List ℕ) (ended : Ended) (due : Option Status) (output : List ℕ) : Type 0 where
   pub named : AreCommandWords words
   pub program : NamedTree
@@ -157,11 +157,13 @@ pub record IsGiven (words : List (List ℕ)) (source : SourceView) (content : Li
   pub held : source.under file ≡ Holding content
 
 -- The bytes are at most one more than a source may have. A source that tells its content gave them from its start; and where the call
--- came to speak of them, they are the whole content, or as many bytes of it as show that there are too many.
+-- came to speak of them, they are the whole content, or as many bytes of it as show that there are too many. Of a file that the source
+-- tells to be absent no call comes to speak.
 pub record BytesIn (words : List (List ℕ)) (source source' : SourceView) (bytes : List ℕ) (came : Status) : Type 0 where
   pub at_most : length bytes ≤ source_limit + 1
   pub taken : (content : List ℕ) → IsGiven words source content → Consumes (Some content) source'.left bytes
   pub whole : (content : List ℕ) → IsGiven words source content → WasRead came → bytes ≡ take (source_limit + 1) content
+  pub absent : (file : List ℕ) → Names words file → source.under file ≡ Absent → WasRead came → ⊥
   pub missing : WasRead came → source'.missing ≡ source.missing
   pub same_names : (name : List ℕ) → source'.under name ≡ source.under name
 
