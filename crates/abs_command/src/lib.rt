@@ -6,8 +6,6 @@ pub mod command;
 pub mod edge;
 pub mod runtime;
 pub mod source;
-#[cfg(test)]
-mod tests;
 pub mod texts;
 
 pub use command::{Ended, Status, abs_run};

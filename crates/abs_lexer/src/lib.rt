@@ -14,6 +14,3 @@ pub use abs_tree::SourceError as LexError;
 pub use lexeme::{Keyword, Lexeme, Punctuator};
 pub use lexer::one_lexing;
 pub use token::Token;
-
-#[cfg(test)]
-mod tests;

@@ -14,8 +14,6 @@ mod pure_source;
 mod sink;
 mod source;
 mod stream_sink;
-#[cfg(test)]
-mod tests;
 
 pub use call_options::CallOptions;
 pub use file_source::FileSource;

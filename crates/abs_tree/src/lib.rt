@@ -23,6 +23,3 @@ pub use source_error::SourceError;
 pub use symbol::{Symbol, Symbols};
 pub use text::Text;
 pub use value::{Evaluated, Fault, Output, Value, Values, value_text};
-
-#[cfg(test)]
-mod tests;

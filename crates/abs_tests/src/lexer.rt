@@ -1,6 +1,6 @@
 //! That a call succeeds where memory is ample, of which no clause speaks. What the tokens are is tested from outside.
-use super::*;
-use crate::lexer::tokens;
+use abs_lexer::Lexeme;
+use abs_lexer::lexer::tokens;
 use std::test::Fail;
 
 /// A source of three tokens has three.

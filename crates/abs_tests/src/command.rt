@@ -1,10 +1,10 @@
 //! What neither a clause nor a call of the built program shows: what the command hands back, sources and sinks that
 //! fail midway, the pure ones, and the texts of refusals that no source gives yet.
-use crate::runtime::machine::{End, run};
-use crate::source::program_of;
-use crate::texts::outcome::end_text;
-use crate::texts::refusal::refusal_text;
-use crate::{Ended, abs_run};
+use abs_command::runtime::machine::{End, run};
+use abs_command::source::program_of;
+use abs_command::texts::outcome::end_text;
+use abs_command::texts::refusal::refusal_text;
+use abs_command::{Ended, abs_run};
 use abs_outside::{
     CallOptions, MemorySink, MemorySource, NamedBytes, PureSink, PureSource, Sink, Source,
 };

@@ -1,5 +1,5 @@
 //! That the calls can succeed, of which no contract speaks, and that the clauses mean what they should.
-use super::*;
+use abs_tree::{Symbol, Symbols, Text, Value, Values, value_text};
 use std::test::Fail;
 
 /// A name is numbered at its first appearance, and keeps that number.

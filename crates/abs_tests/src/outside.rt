@@ -1,6 +1,6 @@
 //! What no clause says of the sources and the sinks: that their calls succeed when they should, in memory and with the
 //! files of the system.
-use crate::{
+use abs_outside::{
     CallOptions, Failed, FileSource, MemorySink, MemorySource, NamedBytes, PureSink, PureSource,
     Sink, Source, StreamSink,
 };
