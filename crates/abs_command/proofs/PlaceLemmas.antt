@@ -15,7 +15,7 @@ use Rattle.abs_tree.specs.declared.refusal.Offence.{Offence}
 use Rattle.abs_tree.specs.declared.syntax.expression.Prefix.TheVariants as prefix
 use Rattle.abs_tree.specs.Names.{symbol_in}
 use Rattle.abs_tree.specs.Refusals.{IsFirst}
-use Rattle.abs_tree.specs.Syntax.{Name, Phrase, NumberOf, VariableOf, Prefixed, Chain, ApplyOf, NoPhrase, NextPhrase, Links, NoLink, Link, SideTree, ValueOf, ToVariable, SomeSide, Statement, DeclareOf, AssignOf, PrintOf, Statements, NoStatement, NextStatement, DeclTree, SourceTree}
+use Rattle.abs_tree.specs.Syntax.{Name, Phrase, NumberOf, VariableOf, Prefixed, OperatorsOf, ApplyOf, NoPhrase, NextPhrase, Operands, NoOperands, NextOperand, SideTree, ValueOf, ToVariable, SomeSide, Statement, DeclareOf, AssignOf, PrintOf, Statements, NoStatement, NextStatement, DeclTree, SourceTree}
 use Rattle.abs_tree.specs.Trees.{ExprTree, Local, Apply, Negate, Operators, NoMore, More, OperandTrees, Then, StmtTree, Declare, Assign, Print, ProgramTree}
 use Rattle.abs_lexer.specs.Tokens.{Lexed, TokenList, Rise as TokensRise}
 use Rattle.abs_parser.specs.Kinds.{Token, TextEnd, marks, place_of_mark}
@@ -132,7 +132,7 @@ mutual
       (of_any (λ local. ⊤) (ok_or (runnable_variable names variable) place) (λ local. tt))
   expr_places names (Prefixed place prefix.Minus operand) =
       of_one (ExprWithin (phrase_uses operand)) (ExprWithin (phrase_uses operand)) (Negate place) (runnable_expr names operand) (λ expr x. x) (expr_places names operand)
-  expr_places names (Chain place first others) =
+  expr_places names (OperatorsOf place first others) =
       of_both (ExprWithin (phrase_uses first)) (OperandsWithin (link_uses others)) (ExprWithin (phrase_uses first ++ link_uses others)) (Operators place)
       (runnable_expr names first) (runnable_operands names place others)
       (λ front operands x y scope. both_places (unknown_in scope front) (unknown_in_operands scope operands) (x scope) (y scope))
@@ -140,9 +140,9 @@ mutual
   expr_places names _ = tt
 
   -- So do operators with their operands.
-  operands_places : (names : List Name) (place : Place) (links : Links) → IfOk (runnable_operands names place links) (OperandsWithin (link_uses links))
-  operands_places names place NoLink = λ scope. none
-  operands_places names place (Link operation right others) =
+  operands_places : (names : List Name) (place : Place) (operands : Operands) → IfOk (runnable_operands names place operands) (OperandsWithin (link_uses operands))
+  operands_places names place NoOperands = λ scope. none
+  operands_places names place (NextOperand operation right others) =
       let many = phrase_uses right ++ link_uses others in
       let operands = made_of_both (λ first rest operator. Then operator first rest) (runnable_expr names right) (runnable_operands names place others) in
       of_second (λ (behind : Operator → OperandTrees). (operator : Operator) → OperandsWithin many (behind operator)) (OperandsWithin many)
@@ -169,15 +169,15 @@ text_places names _ = tt
 
 -- A statement that runs offends where it declares or uses variables.
 stmt_places : (names : List Name) (statement : Statement) → IfOk (runnable_statement names statement) (StmtWithin (statement_uses statement))
-stmt_places names (DeclareOf place type at variable (SomeSide side)) =
+stmt_places names (DeclareOf index place type at variable (SomeSide side)) =
     let many = at ∷ side_uses side in
     of_cond (StmtWithin many) (is_int type) (made_of_both (Declare place at) (ok_or (runnable_variable names variable) at) (runnable_side names side)) place
     (of_second (ExprWithin (side_uses side)) (StmtWithin many) (Declare place at) (ok_or (runnable_variable names variable) at) (runnable_side names side)
     (λ local value x scope. both_places (repeated_declaration scope at local) (unknown_in scope value) (twice_places scope at local) (x scope)) (side_places names side))
-stmt_places names (AssignOf place (ToVariable at variable) side) =
+stmt_places names (AssignOf index place (ToVariable at variable) side) =
     of_second (ExprWithin (side_uses side)) (StmtWithin (place ∷ side_uses side)) (Assign place) (ok_or (runnable_variable names variable) at) (runnable_side names side)
     (λ local value x scope. both_places (unknown_name scope place local) (unknown_in scope value) (unknown_places scope place local) (x scope)) (side_places names side)
-stmt_places names (PrintOf place text) =
+stmt_places names (PrintOf index place text) =
     of_one (ExprWithin (phrase_uses text)) (StmtWithin (phrase_uses text)) (Print place) (runnable_text names text) (λ printed x. x) (text_places names text)
 stmt_places names _ = tt
 

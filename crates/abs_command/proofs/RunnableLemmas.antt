@@ -24,12 +24,12 @@ use Rattle.abs_tree.specs.declared.syntax.statement.Stmt.{Stmt as SyntaxStmt}
 use Rattle.abs_tree.specs.declared.syntax.types.TypeTerm as code_type
 use Rattle.abs_tree.specs.declared.syntax.types.TypeTerm.{TypeTerm}
 use Rattle.abs_tree.specs.Names.{symbol_in}
-use Rattle.abs_tree.specs.Syntax.{Name, TypeName, ApplyOf, Phrases, NoPhrase, NextPhrase, Statement, BlockOf, SkipOf, SuspendOf, AwaitOf, ReturnOf, PrintOf, IfOf, WhileOf, DeclareOf, AssignOf, DoOf, Statements, NoStatement, NextStatement, DeclTree, SourceTree}
+use Rattle.abs_tree.specs.Syntax.{Name, UnresolvedType, ApplyOf, Phrases, NoPhrase, NextPhrase, Statement, BlockOf, SkipOf, SuspendOf, AwaitOf, ReturnOf, PrintOf, IfOf, WhileOf, DeclareOf, AssignOf, DoOf, Statements, NoStatement, NextStatement, DeclTree, SourceTree}
 use Rattle.abs_tree.specs.SyntaxSizes.{statement_count, count_of}
-use Rattle.abs_tree.specs.SyntaxViews.{type_tree, type_trees, phrase, phrases, links, statement, statements}
+use Rattle.abs_tree.specs.SyntaxViews.{type_tree, type_trees, phrase, phrases, operand_trees, statement, statements}
 use Rattle.abs_tree.specs.Trees.{OperandTrees, StmtTree, ProgramTree, Apply, name_of, expr_tree, trees_of, operands_of, stmt_tree}
 use Rattle.abs_tree.proofs.EntryLemmas.{drop_item}
-use Rattle.abs_tree.proofs.SyntaxLemmas.{type_tree-name, phrase-chain, phrase-apply}
+use Rattle.abs_tree.proofs.SyntaxLemmas.{type_tree-unresolved, phrase-operators, phrase-apply}
 use Rattle.abs_tree.proofs.TreeLemmas.{expr_tree-apply, expr_tree-operators}
 use Rattle.abs_command.specs.NotYet.{ForNotYet}
 use Rattle.abs_command.specs.Runnable.{runnable, runnable_main, made_of, made_of_both, runnable_operator, runnable_expr, runnable_operands, runnable_text, is_int, runnable_statement, runnable_statements}
@@ -79,7 +79,7 @@ module _ {A B T : Type 0} (gives : List A → Result T Place) (tree : List B →
 
 -- what runs of operators that stand in memory
 abbrev pub operands_run : List Name → Place → List SyntaxOperand → Result OperandTrees Place
-operands_run names place operands = runnable_operands names place (links names operands)
+operands_run names place operands = runnable_operands names place (operand_trees names operands)
 
 -- an operator with an operand runs before others that do, where both run
 pub operand_runs : (names : List Name) (place : Place) (operand : SyntaxOperand) (made : Operand) → runnable_operator operand.operator ≡ Some made.operator
@@ -105,21 +105,21 @@ pub operands_not_yet : (names : List Name) (place : Place) (operand : SyntaxOper
 operands_not_yet names place operand made operator right others at none = rw (operator, right, none) refl
 
 -- operators of one precedence run where their operands do
-pub chain_runs : (names : List Name) (expr : SyntaxExpr) (place : Place) (first : Box SyntaxExpr Global) (others : Vec SyntaxOperand Global) (operands : List SyntaxOperand)
-    (made : Box Expr Global) (found : Vec Operand Global) → expr ≡ code_expr.Chain place first others → operands ≡ others.items
+pub operators_run : (names : List Name) (expr : SyntaxExpr) (place : Place) (first : Box SyntaxExpr Global) (others : Vec SyntaxOperand Global) (operands : List SyntaxOperand)
+    (made : Box Expr Global) (found : Vec Operand Global) → expr ≡ code_expr.Operators place first others → operands ≡ others.items
     → runnable_expr names (phrase names first.value) ≡ Ok (expr_tree made.value) → operands_run names place operands ≡ Ok (operands_of found.items)
     → runnable_expr names (phrase names expr) ≡ Ok (expr_tree (code.Operators place made found))
-chain_runs names expr place first others operands made found is operands_are first_runs others_run =
-    ap (runnable_expr names) (ap (phrase names) is ∙ phrase-chain names place first others)
+operators_run names expr place first others operands made found is operands_are first_runs others_run =
+    ap (runnable_expr names) (ap (phrase names) is ∙ phrase-operators names place first others)
     ∙ (rw (first_runs, ← operands_are, others_run) refl
     ∙ ap Ok (sym (expr_tree-operators place made found)))
 
 -- operators of one precedence do not run where one behind the first operand does not
-pub chain_not_yet : (names : List Name) (expr : SyntaxExpr) (place : Place) (first : Box SyntaxExpr Global) (others : Vec SyntaxOperand Global) (operands : List SyntaxOperand)
-    (made : Expr) → expr ≡ code_expr.Chain place first others → operands ≡ others.items → runnable_expr names (phrase names first.value) ≡ Ok (expr_tree made)
+pub operators_not_yet : (names : List Name) (expr : SyntaxExpr) (place : Place) (first : Box SyntaxExpr Global) (others : Vec SyntaxOperand Global) (operands : List SyntaxOperand)
+    (made : Expr) → expr ≡ code_expr.Operators place first others → operands ≡ others.items → runnable_expr names (phrase names first.value) ≡ Ok (expr_tree made)
     → (at : Place) → operands_run names place operands ≡ Err at → runnable_expr names (phrase names expr) ≡ Err at
-chain_not_yet names expr place first others operands made is operands_are first_runs at none =
-    ap (runnable_expr names) (ap (phrase names) is ∙ phrase-chain names place first others) ∙ rw (first_runs, ← operands_are, none) refl
+operators_not_yet names expr place first others operands made is operands_are first_runs at none =
+    ap (runnable_expr names) (ap (phrase names) is ∙ phrase-operators names place first others) ∙ rw (first_runs, ← operands_are, none) refl
 
 -- what runs of a function with its arguments, as a text, is what runs of its tree
 text_applied : (names : List Name) (text : SyntaxExpr) (place : Place) (function : Symbol) (arguments : Vec SyntaxExpr Global)
@@ -188,27 +188,27 @@ several_numbers names text place function arguments is other = text_applied name
 
 -- a type without arguments is `Int` where that is its name, by its tree
 int_without : (names : List Name) (place : Place) (name : Name) (arguments : List TypeTerm) → (length arguments == 0) ≡ true
-    → is_int (TypeName place name (type_trees names arguments)) ≡ bytes_eq name (codes "Int")
+    → is_int (UnresolvedType place name (type_trees names arguments)) ≡ bytes_eq name (codes "Int")
 int_without names place name [] none = refl
 int_without names place name (argument ∷ others) none = absurd (omega (arith, eqb-true (length (argument ∷ others)) 0 none))
 
 -- a type with arguments is not `Int`, by its tree
 int_with : (names : List Name) (place : Place) (name : Name) (arguments : List TypeTerm) → (length arguments == 0) ≡ false
-    → is_int (TypeName place name (type_trees names arguments)) ≡ false
+    → is_int (UnresolvedType place name (type_trees names arguments)) ≡ false
 int_with names place name [] some = absurd cc
 int_with names place name (argument ∷ others) some = refl
 
 -- a named type in memory is `Int` where its tree is
 named_type : (names : List Name) (type : TypeTerm) (place : Place) (symbol : Symbol) (arguments : Arc (Vec TypeTerm Global) Global) (items : Vec TypeTerm Global)
-    → type ≡ code_type.Name place symbol arguments → items ≡ arguments.value
-    → is_int (type_tree names type) ≡ is_int (TypeName place (name_of names symbol) (type_trees names items.items))
+    → type ≡ code_type.Unresolved place symbol arguments → items ≡ arguments.value
+    → is_int (type_tree names type) ≡ is_int (UnresolvedType place (name_of names symbol) (type_trees names items.items))
 named_type names type place symbol arguments items is items_are =
-    ap is_int (ap (type_tree names) is ∙ type_tree-name names place symbol arguments)
-    ∙ ap (λ (vec : Vec TypeTerm Global). is_int (TypeName place (name_of names symbol) (type_trees names vec.items))) (sym items_are)
+    ap is_int (ap (type_tree names) is ∙ type_tree-unresolved names place symbol arguments)
+    ∙ ap (λ (vec : Vec TypeTerm Global). is_int (UnresolvedType place (name_of names symbol) (type_trees names vec.items))) (sym items_are)
 
 -- a named type in memory without arguments is `Int` where that is its name
 pub int_where_named : (names : List Name) (type : TypeTerm) (place : Place) (symbol : Symbol) (arguments : Arc (Vec TypeTerm Global) Global) (items : Vec TypeTerm Global)
-    → type ≡ code_type.Name place symbol arguments → items ≡ arguments.value → (vec_len items == 0) ≡ true
+    → type ≡ code_type.Unresolved place symbol arguments → items ≡ arguments.value → (vec_len items == 0) ≡ true
     → is_int (type_tree names type) ≡ bytes_eq (name_of names symbol) (codes "Int")
 int_where_named names type place symbol arguments items is items_are none =
     named_type names type place symbol arguments items is items_are
@@ -216,7 +216,7 @@ int_where_named names type place symbol arguments items is items_are none =
 
 -- a named type in memory with arguments is not `Int`
 pub int_nowhere : (names : List Name) (type : TypeTerm) (place : Place) (symbol : Symbol) (arguments : Arc (Vec TypeTerm Global) Global) (items : Vec TypeTerm Global)
-    → type ≡ code_type.Name place symbol arguments → items ≡ arguments.value → (vec_len items == 0) ≡ false → is_int (type_tree names type) ≡ false
+    → type ≡ code_type.Unresolved place symbol arguments → items ≡ arguments.value → (vec_len items == 0) ≡ false → is_int (type_tree names type) ≡ false
 int_nowhere names type place symbol arguments items is items_are some =
     named_type names type place symbol arguments items is items_are
     ∙ int_with names place (name_of names symbol) items.items (ap (λ (count : ℕ). count == 0) (sym items.ok.0) ∙ some)
@@ -244,16 +244,16 @@ statements_not_yet names stmt made runs others at none = rw (runs, none) refl
 -- a statement that runs counts as one at the least
 counts : (names : List Name) (stmt : Statement) (made : StmtTree) → runnable_statement names stmt ≡ Ok made → 1 ≤ count_of stmt
 counts names (BlockOf place block) made runs = absurd (cc runs)
-counts names (SkipOf place) made runs = omega arith
-counts names (SuspendOf place) made runs = omega arith
-counts names (AwaitOf place guard) made runs = omega arith
-counts names (ReturnOf place value) made runs = omega arith
-counts names (PrintOf place value) made runs = omega arith
-counts names (IfOf place test first second) made runs = omega arith
-counts names (WhileOf place test body) made runs = omega arith
-counts names (DeclareOf place type at variable side) made runs = omega arith
-counts names (AssignOf place target side) made runs = omega arith
-counts names (DoOf place side) made runs = omega arith
+counts names (SkipOf index place) made runs = omega arith
+counts names (SuspendOf index place) made runs = omega arith
+counts names (AwaitOf index place guard) made runs = omega arith
+counts names (ReturnOf index place value) made runs = omega arith
+counts names (PrintOf index place value) made runs = omega arith
+counts names (IfOf index place test first second) made runs = omega arith
+counts names (WhileOf index place test body) made runs = omega arith
+counts names (DeclareOf index place type at variable side) made runs = omega arith
+counts names (AssignOf index place target side) made runs = omega arith
+counts names (DoOf index place side) made runs = omega arith
 
 -- one more statement counts at least one more
 one_more : (first : Result StmtTree Place) (others : Result (List StmtTree) Place) (made : List StmtTree) (one rest : ℕ) → ((stmt : StmtTree) → first ≡ Ok stmt → 1 ≤ one)

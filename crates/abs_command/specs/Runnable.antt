@@ -13,7 +13,7 @@ use Rattle.std.specs.Prelude.{Bool, false, List, [], ◌∷◌, Option, Some, No
 use Rattle.std.specs.Option.{ok_or}
 use Rattle.std.specs.Str.{bytes_eq}
 use Rattle.abs_tree.specs.Names.{symbol_in}
-use Rattle.abs_tree.specs.Syntax.{Name, VariableTree, Written, AtSlot, TypeTree, TypeName, NoType, Phrase, Chain, Prefixed, NumberOf, VariableOf, ApplyOf, NoPhrase, NextPhrase, Links, NoLink, Link, SideTree, ValueOf, ToVariable, SomeSide, Statement, PrintOf, DeclareOf, AssignOf, Statements, NoStatement, NextStatement, DeclTree, SourceTree}
+use Rattle.abs_tree.specs.Syntax.{Name, VariableTree, Unresolved, TypeTree, UnresolvedType, NoType, Phrase, OperatorsOf, Prefixed, NumberOf, VariableOf, ApplyOf, NoPhrase, NextPhrase, Operands, NoOperands, NextOperand, SideTree, ValueOf, ToVariable, SomeSide, Statement, PrintOf, DeclareOf, AssignOf, Statements, NoStatement, NextStatement, DeclTree, SourceTree}
 use Rattle.abs_tree.specs.SyntaxPlaces.{phrase_place, side_place, statement_place, decl_place}
 use Rattle.abs_tree.specs.Trees.{ExprTree, Number, Local, Apply, Negate, Operators, NoMore, More, OperandTrees, NoOperand, Then, StmtTree, Declare, Assign, Print, ProgramTree}
 use Rattle.abs_tree.specs.declared.operator.Operator.{Operator}
@@ -44,8 +44,8 @@ runnable_operator _ = None
 
 -- a local whose name the table has
 abbrev pub runnable_variable : List Name → VariableTree → Option Variable
-runnable_variable names (Written name) = option_map Named (symbol_in names name)
-runnable_variable names (AtSlot slot) = None
+runnable_variable names (Unresolved name) = option_map Named (symbol_in names name)
+runnable_variable names other = None
 
 abbrev mutual
   -- numbers, locals, minus, and operator lists
@@ -53,13 +53,13 @@ abbrev mutual
   runnable_expr names (NumberOf place number) = Ok (Number place number)
   runnable_expr names (VariableOf place variable) = made_of (Local place) (ok_or (runnable_variable names variable) place)
   runnable_expr names (Prefixed place prefix.Minus operand) = made_of (Negate place) (runnable_expr names operand)
-  runnable_expr names (Chain place first others) = made_of_both (Operators place) (runnable_expr names first) (runnable_operands names place others)
+  runnable_expr names (OperatorsOf place first others) = made_of_both (Operators place) (runnable_expr names first) (runnable_operands names place others)
   runnable_expr names other = Err (phrase_place other)
 
   -- an operator list from the left; an unsupported operator has the place where the list begins
-  pub runnable_operands : List Name → Place → Links → Result OperandTrees Place
-  runnable_operands names place NoLink = Ok NoOperand
-  runnable_operands names place (Link operation right others) =
+  pub runnable_operands : List Name → Place → Operands → Result OperandTrees Place
+  runnable_operands names place NoOperands = Ok NoOperand
+  runnable_operands names place (NextOperand operation right others) =
       made_of_both (λ operator (behind : Operator → OperandTrees). behind operator) (ok_or (runnable_operator operation) place)
       (made_of_both (λ first rest operator. Then operator first rest) (runnable_expr names right) (runnable_operands names place others))
 
@@ -78,16 +78,16 @@ runnable_text names other = Err (phrase_place other)
 
 -- the type Int
 abbrev pub is_int : TypeTree → Bool
-is_int (TypeName place name NoType) = bytes_eq name (codes "Int")
+is_int (UnresolvedType place name NoType) = bytes_eq name (codes "Int")
 is_int _ = false
 
 -- a declaration, an assignment, a print
 abbrev pub runnable_statement : List Name → Statement → Result StmtTree Place
-runnable_statement names (DeclareOf place type at variable (SomeSide side)) =
+runnable_statement names (DeclareOf index place type at variable (SomeSide side)) =
     if is_int type then made_of_both (Declare place at) (ok_or (runnable_variable names variable) at) (runnable_side names side) else Err place
-runnable_statement names (AssignOf place (ToVariable at variable) side) =
+runnable_statement names (AssignOf index place (ToVariable at variable) side) =
     made_of_both (Assign place) (ok_or (runnable_variable names variable) at) (runnable_side names side)
-runnable_statement names (PrintOf place text) = made_of (Print place) (runnable_text names text)
+runnable_statement names (PrintOf index place text) = made_of (Print place) (runnable_text names text)
 runnable_statement names other = Err (statement_place other)
 
 abbrev pub runnable_statements : List Name → Statements → Result (List StmtTree) Place

@@ -1,9 +1,10 @@
 -- The statements of a block, up to the "}" that closes it: those that were read so far, with the trees of them; and where the block is
 -- refused.
-use Rattle.std.proofs.Common.{◌≡◌, ◌≤◌, ◌<◌, ℕ, true, false, List, [], ◌∷◌, ◌++◌, length, refl, sym, ap, ◌∙◌, arith}
+use Rattle.std.proofs.Common.{◌≡◌, ◌≤◌, ◌<◌, ℕ, true, false, List, [], ◌∷◌, ◌++◌, ◌+◌, length, refl, sym, ap, ◌∙◌, arith}
 use Rattle.abs_tree.specs.declared.syntax.declaration.Body.{Body}
 use Rattle.abs_tree.specs.declared.syntax.statement.Stmt.{Stmt as CodeStmt}
 use Rattle.abs_tree.specs.Syntax.{Name, Statement, Statements, NoStatement, NextStatement}
+use Rattle.abs_tree.specs.SyntaxSizes.{count_of, statement_count}
 use Rattle.abs_tree.specs.SyntaxViews.{statement, statements}
 use Rattle.abs_lexer.specs.declared.lexeme.Lexeme.TheVariants as lexeme
 use Rattle.abs_lexer.specs.declared.lexeme.Punctuator.TheVariants as punctuator
@@ -16,7 +17,7 @@ use Rattle.abs_parser.specs.Readings.{One, Repeated, Terminal, Nonterminal, Fore
 use Rattle.abs_parser.specs.ReaderAnswers.{left_at, TakesKind, FoundAs, IsRefused}
 use Rattle.abs_parser.specs.Stops.{limit}
 use Rattle.abs_parser.specs.Tokens.{Spot}
-use Rattle.abs_parser.specs.TreesOf.{statements_in, block_in, block_end}
+use Rattle.abs_parser.specs.TreesOf.{statement_in, statements_in, block_in, block_end}
 use Rattle.abs_tree.specs.declared.source_error.SourceError.{SourceError}
 use Rattle.abs_parser.proofs.FirstPlaceLemmas.{found_fewer}
 use Rattle.abs_parser.proofs.NameLemmas.{goes_on_further}
@@ -42,43 +43,68 @@ one_statement : (names : List Name) (listed : List CodeStmt) (stmt : CodeStmt) (
 one_statement names [] stmt behind = refl
 one_statement names (first ∷ others) stmt behind = ap (NextStatement (statement names first)) (one_statement names others stmt behind)
 
--- What was read of a block up to here, with the trees of its statements: whatever further statements are read, and the "}" behind them,
--- complete it.
-pub record ReadsBlock (depth : ℕ) (old now : List (List ℕ)) (from here : Spot) (listed : List CodeStmt) : Type 0 where
+-- statements in front of others are numbered up to these
+before_count : (names : List Name) (listed : List CodeStmt) (stmt : CodeStmt) → statement_count (statements names (listed ++ stmt ∷ [])) ≡ statement_count (statements names listed) + count_of (statement names stmt)
+before_count names [] stmt = omega arith
+before_count names (first ∷ others) stmt = omega (arith, before_count names others stmt)
+
+-- What was read of a block up to here, with the trees of its statements from a first index: whatever further statements are read, from the
+-- index that is free then, and the "}" behind them, complete it.
+pub record ReadsBlock (index depth : ℕ) (old now : List (List ℕ)) (from here : Spot) (listed : List CodeStmt) : Type 0 where
   pub make : Forest → Forest
   pub read : HasRead (One Block) depth old now from make (Nonterminal (Repeated Stmt) depth ∷ Terminal (Sign punctuator.CloseBrace) depth ∷ []) here
   pub shorter : length here.rest < length from.rest
   pub statements_are : (names : List Name) → GoesOn now names → (inside : Forest) (mark : Mark) (at : ℕ)
-      → statements_before names listed (statements_in inside) ≡ block_in (make (Node (Repeated Stmt) inside (Leaf mark at Empty)))
+      → statements_before names listed (statements_in (index + statement_count (statements names listed)) inside) ≡ block_in index (make (Node (Repeated Stmt) inside (Leaf mark at Empty)))
   pub end_is : (inside : Forest) (mark : Mark) (at : ℕ) → place_of_mark mark ≡ block_end (make (Node (Repeated Stmt) inside (Leaf mark at Empty)))
 
+-- the index that is free behind none is the first
+none_counted : (index : ℕ) (inside : Forest) → statements_in (index + 0) inside ≡ statements_in index inside
+none_counted index inside = let same : index + 0 ≡ index = omega arith in rw same refl
+
 -- up to the first statement
-pub first_statement : {brace : Lexed} {from here : Spot} {depth : ℕ} {listed : List CodeStmt} (table : List (List ℕ)) → listed ≡ [] → TakesKind (lexeme.Sign punctuator.OpenBrace) brace from here → depth ≤ limit
-    → ReadsBlock depth table table from here listed
-first_statement {brace} {from} {depth = depth} table same takes within = rw same (record {
+pub first_statement : {brace : Lexed} {from here : Spot} {depth : ℕ} {listed : List CodeStmt} (index : ℕ) (table : List (List ℕ)) → listed ≡ [] → TakesKind (lexeme.Sign punctuator.OpenBrace) brace from here → depth ≤ limit
+    → ReadsBlock index depth table table from here listed
+first_statement {brace} {from} {depth = depth} index table same takes within = rw same (record {
   make = λ rest. Leaf (Token brace) depth rest;
   read = over_token (opens (One Block) depth table from _ (block_opened _ depth (fits_next refl takes))) takes refl refl within;
   shorter = omega (arith, token_shorter takes.takes);
-  statements_are = λ names more inside mark at. refl;
+  statements_are = λ names more inside mark at. none_counted index inside;
   end_is = λ inside mark at. refl;
 })
 
+-- one more statement stands in front of those that follow from the next index
+one_more : (names : List Name) (index : ℕ) (listed : List CodeStmt) (stmt : CodeStmt) (found inside : Forest) → statement names stmt ≡ statement_in (index + statement_count (statements names listed)) found
+    → statements_before names (listed ++ stmt ∷ []) (statements_in (index + statement_count (statements names (listed ++ stmt ∷ []))) inside)
+    ≡ statements_before names listed (statements_in (index + statement_count (statements names listed)) (Node (One Stmt) found (Node (Repeated Stmt) inside Empty)))
+one_more names index listed stmt found inside is =
+    let free : index + statement_count (statements names (listed ++ stmt ∷ [])) ≡ index + statement_count (statements names listed) + count_of (statement names stmt) =
+    omega (arith, before_count names listed stmt) in
+    one_statement names listed stmt _
+    ∙ (ap (λ (n : ℕ). statements_before names listed (NextStatement (statement names stmt) (statements_in n inside))) free
+    ∙ ap (λ (tree : Statement). statements_before names listed (NextStatement tree (statements_in (index + statement_count (statements names listed) + count_of tree) inside))) is)
+
 -- and over one more
-pub next_statement : {depth : ℕ} {old now new : List (List ℕ)} {from here to : Spot} {listed longer : List CodeStmt} (stmt : CodeStmt) → longer ≡ listed ++ stmt ∷ []
-    → ReadsBlock depth old now from here listed → begins Stmt (next (left_at here)) ≡ true → FoundAs (One Stmt) depth now new here to (IsStatement stmt) → ReadsBlock depth old new from to longer
-next_statement {depth} {listed = listed} stmt same so begun found = rw same (record {
+pub next_statement : {index depth free : ℕ} {old now new : List (List ℕ)} {from here to : Spot} {listed longer : List CodeStmt} (stmt : CodeStmt) → longer ≡ listed ++ stmt ∷ []
+    → ReadsBlock index depth old now from here listed → begins Stmt (next (left_at here)) ≡ true → ((names : List Name) → free ≡ index + statement_count (statements names listed))
+    → FoundAs (One Stmt) depth now new here to (IsStatement free stmt) → ReadsBlock index depth old new from to longer
+next_statement {index} {depth} {listed = listed} stmt same so begun is_free found = rw same (record {
   make = λ rest. so.make (in_front Stmt found.inside rest);
   read = over_one_more so.read (repeated_opened Stmt _ depth begun) found;
   shorter = omega (arith, so.shorter, found_fewer found);
   statements_are = λ names more inside mark at.
-      one_statement names listed stmt (statements_in inside)
-      ∙ (ap (λ (tree : Statement). statements_before names listed (NextStatement tree (statements_in inside))) (found.is names more)
-      ∙ so.statements_are names (goes_on_further (found_goes_on found) more) (Node (One Stmt) found.inside (Node (Repeated Stmt) inside Empty)) mark at);
+      one_more names index listed stmt found.inside inside (found.is names more ∙ ap (λ (n : ℕ). statement_in n found.inside) (is_free names))
+      ∙ so.statements_are names (goes_on_further (found_goes_on found) more) (Node (One Stmt) found.inside (Node (Repeated Stmt) inside Empty)) mark at;
   end_is = λ inside mark at. so.end_is (Node (One Stmt) found.inside (Node (Repeated Stmt) inside Empty)) mark at;
 })
 
+-- the index that is free behind one more
+pub next_free : {free behind : ℕ} {longer : List CodeStmt} (index : ℕ) (listed : List CodeStmt) (stmt : CodeStmt) → longer ≡ listed ++ stmt ∷ [] → ((names : List Name) → free ≡ index + statement_count (statements names listed))
+    → ((names : List Name) → behind ≡ free + count_of (statement names stmt)) → (names : List Name) → behind ≡ index + statement_count (statements names longer)
+next_free index listed stmt same is_free is_behind names = rw same (omega (arith, is_free names, is_behind names, before_count names listed stmt))
+
 -- where a further statement begins, the block is refused where that is
-pub refused_statement : {depth : ℕ} {old now : List (List ℕ)} {from here : Spot} {listed : List CodeStmt} (error : SourceError) → ReadsBlock depth old now from here listed → begins Stmt (next (left_at here)) ≡ true
+pub refused_statement : {depth : ℕ} {old now : List (List ℕ)} {index : ℕ} {from here : Spot} {listed : List CodeStmt} (error : SourceError) → ReadsBlock index depth old now from here listed → begins Stmt (next (left_at here)) ≡ true
     → IsRefused (Nonterminal (One Stmt) depth) here error → IsRefused (Nonterminal (One Block) depth) from error
 refused_statement {depth} {now = now} {here = here} error so begun refused =
     refused_inside so.read error (refused_inside (opens (Repeated Stmt) depth now here _ (repeated_opened Stmt _ depth begun)) error refused)
@@ -88,18 +114,18 @@ no_statement : (depth : ℕ) (table : List (List ℕ)) (here : Spot) → begins 
 no_statement depth table here ends = nothing_found (Repeated Stmt) depth table here (repeated_ends Stmt _ depth ends)
 
 -- and the block is refused where its "}" is
-pub refused_brace : {depth : ℕ} {old now : List (List ℕ)} {from here : Spot} {listed : List CodeStmt} (error : SourceError) → ReadsBlock depth old now from here listed → begins Stmt (next (left_at here)) ≡ false
+pub refused_brace : {depth : ℕ} {old now : List (List ℕ)} {index : ℕ} {from here : Spot} {listed : List CodeStmt} (error : SourceError) → ReadsBlock index depth old now from here listed → begins Stmt (next (left_at here)) ≡ false
     → IsRefused (Terminal (Sign punctuator.CloseBrace) depth) here error → IsRefused (Nonterminal (One Block) depth) from error
 refused_brace {depth} {now = now} {here = here} error so ends refused = refused_inside (over_part so.read (no_statement depth now here ends)) error refused
 
 -- behind its "}" the block is found
-pub block_found : {brace : Lexed} {depth : ℕ} {old now : List (List ℕ)} {from here end : Spot} (body : Body) → body.end ≡ brace.place → ReadsBlock depth old now from here body.statements.items
+pub block_found : {brace : Lexed} {depth : ℕ} {old now : List (List ℕ)} {index : ℕ} {from here end : Spot} (body : Body) → body.end ≡ brace.place → ReadsBlock index depth old now from here body.statements.items
     → begins Stmt (next (left_at here)) ≡ false → TakesKind (lexeme.Sign punctuator.CloseBrace) brace here end → depth ≤ limit
-    → FoundAs (One Block) depth old now from end (λ names inside. IsBlock names body inside)
-block_found {brace} {depth} {now = now} {here = here} body closed so ends takes within =
+    → FoundAs (One Block) depth old now from end (λ names inside. IsBlock index names body inside)
+block_found {brace} {depth} {now = now} {index} {here = here} body closed so ends takes within =
     let none = no_statement depth now here ends in
     all_read (over_token (over_part so.read none) takes refl refl within) (λ names more. record {
       statements_are = sym (all_statements names body.statements.items)
-          ∙ (sym (ap (λ (inside : Forest). statements_before names body.statements.items (statements_in inside)) (none.is names more)) ∙ so.statements_are names more none.inside (Token brace) depth);
+          ∙ (sym (ap (λ (inside : Forest). statements_before names body.statements.items (statements_in (index + statement_count (statements names body.statements.items)) inside)) (none.is names more)) ∙ so.statements_are names more none.inside (Token brace) depth);
       end_is = closed ∙ so.end_is none.inside (Token brace) depth;
     })

@@ -1,7 +1,7 @@
--- The steps of the readers of declarations, one behind another: which tokens begin one; that only a class has statements to number; and what
--- was read up to a next one, with the trees and the numbers of those that the code has.
+-- The steps of the readers of declarations, one behind another: which tokens begin one; and what was read up to a next
+-- one, with the trees of those that the code has, and the index that is free behind them.
 use Rattle.std.proofs.Common.{◌≡◌, ◌≤◌, ◌<◌, ℕ, ◌+◌, Bool, true, false, List, [], ◌∷◌, ◌++◌, length, map, refl, sym, ap, ◌∙◌, arith}
-use Rattle.std.proofs.lemmas.List.{append-nil}
+use Rattle.std.proofs.lemmas.List.{append-nil, map-append}
 use Rattle.std.specs.List.{list_any}
 use denote.Enum.Bare.{sameb}
 use Rattle.abs_lexer.specs.contracts.lexeme.Keyword.{the_type as keywords}
@@ -10,26 +10,23 @@ use Rattle.abs_lexer.specs.declared.lexeme.Keyword.TheVariants as keyword
 use Rattle.abs_lexer.specs.declared.lexeme.Lexeme.{Lexeme}
 use Rattle.abs_lexer.specs.declared.lexeme.Lexeme.TheVariants as lexeme
 use Rattle.abs_lexer.specs.Tokens.{Lexed}
-use Rattle.abs_tree.specs.Syntax.{DeclTree, ClassTree}
+use Rattle.abs_tree.specs.Syntax.{DeclTree, DataTree, FunctionTree, InterfaceTree, ClassTree}
 use Rattle.abs_tree.specs.SyntaxViews.{decl_tree}
-use Rattle.abs_tree.specs.SourceNumbers.{DeclNumbered, DeclsNumbered}
-use Rattle.abs_tree.specs.declared.place.Place.{Place}
+use Rattle.abs_tree.specs.SyntaxSizes.{decl_statements}
 use Rattle.abs_tree.specs.declared.syntax.declaration.Decl.{Decl as CodeDecl}
-use Rattle.abs_tree.specs.declared.syntax.declaration.Decl.TheVariants as code_decl
 use Rattle.abs_parser.specs.Answers.{GoesOn}
-use Rattle.abs_parser.specs.Kinds.{Mark, Kind, Word, place_of_mark, kind_of, fits, next}
+use Rattle.abs_parser.specs.Kinds.{Mark, next}
 use Rattle.abs_parser.specs.Productions.{Decl, begins, begins_within}
 use Rattle.abs_parser.specs.Readings.{One, Repeated, Wanted, Nonterminal, Forest, Empty, Leaf, Node, Reads, Taken}
-use Rattle.abs_parser.specs.ReaderAnswers.{left_at, asked, wrong_at, TakesKind, FoundAs, IsRefused}
+use Rattle.abs_parser.specs.ReaderAnswers.{left_at, asked, wrong_at, FoundAs, IsRefused}
 use Rattle.abs_parser.specs.Tokens.{Spot, TakesToken}
-use Rattle.abs_parser.specs.TreesOf.{decl_in, decl_by, decls_in}
+use Rattle.abs_parser.specs.TreesOf.{decl_in, decls_in}
 use Rattle.abs_tree.specs.declared.source_error.SourceError.{SourceError}
 use Rattle.abs_tree.specs.declared.source_error.SourceError.TheVariants.{Refused}
 use Rattle.abs_parser.proofs.DeclarationSteps.{one_more, no_part}
 use Rattle.abs_parser.proofs.FirstTokens.{BeginsBy, begins_next, IsOneOf, IsNoneOf, one_passes, none_found}
 use Rattle.abs_parser.proofs.NameLemmas.{goes_on_itself, goes_on_further}
-use Rattle.abs_tree.proofs.NumberLemmas.{numbered_more}
-use Rattle.abs_parser.proofs.PatternSteps.{next_taken, next_end}
+use Rattle.abs_parser.proofs.PatternSteps.{next_end}
 use Rattle.abs_parser.proofs.RepeatSteps.{in_front, over_one_more}
 use Rattle.abs_parser.proofs.StepLemmas.{HasRead, inside_alone, left_whole, opens, over_part, all_read, refused_inside, refused_shut, reads_shorter, left_length, found_goes_on}
 use Rattle.abs_parser.proofs.SymbolLemmas.{part_shut, repeated_opened, repeated_ends}
@@ -87,122 +84,103 @@ pub refused_no_declaration : (from : Spot) (error : SourceError) → error ≡ R
     → IsRefused (Nonterminal (One Decl) 0) from error
 refused_no_declaration from error is none = rw is (refused_shut (One Decl) 0 from (part_shut Decl _ 0 (sym none)))
 
--- a word other than `class` stands next
-pub no_class_next : {token : Lexed} {from behind : Spot} {word : Keyword} (other : Keyword) → TakesToken token from behind → token.kind ≡ lexeme.Word word → word ≡ other
-    → fits (Word keyword.Class) (Word other) ≡ false → fits (Word keyword.Class) (next (left_at from)) ≡ false
-no_class_next {token} {from} {behind} other takes is same differs =
-    let taken : TakesKind (lexeme.Word other) token from behind = record { kind_is = is ∙ ap lexeme.Word same; takes = takes } in
-    ap (fits (Word keyword.Class)) (next_taken taken) ∙ differs
-
 -- One declaration
 
--- this declaration was read, in front of others
-abbrev pub IsDeclaration : CodeDecl → List (List ℕ) → Forest → Type 0
-IsDeclaration decl names inside = (others : List DeclTree) → decl_tree names decl ∷ others ≡ decl_in inside others
-
--- whether a first tree is that of a class
-abbrev class_first : List DeclTree → Bool
-class_first [] = false
-class_first (ClassTree place name params implemented members ∷ others) = true
-class_first (tree ∷ others) = false
-
--- behind a word other than `class` there is none
-no_class_by : (kind : Kind) (place : Place) (inside : Forest) → fits (Word keyword.Class) kind ≡ false → class_first (decl_by kind place inside []) ≡ false
-no_class_by (Word keyword.Data) place (Leaf name _ (Node _ parameters (Leaf equals _ (Node _ first (Node _ more _))))) other = refl
-no_class_by (Word keyword.Def) place (Node _ type (Leaf name _ (Node _ parameters (Leaf opening _ (Node _ params (Leaf closing _ (Leaf equals _ (Node _ expr _)))))))) other = refl
-no_class_by (Word keyword.Interface) place (Leaf name _ (Node _ extended (Leaf opening _ (Node _ signatures _)))) other = refl
-no_class_by (Word keyword.Class) place inside other = absurd cc
-no_class_by _ place inside other = refl
-
--- so it is for what was read
-no_class_read : {items : List Wanted} {ts to : List Mark} {inside : Forest} → Reads items ts inside to → fits (Word keyword.Class) (next ts) ≡ false
-    → class_first (decl_in inside []) ≡ false
-no_class_read {inside = Empty} reads other = refl
-no_class_read {inside = Leaf mark depth behind} (Taken fit reads) other = no_class_by (kind_of mark) (place_of_mark mark) behind other
-no_class_read {inside = Node goal first behind} reads other = refl
-
--- a declaration whose tree is not that of a class has no statements
-no_statements : (names : List (List ℕ)) (number : ℕ) (decl : CodeDecl) → class_first (decl_tree names decl ∷ []) ≡ false → DeclNumbered number decl number
-no_statements names number (code_decl.Data place name parameters constructors) other = refl
-no_statements names number (code_decl.Function place result name parameters params value) other = refl
-no_statements names number (code_decl.Interface place name extended signatures) other = refl
-no_statements names number (code_decl.Class place name params implemented members) other = absurd cc
-
--- so one that was found behind another word than `class` has none
-pub plain_numbered : {from to : Spot} {old new : List (List ℕ)} (number : ℕ) (decl : CodeDecl) → fits (Word keyword.Class) (next (left_at from)) ≡ false
-    → FoundAs (One Decl) 0 old new from to (IsDeclaration decl) → DeclNumbered number decl number
-plain_numbered {new = new} number decl other found =
-    no_statements new number decl (ap class_first (found.is new (goes_on_itself new) []) ∙ no_class_read found.reads other)
+-- this declaration was read from its first index, in front of others
+abbrev pub IsDeclaration : ℕ → CodeDecl → List (List ℕ) → Forest → Type 0
+IsDeclaration index decl names inside = (others : List DeclTree) → decl_tree names decl ∷ others ≡ decl_in index inside others
 
 -- what is read with a tree has a token
-token_read : {items : List Wanted} {ts to : List Mark} {inside : Forest} {tree : DeclTree} → Reads items ts inside to → tree ∷ [] ≡ decl_in inside [] → length to < length ts
-token_read {inside = Empty} reads is = absurd cc
-token_read {inside = Leaf mark depth behind} (Taken fit reads) is = omega (arith, reads_shorter reads)
-token_read {inside = Node goal first behind} reads is = absurd cc
+token_read : {items : List Wanted} {ts to : List Mark} {inside : Forest} {tree : DeclTree} (index : ℕ) → Reads items ts inside to → tree ∷ [] ≡ decl_in index inside [] → length to < length ts
+token_read {inside = Empty} index reads is = absurd cc
+token_read {inside = Leaf mark depth behind} index (Taken fit reads) is = omega (arith, reads_shorter reads)
+token_read {inside = Node goal first behind} index reads is = absurd cc
 
 -- so a declaration leaves fewer tokens than there were
-pub declaration_shorter : {from to : Spot} {old new : List (List ℕ)} (decl : CodeDecl) → FoundAs (One Decl) 0 old new from to (IsDeclaration decl) → length to.rest < length from.rest
-declaration_shorter {from} {to} {new = new} decl found =
-    let less = token_read found.reads (found.is new (goes_on_itself new) []) in
+pub declaration_shorter : {from to : Spot} {old new : List (List ℕ)} (index : ℕ) (decl : CodeDecl) → FoundAs (One Decl) 0 old new from to (IsDeclaration index decl) → length to.rest < length from.rest
+declaration_shorter {from} {to} {new = new} index decl found =
+    let less = token_read index found.reads (found.is new (goes_on_itself new) []) in
     omega (arith, less, left_length from, left_length to)
 
 -- Declarations
 
--- Declarations were read up to here, with the trees and the numbers of those that the code has: what is read as further ones has its trees
--- behind these.
-pub record DeclsSoFar (old now : List (List ℕ)) (number free : ℕ) (from here : Spot) (listed : List CodeDecl) : Type 0 where
+-- Declarations were read up to here from a first index, with the trees of those that the code has and the index that is free behind them:
+-- what is read as further ones has its trees behind these.
+pub record DeclsSoFar (old now : List (List ℕ)) (index free : ℕ) (from here : Spot) (listed : List CodeDecl) : Type 0 where
   pub make : Forest → Forest
   pub read : HasRead (Repeated Decl) 0 old now from make (Nonterminal (Repeated Decl) 0 ∷ []) here
-  pub is : (names : List (List ℕ)) → GoesOn now names → (inside : Forest) → decls_in (make (Node (Repeated Decl) inside Empty)) ≡ map (decl_tree names) listed ++ decls_in inside
-  pub numbered : DeclsNumbered number listed free
-  pub few : free + length here.rest ≤ number + length from.rest
+  pub is : (names : List (List ℕ)) → GoesOn now names → (inside : Forest) → decls_in index (make (Node (Repeated Decl) inside Empty)) ≡ map (decl_tree names) listed ++ decls_in free inside
+  pub is_free : (names : List (List ℕ)) → free ≡ index + decl_statements (map (decl_tree names) listed)
+  pub few : free + length here.rest ≤ index + length from.rest
 
 -- none was at first, as the repeated part is left whole
-none_so_far : (table : List (List ℕ)) (number : ℕ) (from : Spot) → HasRead (Repeated Decl) 0 table table from inside_alone (Nonterminal (Repeated Decl) 0 ∷ []) from
-    → DeclsSoFar table table number number from from []
-none_so_far table number from read = record {
+none_so_far : (table : List (List ℕ)) (index : ℕ) (from : Spot) → HasRead (Repeated Decl) 0 table table from inside_alone (Nonterminal (Repeated Decl) 0 ∷ []) from
+    → DeclsSoFar table table index index from from []
+none_so_far table index from read = record {
   make = inside_alone;
   read = read;
   is = λ names more inside. refl;
-  numbered = refl;
+  is_free = λ names. omega arith;
   few = omega arith;
 }
 
 -- which it is whether a declaration begins there or not
-none_by : (may : Bool) (table : List (List ℕ)) (number : ℕ) (from : Spot) → begins Decl (next (left_at from)) ≡ may → DeclsSoFar table table number number from from []
-none_by true table number from is = none_so_far table number from (left_whole (Repeated Decl) 0 table from _ (repeated_opened Decl _ 0 is))
-none_by false table number from is = none_so_far table number from (left_whole (Repeated Decl) 0 table from _ (repeated_ends Decl _ 0 is))
+none_by : (may : Bool) (table : List (List ℕ)) (index : ℕ) (from : Spot) → begins Decl (next (left_at from)) ≡ may → DeclsSoFar table table index index from from []
+none_by true table index from is = none_so_far table index from (left_whole (Repeated Decl) 0 table from _ (repeated_opened Decl _ 0 is))
+none_by false table index from is = none_so_far table index from (left_whole (Repeated Decl) 0 table from _ (repeated_ends Decl _ 0 is))
 
 -- so at first no declaration was read
-pub no_declaration_yet : (table : List (List ℕ)) (number : ℕ) (from : Spot) {listed : List CodeDecl} → listed ≡ [] → DeclsSoFar table table number number from from listed
-no_declaration_yet table number from none = rw none (none_by (begins Decl (next (left_at from))) table number from refl)
+pub no_declaration_yet : (table : List (List ℕ)) (index : ℕ) (from : Spot) {listed : List CodeDecl} → listed ≡ [] → DeclsSoFar table table index index from from listed
+no_declaration_yet table index from none = rw none (none_by (begins Decl (next (left_at from))) table index from refl)
+
+-- the statements of declarations in front of others are those of both
+decls_counted : (first others : List DeclTree) → decl_statements (first ++ others) ≡ decl_statements first + decl_statements others
+decls_counted [] others = omega arith
+decls_counted (ClassTree place name params implemented members ∷ first) others = omega (arith, decls_counted first others)
+decls_counted (DataTree place name parameters constructors ∷ first) others = decls_counted first others
+decls_counted (FunctionTree place result name parameters params value ∷ first) others = decls_counted first others
+decls_counted (InterfaceTree place name extended signatures ∷ first) others = decls_counted first others
+
+-- those of one more are behind them
+one_declaration_counted : (names : List (List ℕ)) (listed : List CodeDecl) (decl : CodeDecl)
+    → decl_statements (map (decl_tree names) (listed ++ decl ∷ [])) ≡ decl_statements (map (decl_tree names) listed) + decl_statements (decl_tree names decl ∷ [])
+one_declaration_counted names listed decl =
+    ap decl_statements (map-append (decl_tree names) listed (decl ∷ [])) ∙ decls_counted (map (decl_tree names) listed) (decl_tree names decl ∷ [])
+
+-- one more declaration, in front of those that follow from the next index
+declaration_in_turn : (names : List (List ℕ)) (free behind : ℕ) (decl : CodeDecl) (found inside : Forest) → behind ≡ free + decl_statements (decl_tree names decl ∷ [])
+    → ((others : List DeclTree) → decl_tree names decl ∷ others ≡ decl_in free found others)
+    → decls_in free (Node (One Decl) found (Node (Repeated Decl) inside Empty)) ≡ decl_tree names decl ∷ decls_in behind inside
+declaration_in_turn names free behind decl found inside is_behind is =
+    let next : free + decl_statements (decl_in free found []) ≡ behind = ap (λ (trees : List DeclTree). free + decl_statements trees) (sym (is [])) ∙ sym is_behind in
+    sym (is (decls_in (free + decl_statements (decl_in free found [])) inside)) ∙ ap (λ (n : ℕ). decl_tree names decl ∷ decls_in n inside) next
 
 -- over one more declaration
-pub next_declaration : {old now new : List (List ℕ)} {number free behind : ℕ} {from here to : Spot} {listed longer : List CodeDecl} (decl : CodeDecl) → longer ≡ listed ++ decl ∷ []
-    → DeclsSoFar old now number free from here listed → true ≡ begins Decl (next (left_at here)) → FoundAs (One Decl) 0 now new here to (IsDeclaration decl)
-    → DeclNumbered free decl behind → behind + length to.rest ≤ free + length here.rest → DeclsSoFar old new number behind from to longer
-next_declaration {number = number} {free} {behind} {listed = listed} decl same so begun found numbered few = rw same (record {
+pub next_declaration : {old now new : List (List ℕ)} {index free behind : ℕ} {from here to : Spot} {listed longer : List CodeDecl} (decl : CodeDecl) → longer ≡ listed ++ decl ∷ []
+    → DeclsSoFar old now index free from here listed → true ≡ begins Decl (next (left_at here)) → FoundAs (One Decl) 0 now new here to (IsDeclaration free decl)
+    → ((names : List (List ℕ)) → behind ≡ free + decl_statements (decl_tree names decl ∷ [])) → behind + length to.rest ≤ free + length here.rest → DeclsSoFar old new index behind from to longer
+next_declaration {index = index} {free} {behind} {listed = listed} decl same so begun found is_behind few = rw same (record {
   make = λ rest. so.make (in_front Decl found.inside rest);
   read = over_one_more so.read (repeated_opened Decl _ 0 (sym begun)) found;
   is = λ names more inside.
       so.is names (goes_on_further (found_goes_on found) more) (Node (One Decl) found.inside (Node (Repeated Decl) inside Empty))
-      ∙ (ap (λ (trees : List DeclTree). map (decl_tree names) listed ++ trees) (sym (found.is names more (decls_in inside)))
-      ∙ sym (one_more (decl_tree names) listed decl (decls_in inside)));
-  numbered = numbered_more DeclNumbered number listed free decl behind so.numbered numbered;
+      ∙ (ap (λ (trees : List DeclTree). map (decl_tree names) listed ++ trees) (declaration_in_turn names free behind decl found.inside inside (is_behind names) (found.is names more))
+      ∙ sym (one_more (decl_tree names) listed decl (decls_in behind inside)));
+  is_free = λ names. omega (arith, so.is_free names, is_behind names, one_declaration_counted names listed decl);
   few = omega (arith, so.few, few);
 })
 
 -- where one more begins and is refused, all are refused there
-pub refused_declaration : {old now : List (List ℕ)} {number free : ℕ} {from here : Spot} {listed : List CodeDecl} (error : SourceError)
-    → DeclsSoFar old now number free from here listed
+pub refused_declaration : {old now : List (List ℕ)} {index free : ℕ} {from here : Spot} {listed : List CodeDecl} (error : SourceError)
+    → DeclsSoFar old now index free from here listed
     → true ≡ begins Decl (next (left_at here)) → IsRefused (Nonterminal (One Decl) 0) here error → IsRefused (Nonterminal (Repeated Decl) 0) from error
 refused_declaration {now = now} {here = here} error so begun refused =
     refused_inside so.read error (refused_inside (opens (Repeated Decl) 0 now here _ (repeated_opened Decl _ 0 (sym begun))) error refused)
 
 -- where none begins, that is all of them
-pub declarations_found : {old now : List (List ℕ)} {number free : ℕ} {from here : Spot} {listed : List CodeDecl} → DeclsSoFar old now number free from here listed
-    → false ≡ begins Decl (next (left_at here)) → FoundAs (Repeated Decl) 0 old now from here (λ names inside. map (decl_tree names) listed ≡ decls_in inside)
-declarations_found {now = now} {here = here} {listed = listed} so ended =
+pub declarations_found : {old now : List (List ℕ)} {index free : ℕ} {from here : Spot} {listed : List CodeDecl} → DeclsSoFar old now index free from here listed
+    → false ≡ begins Decl (next (left_at here)) → FoundAs (Repeated Decl) 0 old now from here (λ names inside. map (decl_tree names) listed ≡ decls_in index inside)
+declarations_found {now = now} {index} {free} {here = here} {listed = listed} so ended =
     let none = no_part Decl 0 now here (sym ended) in
     all_read (over_part so.read none) (λ names more.
-    sym (so.is names more none.inside ∙ (ap (λ (inside : Forest). map (decl_tree names) listed ++ decls_in inside) (none.is names more) ∙ append-nil (map (decl_tree names) listed))))
+    sym (so.is names more none.inside ∙ (ap (λ (inside : Forest). map (decl_tree names) listed ++ decls_in free inside) (none.is names more) ∙ append-nil (map (decl_tree names) listed))))

@@ -1,11 +1,11 @@
 -- How many variables, and how many fields, declarations and a whole text have by the tokens that were read: no more than leaves, whatever
 -- the forest. Each parameter and each field has its name as a leaf.
-use Rattle.std.proofs.Common.{◌≤◌, ℕ, ◌+◌, List, ◌∷◌, length, arith}
+use Rattle.std.proofs.Common.{◌≤◌, ℕ, ◌+◌, List, [], ◌∷◌, length, arith}
 use Rattle.std.proofs.lemmas.List.Elements.{All-nil}
 use Rattle.std.specs.List.{All}
 use Rattle.abs_tree.specs.declared.place.Place.{Place}
 use Rattle.abs_tree.specs.Syntax.{ParamTree, TypeTree, DeclaredTree, SignatureTree, MemberTree, DeclTree}
-use Rattle.abs_tree.specs.SyntaxSizes.{fields_among, decl_fields, body_sizes, class_sizes}
+use Rattle.abs_tree.specs.SyntaxSizes.{member_statements, decl_statements, fields_among, decl_fields, body_sizes, class_sizes}
 use Rattle.abs_tree.specs.SourceSizes.{signature_params, member_variables, decl_variables, all_variables}
 use Rattle.abs_lexer.specs.declared.lexeme.Keyword.TheVariants as keyword
 use Rattle.abs_parser.specs.Kinds.{Kind, Word, place_of_mark, kind_of}
@@ -52,62 +52,65 @@ signatures_few (Node _ signature (Node _ others _)) = omega (arith, signature_fe
 signatures_few _ = omega arith
 
 -- a member has no more variables than leaves, by what stands behind its name, in front of others
-member_by_few : (type : TypeTree) (name : DeclaredTree) (forest : Forest) (others : List MemberTree)
-    → member_variables (member_by type name forest ∷ others) ≤ leaves forest + member_variables others
-member_by_few type name (Leaf opening _ (Node _ params (Leaf closing _ (Node _ block _)))) others = omega (arith, params_maybe_few params, block_few block)
-member_by_few type name (Leaf equals _ (Node _ expr (Leaf semicolon _ _))) others = omega (arith, expr_few expr)
-member_by_few type name _ others = omega arith
+member_by_few : (index : ℕ) (type : TypeTree) (name : DeclaredTree) (forest : Forest) (others : List MemberTree)
+    → member_variables (member_by index type name forest ∷ others) ≤ leaves forest + member_variables others
+member_by_few index type name (Leaf opening _ (Node _ params (Leaf closing _ (Node _ block _)))) others = omega (arith, params_maybe_few params, block_few index block)
+member_by_few index type name (Leaf equals _ (Node _ expr (Leaf semicolon _ _))) others = omega (arith, expr_few expr)
+member_by_few index type name _ others = omega arith
 
 -- so it is of the whole member
-member_few : (forest : Forest) (others : List MemberTree) → member_variables (member_in forest others) ≤ leaves forest + member_variables others
-member_few (Node _ type (Leaf name _ (Node _ tail _))) others = omega (arith, member_by_few (type_in type) (declared name) tail others)
-member_few _ others = omega arith
+member_few : (index : ℕ) (forest : Forest) (others : List MemberTree) → member_variables (member_in index forest others) ≤ leaves forest + member_variables others
+member_few index (Node _ type (Leaf name _ (Node _ tail _))) others = omega (arith, member_by_few index (type_in type) (declared name) tail others)
+member_few index _ others = omega arith
 
 -- and of all members
-members_few : (forest : Forest) → member_variables (members_in forest) ≤ leaves forest
-members_few (Node _ member (Node _ others _)) = omega (arith, member_few member (members_in others), members_few others)
-members_few _ = omega arith
+members_few : (index : ℕ) (forest : Forest) → member_variables (members_in index forest) ≤ leaves forest
+members_few index (Node _ member (Node _ others _)) = let behind = index + member_statements (member_in index member []) in
+    omega (arith, member_few index member (members_in behind others), members_few behind others)
+members_few index _ = omega arith
 
 -- a member is one field or none, in front of others
-field_by_few : (type : TypeTree) (name : DeclaredTree) (forest : Forest) (others : List MemberTree) → fields_among (member_by type name forest ∷ others) ≤ 1 + fields_among others
-field_by_few type name (Leaf opening _ (Node _ params (Leaf closing _ (Node _ block _)))) others = omega arith
-field_by_few type name (Leaf equals _ (Node _ expr (Leaf semicolon _ _))) others = omega arith
-field_by_few type name _ others = omega arith
+field_by_few : (index : ℕ) (type : TypeTree) (name : DeclaredTree) (forest : Forest) (others : List MemberTree) → fields_among (member_by index type name forest ∷ others) ≤ 1 + fields_among others
+field_by_few index type name (Leaf opening _ (Node _ params (Leaf closing _ (Node _ block _)))) others = omega arith
+field_by_few index type name (Leaf equals _ (Node _ expr (Leaf semicolon _ _))) others = omega arith
+field_by_few index type name _ others = omega arith
 
 -- so it is no more fields than leaves
-field_few : (forest : Forest) (others : List MemberTree) → fields_among (member_in forest others) ≤ leaves forest + fields_among others
-field_few (Node _ type (Leaf name _ (Node _ tail _))) others = omega (arith, field_by_few (type_in type) (declared name) tail others)
-field_few _ others = omega arith
+field_few : (index : ℕ) (forest : Forest) (others : List MemberTree) → fields_among (member_in index forest others) ≤ leaves forest + fields_among others
+field_few index (Node _ type (Leaf name _ (Node _ tail _))) others = omega (arith, field_by_few index (type_in type) (declared name) tail others)
+field_few index _ others = omega arith
 
 -- and so are all members
-fields_few : (forest : Forest) → fields_among (members_in forest) ≤ leaves forest
-fields_few (Node _ member (Node _ others _)) = omega (arith, field_few member (members_in others), fields_few others)
-fields_few _ = omega arith
+fields_few : (index : ℕ) (forest : Forest) → fields_among (members_in index forest) ≤ leaves forest
+fields_few index (Node _ member (Node _ others _)) = let behind = index + member_statements (member_in index member []) in
+    omega (arith, field_few index member (members_in behind others), fields_few behind others)
+fields_few index _ = omega arith
 
 -- a declaration has no more variables than leaves, by its first token, in front of others
-decl_by_few : (kind : Kind) (place : Place) (forest : Forest) (others : List DeclTree)
-    → decl_variables (decl_by kind place forest others) ≤ leaves forest + decl_variables others
-decl_by_few (Word keyword.Data) place (Leaf name _ (Node _ parameters (Leaf equals _ (Node _ first (Node _ more _))))) others = omega arith
-decl_by_few (Word keyword.Def) place (Node _ type (Leaf name _ (Node _ parameters (Leaf opening _ (Node _ params (Leaf closing _ (Leaf equals _ (Node _ expr _)))))))) others =
+decl_by_few : (index : ℕ) (kind : Kind) (place : Place) (forest : Forest) (others : List DeclTree)
+    → decl_variables (decl_by index kind place forest others) ≤ leaves forest + decl_variables others
+decl_by_few index (Word keyword.Data) place (Leaf name _ (Node _ parameters (Leaf equals _ (Node _ first (Node _ more _))))) others = omega arith
+decl_by_few index (Word keyword.Def) place (Node _ type (Leaf name _ (Node _ parameters (Leaf opening _ (Node _ params (Leaf closing _ (Leaf equals _ (Node _ expr _)))))))) others =
     omega (arith, params_maybe_few params, expr_few expr)
-decl_by_few (Word keyword.Interface) place (Leaf name _ (Node _ extended (Leaf opening _ (Node _ signatures _)))) others = omega (arith, signatures_few signatures)
-decl_by_few (Word keyword.Class) place (Leaf name _ (Node _ params (Node _ implemented (Leaf opening _ (Node _ members _))))) others =
-    omega (arith, class_params_few params, members_few members)
-decl_by_few _ place forest others = omega arith
+decl_by_few index (Word keyword.Interface) place (Leaf name _ (Node _ extended (Leaf opening _ (Node _ signatures _)))) others = omega (arith, signatures_few signatures)
+decl_by_few index (Word keyword.Class) place (Leaf name _ (Node _ params (Node _ implemented (Leaf opening _ (Node _ members _))))) others =
+    omega (arith, class_params_few params, members_few index members)
+decl_by_few index _ place forest others = omega arith
 
 -- so it is of the whole declaration
-decl_few : (forest : Forest) (others : List DeclTree) → decl_variables (decl_in forest others) ≤ leaves forest + decl_variables others
-decl_few (Leaf mark _ inside) others = omega (arith, decl_by_few (kind_of mark) (place_of_mark mark) inside others)
-decl_few _ others = omega arith
+decl_few : (index : ℕ) (forest : Forest) (others : List DeclTree) → decl_variables (decl_in index forest others) ≤ leaves forest + decl_variables others
+decl_few index (Leaf mark _ inside) others = omega (arith, decl_by_few index (kind_of mark) (place_of_mark mark) inside others)
+decl_few index _ others = omega arith
 
 -- of all declarations
-decls_few : (forest : Forest) → decl_variables (decls_in forest) ≤ leaves forest
-decls_few (Node _ decl (Node _ more _)) = omega (arith, decl_few decl (decls_in more), decls_few more)
-decls_few _ = omega arith
+decls_few : (index : ℕ) (forest : Forest) → decl_variables (decls_in index forest) ≤ leaves forest
+decls_few index (Node _ decl (Node _ more _)) = let behind = index + decl_statements (decl_in index decl []) in
+    omega (arith, decl_few index decl (decls_in behind more), decls_few behind more)
+decls_few index _ = omega arith
 
 -- and of a program
 text_few : (forest : Forest) → all_variables (text_in forest) ≤ leaves forest
-text_few (Node _ heading (Node _ imported (Node _ decls (Node _ block _)))) = omega (arith, decls_few decls, block_few block)
+text_few (Node _ heading (Node _ imported (Node _ decls (Node _ block _)))) = omega (arith, decls_few 0 decls, block_few (decl_statements (decls_in 0 decls)) block)
 text_few _ = omega arith
 
 -- a text declares no more variables than tokens were read
@@ -120,33 +123,34 @@ pub bodies_of_text : (forest : Forest) → All (λ n. n ≤ leaves forest) (body
 bodies_of_text forest = bodies_within (leaves forest) (tree_of forest) (variables_of_text forest)
 
 -- a class has no more fields than leaves, by the first token of its declaration, in front of others
-class_by_few : (bound : ℕ) (kind : Kind) (place : Place) (forest : Forest) (others : List DeclTree) → leaves forest ≤ bound → All (λ n. n ≤ bound) (decl_fields others)
-    → All (λ n. n ≤ bound) (decl_fields (decl_by kind place forest others))
-class_by_few bound (Word keyword.Data) place (Leaf name _ (Node _ parameters (Leaf equals _ (Node _ first (Node _ more _))))) others few behind = behind
-class_by_few bound (Word keyword.Def) place (Node _ type (Leaf name _ (Node _ parameters (Leaf opening _ (Node _ params (Leaf closing _ (Leaf equals _ (Node _ expr _)))))))) others few behind =
+class_by_few : (index bound : ℕ) (kind : Kind) (place : Place) (forest : Forest) (others : List DeclTree) → leaves forest ≤ bound → All (λ n. n ≤ bound) (decl_fields others)
+    → All (λ n. n ≤ bound) (decl_fields (decl_by index kind place forest others))
+class_by_few index bound (Word keyword.Data) place (Leaf name _ (Node _ parameters (Leaf equals _ (Node _ first (Node _ more _))))) others few behind = behind
+class_by_few index bound (Word keyword.Def) place (Node _ type (Leaf name _ (Node _ parameters (Leaf opening _ (Node _ params (Leaf closing _ (Leaf equals _ (Node _ expr _)))))))) others few behind =
     behind
-class_by_few bound (Word keyword.Interface) place (Leaf name _ (Node _ extended (Leaf opening _ (Node _ signatures _)))) others few behind = behind
-class_by_few bound (Word keyword.Class) place (Leaf name _ (Node _ params (Node _ implemented (Leaf opening _ (Node _ members _))))) others few behind =
-    within_cons bound (length (class_params_maybe params) + fields_among (members_in members)) (decl_fields others)
-    (omega (arith, few, class_params_few params, fields_few members))
+class_by_few index bound (Word keyword.Interface) place (Leaf name _ (Node _ extended (Leaf opening _ (Node _ signatures _)))) others few behind = behind
+class_by_few index bound (Word keyword.Class) place (Leaf name _ (Node _ params (Node _ implemented (Leaf opening _ (Node _ members _))))) others few behind =
+    within_cons bound (length (class_params_maybe params) + fields_among (members_in index members)) (decl_fields others)
+    (omega (arith, few, class_params_few params, fields_few index members))
     behind
-class_by_few bound _ place forest others few behind = behind
+class_by_few index bound _ place forest others few behind = behind
 
 -- so it is of the whole declaration
-class_few : (bound : ℕ) (forest : Forest) (others : List DeclTree) → leaves forest ≤ bound → All (λ n. n ≤ bound) (decl_fields others)
-    → All (λ n. n ≤ bound) (decl_fields (decl_in forest others))
-class_few bound (Leaf mark _ inside) others few behind = class_by_few bound (kind_of mark) (place_of_mark mark) inside others (omega (arith, few)) behind
-class_few bound _ others few behind = behind
+class_few : (index bound : ℕ) (forest : Forest) (others : List DeclTree) → leaves forest ≤ bound → All (λ n. n ≤ bound) (decl_fields others)
+    → All (λ n. n ≤ bound) (decl_fields (decl_in index forest others))
+class_few index bound (Leaf mark _ inside) others few behind = class_by_few index bound (kind_of mark) (place_of_mark mark) inside others (omega (arith, few)) behind
+class_few index bound _ others few behind = behind
 
 -- of all declarations
-classes_few : (bound : ℕ) (forest : Forest) → leaves forest ≤ bound → All (λ n. n ≤ bound) (decl_fields (decls_in forest))
-classes_few bound (Node _ decl (Node _ more _)) few =
-    class_few bound decl (decls_in more) (omega (arith, few)) (classes_few bound more (omega (arith, few)))
-classes_few bound _ few = All-nil _
+classes_few : (index bound : ℕ) (forest : Forest) → leaves forest ≤ bound → All (λ n. n ≤ bound) (decl_fields (decls_in index forest))
+classes_few index bound (Node _ decl (Node _ more _)) few =
+    let behind = index + decl_statements (decl_in index decl []) in
+    class_few index bound decl (decls_in behind more) (omega (arith, few)) (classes_few behind bound more (omega (arith, few)))
+classes_few index bound _ few = All-nil _
 
 -- and of a program
 text_fields_few : (bound : ℕ) (forest : Forest) → leaves forest ≤ bound → All (λ n. n ≤ bound) (class_sizes (text_in forest))
-text_fields_few bound (Node _ heading (Node _ imported (Node _ decls (Node _ block _)))) few = classes_few bound decls (omega (arith, few))
+text_fields_few bound (Node _ heading (Node _ imported (Node _ decls (Node _ block _)))) few = classes_few 0 bound decls (omega (arith, few))
 text_fields_few bound _ few = All-nil _
 
 -- no class of a text has more fields than tokens were read

@@ -2,6 +2,7 @@
 -- closes, with the trees of those that were read so far; and what constructors and data consist of, by the next token, over their tokens
 -- and parts.
 use Rattle.std.proofs.Common.{◌≡◌, ◌≤◌, ℕ, true, false, List, [], ◌∷◌, ◌++◌, map, Some, None, refl, sym, ap, ◌∙◌, append_assoc}
+use Rattle.std.specs.Prelude.{⊤}
 use Rattle.std.proofs.lemmas.List.{append-nil, map-append}
 use Rattle.abs_tree.specs.Names.{with_name, number_of_name}
 use Rattle.abs_tree.specs.declared.place.Place.{Place}
@@ -35,48 +36,55 @@ use Rattle.abs_parser.proofs.WordSteps.{word_read}
 
 -- Parts that repeat up to a token that closes
 
+-- a declaration without statements may have any first index
+abbrev pub AnyIndex : ℕ → Type 0
+AnyIndex index = ⊤
+
 -- The parts of a declaration that repeat up to a token that closes: which symbol they are, which token closes, and the trees of one of them
--- in the code and of those that were read.
+-- in the code and of those that were read, from the index that is free before the declaration and behind those of these trees.
 pub record Parts (Listed Tree : Type 0) : Type 0 where
   pub symbol : Symbol
   pub closing : Lexeme
   pub closing_asked : is_asked closing ≡ true
   pub closing_unnamed : is_name closing ≡ false
   pub tree : List Name → Listed → Tree
-  pub trees_in : Forest → List Tree
-  pub trees_none : trees_in Empty ≡ []
+  pub trees_in : ℕ → List Tree → Forest → List Tree
+  pub trees_none : (index : ℕ) (before : List Tree) → trees_in index before Empty ≡ []
 
 -- What was read of a declaration up to here, with the trees of those of the parts that the code has, and the tree of the whole by them:
--- whatever further parts are read, and the token behind them, complete it.
-pub record ReadsParts {Listed Tree : Type 0} (parts : Parts Listed Tree) (whole : List Name → List Tree → DeclTree) (depth : ℕ) (old now : List (List ℕ)) (from here : Spot) (listed : List Listed) : Type 0 where
+-- whatever further parts are read, and the token behind them, complete it, where the declaration has one of these first indexes.
+pub record ReadsParts {Listed Tree : Type 0} (parts : Parts Listed Tree) (Starts : ℕ → Type 0) (whole : List Name → List Tree → DeclTree) (depth : ℕ) (old now : List (List ℕ)) (from here : Spot) (listed : List Listed) : Type 0 where
   pub make : Forest → Forest
   pub read : HasRead (One Decl) depth old now from make (Nonterminal (Repeated parts.symbol) depth ∷ Terminal (asked parts.closing) depth ∷ []) here
-  pub is : (names : List Name) → GoesOn now names → (inside : Forest) (mark : Mark) (at : ℕ) (others : List DeclTree)
-      → decl_in (make (Node (Repeated parts.symbol) inside (Leaf mark at Empty))) others ≡ whole names (map (parts.tree names) listed ++ parts.trees_in inside) ∷ others
+  pub is : (index : ℕ) → Starts index → (names : List Name) → GoesOn now names → (inside : Forest) (mark : Mark) (at : ℕ) (others : List DeclTree)
+      → decl_in index (make (Node (Repeated parts.symbol) inside (Leaf mark at Empty))) others
+      ≡ whole names (map (parts.tree names) listed ++ parts.trees_in index (map (parts.tree names) listed) inside) ∷ others
 
 -- the tree of one more stands behind those of the others
 pub one_more : {Listed Tree : Type 0} (tree : Listed → Tree) (listed : List Listed) (one : Listed) (behind : List Tree) → map tree (listed ++ one ∷ []) ++ behind ≡ map tree listed ++ tree one ∷ behind
 one_more tree listed one behind = ap (λ trees. trees ++ behind) (map-append tree listed (one ∷ [])) ∙ append_assoc (map tree listed) (tree one ∷ []) behind
 
 -- over one more of the parts
-pub next_part : {Listed Tree : Type 0} {parts : Parts Listed Tree} {whole : List Name → List Tree → DeclTree} {depth : ℕ} {old now new : List (List ℕ)} {from here to : Spot} {listed longer : List Listed}
-    {is_read : List (List ℕ) → Forest → Type 0} (one : Listed) → longer ≡ listed ++ one ∷ [] → ReadsParts parts whole depth old now from here listed → begins parts.symbol (next (left_at here)) ≡ true
+pub next_part : {Listed Tree : Type 0} {parts : Parts Listed Tree} {Starts : ℕ → Type 0} {whole : List Name → List Tree → DeclTree} {depth : ℕ} {old now new : List (List ℕ)} {from here to : Spot} {listed longer : List Listed}
+    {is_read : List (List ℕ) → Forest → Type 0} (one : Listed) → longer ≡ listed ++ one ∷ [] → ReadsParts parts Starts whole depth old now from here listed → begins parts.symbol (next (left_at here)) ≡ true
     → (found : FoundAs (One parts.symbol) depth now new here to is_read)
-    → ((names : List Name) → GoesOn new names → (others : Forest)
-    → parts.tree names one ∷ parts.trees_in others ≡ parts.trees_in (Node (One parts.symbol) found.inside (Node (Repeated parts.symbol) others Empty)))
-    → ReadsParts parts whole depth old new from to longer
-next_part {parts = parts} {whole} {depth} {listed = listed} one same so begun found is = rw same (record {
+    → ((index : ℕ) → Starts index → (names : List Name) → GoesOn new names → (others : Forest)
+    → parts.tree names one ∷ parts.trees_in index (map (parts.tree names) (listed ++ one ∷ [])) others
+    ≡ parts.trees_in index (map (parts.tree names) listed) (Node (One parts.symbol) found.inside (Node (Repeated parts.symbol) others Empty)))
+    → ReadsParts parts Starts whole depth old new from to longer
+next_part {parts = parts} {whole = whole} {depth} {listed = listed} one same so begun found is = rw same (record {
   make = λ rest. so.make (in_front parts.symbol found.inside rest);
   read = over_one_more so.read (repeated_opened parts.symbol _ depth begun) found;
-  is = λ names more inside mark at others.
-      so.is names (goes_on_further (found_goes_on found) more) (Node (One parts.symbol) found.inside (Node (Repeated parts.symbol) inside Empty)) mark at others
+  is = λ index starts names more inside mark at others.
+      so.is index starts names (goes_on_further (found_goes_on found) more) (Node (One parts.symbol) found.inside (Node (Repeated parts.symbol) inside Empty)) mark at others
       ∙ ap (λ trees. whole names trees ∷ others)
-      (ap (λ trees. map (parts.tree names) listed ++ trees) (sym (is names more inside)) ∙ sym (one_more (parts.tree names) listed one (parts.trees_in inside)));
+      (ap (λ trees. map (parts.tree names) listed ++ trees) (sym (is index starts names more inside))
+      ∙ sym (one_more (parts.tree names) listed one (parts.trees_in index (map (parts.tree names) (listed ++ one ∷ [])) inside)));
 })
 
 -- where one more begins, the declaration is refused where that is
-pub refused_part : {Listed Tree : Type 0} {parts : Parts Listed Tree} {whole : List Name → List Tree → DeclTree} {depth : ℕ} {old now : List (List ℕ)} {from here : Spot} {listed : List Listed} (error : SourceError)
-    → ReadsParts parts whole depth old now from here listed → begins parts.symbol (next (left_at here)) ≡ true → IsRefused (Nonterminal (One parts.symbol) depth) here error
+pub refused_part : {Listed Tree : Type 0} {parts : Parts Listed Tree} {Starts : ℕ → Type 0} {whole : List Name → List Tree → DeclTree} {depth : ℕ} {old now : List (List ℕ)} {from here : Spot} {listed : List Listed} (error : SourceError)
+    → ReadsParts parts Starts whole depth old now from here listed → begins parts.symbol (next (left_at here)) ≡ true → IsRefused (Nonterminal (One parts.symbol) depth) here error
     → IsRefused (Nonterminal (One Decl) depth) from error
 refused_part {parts = parts} {depth = depth} {now = now} {here = here} error so begun refused =
     refused_inside so.read error (refused_inside (opens (Repeated parts.symbol) depth now here _ (repeated_opened parts.symbol _ depth begun)) error refused)
@@ -86,21 +94,22 @@ pub no_part : (symbol : Symbol) (depth : ℕ) (table : List (List ℕ)) (here : 
 no_part symbol depth table here ends = nothing_found (Repeated symbol) depth table here (repeated_ends symbol _ depth ends)
 
 -- and the declaration is refused where the token is that closes
-pub refused_closing : {Listed Tree : Type 0} {parts : Parts Listed Tree} {whole : List Name → List Tree → DeclTree} {depth : ℕ} {old now : List (List ℕ)} {from here : Spot} {listed : List Listed} (error : SourceError)
-    → ReadsParts parts whole depth old now from here listed → begins parts.symbol (next (left_at here)) ≡ false → IsRefused (Terminal (asked parts.closing) depth) here error
+pub refused_closing : {Listed Tree : Type 0} {parts : Parts Listed Tree} {Starts : ℕ → Type 0} {whole : List Name → List Tree → DeclTree} {depth : ℕ} {old now : List (List ℕ)} {from here : Spot} {listed : List Listed} (error : SourceError)
+    → ReadsParts parts Starts whole depth old now from here listed → begins parts.symbol (next (left_at here)) ≡ false → IsRefused (Terminal (asked parts.closing) depth) here error
     → IsRefused (Nonterminal (One Decl) depth) from error
 refused_closing {parts = parts} {depth = depth} {now = now} {here = here} error so ends refused = refused_inside (over_part so.read (no_part parts.symbol depth now here ends)) error refused
 
 -- behind the token that closes, the declaration is found
-pub all_parts : {Listed Tree : Type 0} {parts : Parts Listed Tree} {whole : List Name → List Tree → DeclTree} {depth : ℕ} {old now : List (List ℕ)} {from here end : Spot} {token : Lexed} {listed : List Listed}
-    → ReadsParts parts whole depth old now from here listed → begins parts.symbol (next (left_at here)) ≡ false → TakesKind parts.closing token here end → depth ≤ limit
-    → FoundAs (One Decl) depth old now from end (λ names inside. (others : List DeclTree) → whole names (map (parts.tree names) listed) ∷ others ≡ decl_in inside others)
-all_parts {parts = parts} {whole} {depth} {now = now} {here = here} {token = token} {listed} so ends takes within =
+pub all_parts : {Listed Tree : Type 0} {parts : Parts Listed Tree} {Starts : ℕ → Type 0} {whole : List Name → List Tree → DeclTree} {depth : ℕ} {old now : List (List ℕ)} {from here end : Spot} {token : Lexed} {listed : List Listed}
+    → ReadsParts parts Starts whole depth old now from here listed → begins parts.symbol (next (left_at here)) ≡ false → TakesKind parts.closing token here end → depth ≤ limit
+    → FoundAs (One Decl) depth old now from end (λ names inside. (index : ℕ) → Starts index → (others : List DeclTree) → whole names (map (parts.tree names) listed) ∷ others ≡ decl_in index inside others)
+all_parts {parts = parts} {whole = whole} {depth} {now = now} {here = here} {token = token} {listed} so ends takes within =
     let none = no_part parts.symbol depth now here ends in
-    all_read (over_token (over_part so.read none) takes parts.closing_asked parts.closing_unnamed within) (λ names more others.
-    sym (so.is names more none.inside (Token token) depth others ∙ ap (λ trees. whole names trees ∷ others)
-    (ap (λ inside. map (parts.tree names) listed ++ parts.trees_in inside) (none.is names more)
-    ∙ (ap (λ trees. map (parts.tree names) listed ++ trees) parts.trees_none ∙ append-nil (map (parts.tree names) listed)))))
+    all_read (over_token (over_part so.read none) takes parts.closing_asked parts.closing_unnamed within) (λ names more index starts others.
+    let before = map (parts.tree names) listed in
+    sym (so.is index starts names more none.inside (Token token) depth others ∙ ap (λ trees. whole names trees ∷ others)
+    (ap (λ inside. before ++ parts.trees_in index before inside) (none.is names more)
+    ∙ (ap (λ trees. before ++ trees) (parts.trees_none index before) ∙ append-nil (map (parts.tree names) listed)))))
 
 -- The first token of a declaration
 
@@ -112,9 +121,9 @@ pub heading_read : {word : Keyword} {left : List Wanted} {token name : Lexed} {f
 heading_read {depth = depth} {old} is word name named within = over_name (word_read depth old is word within) name refl refl within named
 
 -- the tree of a declaration is the one for its word
-pub by_word : {word : Keyword} {token : Lexed} {from behind : Spot} (depth : ℕ) (inside : Forest) (others : List DeclTree) → TakesKind (lexeme.Word word) token from behind
-    → decl_in (Leaf (Token token) depth inside) others ≡ decl_by (Word word) token.place inside others
-by_word {token = token} depth inside others takes = ap (λ (kind : Lexeme). decl_by (kind_of_lexeme kind token.bytes) token.place inside others) takes.kind_is
+pub by_word : {word : Keyword} {token : Lexed} {from behind : Spot} (index depth : ℕ) (inside : Forest) (others : List DeclTree) → TakesKind (lexeme.Word word) token from behind
+    → decl_in index (Leaf (Token token) depth inside) others ≡ decl_by index (Word word) token.place inside others
+by_word {token = token} index depth inside others takes = ap (λ (kind : Lexeme). decl_by index (kind_of_lexeme kind token.bytes) token.place inside others) takes.kind_is
 
 -- Constructors
 
@@ -155,8 +164,8 @@ constructors_of = record {
   closing_asked = refl;
   closing_unnamed = refl;
   tree = constructor_tree;
-  trees_in = more_constructors;
-  trees_none = refl;
+  trees_in = λ index before. more_constructors;
+  trees_none = λ index before. refl;
 }
 
 -- a further one begins with "|"
@@ -202,30 +211,30 @@ pub first_constructor : {word name equals : Lexed} {from name_at behind equals_a
     → symbol.0 ≡ number_of_name old name.bytes → table ≡ with_name old name.bytes
     → FoundAs (Optional TypeParameters) depth table now behind equals_at (λ names inside. map (declared_tree names) listed ≡ names_maybe inside)
     → TakesKind (lexeme.Sign punctuator.Assign) equals equals_at first_at → FoundAs (One Constructor) depth now new first_at here (IsConstructor first) → depth ≤ limit
-    → ReadsParts constructors_of (data_of word.place (record { place = name.place; name = symbol }) listed) depth old new from here constructors
+    → ReadsParts constructors_of AnyIndex (data_of word.place (record { place = name.place; name = symbol }) listed) depth old new from here constructors
 first_constructor {word} {name} {equals} {depth = depth} {old} symbol listed first same takes takes_name number is parameters takes_equals found within = rw same (record {
   make = λ rest. Leaf (Token word) depth (Leaf (Token name) depth (Node (Optional TypeParameters) parameters.inside (Leaf (Token equals) depth (Node (One Constructor) found.inside rest))));
   read = over_part (data_assigned takes takes_name is parameters takes_equals within) found;
-  is = λ names more inside mark at others.
+  is = λ index starts names more inside mark at others.
       let since = goes_on_further (found_goes_on found) more in
-      by_word depth _ others takes
+      by_word index depth _ others takes
       ∙ data_made word.place others (declared_kept old name symbol number is names (goes_on_further (found_goes_on parameters) since)) (parameters.is names since) (found.is names more (more_constructors inside));
 })
 
 -- and up to one more behind "|"
 pub next_constructor : {whole : List Name → List ConstructorTree → DeclTree} {bar : Lexed} {from here constructor_at to : Spot} {depth : ℕ} {old now new : List (List ℕ)} {constructors longer : List CodeConstructor}
-    (constructor : CodeConstructor) → longer ≡ constructors ++ constructor ∷ [] → ReadsParts constructors_of whole depth old now from here constructors → TakesKind (lexeme.Sign punctuator.Bar) bar here constructor_at
-    → FoundAs (One Constructor) depth now new constructor_at to (IsConstructor constructor) → depth ≤ limit → ReadsParts constructors_of whole depth old new from to longer
+    (constructor : CodeConstructor) → longer ≡ constructors ++ constructor ∷ [] → ReadsParts constructors_of AnyIndex whole depth old now from here constructors → TakesKind (lexeme.Sign punctuator.Bar) bar here constructor_at
+    → FoundAs (One Constructor) depth now new constructor_at to (IsConstructor constructor) → depth ≤ limit → ReadsParts constructors_of AnyIndex whole depth old new from to longer
 next_constructor {bar = bar} {depth = depth} {now = now} {new = new} constructor same so takes found within =
     let next : FoundAs (One NextConstructor) depth now new _ _ (λ names inside. inside ≡ Leaf (Token bar) depth (Node (One Constructor) found.inside Empty)) =
     all_read (over_part (bar_read depth now takes within) found) (λ names more. refl) in
-    next_part constructor same so (next_constructor_begins _ ∙ fits_next refl takes) next (λ names more others.
+    next_part constructor same so (next_constructor_begins _ ∙ fits_next refl takes) next (λ index starts names more others.
     found.is names more (more_constructors others)
     ∙ sym (ap (λ inside. more_constructors (Node (One NextConstructor) inside (Node (Repeated NextConstructor) others Empty))) (next.is names more)))
 
 -- behind "|" data is refused where the constructor is
 pub refused_constructor : {whole : List Name → List ConstructorTree → DeclTree} {bar : Lexed} {from here constructor_at : Spot} {depth : ℕ} {old now : List (List ℕ)} {constructors : List CodeConstructor} (error : SourceError)
-    → ReadsParts constructors_of whole depth old now from here constructors → TakesKind (lexeme.Sign punctuator.Bar) bar here constructor_at → depth ≤ limit
+    → ReadsParts constructors_of AnyIndex whole depth old now from here constructors → TakesKind (lexeme.Sign punctuator.Bar) bar here constructor_at → depth ≤ limit
     → IsRefused (Nonterminal (One Constructor) depth) constructor_at error → IsRefused (Nonterminal (One Decl) depth) from error
 refused_constructor {depth = depth} {now = now} error so takes within refused =
     refused_part error so (next_constructor_begins _ ∙ fits_next refl takes) (refused_inside (bar_read depth now takes within) error refused)

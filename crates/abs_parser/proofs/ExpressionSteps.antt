@@ -3,7 +3,7 @@
 use Rattle.std.proofs.Common.{◌≡◌, ◌≤◌, ℕ, ◌+◌, true, false, List, [], ◌∷◌, Some, None, refl, ap, ◌∙◌}
 use Rattle.abs_tree.specs.Names.{with_name, number_of_name}
 use Rattle.abs_tree.specs.declared.place.Place.{Place}
-use Rattle.abs_tree.specs.Syntax.{Phrase, IfElse, LetIn, Written, TypeTree}
+use Rattle.abs_tree.specs.Syntax.{Phrase, IfElse, LetIn, Unresolved, TypeTree}
 use Rattle.abs_tree.specs.SyntaxViews.{phrase, type_tree}
 use Rattle.abs_tree.specs.declared.symbol.Symbol.{Symbol}
 use Rattle.abs_tree.specs.Trees.{name_of}
@@ -147,9 +147,9 @@ pub goes_on_name : {table : List (List ℕ)} (names : List (List ℕ)) (name : L
 goes_on_name names name is = rw is (goes_on_all names (name ∷ []))
 
 -- the tree of a `let` is made of those of its parts
-let_tree : {type held_type : TypeTree} {name held_name : List ℕ} {value held_value body held_body : Phrase} (place : Place) → held_type ≡ type → held_name ≡ name → held_value ≡ value → held_body ≡ body
-    → LetIn place held_type (Written held_name) held_value held_body ≡ LetIn place type (Written name) value body
-let_tree place type name value body = rw (type, name, value, body) refl
+let_tree : {type held_type : TypeTree} {name held_name : List ℕ} {value held_value body held_body : Phrase} (place name_place : Place) → held_type ≡ type → held_name ≡ name → held_value ≡ value → held_body ≡ body
+    → LetIn place held_type name_place (Unresolved held_name) held_value held_body ≡ LetIn place type name_place (Unresolved name) value body
+let_tree place name_place type name value body = rw (type, name, value, body) refl
 
 -- a `let` with its type, its name, its value and its body is found, each as it is held in memory
 pub let_found : {word paren name close equals in_word : Lexed} {from open_at type_at name_at close_at equals_at value_at in_at body_at end : Spot} {depth : ℕ} {old one two three new : List (List ℕ)}
@@ -161,11 +161,11 @@ pub let_found : {word paren name close equals in_word : Lexed} {from open_at typ
     → FoundAs (One ExprSymbol) (depth + 1) two three value_at in_at (IsExpression value) → TakesKind (lexeme.Word keyword.In) in_word in_at body_at
     → FoundAs (One ExprSymbol) (depth + 1) three new body_at end (IsExpression body) → depth + 1 ≤ limit
     → FoundAs (One ExprSymbol) depth old new from end
-    (λ names inside. LetIn word.place (type_tree names type_term) (Written (name_of names symbol)) (phrase names held_value) (phrase names held_body) ≡ expr_in inside)
+    (λ names inside. LetIn word.place (type_tree names type_term) name.place (Unresolved (name_of names symbol)) (phrase names held_value) (phrase names held_body) ≡ expr_in inside)
 let_found {word = word} {name = name_token} {one = one} type_term symbol held_value held_body same_value same_body takes paren type name number is close equals value in_word body within =
     let named = let_named takes paren type name is within in
     all_read (over_part (let_valued (let_assigned named close equals within) value in_word within) body) (λ names more.
     let behind = goes_on_further (found_goes_on body) more in
     let since = goes_on_further (found_goes_on value) behind in
-    let_tree word.place (type.is names (goes_on_further (goes_on_name one name_token.bytes is) since)) (symbol_kept one symbol number is names since)
+    let_tree word.place name_token.place (type.is names (goes_on_further (goes_on_name one name_token.bytes is) since)) (symbol_kept one symbol number is names since)
     (ap (phrase names) same_value ∙ value.is names behind) (ap (phrase names) same_body ∙ body.is names more))

@@ -43,17 +43,17 @@ use Rattle.abs_parser.proofs.SymbolLemmas.{part_begun, part_shut, optional_left_
 -- The trees
 
 -- a variable or a field, `=` and a right side are an assignment
-assign_tree : (names : List Name) (start : First) (equals : Mark) (at : ℕ) (part : Goal) (side others : Forest)
-    → after_first names start (Leaf equals at (Node part side others)) ≡ AssignOf (place_of_first start) (target_of names start) (rhs_in side)
-assign_tree names (first.Variable place symbol) equals at part side others = refl
-assign_tree names (first.Field place symbol) equals at part side others = refl
+assign_tree : (index : ℕ) (names : List Name) (start : First) (equals : Mark) (at : ℕ) (part : Goal) (side others : Forest)
+    → after_first index names start (Leaf equals at (Node part side others)) ≡ AssignOf index (place_of_first start) (target_of names start) (rhs_in side)
+assign_tree index names (first.Variable place symbol) equals at part side others = refl
+assign_tree index names (first.Field place name_place symbol) equals at part side others = refl
 
 -- with arguments or without, and the rest of a right side, they are that right side
-do_tree : (names : List Name) (start : First) (part last : Goal) (arguments rest others : Forest)
-    → after_first names start (Node part arguments (Node last rest others))
-    ≡ DoOf (place_of_first start) (rest_in (place_of_first start) (phrase_of names start (arguments_maybe arguments)) rest)
-do_tree names (first.Variable place symbol) part last arguments rest others = refl
-do_tree names (first.Field place symbol) part last arguments rest others = refl
+do_tree : (index : ℕ) (names : List Name) (start : First) (part last : Goal) (arguments rest others : Forest)
+    → after_first index names start (Node part arguments (Node last rest others))
+    ≡ DoOf index (place_of_first start) (rest_in (place_of_first start) (phrase_of names start (arguments_maybe arguments)) rest)
+do_tree index names (first.Variable place symbol) part last arguments rest others = refl
+do_tree index names (first.Field place name_place symbol) part last arguments rest others = refl
 
 -- Behind a variable or a field
 
@@ -85,14 +85,14 @@ assign_begins {from = from} depth table equals within =
     over_token (opens (One AfterName) depth table from _ (ap (λ (k : Kind). opened (One AfterName) k depth) (next_taken equals) ∙ assign_opened depth)) equals refl refl within
 
 -- an assignment to a variable or a field is found
-pub assign_found : {equals semicolon : Lexed} {from side_at last end : Spot} {depth : ℕ} {old new : List (List ℕ)} (start : First) (place : Place) (target : Target)
+pub assign_found : {equals semicolon : Lexed} {from side_at last end : Spot} {depth : ℕ} {old new : List (List ℕ)} (index : ℕ) (start : First) (place : Place) (target : Target)
     (side : RightSide) → place ≡ place_of_first start → ((names : List Name) → target_tree names target ≡ target_of names start)
     → TakesKind (lexeme.Sign punctuator.Assign) equals from side_at → FoundAs (One Rhs) depth old new side_at last (λ names inside. side_tree names side ≡ rhs_in inside)
     → TakesKind (lexeme.Sign punctuator.Semicolon) semicolon last end → depth ≤ limit
-    → FoundAs (One AfterName) depth old new from end (λ names inside. AssignOf place (target_tree names target) (side_tree names side) ≡ after_first names start inside)
-assign_found {equals} {semicolon} {depth = depth} {old} start place target side at goes_to assigns found ends within =
+    → FoundAs (One AfterName) depth old new from end (λ names inside. AssignOf index place (target_tree names target) (side_tree names side) ≡ after_first index names start inside)
+assign_found {equals} {semicolon} {depth = depth} {old} index start place target side at goes_to assigns found ends within =
     all_read (over_token {kind = lexeme.Sign punctuator.Semicolon} (over_part (assign_begins depth old assigns within) found) ends refl refl within) (λ names more.
-    rw (at, goes_to names, found.is names more) (sym (assign_tree names start (Token equals) depth (One Rhs) found.inside (Leaf (Token semicolon) depth Empty))))
+    rw (at, goes_to names, found.is names more) (sym (assign_tree index names start (Token equals) depth (One Rhs) found.inside (Leaf (Token semicolon) depth Empty))))
 
 -- What stands behind a variable or a field, and is no `=`, begins with arguments, which may be left out.
 pub after_begins : (depth : ℕ) (table : List (List ℕ)) (from : Spot) → fits (Sign punctuator.Assign) (next (left_at from)) ≡ false
@@ -126,13 +126,13 @@ rest_refused {from} depth error no_equals found refused =
     (refused_there (Nonterminal (One Rest) depth) _ from error same refused))
 
 -- a right side that begins with a variable or a field is found
-pub side_found : {from behind to : Spot} {depth : ℕ} {old now new : List (List ℕ)} (start : First) (place : Place) (given : Option (Vec code_expr.Expr Global))
+pub side_found : {from behind to : Spot} {depth : ℕ} {old now new : List (List ℕ)} (index : ℕ) (start : First) (place : Place) (given : Option (Vec code_expr.Expr Global))
     (expr : code_expr.Expr) (side : RightSide) → fits (Sign punctuator.Assign) (next (left_at from)) ≡ false → place ≡ place_of_first start
     → ((names : List Name) → phrase names expr ≡ phrase_of names start (maybe_phrases names given))
     → FoundAs (Optional Arguments) (depth + 2) old now from behind (λ names inside. maybe_phrases names given ≡ arguments_maybe inside)
     → FoundAs (One Rest) depth now new behind to (λ names inside. side_tree names side ≡ rest_in place (phrase names expr) inside)
-    → FoundAs (One AfterName) depth old new from to (λ names inside. DoOf place (side_tree names side) ≡ after_first names start inside)
-side_found {from} {depth = depth} start place given expr side no_equals at is arguments rest =
+    → FoundAs (One AfterName) depth old new from to (λ names inside. DoOf index place (side_tree names side) ≡ after_first index names start inside)
+side_found {from} {depth = depth} index start place given expr side no_equals at is arguments rest =
     let begun = part_begun Rest _ depth rest.rule_is in
     let so = has_read (over_arguments no_equals arguments) (λ none same.
     let nothing = or_parts (begins Arguments (next (left_at from))) (begins Rest (next (left_at from))) none in
@@ -141,7 +141,7 @@ side_found {from} {depth = depth} start place given expr side no_equals at is ar
     cc) in
     all_read (over_part so rest) (λ names more.
     rw (rest.is names more, is names, arguments.is names (goes_on_further (found_goes_on rest) more), at)
-    (sym (do_tree names start (Optional Arguments) (One Rest) arguments.inside rest.inside Empty)))
+    (sym (do_tree index names start (Optional Arguments) (One Rest) arguments.inside rest.inside Empty)))
 
 -- Statements that begin with a variable
 
@@ -168,28 +168,28 @@ variable_begins {from = from} depth table name within is =
     over_name (opens (One Stmt) depth table from _ (variable_opened _ depth (fits_next {kind = lexeme.LowerName} refl name))) name refl refl within is
 
 -- each kind of lower-case name is a variable in front of what stands behind it
-variable_by : (is_local : Bool) (mark : Mark) (part : Goal) (after others : Forest)
-    → statement_by (cond is_local LocalName LowerName) mark (Node part after others) ≡ after_variable (place_of_mark mark) (written mark) after
-variable_by true mark part after others = refl
-variable_by false mark part after others = refl
+variable_by : (index : ℕ) (is_local : Bool) (mark : Mark) (part : Goal) (after others : Forest)
+    → statement_by index (cond is_local LocalName LowerName) mark (Node part after others) ≡ after_variable index (place_of_mark mark) (written mark) after
+variable_by index true mark part after others = refl
+variable_by index false mark part after others = refl
 
 -- so a lower-case name is one
-variable_tree : (name : Lexed) (at : ℕ) (part : Goal) (after others : Forest) → name.kind ≡ lexeme.LowerName
-    → statement_in (Leaf (Token name) at (Node part after others)) ≡ after_variable name.place name.bytes after
-variable_tree name at part after others is =
-    ap (λ (kind : Lexeme). statement_by (kind_of_lexeme kind name.bytes) (Token name) (Node part after others)) is
-    ∙ variable_by (bytes_eq name.bytes (codes "local")) (Token name) part after others
+variable_tree : (index : ℕ) (name : Lexed) (at : ℕ) (part : Goal) (after others : Forest) → name.kind ≡ lexeme.LowerName
+    → statement_in index (Leaf (Token name) at (Node part after others)) ≡ after_variable index name.place name.bytes after
+variable_tree index name at part after others is =
+    ap (λ (kind : Lexeme). statement_by index (kind_of_lexeme kind name.bytes) (Token name) (Node part after others)) is
+    ∙ variable_by index (bytes_eq name.bytes (codes "local")) (Token name) part after others
 
 -- a statement is found with what stands behind its variable
-pub variable_found : {name : Lexed} {from behind to : Spot} {depth : ℕ} {now new : List (List ℕ)} (old : List (List ℕ)) (symbol : code_symbol.Symbol) (tree : List Name → Statement)
+pub variable_found : {name : Lexed} {from behind to : Spot} {depth : ℕ} {now new : List (List ℕ)} (index : ℕ) (old : List (List ℕ)) (symbol : code_symbol.Symbol) (tree : List Name → Statement)
     → TakesKind lexeme.LowerName name from behind → depth + 1 + 2 ≤ limit → symbol.0 ≡ number_of_name old name.bytes → now ≡ with_name old name.bytes
-    → FoundAs (One AfterName) (depth + 1) now new behind to (λ names inside. tree names ≡ after_variable name.place (name_of names symbol) inside)
-    → FoundAs (One Stmt) depth old new from to (λ names inside. tree names ≡ statement_in inside)
-variable_found {name} {depth = depth} old symbol tree takes within number is found =
+    → FoundAs (One AfterName) (depth + 1) now new behind to (λ names inside. tree names ≡ after_variable index name.place (name_of names symbol) inside)
+    → FoundAs (One Stmt) depth old new from to (λ names inside. tree names ≡ statement_in index inside)
+variable_found {name} {depth = depth} index old symbol tree takes within number is found =
     all_read (over_part (variable_begins depth old takes within is) found) (λ names more.
     found.is names more
-    ∙ (ap (λ (called : Name). after_variable name.place called found.inside) (symbol_kept old symbol number is names (goes_on_further (found_goes_on found) more))
-    ∙ sym (variable_tree name (depth + 1 + 2) (One AfterName) found.inside Empty takes.kind_is)))
+    ∙ (ap (λ (called : Name). after_variable index name.place called found.inside) (symbol_kept old symbol number is names (goes_on_further (found_goes_on found) more))
+    ∙ sym (variable_tree index name (depth + 1 + 2) (One AfterName) found.inside Empty takes.kind_is)))
 
 -- Statements that begin with `this`
 
@@ -230,9 +230,9 @@ unfolding chosen
 alone_shut kind depth no_dot none = rw (no_dot, none) refl
 
 -- the tree of a statement that begins with `this` is that of what stands behind it
-this_tree : (this : Lexed) (at : ℕ) (part : Goal) (after others : Forest) → this.kind ≡ lexeme.Word keyword.This
-    → statement_in (Leaf (Token this) at (Node part after others)) ≡ after_this this.place after
-this_tree this at part after others is = ap (λ (kind : Lexeme). statement_by (kind_of_lexeme kind this.bytes) (Token this) (Node part after others)) is
+this_tree : (index : ℕ) (this : Lexed) (at : ℕ) (part : Goal) (after others : Forest) → this.kind ≡ lexeme.Word keyword.This
+    → statement_in index (Leaf (Token this) at (Node part after others)) ≡ after_this index this.place after
+this_tree index this at part after others is = ap (λ (kind : Lexeme). statement_by index (kind_of_lexeme kind this.bytes) (Token this) (Node part after others)) is
 
 -- where no dot stands behind `this`, the statement is refused where the rest of the right side is
 pub alone_refused : {this : Lexed} {from behind : Spot} (depth : ℕ) (error : SourceError) → TakesKind (lexeme.Word keyword.This) this from behind → depth + 1 + 2 ≤ limit
@@ -242,15 +242,15 @@ alone_refused {behind = behind} depth error this within no_dot refused =
     (refused_in_front Rest (depth + 1) (One AfterThis) (depth + 1) behind error (alone_opened _ (depth + 1) no_dot) (alone_shut _ (depth + 1) no_dot) refused)
 
 -- and found with it
-pub alone_found : {this : Lexed} {from behind to : Spot} {depth : ℕ} {old new : List (List ℕ)} (place : Place) (start : code_expr.Expr) (side : RightSide)
+pub alone_found : {this : Lexed} {from behind to : Spot} {depth : ℕ} {old new : List (List ℕ)} (index : ℕ) (place : Place) (start : code_expr.Expr) (side : RightSide)
     → TakesKind (lexeme.Word keyword.This) this from behind → depth + 1 + 2 ≤ limit → fits (Sign punctuator.Dot) (next (left_at behind)) ≡ false → place ≡ this.place
     → ((names : List Name) → phrase names start ≡ ThisOf place)
     → FoundAs (One Rest) (depth + 1) old new behind to (λ names inside. side_tree names side ≡ rest_in place (phrase names start) inside)
-    → FoundAs (One Stmt) depth old new from to (λ names inside. DoOf place (side_tree names side) ≡ statement_in inside)
-alone_found {this} {behind = behind} {depth = depth} {old} place start side takes within no_dot at is rest =
+    → FoundAs (One Stmt) depth old new from to (λ names inside. DoOf index place (side_tree names side) ≡ statement_in index inside)
+alone_found {this} {behind = behind} {depth = depth} {old} index place start side takes within no_dot at is rest =
     all_read (into_last (this_begins depth old takes within)
     (over_part (opens (One AfterThis) (depth + 1) old behind _ (alone_opened _ (depth + 1) no_dot (part_begun Rest _ (depth + 1) rest.rule_is))) rest)) (λ names more.
-    rw (rest.is names more, is names, at) (sym (this_tree this (depth + 1 + 2) (One AfterThis) (Node (One Rest) rest.inside Empty) Empty takes.kind_is)))
+    rw (rest.is names more, is names, at) (sym (this_tree index this (depth + 1 + 2) (One AfterThis) (Node (One Rest) rest.inside Empty) Empty takes.kind_is)))
 
 -- over `this` and a dot, behind which a name is to stand
 pub field_begins : {this dot : Lexed} {from behind name_at : Spot} (depth : ℕ) (table : List (List ℕ)) → TakesKind (lexeme.Word keyword.This) this from behind
@@ -272,14 +272,14 @@ pub field_named : {this dot name : Lexed} {from behind name_at last : Spot} {nam
 field_named depth table this dot name within is = over_name {kind = lexeme.LowerName} (field_begins depth table this dot within) name refl refl within is
 
 -- a statement is found with what stands behind its field
-pub field_found : {this dot name : Lexed} {from behind name_at last to : Spot} {depth : ℕ} {now new : List (List ℕ)} (old : List (List ℕ)) (symbol : code_symbol.Symbol)
+pub field_found : {this dot name : Lexed} {from behind name_at last to : Spot} {depth : ℕ} {now new : List (List ℕ)} (index : ℕ) (old : List (List ℕ)) (symbol : code_symbol.Symbol)
     (tree : List Name → Statement) → TakesKind (lexeme.Word keyword.This) this from behind → TakesKind (lexeme.Sign punctuator.Dot) dot behind name_at
     → TakesKind lexeme.LowerName name name_at last → depth + 1 + 2 ≤ limit → symbol.0 ≡ number_of_name old name.bytes → now ≡ with_name old name.bytes
-    → FoundAs (One AfterName) (depth + 1) now new last to (λ names inside. tree names ≡ after_field this.place (name_of names symbol) inside)
-    → FoundAs (One Stmt) depth old new from to (λ names inside. tree names ≡ statement_in inside)
-field_found {this} {dot} {name} {depth = depth} old symbol tree takes dotted named within number is found =
+    → FoundAs (One AfterName) (depth + 1) now new last to (λ names inside. tree names ≡ after_field index this.place name.place (name_of names symbol) inside)
+    → FoundAs (One Stmt) depth old new from to (λ names inside. tree names ≡ statement_in index inside)
+field_found {this} {dot} {name} {depth = depth} index old symbol tree takes dotted named within number is found =
     all_read (over_part (field_named depth old takes dotted named within is) found) (λ names more.
     found.is names more
-    ∙ (ap (λ (called : Name). after_field this.place called found.inside) (symbol_kept old symbol number is names (goes_on_further (found_goes_on found) more))
-    ∙ sym (this_tree this (depth + 1 + 2) (One AfterThis) (Leaf (Token dot) (depth + 1 + 2) (Leaf (Token name) (depth + 1 + 2) (Node (One AfterName) found.inside Empty))) Empty
+    ∙ (ap (λ (called : Name). after_field index this.place name.place called found.inside) (symbol_kept old symbol number is names (goes_on_further (found_goes_on found) more))
+    ∙ sym (this_tree index this (depth + 1 + 2) (One AfterThis) (Leaf (Token dot) (depth + 1 + 2) (Leaf (Token name) (depth + 1 + 2) (Node (One AfterName) found.inside Empty))) Empty
     takes.kind_is)))

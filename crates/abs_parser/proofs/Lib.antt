@@ -28,6 +28,7 @@ pub mod InFrontSteps
 pub mod ListSteps
 pub mod ListLemmas
 pub mod OperatorLemmas
+pub mod ClimbingLemmas
 pub mod RepeatSteps
 pub mod FirstPlaceLemmas
 pub mod DeepLemmas
@@ -52,7 +53,7 @@ pub mod RestSteps
 pub mod FirstSteps
 pub mod StatementSteps
 pub mod BlockSteps
-pub mod CountLemmas
+pub mod NumberLemmas
 pub mod WordLemmas
 pub mod WholeSteps
 pub mod LeafPlaces

@@ -2,7 +2,7 @@
 -- its name, and that it is found with what stands behind the name; and the right side behind "=", where there is one.
 use Rattle.std.proofs.Common.{◌≡◌, ◌≤◌, ◌<◌, ℕ, ◌+◌, true, false, List, [], ◌∷◌, Option, Some, refl, sym, ap, ◌∙◌}
 use Rattle.abs_tree.specs.Names.{with_name, number_of_name}
-use Rattle.abs_tree.specs.Syntax.{Name, TypeTree, Written, NoSide, SomeSide, MaybeSide, DeclareOf}
+use Rattle.abs_tree.specs.Syntax.{Name, TypeTree, Unresolved, NoSide, SomeSide, MaybeSide, DeclareOf}
 use Rattle.abs_tree.specs.SyntaxViews.{type_tree, side_tree, maybe_side}
 use Rattle.abs_tree.specs.Trees.{name_of}
 use Rattle.abs_tree.specs.declared.place.Place.{Place}
@@ -91,22 +91,22 @@ pub local_named : {name : Lexed} {from name_at behind : Spot} {depth : ℕ} {old
 local_named fit type name is within = over_name (local_typed fit type) name refl refl within is
 
 -- the tree of a declaration is made of those of its parts
-local_tree : {place held_place : Place} {type held_type : TypeTree} {name held_name : Name} {initial held_initial : MaybeSide} (name_place : Place)
+local_tree : {place held_place : Place} {type held_type : TypeTree} {name held_name : Name} {initial held_initial : MaybeSide} (index : ℕ) (name_place : Place)
     → held_place ≡ place → held_type ≡ type → held_name ≡ name → held_initial ≡ initial
-    → DeclareOf held_place held_type name_place (Written held_name) held_initial ≡ DeclareOf place type name_place (Written name) initial
-local_tree name_place place type name initial = rw (place, type, name, initial) refl
+    → DeclareOf index held_place held_type name_place (Unresolved held_name) held_initial ≡ DeclareOf index place type name_place (Unresolved name) initial
+local_tree index name_place place type name initial = rw (place, type, name, initial) refl
 
 -- a declaration with its type, its name and what stands behind it is found
 pub local_found : {name semicolon : Lexed} {from name_at behind last_at end : Spot} {depth : ℕ} {old now table new : List (List ℕ)} {place : Place}
-    (type_term : TypeTerm) (symbol : NameSymbol) (initial : Option RightSide) → fits UpperName (next (left_at from)) ≡ true → place ≡ place_of from
+    (index : ℕ) (type_term : TypeTerm) (symbol : NameSymbol) (initial : Option RightSide) → fits UpperName (next (left_at from)) ≡ true → place ≡ place_of from
     → FoundAs (One Type') (depth + 1) old now from name_at (λ names inside. type_tree names type_term ≡ type_in inside)
     → TakesKind lexeme.LowerName name name_at behind → symbol.0 ≡ number_of_name now name.bytes → table ≡ with_name now name.bytes
     → FoundAs (Optional Initial) (depth + 1) table new behind last_at (λ names inside. maybe_side names initial ≡ initial_in inside)
     → TakesKind (lexeme.Sign punctuator.Semicolon) semicolon last_at end → depth + 1 ≤ limit
     → FoundAs (One Stmt) depth old new from end
-    (λ names inside. DeclareOf place (type_tree names type_term) name.place (Written (name_of names symbol)) (maybe_side names initial) ≡ statement_in inside)
-local_found {name = name} {now = now} type_term symbol initial fit at type takes number is found semicolon within =
+    (λ names inside. DeclareOf index place (type_tree names type_term) name.place (Unresolved (name_of names symbol)) (maybe_side names initial) ≡ statement_in index inside)
+local_found {name = name} {now = now} index type_term symbol initial fit at type takes number is found semicolon within =
     all_read (over_token (over_part (local_named fit type takes is within) found) semicolon refl refl within) (λ names more.
     let since = goes_on_further (found_goes_on found) more in
-    local_tree name.place (at ∙ sym (first_place_found type)) (type.is names (goes_on_further (goes_on_name now name.bytes is) since))
+    local_tree index name.place (at ∙ sym (first_place_found type)) (type.is names (goes_on_further (goes_on_name now name.bytes is) since))
     (symbol_kept now symbol number is names since) (found.is names more))

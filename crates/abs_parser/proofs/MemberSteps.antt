@@ -83,20 +83,20 @@ pub tail_begun : {sign : Punctuator} {left : List Wanted} {from : Spot} {token :
 tail_begun depth table is takes within = over_token (tail_begins depth table is takes) takes refl refl within
 
 -- `;` is found
-pub field_found : {semicolon : Lexed} {from end : Spot} (depth : ℕ) (table : List (List ℕ)) (type_of : TypeTerm) (name : Declared)
+pub field_found : {semicolon : Lexed} {from end : Spot} (index depth : ℕ) (table : List (List ℕ)) (type_of : TypeTerm) (name : Declared)
     → TakesKind (lexeme.Sign punctuator.Semicolon) semicolon from end → depth ≤ limit
     → FoundAs (One MemberTail) depth table table from end
-    (λ names inside. member_tree names (member.Field type_of name None) ≡ member_by (type_tree names type_of) (declared_tree names name) inside)
-field_found depth table type_of name semicolon within = all_read (tail_begun depth table (field_opened depth) semicolon within) (λ names more. refl)
+    (λ names inside. member_tree names (member.Field type_of name None) ≡ member_by index (type_tree names type_of) (declared_tree names name) inside)
+field_found index depth table type_of name semicolon within = all_read (tail_begun depth table (field_opened depth) semicolon within) (λ names more. refl)
 
 -- `=` with a value, as it is held, is found
 pub field_with_value_found : {equals semicolon : Lexed} {from value_at last_at end : Spot} {depth : ℕ} {old new : List (List ℕ)} {value : CodeExpr}
-    (type_of : TypeTerm) (name : Declared) (held : Arc CodeExpr Global) → held.value ≡ value → TakesKind (lexeme.Sign punctuator.Assign) equals from value_at
+    (index : ℕ) (type_of : TypeTerm) (name : Declared) (held : Arc CodeExpr Global) → held.value ≡ value → TakesKind (lexeme.Sign punctuator.Assign) equals from value_at
     → FoundAs (One Expr) depth old new value_at last_at (λ names inside. phrase names value ≡ expr_in inside)
     → TakesKind (lexeme.Sign punctuator.Semicolon) semicolon last_at end → depth ≤ limit
     → FoundAs (One MemberTail) depth old new from end
-    (λ names inside. member_tree names (member.Field type_of name (Some held)) ≡ member_by (type_tree names type_of) (declared_tree names name) inside)
-field_with_value_found {depth = depth} {old} type_of name held same equals found semicolon within =
+    (λ names inside. member_tree names (member.Field type_of name (Some held)) ≡ member_by index (type_tree names type_of) (declared_tree names name) inside)
+field_with_value_found {depth = depth} {old} index type_of name held same equals found semicolon within =
     all_read (over_token {kind = lexeme.Sign punctuator.Semicolon} (over_part (tail_begun depth old (value_opened depth) equals within) found) semicolon refl refl within) (λ names more.
     ap (λ (phrase : Phrase). FieldTree (type_tree names type_of) (declared_tree names name) (Value phrase)) (ap (phrase names) same ∙ found.is names more))
 
@@ -115,22 +115,22 @@ method_made : {params held_params : List ParamTree} {end held_end : Place} {body
 method_made result name params end body = rw (params, end, body) refl
 
 -- parameters and a block are found
-pub method_found : {opening closing : Lexed} {from inside_at close_at block_at to : Spot} {depth : ℕ} {old now new : List (List ℕ)} (signature : CodeSignature) (body : Body)
+pub method_found : {opening closing : Lexed} {from inside_at close_at block_at to : Spot} {depth : ℕ} {old now new : List (List ℕ)} (index : ℕ) (signature : CodeSignature) (body : Body)
     → TakesKind (lexeme.Sign punctuator.OpenParen) opening from inside_at
     → FoundAs (Optional Params) depth old now inside_at close_at (λ names inside. map (param_tree names) signature.params.items ≡ params_maybe inside)
-    → TakesKind (lexeme.Sign punctuator.CloseParen) closing close_at block_at → FoundAs (One Block) depth now new block_at to (λ names inside. IsBlock names body inside) → depth ≤ limit
+    → TakesKind (lexeme.Sign punctuator.CloseParen) closing close_at block_at → FoundAs (One Block) depth now new block_at to (λ names inside. IsBlock index names body inside) → depth ≤ limit
     → FoundAs (One MemberTail) depth old new from to
-    (λ names inside. member_tree names (member.Method signature body) ≡ member_by (type_tree names signature.result) (declared_tree names signature.name) inside)
-method_found signature body opening params closing block within =
+    (λ names inside. member_tree names (member.Method signature body) ≡ member_by index (type_tree names signature.result) (declared_tree names signature.name) inside)
+method_found index signature body opening params closing block within =
     all_read (over_part (method_read opening params closing within) block) (λ names more.
     let is = block.is names more in
     method_made (type_tree names signature.result) (declared_tree names signature.name) (params.is names (goes_on_further (found_goes_on block) more)) is.end_is is.statements_are)
 
 -- Members
 
--- this member was read
-abbrev pub IsMember : CodeMember → List (List ℕ) → Forest → Type 0
-IsMember one names inside = (others : List MemberTree) → member_tree names one ∷ others ≡ member_in inside others
+-- this member was read, from its first index
+abbrev pub IsMember : ℕ → CodeMember → List (List ℕ) → Forest → Type 0
+IsMember index one names inside = (others : List MemberTree) → member_tree names one ∷ others ≡ member_in index inside others
 
 -- a member begins where a type does
 member_begins : (kind : Kind) → begins Member kind ≡ begins Type' kind
@@ -170,19 +170,19 @@ pub member_named : {name : Lexed} {from name_at behind : Spot} {depth : ℕ} {ol
 member_named type name is within = over_name (member_typed type) name refl refl within is
 
 -- what stands behind the type and the name of a member makes its tree of theirs
-member_made : {type held_type : TypeTree} {name held_name : DeclaredTree} (inside : Forest) (others : List MemberTree) → held_type ≡ type → held_name ≡ name
-    → member_by held_type held_name inside ∷ others ≡ member_by type name inside ∷ others
-member_made inside others type name = rw (type, name) refl
+member_made : {type held_type : TypeTree} {name held_name : DeclaredTree} (index : ℕ) (inside : Forest) (others : List MemberTree) → held_type ≡ type → held_name ≡ name
+    → member_by index held_type held_name inside ∷ others ≡ member_by index type name inside ∷ others
+member_made index inside others type name = rw (type, name) refl
 
 -- a member with its type, its name and what stands behind it is found
-pub member_found : {name : Lexed} {from name_at behind to : Spot} {depth : ℕ} {old now table new : List (List ℕ)} (type_of : TypeTerm) (symbol : NameSymbol) (one : CodeMember)
+pub member_found : {name : Lexed} {from name_at behind to : Spot} {depth : ℕ} {old now table new : List (List ℕ)} (index : ℕ) (type_of : TypeTerm) (symbol : NameSymbol) (one : CodeMember)
     → FoundAs (One Type') depth old now from name_at (λ names inside. type_tree names type_of ≡ type_in inside) → TakesKind lexeme.LowerName name name_at behind
     → symbol.0 ≡ number_of_name now name.bytes → table ≡ with_name now name.bytes → depth ≤ limit
     → FoundAs (One MemberTail) depth table new behind to
-    (λ names inside. member_tree names one ≡ member_by (type_tree names type_of) (declared_tree names (record { place = name.place; name = symbol })) inside)
-    → FoundAs (One Member) depth old new from to (IsMember one)
-member_found {name} {now = now} type_of symbol one type takes number is within tail =
+    (λ names inside. member_tree names one ≡ member_by index (type_tree names type_of) (declared_tree names (record { place = name.place; name = symbol })) inside)
+    → FoundAs (One Member) depth old new from to (IsMember index one)
+member_found {name} {now = now} index type_of symbol one type takes number is within tail =
     all_read (over_part (member_named type takes is within) tail) (λ names more others.
     let since = goes_on_further (found_goes_on tail) more in
     ap (λ tree. tree ∷ others) (tail.is names more)
-    ∙ member_made tail.inside others (type.is names (goes_on_further (goes_on_name _ _ is) since)) (declared_kept now name symbol number is names since))
+    ∙ member_made index tail.inside others (type.is names (goes_on_further (goes_on_name _ _ is) since)) (declared_kept now name symbol number is names since))

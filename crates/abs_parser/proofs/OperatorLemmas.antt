@@ -4,8 +4,8 @@
 use Rattle.std.proofs.Common.{◌≡◌, ◌≤◌, ◌<◌, ℕ, Bool, true, false, cond, List, [], ◌∷◌, ◌++◌, length, Some, None, refl, sym, ap, ◌∙◌, arith}
 use Rattle.std.proofs.lemmas.List.{append-nil}
 use Rattle.std.proofs.lemmas.Bool.{cond-true, cond-false}
-use Rattle.abs_tree.specs.Syntax.{Name, Phrase, Chain, Links, NoLink, Link}
-use Rattle.abs_tree.specs.SyntaxViews.{phrase, links}
+use Rattle.abs_tree.specs.Syntax.{Name, Phrase, OperatorsOf, Operands, NoOperands, NextOperand}
+use Rattle.abs_tree.specs.SyntaxViews.{phrase, operand_trees}
 use Rattle.abs_tree.specs.declared.place.Place.{Place}
 use Rattle.abs_tree.specs.declared.syntax.expression.Expr.{Expr}
 use Rattle.abs_tree.specs.declared.syntax.expression.Operand.{Operand}
@@ -16,13 +16,13 @@ use Rattle.abs_lexer.specs.declared.lexeme.Lexeme.TheVariants as lexeme
 use Rattle.abs_lexer.specs.Tokens.{Lexed}
 use Rattle.abs_parser.specs.Answers.{GoesOn}
 use Rattle.abs_parser.specs.Kinds.{Mark, Token, Kind, Sign, kind_of, kind_of_lexeme, fits, next}
-use Rattle.abs_parser.specs.Levels.{symbol_of, operand_symbol, tail_symbol, repeats, rest_of, level_in, operand_in, links_in, level_of, sign_of}
+use Rattle.abs_parser.specs.Levels.{symbol_of, operand_symbol, tail_symbol, repeats, rest_of, level_in, operand_in, operands_in, level_of, sign_of}
 use Rattle.abs_parser.specs.Productions.{Or, OrTail, And, AndTail, Equal, EqualTail, Compare, CompareTail, Sum, SumTail, Mul, MulTail, begins, chosen, begins_within}
 use Rattle.abs_parser.specs.Readings.{Goal, One, Wanted, Terminal, Nonterminal, opened, Forest, Empty, Leaf, Node}
 use Rattle.abs_parser.specs.ReaderAnswers.{left_at, TakesKind, FoundAs, IsRefused}
 use Rattle.abs_parser.specs.Stops.{limit}
 use Rattle.abs_parser.specs.Tokens.{Spot, place_of}
-use Rattle.abs_parser.specs.TreesOf.{chain, operator_of, place_in}
+use Rattle.abs_parser.specs.TreesOf.{with_operators, operator_of, place_in}
 use Rattle.abs_parser.specs.declared.operators.Level.{Level}
 use Rattle.abs_parser.specs.declared.operators.Level.TheVariants as level
 use Rattle.abs_tree.specs.declared.source_error.SourceError.{SourceError}
@@ -35,18 +35,9 @@ use Rattle.abs_parser.proofs.InFrontSteps.{refused_in_front}
 
 -- where there is an operator, there is a node
 pub node_is : (names : List Name) (place : Place) (first : Phrase) (operands : List Operand) → 0 < length operands
-    → Chain place first (links names operands) ≡ chain place first (links names operands)
+    → OperatorsOf place first (operand_trees names operands) ≡ with_operators place first (operand_trees names operands)
 node_is names place first [] some = absurd (omega arith)
 node_is names place first (operand ∷ others) some = refl
-
--- how many levels stand below one
-abbrev pub rank : Level → ℕ
-rank level.Or = 5
-rank level.And = 4
-rank level.Equal = 3
-rank level.Compare = 2
-rank level.Sum = 1
-rank level.Mul = 0
 
 -- What a level consists of
 
@@ -120,25 +111,25 @@ rest_is_opened level.Mul kind depth = some_of_either (begins MulTail kind) _ _
 -- The trees
 
 -- the tree of a level is that of its first operand with the operators behind it
-level_tree : (level : Level) (part rest : Goal) (first others : Forest) → level_in level (Node part first (Node rest others Empty)) ≡ chain (place_in first) (operand_in level first) (links_in level others)
+level_tree : (level : Level) (part rest : Goal) (first others : Forest) → level_in level (Node part first (Node rest others Empty)) ≡ with_operators (place_in first) (operand_in level first) (operands_in level others)
 level_tree level.Or part rest first others = refl
 level_tree _ part rest first others = refl
 
 -- without anything behind the first operand there is no operator
-no_links : (level : Level) → links_in level Empty ≡ NoLink
+no_links : (level : Level) → operands_in level Empty ≡ NoOperands
 no_links level.Or = refl
 no_links _ = refl
 
 -- an operator and its operand stand in front of further ones
 link_tree : (level : Level) (tail part rest : Goal) (mark : Mark) (depth : ℕ) (right others : Forest) → repeats level ≡ true
-    → links_in level (Node tail (Leaf mark depth (Node part right Empty)) (Node rest others Empty)) ≡ Link (operator_of (kind_of mark)) (operand_in level right) (links_in level others)
+    → operands_in level (Node tail (Leaf mark depth (Node part right Empty)) (Node rest others Empty)) ≡ NextOperand (operator_of (kind_of mark)) (operand_in level right) (operands_in level others)
 link_tree level.Equal tail part rest mark depth right others again = absurd cc
 link_tree level.Compare tail part rest mark depth right others again = absurd cc
 link_tree _ tail part rest mark depth right others again = refl
 
 -- or stand alone
 last_tree : (level : Level) (tail part : Goal) (mark : Mark) (depth : ℕ) (right : Forest) → repeats level ≡ false
-    → links_in level (Node tail (Leaf mark depth (Node part right Empty)) Empty) ≡ Link (operator_of (kind_of mark)) (operand_in level right) NoLink
+    → operands_in level (Node tail (Leaf mark depth (Node part right Empty)) Empty) ≡ NextOperand (operator_of (kind_of mark)) (operand_in level right) NoOperands
 last_tree level.Equal tail part mark depth right once = refl
 last_tree level.Compare tail part mark depth right once = refl
 last_tree _ tail part mark depth right once = absurd cc
@@ -149,20 +140,20 @@ sign_read operator.Or = refl
 sign_read _ = refl
 
 -- the operators and operands that were read, in front of others
-abbrev links_before : List Name → List Operand → Links → Links
+abbrev links_before : List Name → List Operand → Operands → Operands
 links_before names [] behind = behind
-links_before names (operand ∷ others) behind = Link operand.operator (phrase names operand.right) (links_before names others behind)
+links_before names (operand ∷ others) behind = NextOperand operand.operator (phrase names operand.right) (links_before names others behind)
 
 -- in front of those of a list they are those of both
-links_of_both : (names : List Name) (operands more : List Operand) → links_before names operands (links names more) ≡ links names (operands ++ more)
+links_of_both : (names : List Name) (operands more : List Operand) → links_before names operands (operand_trees names more) ≡ operand_trees names (operands ++ more)
 links_of_both names [] more = refl
-links_of_both names (operand ∷ others) more = ap (Link operand.operator (phrase names operand.right)) (links_of_both names others more)
+links_of_both names (operand ∷ others) more = ap (NextOperand operand.operator (phrase names operand.right)) (links_of_both names others more)
 
 -- one more operand stands in front of the others
-one_before : (names : List Name) (operands : List Operand) (operand : Operand) (behind : Links)
-    → links_before names (operands ++ operand ∷ []) behind ≡ links_before names operands (Link operand.operator (phrase names operand.right) behind)
+one_before : (names : List Name) (operands : List Operand) (operand : Operand) (behind : Operands)
+    → links_before names (operands ++ operand ∷ []) behind ≡ links_before names operands (NextOperand operand.operator (phrase names operand.right) behind)
 one_before names [] operand behind = refl
-one_before names (first ∷ others) operand behind = ap (Link first.operator (phrase names first.right)) (one_before names others operand behind)
+one_before names (first ∷ others) operand behind = ap (NextOperand first.operator (phrase names first.right)) (one_before names others operand behind)
 
 -- The steps
 
@@ -194,7 +185,7 @@ pub record OperatorsSoFar (level : Level) (depth : ℕ) (old now : List (List �
   pub make : Forest → Forest
   pub read : HasRead (rest_of level) depth old now from make (Nonterminal (rest_of level) depth ∷ []) here
   pub is : (names : List (List ℕ)) → GoesOn now names → (inside : Forest)
-      → links_in level (make (Node (rest_of level) inside Empty)) ≡ links_before names operands (links_in level inside)
+      → operands_in level (make (Node (rest_of level) inside Empty)) ≡ links_before names operands (operands_in level inside)
 
 -- so far no operator
 pub no_operand_read : (level : Level) (depth : ℕ) (table : List (List ℕ)) (from : Spot) {operands : List Operand} → operands ≡ [] → OperatorsSoFar level depth table table from from operands
@@ -214,8 +205,8 @@ next_operand_refused {level} {depth} {now = now} operator error so is takes with
 -- the link of an operator and its operand, in front of further ones where operators of the level repeat, and alone where they do not
 abbrev IsLink : Level → Operand → List (List ℕ) → Forest → Type 0
 IsLink level operand names inside =
-    (repeats level ≡ true → (others : Forest) → links_in level (Node (One (tail_symbol level)) inside (Node (rest_of level) others Empty)) ≡ Link operand.operator (phrase names operand.right) (links_in level others))
-    × (repeats level ≡ false → links_in level (Node (One (tail_symbol level)) inside Empty) ≡ Link operand.operator (phrase names operand.right) NoLink)
+    (repeats level ≡ true → (others : Forest) → operands_in level (Node (One (tail_symbol level)) inside (Node (rest_of level) others Empty)) ≡ NextOperand operand.operator (phrase names operand.right) (operands_in level others))
+    × (repeats level ≡ false → operands_in level (Node (One (tail_symbol level)) inside Empty) ≡ NextOperand operand.operator (phrase names operand.right) NoOperands)
 
 -- an operator with its operand was read
 operand_found : {level : Level} {depth : ℕ} {now new : List (List ℕ)} {here behind to : Spot} {token : Lexed} (operand : Operand) → level_of operand.operator ≡ level
@@ -224,11 +215,11 @@ operand_found : {level : Level} {depth : ℕ} {now new : List (List ℕ)} {here 
     → FoundAs (One (tail_symbol level)) depth now new here to (IsLink level operand)
 operand_found {level} {depth} {now} {new} {token = token} operand is takes within found =
     let operation : operator_of (kind_of (Token token)) ≡ operand.operator = ap (λ (kind : Lexeme). operator_of (kind_of_lexeme kind token.bytes)) takes.kind_is ∙ sign_read operand.operator in
-    let link = λ (names : List (List ℕ)) (more : GoesOn new names) (others : Links).
-    ap (λ (operator : Operator). Link operator (operand_in level found.inside) others) operation ∙ ap (λ (tree : Phrase). Link operand.operator tree others) (sym (found.is names more)) in
+    let link = λ (names : List (List ℕ)) (more : GoesOn new names) (others : Operands).
+    ap (λ (operator : Operator). NextOperand operator (operand_in level found.inside) others) operation ∙ ap (λ (tree : Phrase). NextOperand operand.operator tree others) (sym (found.is names more)) in
     all_read (over_part (operator_read operand.operator depth now is takes within) found) (λ names more. (
-      λ again others. link_tree level (One (tail_symbol level)) (One (operand_symbol level)) (rest_of level) (Token token) depth found.inside others again ∙ link names more (links_in level others),
-      λ once. last_tree level (One (tail_symbol level)) (One (operand_symbol level)) (Token token) depth found.inside once ∙ link names more NoLink,
+      λ again others. link_tree level (One (tail_symbol level)) (One (operand_symbol level)) (rest_of level) (Token token) depth found.inside others again ∙ link names more (operands_in level others),
+      λ once. last_tree level (One (tail_symbol level)) (One (operand_symbol level)) (Token token) depth found.inside once ∙ link names more NoOperands,
     ))
 
 -- and one more operator with its operand, where operators of the level repeat
@@ -244,26 +235,26 @@ next_operand_read {level} {depth} {now = now} operands operand so is takes withi
       read = into_last so.read (over_part (rest_begins operand.operator depth now _ is takes (cond-true (repeats level) (Nonterminal (rest_of level) depth ∷ []) [] again)) one);
       is = λ names more inside.
           so.is names (goes_on_further (found_goes_on found) more) (tail (Node (rest_of level) inside Empty))
-          ∙ (ap (links_before names operands) ((one.is names more).0 again inside) ∙ sym (one_before names operands operand (links_in level inside)));
+          ∙ (ap (links_before names operands) ((one.is names more).0 again inside) ∙ sym (one_before names operands operand (operands_in level inside)));
     }
 
 -- this is the expression of a first operand and of the operators and operands behind it
 abbrev IsNode : Place → Expr → List Operand → Expr → Type 0
-IsNode place first operands expr = (names : List (List ℕ)) → phrase names expr ≡ chain place (phrase names first) (links names operands)
+IsNode place first operands expr = (names : List (List ℕ)) → phrase names expr ≡ with_operators place (phrase names first) (operand_trees names operands)
 
 -- what stands behind a first operand was read so: with it, it is this expression
-abbrev IsBehind : Level → Place → Expr → Expr → List (List ℕ) → Forest → Type 0
-IsBehind level place first expr names inside = phrase names expr ≡ chain place (phrase names first) (links_in level inside)
+abbrev pub IsBehind : Level → Place → Expr → Expr → List (List ℕ) → Forest → Type 0
+IsBehind level place first expr names inside = phrase names expr ≡ with_operators place (phrase names first) (operands_in level inside)
 
 -- what stands behind a first operand is found with what is read behind the operands so far
 operators_found : {level : Level} {depth : ℕ} {old now new : List (List ℕ)} {from here to : Spot} {items operands : List Operand} (place : Place) (first expr : Expr) (others : List Operand)
-    → OperatorsSoFar level depth old now from here operands → FoundAs (rest_of level) depth now new here to (λ names inside. links_in level inside ≡ links names others)
+    → OperatorsSoFar level depth old now from here operands → FoundAs (rest_of level) depth now new here to (λ names inside. operands_in level inside ≡ operand_trees names others)
     → items ≡ operands ++ others → IsNode place first items expr → FoundAs (rest_of level) depth old new from to (IsBehind level place first expr)
 operators_found {operands = operands} place first expr others so found are is =
     all_read (over_part so.read found) (λ names more.
     is names
-    ∙ ap (chain place (phrase names first))
-    (ap (links names) are ∙ (sym (links_of_both names operands others) ∙ (sym (ap (links_before names operands) (found.is names more)) ∙ sym (so.is names (goes_on_further (found_goes_on found) more) found.inside)))))
+    ∙ ap (with_operators place (phrase names first))
+    (ap (operand_trees names) are ∙ (sym (links_of_both names operands others) ∙ (sym (ap (links_before names operands) (found.is names more)) ∙ sym (so.is names (goes_on_further (found_goes_on found) more) found.inside)))))
 
 -- so it is with one more operator and its operand, where operators of the level do not repeat
 pub last_operand_found : {level : Level} {depth : ℕ} {old now new : List (List ℕ)} {from here behind to : Spot} {items operands : List Operand} {token : Lexed} (place : Place) (first expr : Expr) (operand : Operand)
@@ -296,6 +287,13 @@ pub level_found : {depth : ℕ} {old now new : List (List ℕ)} {from here to : 
 level_found level place first expr found at behind =
     all_read (over_part (first_operand_read level found) behind) (λ names more.
     behind.is names more
-    ∙ (ap (λ (tree : Phrase). chain place tree (links_in level behind.inside)) (found.is names (goes_on_further (found_goes_on behind) more))
-    ∙ (ap (λ (p : Place). chain p (operand_in level found.inside) (links_in level behind.inside)) (at ∙ sym (first_place_found found))
+    ∙ (ap (λ (tree : Phrase). with_operators place tree (operands_in level behind.inside)) (found.is names (goes_on_further (found_goes_on behind) more))
+    ∙ (ap (λ (p : Place). with_operators p (operand_in level found.inside) (operands_in level behind.inside)) (at ∙ sym (first_place_found found))
     ∙ sym (level_tree level (One (operand_symbol level)) (rest_of level) found.inside behind.inside))))
+
+-- where no operator of a level follows, nothing is read behind its first operand
+pub no_operators : {depth : ℕ} {table : List (List ℕ)} {here : Spot} (level : Level) (place : Place) (first : Expr)
+    → ((operator : Operator) → level_of operator ≡ level → fits (Sign (sign_of operator)) (next (left_at here)) ≡ false)
+    → FoundAs (rest_of level) depth table table here here (IsBehind level place first first)
+no_operators {depth} {table} {here} level place first none =
+    all_read (opens (rest_of level) depth table here [] (rest_ends level _ depth none)) (λ names more. sym (ap (with_operators place (phrase names first)) (no_links level)))

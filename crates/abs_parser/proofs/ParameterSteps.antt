@@ -6,10 +6,10 @@ use Rattle.abs_lexer.specs.declared.lexeme.Lexeme.TheVariants as lexeme
 use Rattle.abs_lexer.specs.declared.lexeme.Punctuator.TheVariants as punctuator
 use Rattle.abs_lexer.specs.Tokens.{Lexed}
 use Rattle.abs_tree.specs.Names.{with_name, number_of_name}
-use Rattle.abs_tree.specs.Syntax.{Name, Written, ParamTree, TypeTree}
+use Rattle.abs_tree.specs.Syntax.{Name, Unresolved, ParamTree, TypeTree}
 use Rattle.abs_tree.specs.SyntaxViews.{type_tree, param_tree}
 use Rattle.abs_tree.specs.declared.place.Place.{Place}
-use Rattle.abs_tree.specs.declared.program.Variable.TheVariants as variable
+use Rattle.abs_tree.specs.declared.syntax.variable.Variable.TheVariants as variable
 use Rattle.abs_tree.specs.declared.symbol.Symbol as code_symbol
 use Rattle.abs_tree.specs.declared.syntax.declaration.Param as code_param
 use Rattle.abs_tree.specs.declared.syntax.types.TypeTerm.{TypeTerm}
@@ -50,9 +50,9 @@ param_typed {depth} {old} {from = from} type = over_part (opens (One Param) dept
 
 -- the tree of a parameter is made of that of its type and of its name, whatever others stand behind it
 param_kept : {held_type type : TypeTree} {held_name name : Name} (place : Place) (others : List ParamTree) → held_type ≡ type → held_name ≡ name
-    → record { type_of = held_type; place = place; variable = Written held_name } ∷ others ≡ record { type_of = type; place = place; variable = Written name } ∷ others
+    → record { type_of = held_type; place = place; variable = Unresolved held_name } ∷ others ≡ record { type_of = type; place = place; variable = Unresolved name } ∷ others
 param_kept {held_type} {name = name} place others type_is name_is =
-    let tree : TypeTree → Name → List ParamTree = λ type name. record { type_of = type; place = place; variable = Written name } ∷ others in
+    let tree : TypeTree → Name → List ParamTree = λ type name. record { type_of = type; place = place; variable = Unresolved name } ∷ others in
     ap (tree held_type) name_is ∙ ap (λ (type : TypeTree). tree type name) type_is
 
 -- over its name: that is the parameter
@@ -60,7 +60,7 @@ pub param_found : {name : Lexed} {depth : ℕ} {old now table : List (List ℕ)}
     → FoundAs (One Type') depth old now from name_at (λ names inside. type_tree names type_of ≡ type_in inside)
     → TakesKind lexeme.LowerName name name_at end → symbol.0 ≡ number_of_name now name.bytes → table ≡ with_name now name.bytes → depth ≤ limit
     → FoundAs (One Param) depth old table from end
-    (λ names inside. (others : List ParamTree) → param_tree names (record { type_of = type_of; place = name.place; variable = variable.Named symbol }) ∷ others ≡ param_in inside others)
+    (λ names inside. (others : List ParamTree) → param_tree names (record { type_of = type_of; place = name.place; variable = variable.Unresolved symbol }) ∷ others ≡ param_in inside others)
 param_found {name} {now = now} type_of symbol type takes number is within =
     all_read (over_name (param_typed type) takes refl refl within is) (λ names more others.
     param_kept name.place others (type.is names (goes_on_further (goes_on_name now name.bytes is) more)) (symbol_kept now symbol number is names more))

@@ -7,7 +7,7 @@ use Rattle.abs_lexer.specs.declared.lexeme.Lexeme.{Lexeme}
 use Rattle.abs_lexer.specs.declared.lexeme.Lexeme.TheVariants as lexeme
 use Rattle.abs_lexer.specs.declared.lexeme.Punctuator.TheVariants as punctuator
 use Rattle.abs_lexer.specs.Tokens.{Lexed}
-use Rattle.abs_tree.specs.Syntax.{Written, AnyValue, Binds, SameNumber, SameString, Built}
+use Rattle.abs_tree.specs.Syntax.{Unresolved, AnyValue, Binds, SameNumber, SameString, Built}
 use Rattle.abs_parser.specs.Kinds.{Mark, Token, LowerName, LocalName, UpperName, AbsName, StdLibName, Number, End, place_of_mark, kind_of_lexeme}
 use Rattle.abs_parser.specs.Productions.{Pattern, PatternArguments, begins, chosen, begins_within}
 use Rattle.abs_parser.specs.Readings.{Goal, One, Optional, Wanted, Terminal, Nonterminal, opened, Forest, Empty, Leaf, Node}
@@ -64,12 +64,12 @@ end_shut depth = refl
 -- The trees, by the first token
 
 -- each kind of lower-case name binds a variable
-binds_by : (is_local : Bool) (mark : Mark) (others : Forest) → pattern_by (cond is_local LocalName LowerName) mark others ≡ Binds (place_of_mark mark) (Written (written mark))
+binds_by : (is_local : Bool) (mark : Mark) (others : Forest) → pattern_by (cond is_local LocalName LowerName) mark others ≡ Binds (place_of_mark mark) (Unresolved (written mark))
 binds_by true mark others = refl
 binds_by false mark others = refl
 
 -- a name that begins with a lower-case letter binds a variable
-pub binds_tree : (token : Lexed) (at : ℕ) → token.kind ≡ lexeme.LowerName → pattern_in (Leaf (Token token) at Empty) ≡ Binds token.place (Written token.bytes)
+pub binds_tree : (token : Lexed) (at : ℕ) → token.kind ≡ lexeme.LowerName → pattern_in (Leaf (Token token) at Empty) ≡ Binds token.place (Unresolved token.bytes)
 binds_tree token at is =
     ap (λ (kind : Lexeme). pattern_by (kind_of_lexeme kind token.bytes) (Token token) Empty) is ∙ binds_by (bytes_eq token.bytes (codes "local")) (Token token) Empty
 

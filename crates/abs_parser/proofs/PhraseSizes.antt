@@ -2,13 +2,13 @@
 -- variable has its name as a leaf. So it is of any forest, and of operators behind a first operand, with the variables of that besides.
 use Rattle.std.proofs.Common.{◌≡◌, ◌≤◌, ℕ, ◌+◌, Option, Some, None, refl, arith}
 use Rattle.abs_tree.specs.declared.place.Place.{Place}
-use Rattle.abs_tree.specs.Syntax.{Name, Phrase, Phrases, Links, NoLink, Link, Branches, Tests}
-use Rattle.abs_tree.specs.SyntaxSizes.{pattern_variables, patterns_variables, phrase_variables, phrases_variables, link_variables, branch_variables, side_variables, test_variables}
+use Rattle.abs_tree.specs.Syntax.{Name, Phrase, Phrases, Operands, NoOperands, NextOperand, Branches, Tests}
+use Rattle.abs_tree.specs.SyntaxSizes.{pattern_variables, patterns_variables, phrase_variables, phrases_variables, operand_variables, branch_variables, side_variables, test_variables}
 use Rattle.abs_lexer.specs.declared.lexeme.Keyword.TheVariants as keyword
 use Rattle.abs_lexer.specs.declared.lexeme.Punctuator.TheVariants as punctuator
 use Rattle.abs_parser.specs.Kinds.{Mark, Kind, LowerName, LocalName, UpperName, AbsName, StdLibName, Word, Sign, place_of_mark, kind_of}
 use Rattle.abs_parser.specs.Readings.{Forest, Leaf, Node}
-use Rattle.abs_parser.specs.TreesOf.{written, pattern_in, pattern_by, pattern_arguments, patterns_maybe, patterns_in, more_patterns, place_in, chain, named, member, built, expr_in, or_in, or_links, and_in, and_links, equal_in, equal_link, compare_in, compare_link, sum_in, sum_links, mul_in, mul_links, unary_in, primary_in, primary_by, this_in, arguments_maybe, arguments_in, args_maybe, args_in, more_args, branch_in, branches_in, selected_in, tail_in, rhs_in, rest_in, test_in, more_tests, guard_in}
+use Rattle.abs_parser.specs.TreesOf.{written, pattern_in, pattern_by, pattern_arguments, patterns_maybe, patterns_in, more_patterns, place_in, with_operators, named, member, built, expr_in, or_in, or_operands, and_in, and_operands, equal_in, equal_operand, compare_in, compare_operand, sum_in, sum_operands, mul_in, mul_operands, unary_in, primary_in, primary_by, this_in, arguments_maybe, arguments_in, args_maybe, args_in, more_args, branch_in, branches_in, selected_in, tail_in, rhs_in, rest_in, test_in, more_tests, guard_in}
 use Rattle.abs_parser.proofs.LeafLemmas.{leaves}
 
 mutual
@@ -46,9 +46,9 @@ mutual
   more_patterns_few _ = omega arith
 
 -- operators behind a first operand have the variables of both
-chain_variables : (place : Place) (first : Phrase) (others : Links) → phrase_variables (chain place first others) ≡ phrase_variables first + link_variables others
-chain_variables place first NoLink = omega arith
-chain_variables place first (Link operator right others) = refl
+chain_variables : (place : Place) (first : Phrase) (others : Operands) → phrase_variables (with_operators place first others) ≡ phrase_variables first + operand_variables others
+chain_variables place first NoOperands = omega arith
+chain_variables place first (NextOperand operator right others) = refl
 
 -- the variables of arguments that may be left out
 abbrev pub optional_variables : Option Phrases → ℕ
@@ -61,9 +61,9 @@ named_variables place name None = refl
 named_variables place name (Some arguments) = refl
 
 -- so has one behind "this"
-pub member_variables_are : (place : Place) (name : Name) (arguments : Option Phrases) → phrase_variables (member place name arguments) ≡ optional_variables arguments
-member_variables_are place name None = refl
-member_variables_are place name (Some arguments) = refl
+pub member_variables_are : (place name_place : Place) (name : Name) (arguments : Option Phrases) → phrase_variables (member place name_place name arguments) ≡ optional_variables arguments
+member_variables_are place name_place name None = refl
+member_variables_are place name_place name (Some arguments) = refl
 
 -- and so has a constructor
 built_variables : (place : Place) (name : Name) (arguments : Option Phrases) → phrase_variables (built place name arguments) ≡ optional_variables arguments
@@ -83,66 +83,66 @@ mutual
   -- neither have operands with "||" between them
   or_few : (forest : Forest) → phrase_variables (or_in forest) ≤ leaves forest
   or_few (Node _ first (Node _ others _)) =
-      omega (arith, chain_variables (place_in first) (and_in first) (or_links others), and_few first, or_links_few others)
+      omega (arith, chain_variables (place_in first) (and_in first) (or_operands others), and_few first, or_links_few others)
   or_few _ = omega arith
 
   -- nor those behind the first of them
-  or_links_few : (forest : Forest) → link_variables (or_links forest) ≤ leaves forest
+  or_links_few : (forest : Forest) → operand_variables (or_operands forest) ≤ leaves forest
   or_links_few (Node _ (Leaf mark _ (Node _ right _)) (Node _ others _)) = omega (arith, and_few right, or_links_few others)
   or_links_few _ = omega arith
 
   -- neither have operands with "&&" between them
   and_few : (forest : Forest) → phrase_variables (and_in forest) ≤ leaves forest
   and_few (Node _ first (Node _ others _)) =
-      omega (arith, chain_variables (place_in first) (equal_in first) (and_links others), equal_few first, and_links_few others)
+      omega (arith, chain_variables (place_in first) (equal_in first) (and_operands others), equal_few first, and_links_few others)
   and_few _ = omega arith
 
   -- nor those behind the first of them
-  and_links_few : (forest : Forest) → link_variables (and_links forest) ≤ leaves forest
+  and_links_few : (forest : Forest) → operand_variables (and_operands forest) ≤ leaves forest
   and_links_few (Node _ (Leaf mark _ (Node _ right _)) (Node _ others _)) = omega (arith, equal_few right, and_links_few others)
   and_links_few _ = omega arith
 
   -- neither have operands with "==" or "!=" between them
   equal_few : (forest : Forest) → phrase_variables (equal_in forest) ≤ leaves forest
   equal_few (Node _ first (Node _ other _)) =
-      omega (arith, chain_variables (place_in first) (compare_in first) (equal_link other), compare_few first, equal_link_few other)
+      omega (arith, chain_variables (place_in first) (compare_in first) (equal_operand other), compare_few first, equal_link_few other)
   equal_few _ = omega arith
 
   -- nor the one behind the first of them
-  equal_link_few : (forest : Forest) → link_variables (equal_link forest) ≤ leaves forest
+  equal_link_few : (forest : Forest) → operand_variables (equal_operand forest) ≤ leaves forest
   equal_link_few (Node _ (Leaf mark _ (Node _ right _)) _) = omega (arith, compare_few right)
   equal_link_few _ = omega arith
 
   -- neither have operands that are compared
   compare_few : (forest : Forest) → phrase_variables (compare_in forest) ≤ leaves forest
   compare_few (Node _ first (Node _ other _)) =
-      omega (arith, chain_variables (place_in first) (sum_in first) (compare_link other), sum_few first, compare_link_few other)
+      omega (arith, chain_variables (place_in first) (sum_in first) (compare_operand other), sum_few first, compare_link_few other)
   compare_few _ = omega arith
 
   -- nor the one behind the first of them
-  compare_link_few : (forest : Forest) → link_variables (compare_link forest) ≤ leaves forest
+  compare_link_few : (forest : Forest) → operand_variables (compare_operand forest) ≤ leaves forest
   compare_link_few (Node _ (Leaf mark _ (Node _ right _)) _) = omega (arith, sum_few right)
   compare_link_few _ = omega arith
 
   -- neither have the parts of a sum
   sum_few : (forest : Forest) → phrase_variables (sum_in forest) ≤ leaves forest
   sum_few (Node _ first (Node _ others _)) =
-      omega (arith, chain_variables (place_in first) (mul_in first) (sum_links others), mul_few first, sum_links_few others)
+      omega (arith, chain_variables (place_in first) (mul_in first) (sum_operands others), mul_few first, sum_links_few others)
   sum_few _ = omega arith
 
   -- nor those behind the first of them
-  sum_links_few : (forest : Forest) → link_variables (sum_links forest) ≤ leaves forest
+  sum_links_few : (forest : Forest) → operand_variables (sum_operands forest) ≤ leaves forest
   sum_links_few (Node _ (Leaf mark _ (Node _ right _)) (Node _ others _)) = omega (arith, mul_few right, sum_links_few others)
   sum_links_few _ = omega arith
 
   -- neither have the parts of a product
   mul_few : (forest : Forest) → phrase_variables (mul_in forest) ≤ leaves forest
   mul_few (Node _ first (Node _ others _)) =
-      omega (arith, chain_variables (place_in first) (unary_in first) (mul_links others), unary_few first, mul_links_few others)
+      omega (arith, chain_variables (place_in first) (unary_in first) (mul_operands others), unary_few first, mul_links_few others)
   mul_few _ = omega arith
 
   -- nor those behind the first of them
-  mul_links_few : (forest : Forest) → link_variables (mul_links forest) ≤ leaves forest
+  mul_links_few : (forest : Forest) → operand_variables (mul_operands forest) ≤ leaves forest
   mul_links_few (Node _ (Leaf mark _ (Node _ right _)) (Node _ others _)) = omega (arith, unary_few right, mul_links_few others)
   mul_links_few _ = omega arith
 
@@ -178,7 +178,7 @@ mutual
   -- nor "this" with what stands behind it
   this_few : (place : Place) (forest : Forest) → phrase_variables (this_in place forest) ≤ leaves forest
   this_few place (Node _ (Leaf dot _ (Leaf name _ (Node _ arguments _))) _) =
-      omega (arith, member_variables_are place (written name) (arguments_maybe arguments), arguments_maybe_few arguments)
+      omega (arith, member_variables_are place (place_of_mark name) (written name) (arguments_maybe arguments), arguments_maybe_few arguments)
   this_few place _ = omega arith
 
   -- nor arguments that may be left out
@@ -219,6 +219,7 @@ mutual
 -- an expression with what stands behind "." has no more variables than itself and leaves
 selected_few : (place : Place) (first : Phrase) (forest : Forest) → side_variables (selected_in place first forest) ≤ phrase_variables first + leaves forest
 selected_few place first (Leaf name _ (Node _ arguments _)) = omega (arith, arguments_few arguments)
+selected_few place first (Leaf get _ _) = omega arith
 selected_few place first _ = omega arith
 
 -- so it is of an expression with what stands behind it
@@ -236,26 +237,26 @@ rhs_few _ = omega arith
 -- one from its first operand has no more than this operand and leaves
 pub rest_few : (place : Place) (first : Phrase) (forest : Forest) → side_variables (rest_in place first forest) ≤ phrase_variables first + leaves forest
 rest_few place first (Node _ muls (Node _ sums (Node _ compared (Node _ equal (Node _ ands (Node _ ors (Node _ tail _))))))) =
-    let product = chain place first (mul_links muls) in
-    let sum = chain place product (sum_links sums) in
-    let comparison = chain place sum (compare_link compared) in
-    let equality = chain place comparison (equal_link equal) in
-    let conjunction = chain place equality (and_links ands) in
+    let product = with_operators place first (mul_operands muls) in
+    let sum = with_operators place product (sum_operands sums) in
+    let comparison = with_operators place sum (compare_operand compared) in
+    let equality = with_operators place comparison (equal_operand equal) in
+    let conjunction = with_operators place equality (and_operands ands) in
     omega (
       arith,
-      chain_variables place first (mul_links muls),
+      chain_variables place first (mul_operands muls),
       mul_links_few muls,
-      chain_variables place product (sum_links sums),
+      chain_variables place product (sum_operands sums),
       sum_links_few sums,
-      chain_variables place sum (compare_link compared),
+      chain_variables place sum (compare_operand compared),
       compare_link_few compared,
-      chain_variables place comparison (equal_link equal),
+      chain_variables place comparison (equal_operand equal),
       equal_link_few equal,
-      chain_variables place equality (and_links ands),
+      chain_variables place equality (and_operands ands),
       and_links_few ands,
-      chain_variables place conjunction (or_links ors),
+      chain_variables place conjunction (or_operands ors),
       or_links_few ors,
-      tail_few place (chain place conjunction (or_links ors)) tail,
+      tail_few place (with_operators place conjunction (or_operands ors)) tail,
     )
 rest_few place first _ = omega arith
 

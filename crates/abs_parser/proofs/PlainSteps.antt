@@ -73,9 +73,9 @@ pub plain_begins : {from behind : Spot} {depth : ℕ} {old now : List (List ℕ)
 plain_begins {from} {depth = depth} {old} no_other side = over_part (opens (One Stmt) depth old from _ (plain_opened _ depth no_other (part_begun Rhs _ (depth + 1) side.rule_is))) side
 
 -- the right side with the semicolon behind it is found as a statement
-pub plain_found : {semicolon : Lexed} {from behind to : Spot} {depth : ℕ} {old now : List (List ℕ)} {place : Place} (side : RightSide)
+pub plain_found : {semicolon : Lexed} {from behind to : Spot} {depth : ℕ} {old now : List (List ℕ)} {place : Place} (index : ℕ) (side : RightSide)
     → begins_another (next (left_at from)) ≡ false → place ≡ place_of from → FoundAs (One Rhs) (depth + 1) old now from behind (λ names inside. side_tree names side ≡ rhs_in inside)
     → TakesKind (lexeme.Sign punctuator.Semicolon) semicolon behind to → depth + 1 ≤ limit
-    → FoundAs (One Stmt) depth old now from to (λ names inside. DoOf place (side_tree names side) ≡ statement_in inside)
-plain_found side no_other at found semicolon within =
+    → FoundAs (One Stmt) depth old now from to (λ names inside. DoOf index place (side_tree names side) ≡ statement_in index inside)
+plain_found index side no_other at found semicolon within =
     all_read (over_token (plain_begins no_other found) semicolon refl refl within) (λ names more. rw (at, sym (first_place_found found), found.is names more) refl)

@@ -17,7 +17,6 @@ use Rattle.abs_lexer.specs.declared.lexeme.Punctuator.{Punctuator}
 use Rattle.abs_lexer.specs.declared.lexeme.Punctuator.TheVariants as punctuator
 use Rattle.abs_lexer.specs.Tokens.{Lexed}
 use Rattle.abs_tree.specs.declared.place.Place.{Place}
-use Rattle.abs_tree.specs.declared.program.Variable.TheVariants as variable
 use Rattle.abs_tree.specs.declared.symbol.Symbol.{Symbol}
 use Rattle.abs_tree.specs.declared.syntax.expression.Expr as code_expr
 use Rattle.abs_tree.specs.declared.syntax.expression.Prefix.{Prefix}
@@ -25,7 +24,7 @@ use Rattle.abs_tree.specs.declared.syntax.expression.Prefix.TheVariants as prefi
 use Rattle.abs_tree.specs.Syntax.{Phrase, Phrases, Prefixed, ThisOf, BuildOf}
 use Rattle.abs_tree.specs.SyntaxViews.{phrase, phrases}
 use Rattle.abs_tree.specs.Trees.{name_of}
-use Rattle.abs_tree.proofs.SyntaxLemmas.{phrase-own_call, phrase-apply, phrase-build}
+use Rattle.abs_tree.proofs.SyntaxLemmas.{phrase-build}
 use Rattle.abs_parser.specs.Kinds.{Mark, Token, Kind, kind_of_lexeme, LowerName, LocalName, UpperName, AbsName, StdLibName, Number, Text, Word, Sign, End, place_of_mark, fits}
 use Rattle.abs_parser.specs.Levels.{prefix_sign}
 use Rattle.abs_parser.specs.Productions.{begins, begins_within, chosen, Unary, Primary, ThisTail, Arguments, Expr, Branch}
@@ -244,10 +243,10 @@ built_tree token at arguments is trees =
 
 -- `this`, a dot and a name are a method or a field, by whether there are arguments
 pub member_tree : (this dot name : Lexed) (at : ℕ) (arguments : Forest) {trees : Option Phrases} → this.kind ≡ lexeme.Word keyword.This → trees ≡ arguments_maybe arguments
-    → member this.place name.bytes trees
+    → member this.place name.place name.bytes trees
     ≡ primary_in (Leaf (Token this) at (Node (Optional ThisTail) (Node (One ThisTail) (Leaf (Token dot) at (Leaf (Token name) at (Node (Optional Arguments) arguments Empty))) Empty) Empty))
 member_tree this dot name at arguments is trees =
-    ap (member this.place name.bytes) trees
+    ap (member this.place name.place name.bytes) trees
     ∙ sym (tree_by this at (Node (Optional ThisTail) (Node (One ThisTail) (Leaf (Token dot) at (Leaf (Token name) at (Node (Optional Arguments) arguments Empty))) Empty) Empty) is)
 
 -- without a dot `this` stands for itself
@@ -271,26 +270,6 @@ pub prefixed_tree : (operation : Prefix) (token : Lexed) (at : ℕ) (operand : F
 prefixed_tree operation token at operand is trees =
     ap (Prefixed token.place operation) trees
     ∙ ap (λ (told : Prefix). Prefixed token.place told (unary_in operand)) (sym (ap (λ (kind : Lexeme). prefix_of (kind_of_lexeme kind token.bytes)) is ∙ prefix_told operation))
-
--- a function with arguments is a name with arguments that are there
-pub apply_phrase : (names : List (List ℕ)) (place : Place) (symbol : Symbol) (arguments : Vec code_expr.Expr Global) {given : Option (Vec code_expr.Expr Global)} {name : List ℕ}
-    → given ≡ Some arguments → name_of names symbol ≡ name → phrase names (code_expr.Apply place symbol arguments) ≡ named place name (maybe_phrases names given)
-apply_phrase names place symbol arguments there is = rw (there, sym is) (phrase-apply names place symbol arguments)
-
--- a variable is a name without any
-pub local_phrase : (names : List (List ℕ)) (place : Place) (symbol : Symbol) {given : Option (Vec code_expr.Expr Global)} {name : List ℕ}
-    → given ≡ None → name_of names symbol ≡ name → phrase names (code_expr.Local place (variable.Named symbol)) ≡ named place name (maybe_phrases names given)
-local_phrase names place symbol none is = rw (none, sym is) refl
-
--- a call on `this` is a member with arguments that are there
-pub call_phrase : (names : List (List ℕ)) (place : Place) (symbol : Symbol) (arguments : Vec code_expr.Expr Global) {given : Option (Vec code_expr.Expr Global)} {name : List ℕ}
-    → given ≡ Some arguments → name_of names symbol ≡ name → phrase names (code_expr.OwnCall place symbol arguments) ≡ member place name (maybe_phrases names given)
-call_phrase names place symbol arguments there is = rw (there, sym is) (phrase-own_call names place symbol arguments)
-
--- a field is a member without any
-pub field_phrase : (names : List (List ℕ)) (place : Place) (symbol : Symbol) {given : Option (Vec code_expr.Expr Global)} {name : List ℕ}
-    → given ≡ None → name_of names symbol ≡ name → phrase names (code_expr.Field place symbol) ≡ member place name (maybe_phrases names given)
-field_phrase names place symbol none is = rw (none, sym is) refl
 
 -- a constructor has the arguments that are there
 pub build_phrase : (names : List (List ℕ)) (place : Place) (symbol : Symbol) (arguments : Vec code_expr.Expr Global) {given : Option (Vec code_expr.Expr Global)} {name : List ℕ}

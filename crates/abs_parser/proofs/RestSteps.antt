@@ -13,14 +13,14 @@ use Rattle.abs_lexer.specs.declared.lexeme.Lexeme.TheVariants as lexeme
 use Rattle.abs_lexer.specs.declared.lexeme.Punctuator.TheVariants as punctuator
 use Rattle.abs_lexer.specs.Tokens.{Lexed}
 use Rattle.abs_parser.specs.Kinds.{Mark, Token, Kind, Sign, fits, next}
-use Rattle.abs_parser.specs.Levels.{rest_of, links_in}
+use Rattle.abs_parser.specs.Levels.{rest_of, operands_in}
 use Rattle.abs_parser.specs.Productions.{Rest, MulTail, SumTail, CompareTail, EqualTail, AndTail, OrTail, RhsTail, begins}
 use Rattle.abs_parser.specs.Readings.{Goal, One, Optional, Wanted, Terminal, Nonterminal, opened, Forest, Leaf, Node, Reads, Nothing, Taken, Opened}
 use Rattle.abs_parser.specs.Refusing.{Refuses, Shut, Open, Cut}
 use Rattle.abs_parser.specs.ReaderAnswers.{left_at, TakesKind, FoundAs, RefusedAs, IsRefused}
 use Rattle.abs_parser.specs.Stops.{limit}
 use Rattle.abs_parser.specs.Tokens.{Spot}
-use Rattle.abs_parser.specs.TreesOf.{chain, tail_in, rest_in}
+use Rattle.abs_parser.specs.TreesOf.{with_operators, tail_in, rest_in}
 use Rattle.abs_parser.specs.declared.operators.Level.{Level}
 use Rattle.abs_parser.specs.declared.operators.Level.TheVariants as level
 use Rattle.abs_tree.specs.declared.source_error.SourceError.{SourceError}
@@ -226,7 +226,7 @@ semicolon_read so semicolon within =
 -- the operators of a level were found behind an operand, which is this expression with them
 abbrev pub LevelFound : Level → ℕ → List (List ℕ) → List (List ℕ) → Spot → Spot → Place → Expr → Expr → Type 0
 LevelFound level depth old new from to place first expr =
-    FoundAs (rest_of level) (depth + 1) old new from to (λ names inside. phrase names expr ≡ chain place (phrase names first) (links_in level inside))
+    FoundAs (rest_of level) (depth + 1) old new from to (λ names inside. phrase names expr ≡ with_operators place (phrase names first) (operands_in level inside))
 
 -- what stands behind a first operand is found with the operators of each level, what may stand behind them, and `;`
 pub rest_found : {token : Lexed} {depth : ℕ} {old a b c d e f new : List (List ℕ)} {from at_sum at_compare at_equal at_and at_or at_tail at_end end : Spot} {place : Place}

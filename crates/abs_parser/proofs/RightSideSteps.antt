@@ -30,7 +30,7 @@ use Rattle.abs_parser.proofs.FirstPlaceLemmas.{first_place_found}
 use Rattle.abs_parser.proofs.InFrontSteps.{refused_in_front}
 use Rattle.abs_parser.proofs.NameLemmas.{goes_on_itself, goes_on_further}
 use Rattle.abs_parser.proofs.PatternSteps.{next_taken}
-use Rattle.abs_parser.proofs.StepLemmas.{HasRead, opens, over_token, over_name, over_fixed, over_part, into_last, all_read, refused_other, fits_next, next_fixed, found_goes_on, symbol_kept}
+use Rattle.abs_parser.proofs.StepLemmas.{HasRead, opens, over_token, over_name, over_fixed, over_part, into_last, all_read, refused_other, fits_next, next_fixed, found_goes_on, found_weaker, symbol_kept}
 use Rattle.abs_parser.proofs.SymbolLemmas.{part_begun, optional_opened, optional_left_out}
 
 -- what was read of a symbol is what was read of one that may be left out
@@ -38,16 +38,21 @@ pub maybe_read : {symbol : Symbol} {depth : ℕ} {old now : List (List ℕ)} {fr
     → HasRead (Optional symbol) depth old now from (λ rest. Node (One symbol) (make rest) Empty) left here
 maybe_read {symbol} {depth} {old} {from = from} so = into_last (opens (Optional symbol) depth old from _ (optional_opened symbol _ depth (part_begun symbol _ depth so.rule_is))) so
 
--- A name and arguments behind it, each as it is held, complete a part whose tree is made of them.
-pub named_call_found : {goal : Goal} {depth at : ℕ} {old table new : List (List ℕ)} {from here to : Spot} {make : Forest → Forest} {name : List ℕ} {arguments : Vec code_expr.Expr Global}
-    (now : List (List ℕ)) (symbol : code_symbol.Symbol) (held : Vec code_expr.Expr Global) (made : List Name → Name → Phrases → SideTree) (in_tree : List Name → Forest → SideTree)
-    → HasRead goal depth old table from make (Nonterminal (One Arguments) at ∷ []) here → symbol.0 ≡ number_of_name now name → table ≡ with_name now name → held ≡ arguments
+-- A name and arguments behind it complete a part whose tree is made of them.
+pub named_call_found : {goal : Goal} {depth at : ℕ} {old table new : List (List ℕ)} {from here to : Spot} {make : Forest → Forest} {name : List ℕ}
+    (now : List (List ℕ)) (symbol : code_symbol.Symbol) (arguments : Vec code_expr.Expr Global) (made : List Name → Name → Phrases → SideTree) (in_tree : List Name → Forest → SideTree)
+    → HasRead goal depth old table from make (Nonterminal (One Arguments) at ∷ []) here → symbol.0 ≡ number_of_name now name → table ≡ with_name now name
     → FoundAs (One Arguments) at table new here to (λ names inside. phrases names arguments.items ≡ arguments_in inside)
     → ((names : List Name) (inside : Forest) → made names name (arguments_in inside) ≡ in_tree names (make (Node (One Arguments) inside Empty)))
-    → FoundAs goal depth old new from to (λ names inside. made names (name_of names symbol) (phrases names held.items) ≡ in_tree names inside)
-named_call_found now symbol held made in_tree so number is same found made_is =
+    → FoundAs goal depth old new from to (λ names inside. made names (name_of names symbol) (phrases names arguments.items) ≡ in_tree names inside)
+named_call_found now symbol arguments made in_tree so number is found made_is =
     all_read (over_part so found) (λ names more.
-    rw (same, symbol_kept now symbol number is names (goes_on_further (found_goes_on found) more), found.is names more) (made_is names found.inside))
+    rw (symbol_kept now symbol number is names (goes_on_further (found_goes_on found) more), found.is names more) (made_is names found.inside))
+
+-- what was found with a tree is found with one that is equal to it
+pub found_same : {goal : Goal} {depth : ℕ} {old new : List (List ℕ)} {from to : Spot} {tree in_tree : List Name → SideTree} {read : List Name → Forest → SideTree} → ((names : List Name) → in_tree names ≡ tree names)
+    → FoundAs goal depth old new from to (λ names inside. tree names ≡ read names inside) → FoundAs goal depth old new from to (λ names inside. in_tree names ≡ read names inside)
+found_same same found = found_weaker found (λ names more is. same names ∙ is)
 
 -- Behind a dot
 
@@ -70,7 +75,7 @@ selected_shut kind depth no_get no_name = rw (no_get, no_name) refl
 
 -- `get` is found
 pub get_found : {get : Lexed} {from end : Spot} (depth : ℕ) (table : List (List ℕ)) (place : Place) (first : code_expr.Expr) → TakesKind (lexeme.Word keyword.Get) get from end → depth ≤ limit
-    → FoundAs (One Selected) depth table table from end (λ names inside. GetOf place (phrase names first) ≡ selected_in place (phrase names first) inside)
+    → FoundAs (One Selected) depth table table from end (λ names inside. GetOf place get.place (phrase names first) ≡ selected_in place (phrase names first) inside)
 get_found {from = from} depth table place first get within =
     all_read (over_token (opens (One Selected) depth table from _ (ap (λ (k : Kind). opened (One Selected) k depth) (next_taken get) ∙ get_opened depth)) get refl refl within) (λ names more. refl)
 
@@ -127,12 +132,11 @@ value_found depth table from place first held same no_bang no_dot =
     all_read (opens (Optional RhsTail) depth table from [] (optional_left_out RhsTail _ depth (no_tail _ no_bang no_dot))) (λ names more. ap (λ (expr : code_expr.Expr). ValueOf place (phrase names expr)) same)
 
 -- what was found behind a dot stands behind the expression
-pub selected_found : {dot : Lexed} {from behind to : Spot} {depth : ℕ} {old new : List (List ℕ)} (place : Place) (first held : code_expr.Expr) (side : RightSide) → held ≡ first
+pub selected_found : {dot : Lexed} {from behind to : Spot} {depth : ℕ} {old new : List (List ℕ)} (place : Place) (first : code_expr.Expr) (side : RightSide)
     → TakesKind (lexeme.Sign punctuator.Dot) dot from behind → depth ≤ limit
-    → FoundAs (One Selected) depth old new behind to (λ names inside. side_tree names side ≡ selected_in place (phrase names held) inside)
+    → FoundAs (One Selected) depth old new behind to (λ names inside. side_tree names side ≡ selected_in place (phrase names first) inside)
     → FoundAs (Optional RhsTail) depth old new from to (λ names inside. side_tree names side ≡ tail_in place (phrase names first) inside)
-selected_found {depth = depth} {old} place first held side same dot within found =
-    all_read (over_part (dot_begins depth old dot within) found) (λ names more. found.is names more ∙ ap (λ (expr : code_expr.Expr). selected_in place (phrase names expr) found.inside) same)
+selected_found {depth = depth} {old} place first side dot within found = all_read (over_part (dot_begins depth old dot within) found) found.is
 
 -- New objects
 
@@ -156,14 +160,14 @@ pub cog_found : {cog : Lexed} {from behind : Spot} (depth : ℕ) (table : List (
     → FoundAs (Optional Where) depth table table from behind (λ names inside. mode.Cog ≡ mode_in inside)
 cog_found {cog} {from} depth table takes within =
     all_read (maybe_read (over_token (opens (One Where) depth table from _ (ap (λ (k : Kind). opened (One Where) k depth) (next_taken takes) ∙ cog_opened depth)) takes refl refl within))
-    (λ names more. ap (λ kind. mode_by (kind_of_lexeme kind cog.bytes)) (sym takes.kind_is))
+    (λ names more. ap (λ kind. mode_by (kind_of_lexeme kind cog.bytes) cog.place) (sym takes.kind_is))
 
 -- `local` is found, a name which the table has then
 pub local_found : {local : Lexed} {from behind : Spot} {names : List (List ℕ)} (depth : ℕ) (table : List (List ℕ)) → TakesFixed fixed.Local local from behind → names ≡ with_name table local.bytes → depth ≤ limit
-    → FoundAs (Optional Where) depth table names from behind (λ names inside. mode.Local ≡ mode_in inside)
-local_found {from = from} depth table takes is within =
+    → FoundAs (Optional Where) depth table names from behind (λ names inside. mode.Local local.place ≡ mode_in inside)
+local_found {local} {from} depth table takes is within =
     all_read (maybe_read (over_fixed (opens (One Where) depth table from _ (ap (λ (k : Kind). opened (One Where) k depth) (next_fixed takes) ∙ local_opened depth)) takes within is))
-    (λ names more. ap mode_by (sym takes.kind_is))
+    (λ names more. ap (λ (k : Kind). mode_by k local.place) (sym takes.kind_is))
 
 -- without either the object is to live anywhere
 pub plain_found : (depth : ℕ) (table : List (List ℕ)) (from : Spot) → fits (Word keyword.Cog) (next (left_at from)) ≡ false → fits LocalName (next (left_at from)) ≡ false

@@ -27,7 +27,7 @@ use Rattle.abs_parser.specs.Stops.{limit}
 use Rattle.abs_parser.specs.Tokens.{Spot}
 use Rattle.abs_parser.specs.TreesOf.{type_in, expr_in, names_maybe, params_maybe, signature_in, signatures_in, decl_in}
 use Rattle.abs_tree.specs.declared.source_error.SourceError.{SourceError}
-use Rattle.abs_parser.proofs.DeclarationSteps.{Parts, ReadsParts, next_part, heading_read, by_word}
+use Rattle.abs_parser.proofs.DeclarationSteps.{AnyIndex, Parts, ReadsParts, next_part, heading_read, by_word}
 use Rattle.abs_parser.proofs.NameListSteps.{declared_kept}
 use Rattle.abs_parser.proofs.WordSteps.{word_read}
 use Rattle.abs_parser.proofs.ExpressionSteps.{goes_on_name}
@@ -114,8 +114,8 @@ signatures_of = record {
   closing_asked = refl;
   closing_unnamed = refl;
   tree = signature_tree;
-  trees_in = signatures_in;
-  trees_none = refl;
+  trees_in = λ index before. signatures_in;
+  trees_none = λ index before. refl;
 }
 
 -- behind the name of an interface stands this
@@ -141,21 +141,21 @@ pub first_signature : {word name brace : Lexed} {from name_at behind open_at her
     → signatures ≡ [] → TakesKind (lexeme.Word keyword.Interface) word from name_at → TakesKind lexeme.UpperName name name_at behind → symbol.0 ≡ number_of_name old name.bytes → table ≡ with_name old name.bytes
     → FoundAs (Optional Extends) depth table now behind open_at (λ names inside. map (declared_tree names) listed ≡ names_maybe inside)
     → TakesKind (lexeme.Sign punctuator.OpenBrace) brace open_at here → depth ≤ limit
-    → ReadsParts signatures_of (interface_of word.place (record { place = name.place; name = symbol }) listed) depth old now from here signatures
+    → ReadsParts signatures_of AnyIndex (interface_of word.place (record { place = name.place; name = symbol }) listed) depth old now from here signatures
 first_signature {word} {name} {brace} {depth = depth} {old} symbol listed same takes takes_name number is extended takes_brace within = rw same (record {
   make = λ rest. Leaf (Token word) depth (Leaf (Token name) depth (Node (Optional Extends) extended.inside (Leaf (Token brace) depth rest)));
   read = over_token (over_part (heading_read (interface_opened depth) takes takes_name is within) extended) takes_brace refl refl within;
-  is = λ names more inside mark at others.
-      by_word depth _ others takes
+  is = λ index starts names more inside mark at others.
+      by_word index depth _ others takes
       ∙ interface_made word.place (signatures_in inside) others (declared_kept old name symbol number is names (goes_on_further (found_goes_on extended) more)) (extended.is names more);
 })
 
 -- and up to one more
 pub next_signature : {whole : List Name → List SignatureTree → DeclTree} {name : Lexed} {from here behind to : Spot} {depth : ℕ} {old now new : List (List ℕ)} {signatures longer : List CodeSignature}
-    (signature : CodeSignature) → longer ≡ signatures ++ signature ∷ [] → ReadsParts signatures_of whole depth old now from here signatures → TakesKind lexeme.UpperName name here behind
-    → FoundAs (One Signature) depth now new here to (IsSignature signature) → ReadsParts signatures_of whole depth old new from to longer
+    (signature : CodeSignature) → longer ≡ signatures ++ signature ∷ [] → ReadsParts signatures_of AnyIndex whole depth old now from here signatures → TakesKind lexeme.UpperName name here behind
+    → FoundAs (One Signature) depth now new here to (IsSignature signature) → ReadsParts signatures_of AnyIndex whole depth old new from to longer
 next_signature signature same so name found =
-    next_part signature same so (signature_begins_named _ ∙ fits_next refl name) found (λ names more others. found.is names more (signatures_in others))
+    next_part signature same so (signature_begins_named _ ∙ fits_next refl name) found (λ index starts names more others. found.is names more (signatures_in others))
 
 -- Functions
 
@@ -203,13 +203,13 @@ pub function_found : {word name opening closing equals semicolon : Lexed} {from 
     → TakesKind (lexeme.Sign punctuator.CloseParen) closing close_at equals_at → TakesKind (lexeme.Sign punctuator.Assign) equals equals_at value_at
     → FoundAs (One Expr) depth three new value_at last_at (λ names inside. phrase names value ≡ expr_in inside) → TakesKind (lexeme.Sign punctuator.Semicolon) semicolon last_at end → depth ≤ limit
     → FoundAs (One Decl) depth old new from end
-    (λ names inside. (others : List DeclTree) → decl_tree names (decl.Function word.place result (record { place = name.place; name = symbol }) parameters params held) ∷ others ≡ decl_in inside others)
+    (λ names inside. (index : ℕ) (others : List DeclTree) → decl_tree names (decl.Function word.place result (record { place = name.place; name = symbol }) parameters params held) ∷ others ≡ decl_in index inside others)
 function_found {word = word} {name} {depth = depth} {one = one} result symbol parameters params held same takes type takes_name number is listed opening found closing equals value semicolon within =
     let so = function_assigned (function_named takes type takes_name is within) listed opening found closing equals within in
-    all_read (over_token (over_part so value) semicolon refl refl within) (λ names more others.
+    all_read (over_token (over_part so value) semicolon refl refl within) (λ names more index others.
     let since = goes_on_further (found_goes_on value) more in
     let from_params = goes_on_further (found_goes_on found) since in
     let from_parameters = goes_on_further (found_goes_on listed) from_params in
     function_made word.place others (type.is names (goes_on_further (goes_on_name _ _ is) from_parameters)) (declared_kept one name symbol number is names from_parameters) (listed.is names from_params) (found.is names since)
     (ap (phrase names) same ∙ value.is names more)
-    ∙ sym (by_word depth _ others takes))
+    ∙ sym (by_word index depth _ others takes))

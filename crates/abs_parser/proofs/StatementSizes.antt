@@ -2,8 +2,8 @@
 -- variable, whose name is a leaf of it.
 use Rattle.std.proofs.Common.{◌≡◌, ◌≤◌, ℕ, ◌+◌, refl, arith}
 use Rattle.abs_tree.specs.declared.place.Place.{Place}
-use Rattle.abs_tree.specs.Syntax.{Name, Written, Phrase, ThisOf, TypeTree, VariableTree, MaybeSide, NoSide, SomeSide, Statement, BlockOf, IfOf, DeclareOf, MaybeStatements, NoElse, Else, Statements}
-use Rattle.abs_tree.specs.SyntaxSizes.{phrase_variables, side_variables, statement_variables, statements_variables}
+use Rattle.abs_tree.specs.Syntax.{Name, Unresolved, Phrase, ThisOf, TypeTree, VariableTree, MaybeSide, NoSide, SomeSide, Statement, BlockOf, IfOf, DeclareOf, MaybeStatements, NoElse, Else, Statements}
+use Rattle.abs_tree.specs.SyntaxSizes.{count_of, statement_count, phrase_variables, side_variables, statement_variables, statements_variables}
 use Rattle.abs_lexer.specs.declared.lexeme.Keyword.TheVariants as keyword
 use Rattle.abs_parser.specs.Kinds.{Mark, Kind, LowerName, LocalName, Word, place_of_mark, kind_of}
 use Rattle.abs_parser.specs.Readings.{Forest, Empty, Leaf, Node}
@@ -17,10 +17,10 @@ initial_variables NoSide = 0
 initial_variables (SomeSide side) = side_variables side
 
 -- a declaration has those and its own
-declared_variables : (place : Place) (type : TypeTree) (name_place : Place) (variable : VariableTree) (initial : MaybeSide)
-    → statement_variables (DeclareOf place type name_place variable initial) ≡ 1 + initial_variables initial
-declared_variables place type name_place variable NoSide = refl
-declared_variables place type name_place variable (SomeSide side) = refl
+declared_variables : (index : ℕ) (place : Place) (type : TypeTree) (name_place : Place) (variable : VariableTree) (initial : MaybeSide)
+    → statement_variables (DeclareOf index place type name_place variable initial) ≡ 1 + initial_variables initial
+declared_variables index place type name_place variable NoSide = refl
+declared_variables index place type name_place variable (SomeSide side) = refl
 
 -- an initial value has no more variables than leaves
 initial_few : (forest : Forest) → initial_variables (initial_in forest) ≤ leaves forest
@@ -28,34 +28,34 @@ initial_few (Node _ (Leaf equals _ (Node _ rhs _)) _) = omega (arith, rhs_few rh
 initial_few _ = omega arith
 
 -- neither has what stands behind a variable that begins a statement
-after_variable_few : (place : Place) (name : Name) (forest : Forest) → statement_variables (after_variable place name forest) ≤ leaves forest
-after_variable_few place name (Leaf equals _ (Node _ rhs _)) = omega (arith, rhs_few rhs)
-after_variable_few place name (Node _ arguments (Node _ rest _)) =
+after_variable_few : (index : ℕ) (place : Place) (name : Name) (forest : Forest) → statement_variables (after_variable index place name forest) ≤ leaves forest
+after_variable_few index place name (Leaf equals _ (Node _ rhs _)) = omega (arith, rhs_few rhs)
+after_variable_few index place name (Node _ arguments (Node _ rest _)) =
     omega (
       arith,
       named_variables place name (arguments_maybe arguments),
       arguments_maybe_few arguments,
       rest_few place (named place name (arguments_maybe arguments)) rest,
     )
-after_variable_few place name _ = omega arith
+after_variable_few index place name _ = omega arith
 
 -- nor what stands behind a field that begins one
-after_field_few : (place : Place) (name : Name) (forest : Forest) → statement_variables (after_field place name forest) ≤ leaves forest
-after_field_few place name (Leaf equals _ (Node _ rhs _)) = omega (arith, rhs_few rhs)
-after_field_few place name (Node _ arguments (Node _ rest _)) =
+after_field_few : (index : ℕ) (place name_place : Place) (name : Name) (forest : Forest) → statement_variables (after_field index place name_place name forest) ≤ leaves forest
+after_field_few index place name_place name (Leaf equals _ (Node _ rhs _)) = omega (arith, rhs_few rhs)
+after_field_few index place name_place name (Node _ arguments (Node _ rest _)) =
     omega (
       arith,
-      member_variables_are place name (arguments_maybe arguments),
+      member_variables_are place name_place name (arguments_maybe arguments),
       arguments_maybe_few arguments,
-      rest_few place (member place name (arguments_maybe arguments)) rest,
+      rest_few place (member place name_place name (arguments_maybe arguments)) rest,
     )
-after_field_few place name _ = omega arith
+after_field_few index place name_place name _ = omega arith
 
 -- nor what stands behind "this"
-after_this_few : (place : Place) (forest : Forest) → statement_variables (after_this place forest) ≤ leaves forest
-after_this_few place (Leaf dot _ (Leaf name _ (Node _ after _))) = omega (arith, after_field_few place (written name) after)
-after_this_few place (Node _ rest _) = omega (arith, rest_few place (ThisOf place) rest)
-after_this_few place _ = omega arith
+after_this_few : (index : ℕ) (place : Place) (forest : Forest) → statement_variables (after_this index place forest) ≤ leaves forest
+after_this_few index place (Leaf dot _ (Leaf name _ (Node _ after _))) = omega (arith, after_field_few index place (place_of_mark name) (written name) after)
+after_this_few index place (Node _ rest _) = omega (arith, rest_few place (ThisOf place) rest)
+after_this_few index place _ = omega arith
 
 -- the statements of a branch have the variables of the statement that it is
 branch_variables_are : (statement : Statement) → statements_variables (branch_of statement) ≡ statement_variables statement
@@ -68,58 +68,59 @@ else_variables NoElse = 0
 else_variables (Else statements) = statements_variables statements
 
 -- an "if" has those of its condition and of its branches
-if_variables : (place : Place) (test : Phrase) (first : Statements) (second : MaybeStatements)
-    → statement_variables (IfOf place test first second) ≡ phrase_variables test + statements_variables first + else_variables second
-if_variables place test first NoElse = omega arith
-if_variables place test first (Else second) = refl
+if_variables : (index : ℕ) (place : Place) (test : Phrase) (first : Statements) (second : MaybeStatements)
+    → statement_variables (IfOf index place test first second) ≡ phrase_variables test + statements_variables first + else_variables second
+if_variables index place test first NoElse = omega arith
+if_variables index place test first (Else second) = refl
 
 mutual
   -- a statement has no more variables than leaves
-  pub statement_few : (forest : Forest) → statement_variables (statement_in forest) ≤ leaves forest
-  statement_few (Leaf mark _ others) = omega (arith, statement_by_few (kind_of mark) mark others)
-  statement_few (Node _ block Empty) = omega (arith, block_few block)
-  statement_few (Node _ type (Leaf name _ (Node _ initial _))) =
+  pub statement_few : (index : ℕ) (forest : Forest) → statement_variables (statement_in index forest) ≤ leaves forest
+  statement_few index (Leaf mark _ others) = omega (arith, statement_by_few index (kind_of mark) mark others)
+  statement_few index (Node _ block Empty) = omega (arith, block_few index block)
+  statement_few index (Node _ type (Leaf name _ (Node _ initial _))) =
       omega (
         arith,
-        declared_variables (place_in type) (type_in type) (place_of_mark name) (Written (written name)) (initial_in initial),
+        declared_variables index (place_in type) (type_in type) (place_of_mark name) (Unresolved (written name)) (initial_in initial),
         initial_few initial,
       )
-  statement_few (Node _ rhs _) = omega (arith, rhs_few rhs)
-  statement_few Empty = omega arith
+  statement_few index (Node _ rhs _) = omega (arith, rhs_few rhs)
+  statement_few index Empty = omega arith
 
   -- neither has one by its first token
-  statement_by_few : (kind : Kind) (mark : Mark) (others : Forest) → statement_variables (statement_by kind mark others) ≤ 1 + leaves others
-  statement_by_few (Word keyword.Suspend) mark others = omega arith
-  statement_by_few (Word keyword.Await) mark (Node _ guard _) = omega (arith, guard_few guard)
-  statement_by_few (Word keyword.Return) mark (Node _ expr _) = omega (arith, expr_few expr)
-  statement_by_few (Word keyword.Println) mark (Leaf opening _ (Node _ expr _)) = omega (arith, expr_few expr)
-  statement_by_few (Word keyword.If) mark (Leaf opening _ (Node _ test (Leaf closing _ (Node _ first (Node _ other _))))) =
+  statement_by_few : (index : ℕ) (kind : Kind) (mark : Mark) (others : Forest) → statement_variables (statement_by index kind mark others) ≤ 1 + leaves others
+  statement_by_few index (Word keyword.Suspend) mark others = omega arith
+  statement_by_few index (Word keyword.Await) mark (Node _ guard _) = omega (arith, guard_few guard)
+  statement_by_few index (Word keyword.Return) mark (Node _ expr _) = omega (arith, expr_few expr)
+  statement_by_few index (Word keyword.Println) mark (Leaf opening _ (Node _ expr _)) = omega (arith, expr_few expr)
+  statement_by_few index (Word keyword.If) mark (Leaf opening _ (Node _ test (Leaf closing _ (Node _ first (Node _ other _))))) =
       omega (
         arith,
-        if_variables (place_of_mark mark) (expr_in test) (branch_of (statement_in first)) (else_in other),
+        if_variables index (place_of_mark mark) (expr_in test) (branch_of (statement_in (index + 1) first))
+            (else_in (index + 1 + statement_count (branch_of (statement_in (index + 1) first))) other),
         expr_few test,
-        branch_variables_are (statement_in first),
-        statement_few first,
-        else_few other,
+        branch_variables_are (statement_in (index + 1) first),
+        statement_few (index + 1) first,
+        else_few (index + 1 + statement_count (branch_of (statement_in (index + 1) first))) other,
       )
-  statement_by_few (Word keyword.While) mark (Leaf opening _ (Node _ test (Leaf closing _ (Node _ body _)))) =
-      omega (arith, expr_few test, branch_variables_are (statement_in body), statement_few body)
-  statement_by_few (Word keyword.This) mark (Node _ after _) = omega (arith, after_this_few (place_of_mark mark) after)
-  statement_by_few LowerName mark (Node _ after _) = omega (arith, after_variable_few (place_of_mark mark) (written mark) after)
-  statement_by_few LocalName mark (Node _ after _) = omega (arith, after_variable_few (place_of_mark mark) (written mark) after)
-  statement_by_few _ mark others = omega arith
+  statement_by_few index (Word keyword.While) mark (Leaf opening _ (Node _ test (Leaf closing _ (Node _ body _)))) =
+      omega (arith, expr_few test, branch_variables_are (statement_in (index + 1) body), statement_few (index + 1) body)
+  statement_by_few index (Word keyword.This) mark (Node _ after _) = omega (arith, after_this_few index (place_of_mark mark) after)
+  statement_by_few index LowerName mark (Node _ after _) = omega (arith, after_variable_few index (place_of_mark mark) (written mark) after)
+  statement_by_few index LocalName mark (Node _ after _) = omega (arith, after_variable_few index (place_of_mark mark) (written mark) after)
+  statement_by_few index _ mark others = omega arith
 
   -- nor a branch behind "else"
-  else_few : (forest : Forest) → else_variables (else_in forest) ≤ leaves forest
-  else_few (Node _ (Leaf mark _ (Node _ other _)) _) = omega (arith, branch_variables_are (statement_in other), statement_few other)
-  else_few _ = omega arith
+  else_few : (index : ℕ) (forest : Forest) → else_variables (else_in index forest) ≤ leaves forest
+  else_few index (Node _ (Leaf mark _ (Node _ other _)) _) = omega (arith, branch_variables_are (statement_in index other), statement_few index other)
+  else_few index _ = omega arith
 
   -- nor a block
-  pub block_few : (forest : Forest) → statements_variables (block_in forest) ≤ leaves forest
-  block_few (Leaf opening _ (Node _ statements _)) = omega (arith, statements_few statements)
-  block_few _ = omega arith
+  pub block_few : (index : ℕ) (forest : Forest) → statements_variables (block_in index forest) ≤ leaves forest
+  block_few index (Leaf opening _ (Node _ statements _)) = omega (arith, statements_few index statements)
+  block_few index _ = omega arith
 
   -- nor statements
-  statements_few : (forest : Forest) → statements_variables (statements_in forest) ≤ leaves forest
-  statements_few (Node _ statement (Node _ others _)) = omega (arith, statement_few statement, statements_few others)
-  statements_few _ = omega arith
+  statements_few : (index : ℕ) (forest : Forest) → statements_variables (statements_in index forest) ≤ leaves forest
+  statements_few index (Node _ statement (Node _ others _)) = omega (arith, statement_few index statement, statements_few (index + count_of (statement_in index statement)) others)
+  statements_few index _ = omega arith

@@ -11,6 +11,7 @@ use Rattle.abs_tree.specs.declared.syntax.expression.Expr.{Expr as CodeExpr}
 use Rattle.abs_tree.specs.declared.syntax.statement.Stmt as code_stmt
 use Rattle.abs_tree.specs.declared.syntax.statement.Stmt.{Stmt as CodeStmt}
 use Rattle.abs_tree.specs.Syntax.{Name, Phrase, BlockOf, IfOf, WhileOf, MaybeStatements, Else as ElseTree, Statements}
+use Rattle.abs_tree.specs.SyntaxSizes.{statement_count}
 use Rattle.abs_tree.specs.SyntaxViews.{phrase, statement, statements, maybe_statements}
 use Rattle.abs_tree.proofs.StatementLemmas.{statement-block, statement-if, statement-while}
 use Rattle.abs_lexer.specs.declared.lexeme.Keyword.{Keyword}
@@ -37,9 +38,9 @@ use Rattle.abs_parser.proofs.WordStatementSteps.{statement_by_word}
 use Rattle.abs_parser.proofs.StepLemmas.{HasRead, opens, over_token, over_part, into_last, all_read, refused_inside, refused_deep, refused_shut, fits_next, found_goes_on, found_weaker}
 use Rattle.abs_parser.proofs.SymbolLemmas.{begins_with_token, part_shut, part_opened, optional_opened, optional_left_out}
 
--- this statement was read
-abbrev pub IsStatement : CodeStmt → List (List ℕ) → Forest → Type 0
-IsStatement stmt names inside = statement names stmt ≡ statement_in inside
+-- this statement was read, from its first index
+abbrev pub IsStatement : ℕ → CodeStmt → List (List ℕ) → Forest → Type 0
+IsStatement index stmt names inside = statement names stmt ≡ statement_in index inside
 
 -- Blocks
 
@@ -73,9 +74,9 @@ refused_nested_deep depth from fit deep =
     refused_inside (nested_begins depth [] from fit) (Refused (refusal_at S2 from)) (refused_deep (One Block) (depth + 1) from (Sign punctuator.OpenBrace) (depth + 1) _ (block_opened _ (depth + 1) fit) fit deep)
 
 -- the block that was found is the statement
-pub nested_found : {depth : ℕ} {old new : List (List ℕ)} {from to : Spot} {place : Place} (body : Body) → place ≡ place_of from → fits (Sign punctuator.OpenBrace) (next (left_at from)) ≡ true
-    → FoundAs (One Block) (depth + 1) old new from to (λ names inside. IsBlock names body inside) → FoundAs (One Stmt) depth old new from to (IsStatement (code_stmt.Block place body.statements))
-nested_found {depth} {old} {from = from} {place = place} body at fit found =
+pub nested_found : {depth : ℕ} {old new : List (List ℕ)} {from to : Spot} {place : Place} (index : ℕ) (body : Body) → place ≡ place_of from → fits (Sign punctuator.OpenBrace) (next (left_at from)) ≡ true
+    → FoundAs (One Block) (depth + 1) old new from to (λ names inside. IsBlock index names body inside) → FoundAs (One Stmt) depth old new from to (IsStatement index (code_stmt.Block place body.statements))
+nested_found {depth} {old} {from = from} {place = place} index body at fit found =
     all_read (over_part (nested_begins depth old from fit) found) (λ names more.
     statement-block names place body.statements
     ∙ (ap (λ (here : Place). BlockOf here (statements names body.statements.items)) (at ∙ sym (first_place_found found)) ∙ ap (BlockOf (place_in found.inside)) ((found.is names more).statements_are)))
@@ -111,21 +112,21 @@ unfolding begins chosen begins_within
 while_opened depth = refl
 
 -- its tree is made of those of its parts
-while_made : {test held_test : Phrase} {body held_body : Statements} (place : Place) → held_test ≡ test → held_body ≡ body → WhileOf place held_test held_body ≡ WhileOf place test body
-while_made place test body = rw (test, body) refl
+while_made : {test held_test : Phrase} {body held_body : Statements} (index : ℕ) (place : Place) → held_test ≡ test → held_body ≡ body → WhileOf index place held_test held_body ≡ WhileOf index place test body
+while_made index place test body = rw (test, body) refl
 
 -- a `while` with its test and its body is found, as they are held in memory
 pub while_found : {word paren close : Lexed} {from open_at test_at close_at body_at end : Spot} {depth : ℕ} {old now new : List (List ℕ)} {test : CodeExpr}
-    (number : ℕ) (held : Arc CodeExpr Global) (stmt : CodeStmt) (body : Vec CodeStmt Global) → held.value ≡ test → ((names : List Name) → statements names body.items ≡ branch_of (statement names stmt))
+    (index : ℕ) (held : Arc CodeExpr Global) (stmt : CodeStmt) (body : Vec CodeStmt Global) → held.value ≡ test → ((names : List Name) → statements names body.items ≡ branch_of (statement names stmt))
     → TakesKind (lexeme.Word keyword.While) word from open_at → TakesKind (lexeme.Sign punctuator.OpenParen) paren open_at test_at
     → FoundAs (One Expr) (depth + 1) old now test_at close_at (IsExpression test) → TakesKind (lexeme.Sign punctuator.CloseParen) close close_at body_at
-    → FoundAs (One Stmt) (depth + 1) now new body_at end (IsStatement stmt) → depth + 1 ≤ limit
-    → FoundAs (One Stmt) depth old new from end (IsStatement (code_stmt.While number word.place held body))
-while_found {word} {paren} {close} {depth = depth} number held stmt body same are takes opening test closing found within =
+    → FoundAs (One Stmt) (depth + 1) now new body_at end (IsStatement (index + 1) stmt) → depth + 1 ≤ limit
+    → FoundAs (One Stmt) depth old new from end (IsStatement index (code_stmt.While index word.place held body))
+while_found {word} {paren} {close} {depth = depth} index held stmt body same are takes opening test closing found within =
     all_read (over_part (test_read (while_opened depth) takes opening test closing within) found) (λ names more.
-    statement-while names number word.place held body
-    ∙ (while_made word.place (ap (phrase names) same ∙ test.is names (goes_on_further (found_goes_on found) more)) (are names ∙ ap branch_of (found.is names more))
-    ∙ sym (statement_by_word (depth + 1) (Leaf (Token paren) (depth + 1) (Node (One Expr) test.inside (Leaf (Token close) (depth + 1) (Node (One Stmt) found.inside Empty)))) takes)))
+    statement-while names index word.place held body
+    ∙ (while_made index word.place (ap (phrase names) same ∙ test.is names (goes_on_further (found_goes_on found) more)) (are names ∙ ap branch_of (found.is names more))
+    ∙ sym (statement_by_word index (depth + 1) (Leaf (Token paren) (depth + 1) (Node (One Expr) test.inside (Leaf (Token close) (depth + 1) (Node (One Stmt) found.inside Empty)))) takes)))
 
 -- `if` and `else`
 
@@ -135,9 +136,9 @@ unfolding begins chosen begins_within
 if_opened depth = refl
 
 -- its tree is made of those of its parts
-if_made : {test held_test : Phrase} {first held_first : Statements} {other held_other : MaybeStatements} (place : Place) → held_test ≡ test → held_first ≡ first → held_other ≡ other
-    → IfOf place held_test held_first held_other ≡ IfOf place test first other
-if_made place test first other = rw (test, first, other) refl
+if_made : {test held_test : Phrase} {first held_first : Statements} {other held_other : MaybeStatements} (index : ℕ) (place : Place) → held_test ≡ test → held_first ≡ first → held_other ≡ other
+    → IfOf index place held_test held_first held_other ≡ IfOf index place test first other
+if_made index place test first other = rw (test, first, other) refl
 
 -- over the first branch of an `if`
 pub if_chosen : {word paren close : Lexed} {from open_at test_at close_at first_at here : Spot} {depth : ℕ} {old now new : List (List ℕ)} {is_read is_chosen : List (List ℕ) → Forest → Type 0}
@@ -151,19 +152,21 @@ if_chosen {depth = depth} takes opening test closing first within = over_part (t
 
 -- an `if` with its test and its branches is found, as they are held in memory
 pub if_found : {word paren close : Lexed} {from open_at test_at close_at first_at here end : Spot} {depth : ℕ} {old one two new : List (List ℕ)} {test : CodeExpr}
-    (number : ℕ) (held : Arc CodeExpr Global) (stmt : CodeStmt) (first : Vec CodeStmt Global) (other : Option (Vec CodeStmt Global)) → held.value ≡ test
-    → ((names : List Name) → statements names first.items ≡ branch_of (statement names stmt))
+    (index middle : ℕ) (held : Arc CodeExpr Global) (stmt : CodeStmt) (first : Vec CodeStmt Global) (other : Option (Vec CodeStmt Global)) → held.value ≡ test
+    → ((names : List Name) → statements names first.items ≡ branch_of (statement names stmt)) → ((names : List Name) → middle ≡ index + 1 + statement_count (statements names first.items))
     → TakesKind (lexeme.Word keyword.If) word from open_at → TakesKind (lexeme.Sign punctuator.OpenParen) paren open_at test_at
     → FoundAs (One Expr) (depth + 1) old one test_at close_at (IsExpression test) → TakesKind (lexeme.Sign punctuator.CloseParen) close close_at first_at
-    → FoundAs (One Stmt) (depth + 1) one two first_at here (IsStatement stmt)
-    → FoundAs (Optional Else) (depth + 1) two new here end (λ names inside. maybe_statements names other ≡ else_in inside) → depth + 1 ≤ limit
-    → FoundAs (One Stmt) depth old new from end (IsStatement (code_stmt.If number word.place held first other))
-if_found {word} {paren} {close} {depth = depth} number held stmt first other same are takes opening test closing found behind within =
+    → FoundAs (One Stmt) (depth + 1) one two first_at here (IsStatement (index + 1) stmt)
+    → FoundAs (Optional Else) (depth + 1) two new here end (λ names inside. maybe_statements names other ≡ else_in middle inside) → depth + 1 ≤ limit
+    → FoundAs (One Stmt) depth old new from end (IsStatement index (code_stmt.If index word.place held first other))
+if_found {word} {paren} {close} {depth = depth} index middle held stmt first other same are is_middle takes opening test closing found behind within =
     all_read (over_part (if_chosen takes opening test closing found within) behind) (λ names more.
     let since = goes_on_further (found_goes_on behind) more in
-    statement-if names number word.place held first other
-    ∙ (if_made word.place (ap (phrase names) same ∙ test.is names (goes_on_further (found_goes_on found) since)) (are names ∙ ap branch_of (found.is names since)) (behind.is names more)
-    ∙ sym (statement_by_word (depth + 1)
+    let branch = are names ∙ ap branch_of (found.is names since) in
+    statement-if names index word.place held first other
+    ∙ (if_made index word.place (ap (phrase names) same ∙ test.is names (goes_on_further (found_goes_on found) since)) branch
+    (behind.is names more ∙ (ap (λ (n : ℕ). else_in n behind.inside) (is_middle names) ∙ ap (λ (trees : Statements). else_in (index + 1 + statement_count trees) behind.inside) branch))
+    ∙ sym (statement_by_word index (depth + 1)
     (Leaf (Token paren) (depth + 1) (Node (One Expr) test.inside (Leaf (Token close) (depth + 1) (Node (One Stmt) found.inside (Node (Optional Else) behind.inside Empty))))) takes)))
 
 -- what may stand behind the first branch begins with `else`
@@ -179,18 +182,18 @@ else_read {from = from} depth table takes within =
     (over_token (opens (One Else) depth table from _ (part_opened Else _ depth refl refl fit)) takes refl refl within)
 
 -- with the statement behind it, it is found
-pub else_found : {word : Lexed} {from behind to : Spot} {depth : ℕ} {old new : List (List ℕ)} (stmt : CodeStmt) (branch : Vec CodeStmt Global)
+pub else_found : {word : Lexed} {from behind to : Spot} {depth : ℕ} {old new : List (List ℕ)} (index : ℕ) (stmt : CodeStmt) (branch : Vec CodeStmt Global)
     → ((names : List Name) → statements names branch.items ≡ branch_of (statement names stmt)) → TakesKind (lexeme.Word keyword.Else) word from behind
-    → FoundAs (One Stmt) depth old new behind to (IsStatement stmt) → depth ≤ limit
-    → FoundAs (Optional Else) depth old new from to (λ names inside. maybe_statements names (Some branch) ≡ else_in inside)
-else_found {depth = depth} {old} stmt branch are takes found within =
+    → FoundAs (One Stmt) depth old new behind to (IsStatement index stmt) → depth ≤ limit
+    → FoundAs (Optional Else) depth old new from to (λ names inside. maybe_statements names (Some branch) ≡ else_in index inside)
+else_found {depth = depth} {old} index stmt branch are takes found within =
     all_read (over_part (else_read depth old takes within) found) (λ names more. ap ElseTree (are names ∙ ap branch_of (found.is names more)))
 
 -- without `else` it is left out
-pub else_left_out : (depth : ℕ) (table : List (List ℕ)) (from : Spot) → fits (Word keyword.Else) (next (left_at from)) ≡ false
-    → FoundAs (Optional Else) depth table table from from (λ names inside. maybe_statements names None ≡ else_in inside)
-else_left_out depth table from other =
-    found_weaker (nothing_found (Optional Else) depth table from (optional_left_out Else _ depth (else_begins _ ∙ other))) (λ names more none. sym (ap else_in none))
+pub else_left_out : (index depth : ℕ) (table : List (List ℕ)) (from : Spot) → fits (Word keyword.Else) (next (left_at from)) ≡ false
+    → FoundAs (Optional Else) depth table table from from (λ names inside. maybe_statements names None ≡ else_in index inside)
+else_left_out index depth table from other =
+    found_weaker (nothing_found (Optional Else) depth table from (optional_left_out Else _ depth (else_begins _ ∙ other))) (λ names more none. sym (ap (else_in index) none))
 
 -- The end of the text
 

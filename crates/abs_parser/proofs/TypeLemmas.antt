@@ -1,9 +1,9 @@
 -- What the readers of types rest on: what a type and its arguments consist of, by the next token; and which tree stands for a type.
 use Rattle.std.proofs.Common.{◌≡◌, ℕ, ◌+◌, true, false, List, [], ◌∷◌, Some, None, refl, ap, ◌∙◌}
 use Rattle.abs_lexer.specs.declared.lexeme.Punctuator.TheVariants as punctuator
-use Rattle.abs_tree.specs.Syntax.{TypeName, TypeTrees}
+use Rattle.abs_tree.specs.Syntax.{UnresolvedType, TypeTrees}
 use Rattle.abs_tree.specs.SyntaxViews.{type_tree, type_trees}
-use Rattle.abs_tree.proofs.SyntaxLemmas.{type_tree-name}
+use Rattle.abs_tree.proofs.SyntaxLemmas.{type_tree-unresolved}
 use Rattle.std.specs.declared.alloc.Global.{Global}
 use Rattle.std.specs.declared.sync.Arc.{Arc}
 use Rattle.std.specs.declared.vec.Vec.{Vec}
@@ -45,7 +45,7 @@ arguments_opened depth kind fit = rw fit refl
 
 -- the tree of a name with arguments, by the name of its symbol and the trees of the arguments
 pub type_named : (names : List (List ℕ)) (place : Place) (symbol : Symbol) (arguments : Arc (Vec TypeTerm Global) Global) {types : List TypeTerm} {name : List ℕ} {trees : TypeTrees}
-    → arguments.value.items ≡ types → name_of names symbol ≡ name → type_trees names types ≡ trees → type_tree names (code_type.Name place symbol arguments) ≡ TypeName place name trees
+    → arguments.value.items ≡ types → name_of names symbol ≡ name → type_trees names types ≡ trees → type_tree names (code_type.Unresolved place symbol arguments) ≡ UnresolvedType place name trees
 type_named names place symbol arguments {trees = trees} same named is =
-    type_tree-name names place symbol arguments
-    ∙ (ap (λ (t : TypeTrees). TypeName place (name_of names symbol) t) (ap (type_trees names) same ∙ is) ∙ ap (λ (n : List ℕ). TypeName place n trees) named)
+    type_tree-unresolved names place symbol arguments
+    ∙ (ap (λ (t : TypeTrees). UnresolvedType place (name_of names symbol) t) (ap (type_trees names) same ∙ is) ∙ ap (λ (n : List ℕ). UnresolvedType place n trees) named)

@@ -7,10 +7,9 @@ use Rattle.std.proofs.lemmas.List.Elements.{All-same, All-weaker}
 use Rattle.abs_tree.specs.Syntax.{SourceTree}
 use Rattle.abs_tree.specs.Limits.{source_limit}
 use Rattle.abs_tree.specs.Names.{with_name}
-use Rattle.abs_tree.specs.SyntaxSizes.{all_statements, body_sizes, class_sizes}
-use Rattle.abs_tree.specs.SourceNumbers.{IsNumberedWhole}
+use Rattle.abs_tree.specs.SyntaxSizes.{decl_statements, statement_count, all_statements, body_sizes, class_sizes}
 use Rattle.abs_tree.specs.SourceSizes.{all_variables}
-use Rattle.abs_tree.specs.SyntaxViews.{decl_tree, tree_of_parts}
+use Rattle.abs_tree.specs.SyntaxViews.{statements, decl_tree, tree_of_parts}
 use Rattle.abs_tree.specs.Refusals.{refusal_of}
 use Rattle.abs_tree.specs.declared.refusal.Refusal.{Refusal}
 use Rattle.abs_tree.specs.declared.syntax.declaration.Body.{Body}
@@ -25,12 +24,11 @@ use Rattle.abs_parser.specs.Refusing.{AllWithin}
 use Rattle.abs_parser.specs.ReaderAnswers.{left_at, names_before, FoundAs, RefusedAt, IsRefused}
 use Rattle.abs_parser.specs.Texts.{IsTextOf, StopsWith, RefusesText}
 use Rattle.abs_parser.specs.Tokens.{Spot, whole}
-use Rattle.abs_parser.specs.TreesOf.{decls_in, tree_of}
+use Rattle.abs_parser.specs.TreesOf.{block_in, decls_in, tree_of}
 use Rattle.abs_parser.specs.Views.{spot}
 use Rattle.abs_parser.specs.declared.cursor.Cursor.{Cursor}
 use Rattle.abs_tree.specs.declared.source_error.SourceError.{SourceError}
 use Rattle.abs_tree.specs.declared.source_error.SourceError.TheVariants.{Refused, Memory}
-use Rattle.abs_parser.proofs.CountLemmas.{text_counted}
 use Rattle.abs_parser.proofs.DeclarationSizes.{variables_of_text, bodies_of_text, fields_of_text}
 use Rattle.abs_parser.proofs.EndLemmas.{text_refused}
 use Rattle.abs_parser.proofs.LeafLemmas.{leaves, leaves_taken}
@@ -204,27 +202,29 @@ same_text a b decls main end = rw (decls, main, end)
 
 -- declarations were found, as many as stand at a spot
 abbrev pub DeclarationsFound : List (List ℕ) → List (List ℕ) → Spot → Spot → List code_decl.Decl → Type 0
-DeclarationsFound old new from to declarations = FoundAs (Repeated Decl) 0 old new from to (λ names inside. map (decl_tree names) declarations ≡ decls_in inside)
+DeclarationsFound old new from to declarations = FoundAs (Repeated Decl) 0 old new from to (λ names inside. map (decl_tree names) declarations ≡ decls_in 0 inside)
 
--- a block was found
-abbrev pub BlockFound : List (List ℕ) → List (List ℕ) → Spot → Spot → Body → Type 0
-BlockFound old new from to main = FoundAs (One Block) 0 old new from to (λ names inside. IsBlock names main inside)
+-- a block was found, from its first index
+abbrev pub BlockFound : ℕ → List (List ℕ) → List (List ℕ) → Spot → Spot → Body → Type 0
+BlockFound index old new from to main = FoundAs (One Block) 0 old new from to (λ names inside. IsBlock index names main inside)
 
 -- a line in front of a program was found, or none stands there
 abbrev pub LineFound : Symbol → List (List ℕ) → List (List ℕ) → Spot → Spot → Type 0
 LineFound symbol old new from to = FoundAs (Optional symbol) 0 old new from to (λ names inside. ⊤)
 
 -- a program is found with the lines in front of it, its declarations and its main block, behind which no token is left
-pub program_found : {list : TokenList} {old a b c names : List (List ℕ)} {from import_at first main_at end : Spot} (declarations : List code_decl.Decl) (main : Body)
+pub program_found : {list : TokenList} {old a b c names : List (List ℕ)} {from import_at first main_at end : Spot} {free : ℕ} (declarations : List code_decl.Decl) (main : Body)
     → old ≡ [] → from ≡ whole list → LineFound Module old a from import_at → LineFound Import a b import_at first → DeclarationsFound b c first main_at declarations
-    → BlockFound c names main_at end main → end.rest ≡ [] → ProgramFound list names declarations main
-program_found {old = old} {names = names} {from = from} declarations main none is heading imported decls block ends =
+    → ((table : List (List ℕ)) → free ≡ 0 + decl_statements (map (decl_tree table) declarations)) → BlockFound free c names main_at end main → end.rest ≡ [] → ProgramFound list names declarations main
+program_found {old = old} {names = names} {from = from} declarations main none is heading imported decls is_free block ends =
     let so = over_block (over_declarations (over_import (over_heading (program_begins old from) heading) imported) decls) block in
     let is_block = block.is names (goes_on_itself names) in
+    let trees = decls.is names (found_goes_on block) in
+    let from_free = is_free names ∙ (omega arith ∙ ap decl_statements trees) in
     record {
       inside = _;
       read = all_of_text (from_all none is so) ends;
-      tree_is = same_text _ _ (decls.is names (found_goes_on block)) is_block.statements_are is_block.end_is;
+      tree_is = same_text _ _ trees (is_block.statements_are ∙ ap (λ (n : ℕ). block_in n block.inside) from_free) is_block.end_is;
     }
 
 -- such a text is accepted, and these are its names and its tree
@@ -269,15 +269,15 @@ fields_found bound found within =
     subst (λ (tree : SourceTree). All (λ (n : ℕ). n ≤ bound) (class_sizes tree)) (sym found.tree_is)
     (All-weaker (λ (n : ℕ). n ≤ leaves forest) (λ (n : ℕ). n ≤ bound) (λ n few. omega (arith, few, few_leaves found.read)) (class_sizes (tree_of forest)) (fields_of_text forest))
 
--- it has no more statements than tokens, if each part takes no more numbers than tokens
-pub statements_found : {list : TokenList} {old a b : List (List ℕ)} {from import_at first : Spot} {declarations : List code_decl.Decl} {main : Body} {all : ℕ}
-    (main_at end : Spot) (names : List (List ℕ)) → from ≡ whole list
-    → LineFound Module old a from import_at → LineFound Import a b import_at first → (numbered : IsNumberedWhole declarations main all)
-    → numbered.middle + length main_at.rest ≤ 0 + length first.rest → all + length end.rest ≤ numbered.middle + length main_at.rest
+-- it has no more statements than tokens, if no part has more than it has tokens
+pub statements_found : {list : TokenList} {old a b : List (List ℕ)} {from import_at first : Spot} {free all : ℕ}
+    (main_at end : Spot) (names : List (List ℕ)) (declarations : List code_decl.Decl) (main : Body) → from ≡ whole list → LineFound Module old a from import_at → LineFound Import a b import_at first
+    → ((table : List (List ℕ)) → free ≡ 0 + decl_statements (map (decl_tree table) declarations)) → ((table : List (List ℕ)) → all ≡ free + statement_count (statements table main.statements.items))
+    → free + length main_at.rest ≤ 0 + length first.rest → all + length end.rest ≤ free + length main_at.rest
     → all_statements (tree_of_parts names declarations main) ≤ length list.tokens
-statements_found {declarations = declarations} {main} {all} main_at end names is heading imported numbered few_declarations few_main =
+statements_found main_at end names declarations main is heading imported is_free is_all few_declarations few_main =
     let tokens = ap (λ (spot : Spot). length spot.rest) is in
-    omega (arith, text_counted names declarations main all numbered, few_declarations, few_main, found_shorter imported, found_shorter heading, tokens)
+    omega (arith, is_free names, is_all names, few_declarations, few_main, found_shorter imported, found_shorter heading, tokens)
 
 -- no more tokens are left at a cursor than a list may have
 pub few_at : (cursor : Cursor) → length (spot cursor).rest ≤ source_limit

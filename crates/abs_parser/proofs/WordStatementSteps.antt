@@ -20,19 +20,19 @@ use Rattle.abs_parser.proofs.StepLemmas.{HasRead, over_token, over_part, all_rea
 use Rattle.abs_parser.proofs.WordSteps.{word_read}
 
 -- the tree of a statement is the one for its word
-pub statement_by_word : {word : Keyword} {token : Lexed} {from behind : Spot} (depth : ℕ) (inside : Forest) → TakesKind (lexeme.Word word) token from behind
-    → statement_in (Leaf (Token token) depth inside) ≡ statement_by (Word word) (Token token) inside
-statement_by_word {token = token} depth inside takes = ap (λ (kind : Lexeme). statement_by (kind_of_lexeme kind token.bytes) (Token token) inside) takes.kind_is
+pub statement_by_word : {word : Keyword} {token : Lexed} {from behind : Spot} (index depth : ℕ) (inside : Forest) → TakesKind (lexeme.Word word) token from behind
+    → statement_in index (Leaf (Token token) depth inside) ≡ statement_by index (Word word) (Token token) inside
+statement_by_word {token = token} index depth inside takes = ap (λ (kind : Lexeme). statement_by index (kind_of_lexeme kind token.bytes) (Token token) inside) takes.kind_is
 
 -- with the semicolon behind it a statement that begins with a word is found
 pub worded_found : {word : Keyword} {token semicolon : Lexed} {from behind last_at end : Spot} {depth : ℕ} {old now : List (List ℕ)} {inside : Forest → Forest}
-    (tree : List Name → Statement)
+    (index : ℕ) (tree : List Name → Statement)
     → HasRead (One Stmt) depth old now from (λ rest. Leaf (Token token) (depth + 1) (inside rest)) (Terminal (Sign punctuator.Semicolon) (depth + 1) ∷ []) last_at
     → TakesKind (lexeme.Word word) token from behind → TakesKind (lexeme.Sign punctuator.Semicolon) semicolon last_at end → depth + 1 ≤ limit
-    → ((names : List Name) → GoesOn now names → tree names ≡ statement_by (Word word) (Token token) (inside (Leaf (Token semicolon) (depth + 1) Empty)))
-    → FoundAs (One Stmt) depth old now from end (λ names inside. tree names ≡ statement_in inside)
-worded_found {semicolon = semicolon} {depth = depth} {inside = inside} tree so takes last within is =
-    all_read (over_token so last refl refl within) (λ names more. is names more ∙ sym (statement_by_word (depth + 1) (inside (Leaf (Token semicolon) (depth + 1) Empty)) takes))
+    → ((names : List Name) → GoesOn now names → tree names ≡ statement_by index (Word word) (Token token) (inside (Leaf (Token semicolon) (depth + 1) Empty)))
+    → FoundAs (One Stmt) depth old now from end (λ names inside. tree names ≡ statement_in index inside)
+worded_found {semicolon = semicolon} {depth = depth} {inside = inside} index tree so takes last within is =
+    all_read (over_token so last refl refl within) (λ names more. is names more ∙ sym (statement_by_word index (depth + 1) (inside (Leaf (Token semicolon) (depth + 1) Empty)) takes))
 
 -- `skip` opens a statement
 pub skip_opened : (depth : ℕ) → opened (One Stmt) (Word keyword.Skip) depth

@@ -5,9 +5,9 @@
 --   `after_first`                                      the statement that it begins, by what stands behind it
 --   `begins_another`                                   the tokens that begin another statement
 --   `IsBlock`                                          what was read of a block
-use Rattle.std.specs.Prelude.{◌≡◌, Bool, true, false, List, Option}
+use Rattle.std.specs.Prelude.{◌≡◌, ℕ, Bool, true, false, List, Option}
 use Rattle.abs_tree.specs.declared.place.Place.{Place}
-use Rattle.abs_tree.specs.Syntax.{Name, Written, Phrase, Phrases, TargetTree, ToVariable, ToField, Statement}
+use Rattle.abs_tree.specs.Syntax.{Name, Unresolved, Phrase, Phrases, TargetTree, ToVariable, ToField, Statement}
 use Rattle.abs_tree.specs.SyntaxViews.{statements}
 use Rattle.abs_tree.specs.Trees.{name_of}
 use Rattle.abs_tree.specs.declared.syntax.declaration.Body.{Body}
@@ -21,19 +21,19 @@ use Rattle.abs_parser.specs.TreesOf.{named, member, after_variable, after_field,
 
 abbrev pub place_of_first : First → Place
 place_of_first (first.Variable place symbol) = place
-place_of_first (first.Field place symbol) = place
+place_of_first (first.Field place name_place symbol) = place
 
 abbrev pub target_of : List Name → First → TargetTree
-target_of names (first.Variable place symbol) = ToVariable place (Written (name_of names symbol))
-target_of names (first.Field place symbol) = ToField place (name_of names symbol)
+target_of names (first.Variable place symbol) = ToVariable place (Unresolved (name_of names symbol))
+target_of names (first.Field place name_place symbol) = ToField place name_place (name_of names symbol)
 
 abbrev pub phrase_of : List Name → First → Option Phrases → Phrase
 phrase_of names (first.Variable place symbol) arguments = named place (name_of names symbol) arguments
-phrase_of names (first.Field place symbol) arguments = member place (name_of names symbol) arguments
+phrase_of names (first.Field place name_place symbol) arguments = member place name_place (name_of names symbol) arguments
 
-abbrev pub after_first : List Name → First → Forest → Statement
-after_first names (first.Variable place symbol) inside = after_variable place (name_of names symbol) inside
-after_first names (first.Field place symbol) inside = after_field place (name_of names symbol) inside
+abbrev pub after_first : ℕ → List Name → First → Forest → Statement
+after_first index names (first.Variable place symbol) inside = after_variable index place (name_of names symbol) inside
+after_first index names (first.Field place name_place symbol) inside = after_field index place name_place (name_of names symbol) inside
 
 -- whether a token begins a statement that is no right side alone
 abbrev pub begins_another : Kind → Bool
@@ -53,7 +53,7 @@ begins_another (Word keyword.While) = true
 begins_another (Word keyword.This) = true
 begins_another _ = false
 
--- this block was read: its statements, and the place of the brace that closes it
-pub record IsBlock (names : List Name) (body : Body) (inside : Forest) : Type 0 where
-  pub statements_are : statements names body.statements.items ≡ block_in inside
+-- this block was read, whose first statement has the index: its statements, and the place of the brace that closes it
+pub record IsBlock (index : ℕ) (names : List Name) (body : Body) (inside : Forest) : Type 0 where
+  pub statements_are : statements names body.statements.items ≡ block_in index inside
   pub end_is : body.end ≡ block_end inside

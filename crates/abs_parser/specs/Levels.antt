@@ -1,12 +1,13 @@
 -- The levels of operators between operands, from `||`, which binds least, to `*`: as what each is read, and which operators stand on it.
 --
 --   `symbol_of`, `operand_symbol`, `tail_symbol`       the symbols of a level, of its operands, and of an operator with its right operand
+--   `rank`, `looser`                                   the order of the levels
 --   `repeats`, `rest_of`                               whether a further operator may follow, and so what stands behind the first operand
---   `level_in`, `operand_in`, `links_in`               the trees of what was read as these
+--   `level_in`, `operand_in`, `operands_in`               the trees of what was read as these
 --   `level_of`, `sign_of`                              the level of an operator, and how it is written
 --   `prefix_sign`                                      how an operator before an operand is written
-use Rattle.std.specs.Prelude.{Bool, true, false}
-use Rattle.abs_tree.specs.Syntax.{Phrase, Links}
+use Rattle.std.specs.Prelude.{ℕ, Bool, true, false}
+use Rattle.abs_tree.specs.Syntax.{Phrase, Operands}
 use Rattle.abs_tree.specs.declared.syntax.expression.Operator.{Operator}
 use Rattle.abs_tree.specs.declared.syntax.expression.Operator.TheVariants as operator
 use Rattle.abs_tree.specs.declared.syntax.expression.Prefix.{Prefix}
@@ -17,7 +18,7 @@ use Rattle.abs_parser.specs.declared.operators.Level.{Level}
 use Rattle.abs_parser.specs.declared.operators.Level.TheVariants as level
 use Rattle.abs_parser.specs.Productions.{Symbol, Or, OrTail, And, AndTail, Equal, EqualTail, Compare, CompareTail, Sum, SumTail, Mul, MulTail, Unary}
 use Rattle.abs_parser.specs.Readings.{Goal, Optional, Repeated, Forest}
-use Rattle.abs_parser.specs.TreesOf.{or_in, or_links, and_in, and_links, equal_in, equal_link, compare_in, compare_link, sum_in, sum_links, mul_in, mul_links, unary_in}
+use Rattle.abs_parser.specs.TreesOf.{or_in, or_operands, and_in, and_operands, equal_in, equal_operand, compare_in, compare_operand, sum_in, sum_operands, mul_in, mul_operands, unary_in}
 
 abbrev pub symbol_of : Level → Symbol
 symbol_of level.Or = Or
@@ -35,6 +36,24 @@ operand_symbol level.Equal = Compare
 operand_symbol level.Compare = Sum
 operand_symbol level.Sum = Mul
 operand_symbol level.Mul = Unary
+
+-- how many levels bind more than one
+abbrev pub rank : Level → ℕ
+rank level.Or = 5
+rank level.And = 4
+rank level.Equal = 3
+rank level.Compare = 2
+rank level.Sum = 1
+rank level.Mul = 0
+
+-- the next level that binds less; below `||` there is none
+abbrev pub looser : Level → Level
+looser level.Or = level.Or
+looser level.And = level.Or
+looser level.Equal = level.And
+looser level.Compare = level.Equal
+looser level.Sum = level.Compare
+looser level.Mul = level.Sum
 
 abbrev pub tail_symbol : Level → Symbol
 tail_symbol level.Or = OrTail
@@ -78,13 +97,13 @@ operand_in level.Sum = mul_in
 operand_in level.Mul = unary_in
 
 -- the operators behind the first operand
-abbrev pub links_in : Level → Forest → Links
-links_in level.Or = or_links
-links_in level.And = and_links
-links_in level.Equal = equal_link
-links_in level.Compare = compare_link
-links_in level.Sum = sum_links
-links_in level.Mul = mul_links
+abbrev pub operands_in : Level → Forest → Operands
+operands_in level.Or = or_operands
+operands_in level.And = and_operands
+operands_in level.Equal = equal_operand
+operands_in level.Compare = compare_operand
+operands_in level.Sum = sum_operands
+operands_in level.Mul = mul_operands
 
 abbrev pub level_of : Operator → Level
 level_of operator.Or = level.Or

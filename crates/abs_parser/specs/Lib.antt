@@ -10,6 +10,7 @@ pub mod Refusing
 pub mod TreesOf
 pub mod ReaderAnswers
 pub mod Levels
+pub mod Climbing
 pub mod Headings
 pub mod Firsts
 pub mod Texts

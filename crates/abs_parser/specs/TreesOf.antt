@@ -10,11 +10,12 @@
 --   `statement_in`, `block_in`                         statements
 --   `decls_in`, `members_in`                           declarations and members
 --   `tree_of`                                          a program
-use Rattle.std.specs.Prelude.{ℕ, pos, neg_ℤ, Bool, true, false, List, [], ◌∷◌, Option, Some, None, drop, ◌==◌, if◌then◌else◌}
+use Rattle.std.specs.Prelude.{ℕ, ◌+◌, pos, neg_ℤ, Bool, true, false, List, [], ◌∷◌, Option, Some, None, drop, ◌==◌, if◌then◌else◌}
 use Rattle.std.specs.Str.Parse.{digits_value}
 use Rattle.abs_tree.specs.declared.place.Place.{Place}
 use Rattle.abs_tree.specs.Places.{start}
-use Rattle.abs_tree.specs.Syntax.{Name, Written, TypeTree, TypeName, TypeTrees, NoType, NextType, PatternTree, AnyValue, Binds, SameNumber, SameString, Built, PatternTrees, NoPattern, NextPattern, Phrase, LetIn, IfElse, Chain, Prefixed, NumberOf, StringOf, NullOf, DestinyOf, ThisOf, FieldOf, OwnCallOf, VariableOf, ApplyOf, BuildOf, CaseOf, Phrases, NoPhrase, NextPhrase, Links, NoLink, Link, Branches, NoBranch, NextBranch, SideTree, NewOf, ValueOf, SendOf, GetOf, CallOf, Tests, NoTest, NextTest, ToVariable, ToField, MaybeSide, NoSide, SomeSide, Statement, BlockOf, SkipOf, SuspendOf, AwaitOf, ReturnOf, PrintOf, IfOf, WhileOf, DeclareOf, AssignOf, DoOf, MaybeStatements, NoElse, Else, Statements, NoStatement, NextStatement, ParamTree, DeclaredTree, ConstructorTree, SignatureTree, NoValue, Value, MemberTree, FieldTree, MethodTree, DeclTree, DataTree, FunctionTree, InterfaceTree, ClassTree, SourceTree}
+use Rattle.abs_tree.specs.Syntax.{Name, Unresolved, TypeTree, UnresolvedType, TypeTrees, NoType, NextType, PatternTree, AnyValue, Binds, SameNumber, SameString, Built, PatternTrees, NoPattern, NextPattern, Phrase, LetIn, IfElse, OperatorsOf, Prefixed, NumberOf, StringOf, NullOf, DestinyOf, ThisOf, FieldOf, OwnCallOf, VariableOf, ApplyOf, BuildOf, CaseOf, Phrases, NoPhrase, NextPhrase, Operands, NoOperands, NextOperand, Branches, NoBranch, NextBranch, SideTree, NewOf, ValueOf, SendOf, GetOf, CallOf, Tests, NoTest, NextTest, ToVariable, ToField, MaybeSide, NoSide, SomeSide, Statement, BlockOf, SkipOf, SuspendOf, AwaitOf, ReturnOf, PrintOf, IfOf, WhileOf, DeclareOf, AssignOf, DoOf, MaybeStatements, NoElse, Else, Statements, NoStatement, NextStatement, ParamTree, DeclaredTree, ConstructorTree, SignatureTree, NoValue, Value, MemberTree, FieldTree, MethodTree, DeclTree, DataTree, FunctionTree, InterfaceTree, ClassTree, SourceTree}
+use Rattle.abs_tree.specs.SyntaxSizes.{count_of, statement_count, member_statements, decl_statements}
 use Rattle.abs_tree.specs.declared.syntax.expression.Operator.{Operator}
 use Rattle.abs_tree.specs.declared.syntax.expression.Operator.TheVariants as operator
 use Rattle.abs_tree.specs.declared.syntax.expression.Prefix.{Prefix}
@@ -59,8 +60,8 @@ place_in forest = first_place forest start
 abbrev mutual
   -- Type: a name, and perhaps arguments
   pub type_in : Forest → TypeTree
-  type_in (Leaf name _ (Node _ arguments _)) = TypeName (place_of_mark name) (written name) (type_arguments arguments)
-  type_in _ = TypeName start [] NoType
+  type_in (Leaf name _ (Node _ arguments _)) = UnresolvedType (place_of_mark name) (written name) (type_arguments arguments)
+  type_in _ = UnresolvedType start [] NoType
 
   -- perhaps "<", types, ">"
   pub type_arguments : Forest → TypeTrees
@@ -84,8 +85,8 @@ abbrev mutual
 
   -- by the first token
   pub pattern_by : Kind → Mark → Forest → PatternTree
-  pattern_by LowerName mark others = Binds (place_of_mark mark) (Written (written mark))
-  pattern_by LocalName mark others = Binds (place_of_mark mark) (Written (written mark))
+  pattern_by LowerName mark others = Binds (place_of_mark mark) (Unresolved (written mark))
+  pattern_by LocalName mark others = Binds (place_of_mark mark) (Unresolved (written mark))
   pattern_by Number mark others = SameNumber (place_of_mark mark) (pos (number_of mark))
   pattern_by (Sign punctuator.Minus) mark (Leaf number _ _) = SameNumber (place_of_mark mark) (neg_ℤ (pos (number_of number)))
   pattern_by Text mark others = SameString (place_of_mark mark) (text_of mark)
@@ -113,15 +114,16 @@ abbrev mutual
 
 -- Expressions
 
--- operators behind a first operand: where there is none, the operand itself
-abbrev pub chain : Place → Phrase → Links → Phrase
-chain place first NoLink = first
-chain place first (Link operation right others) = Chain place first (Link operation right others)
+-- a first operand with the operators after it: without one, the operand itself
+abbrev pub with_operators : Place → Phrase → Operands → Phrase
+with_operators place first NoOperands = first
+with_operators place first (NextOperand operator right others) = OperatorsOf place first (NextOperand operator right others)
 
 -- the operator that a sign stands for
 abbrev pub operator_of : Kind → Operator
 operator_of (Sign punctuator.Or) = operator.Or
 operator_of (Sign punctuator.And) = operator.And
+operator_of (Sign punctuator.Equal) = operator.Equal
 operator_of (Sign punctuator.NotEqual) = operator.NotEqual
 operator_of (Sign punctuator.Less) = operator.Less
 operator_of (Sign punctuator.LessEqual) = operator.LessEqual
@@ -135,19 +137,20 @@ operator_of (Sign punctuator.Percent) = operator.Remainder
 operator_of _ = operator.Equal
 
 abbrev pub prefix_of : Kind → Prefix
+prefix_of (Sign punctuator.Not) = prefix.Not
 prefix_of (Sign punctuator.Tilde) = prefix.Tilde
 prefix_of (Sign punctuator.Minus) = prefix.Minus
 prefix_of _ = prefix.Not
 
 -- a name that begins with a lower-case letter: with arguments a function, without a variable
 abbrev pub named : Place → Name → Option Phrases → Phrase
-named place name None = VariableOf place (Written name)
+named place name None = VariableOf place (Unresolved name)
 named place name (Some arguments) = ApplyOf place name arguments
 
 -- the same behind "this" and ".": a method, and a field
-abbrev pub member : Place → Name → Option Phrases → Phrase
-member place name None = FieldOf place name
-member place name (Some arguments) = OwnCallOf place name arguments
+abbrev pub member : Place → Place → Name → Option Phrases → Phrase
+member place name_place name None = FieldOf place name_place name
+member place name_place name (Some arguments) = OwnCallOf place name arguments
 
 -- a constructor, which may have arguments
 abbrev pub built : Place → Name → Option Phrases → Phrase
@@ -158,7 +161,7 @@ abbrev mutual
   -- Expr
   pub expr_in : Forest → Phrase
   expr_in (Leaf mark _ (Leaf opening _ (Node _ type (Leaf name _ (Leaf closing _ (Leaf equals _ (Node _ value (Leaf in_word _ (Node _ body _))))))))) =
-      LetIn (place_of_mark mark) (type_in type) (Written (written name)) (expr_in value) (expr_in body)
+      LetIn (place_of_mark mark) (type_in type) (place_of_mark name) (Unresolved (written name)) (expr_in value) (expr_in body)
   expr_in (Leaf mark _ (Node _ test (Leaf then_word _ (Node _ first (Leaf else_word _ (Node _ second _)))))) =
       IfElse (place_of_mark mark) (expr_in test) (expr_in first) (expr_in second)
   expr_in (Node _ or _) = or_in or
@@ -166,52 +169,52 @@ abbrev mutual
 
   -- Or, And, Equal, Compare, Sum, Mul: a first operand, and what follows it
   pub or_in : Forest → Phrase
-  or_in (Node _ first (Node _ others _)) = chain (place_in first) (and_in first) (or_links others)
+  or_in (Node _ first (Node _ others _)) = with_operators (place_in first) (and_in first) (or_operands others)
   or_in _ = NullOf start
 
-  pub or_links : Forest → Links
-  or_links (Node _ (Leaf mark _ (Node _ right _)) (Node _ others _)) = Link (operator_of (kind_of mark)) (and_in right) (or_links others)
-  or_links _ = NoLink
+  pub or_operands : Forest → Operands
+  or_operands (Node _ (Leaf mark _ (Node _ right _)) (Node _ others _)) = NextOperand (operator_of (kind_of mark)) (and_in right) (or_operands others)
+  or_operands _ = NoOperands
 
   pub and_in : Forest → Phrase
-  and_in (Node _ first (Node _ others _)) = chain (place_in first) (equal_in first) (and_links others)
+  and_in (Node _ first (Node _ others _)) = with_operators (place_in first) (equal_in first) (and_operands others)
   and_in _ = NullOf start
 
-  pub and_links : Forest → Links
-  and_links (Node _ (Leaf mark _ (Node _ right _)) (Node _ others _)) = Link (operator_of (kind_of mark)) (equal_in right) (and_links others)
-  and_links _ = NoLink
+  pub and_operands : Forest → Operands
+  and_operands (Node _ (Leaf mark _ (Node _ right _)) (Node _ others _)) = NextOperand (operator_of (kind_of mark)) (equal_in right) (and_operands others)
+  and_operands _ = NoOperands
 
   pub equal_in : Forest → Phrase
-  equal_in (Node _ first (Node _ other _)) = chain (place_in first) (compare_in first) (equal_link other)
+  equal_in (Node _ first (Node _ other _)) = with_operators (place_in first) (compare_in first) (equal_operand other)
   equal_in _ = NullOf start
 
-  pub equal_link : Forest → Links
-  equal_link (Node _ (Leaf mark _ (Node _ right _)) _) = Link (operator_of (kind_of mark)) (compare_in right) NoLink
-  equal_link _ = NoLink
+  pub equal_operand : Forest → Operands
+  equal_operand (Node _ (Leaf mark _ (Node _ right _)) _) = NextOperand (operator_of (kind_of mark)) (compare_in right) NoOperands
+  equal_operand _ = NoOperands
 
   pub compare_in : Forest → Phrase
-  compare_in (Node _ first (Node _ other _)) = chain (place_in first) (sum_in first) (compare_link other)
+  compare_in (Node _ first (Node _ other _)) = with_operators (place_in first) (sum_in first) (compare_operand other)
   compare_in _ = NullOf start
 
-  pub compare_link : Forest → Links
-  compare_link (Node _ (Leaf mark _ (Node _ right _)) _) = Link (operator_of (kind_of mark)) (sum_in right) NoLink
-  compare_link _ = NoLink
+  pub compare_operand : Forest → Operands
+  compare_operand (Node _ (Leaf mark _ (Node _ right _)) _) = NextOperand (operator_of (kind_of mark)) (sum_in right) NoOperands
+  compare_operand _ = NoOperands
 
   pub sum_in : Forest → Phrase
-  sum_in (Node _ first (Node _ others _)) = chain (place_in first) (mul_in first) (sum_links others)
+  sum_in (Node _ first (Node _ others _)) = with_operators (place_in first) (mul_in first) (sum_operands others)
   sum_in _ = NullOf start
 
-  pub sum_links : Forest → Links
-  sum_links (Node _ (Leaf mark _ (Node _ right _)) (Node _ others _)) = Link (operator_of (kind_of mark)) (mul_in right) (sum_links others)
-  sum_links _ = NoLink
+  pub sum_operands : Forest → Operands
+  sum_operands (Node _ (Leaf mark _ (Node _ right _)) (Node _ others _)) = NextOperand (operator_of (kind_of mark)) (mul_in right) (sum_operands others)
+  sum_operands _ = NoOperands
 
   pub mul_in : Forest → Phrase
-  mul_in (Node _ first (Node _ others _)) = chain (place_in first) (unary_in first) (mul_links others)
+  mul_in (Node _ first (Node _ others _)) = with_operators (place_in first) (unary_in first) (mul_operands others)
   mul_in _ = NullOf start
 
-  pub mul_links : Forest → Links
-  mul_links (Node _ (Leaf mark _ (Node _ right _)) (Node _ others _)) = Link (operator_of (kind_of mark)) (unary_in right) (mul_links others)
-  mul_links _ = NoLink
+  pub mul_operands : Forest → Operands
+  mul_operands (Node _ (Leaf mark _ (Node _ right _)) (Node _ others _)) = NextOperand (operator_of (kind_of mark)) (unary_in right) (mul_operands others)
+  mul_operands _ = NoOperands
 
   -- Unary
   pub unary_in : Forest → Phrase
@@ -227,6 +230,7 @@ abbrev mutual
   pub primary_by : Kind → Mark → Forest → Phrase
   primary_by Number mark others = NumberOf (place_of_mark mark) (pos (number_of mark))
   primary_by Text mark others = StringOf (place_of_mark mark) (text_of mark)
+  primary_by (Word keyword.Null) mark others = NullOf (place_of_mark mark)
   primary_by (Word keyword.Destiny) mark others = DestinyOf (place_of_mark mark)
   primary_by (Word keyword.This) mark (Node _ tail _) = this_in (place_of_mark mark) tail
   primary_by LowerName mark (Node _ arguments _) = named (place_of_mark mark) (written mark) (arguments_maybe arguments)
@@ -241,7 +245,7 @@ abbrev mutual
 
   -- behind "this": perhaps ".", a name, and perhaps arguments
   pub this_in : Place → Forest → Phrase
-  this_in place (Node _ (Leaf dot _ (Leaf name _ (Node _ arguments _))) _) = member place (written name) (arguments_maybe arguments)
+  this_in place (Node _ (Leaf dot _ (Leaf name _ (Node _ arguments _))) _) = member place (place_of_mark name) (written name) (arguments_maybe arguments)
   this_in place _ = ThisOf place
 
   -- perhaps arguments
@@ -278,39 +282,42 @@ abbrev mutual
 -- Right sides
 
 -- perhaps "cog" or "local"
-abbrev pub mode_by : Kind → Mode
-mode_by (Word keyword.Cog) = mode.Cog
-mode_by _ = mode.Local
+abbrev pub mode_by : Kind → Place → Mode
+mode_by (Word keyword.Cog) place = mode.Cog
+mode_by LocalName place = mode.Local place
+mode_by _ place = mode.Plain
 
 abbrev pub mode_in : Forest → Mode
-mode_in (Node _ (Leaf mark _ _) _) = mode_by (kind_of mark)
+mode_in (Node _ (Leaf mark _ _) _) = mode_by (kind_of mark) (place_of_mark mark)
 mode_in _ = mode.Plain
 
--- behind the ".": "get", or a name and arguments
+-- behind the ".": "get", or a name and arguments, whose call has its receiver in front of them
 abbrev pub selected_in : Place → Phrase → Forest → SideTree
-selected_in place first (Leaf name _ (Node _ arguments _)) = CallOf place first (written name) (arguments_in arguments)
-selected_in place first _ = GetOf place first
+selected_in place first (Leaf name _ (Node _ arguments _)) = CallOf place (written name) (NextPhrase first (arguments_in arguments)) None
+selected_in place first (Leaf get _ _) = GetOf place (place_of_mark get) first
+selected_in place first _ = ValueOf place first
 
 -- behind an expression: perhaps "!", a name and arguments; perhaps "."
 abbrev pub tail_in : Place → Phrase → Forest → SideTree
-tail_in place first (Node _ (Leaf bang _ (Leaf name _ (Node _ arguments _))) _) = SendOf place first (written name) (arguments_in arguments)
+tail_in place first (Node _ (Leaf bang _ (Leaf name _ (Node _ arguments _))) _) = SendOf place (written name) (NextPhrase first (arguments_in arguments))
 tail_in place first (Node _ (Leaf dot _ (Node _ selected _)) _) = selected_in place first selected
 tail_in place first _ = ValueOf place first
 
 abbrev pub rhs_in : Forest → SideTree
-rhs_in (Leaf mark _ (Node _ where_made (Leaf name _ (Node _ arguments _)))) = NewOf (place_of_mark mark) (mode_in where_made) (written name) (arguments_in arguments)
+rhs_in (Leaf mark _ (Node _ where_made (Leaf name _ (Node _ arguments _)))) =
+    NewOf (place_of_mark mark) (mode_in where_made) (place_of_mark name) (written name) (arguments_in arguments)
 rhs_in (Node _ expr (Node _ tail _)) = tail_in (place_in expr) (expr_in expr) tail
 rhs_in _ = ValueOf start (NullOf start)
 
 -- the rest of a right side whose first operand this is
 abbrev pub rest_in : Place → Phrase → Forest → SideTree
 rest_in place first (Node _ muls (Node _ sums (Node _ compared (Node _ equal (Node _ ands (Node _ ors (Node _ tail _))))))) =
-    let product = chain place first (mul_links muls) in
-    let sum = chain place product (sum_links sums) in
-    let comparison = chain place sum (compare_link compared) in
-    let equality = chain place comparison (equal_link equal) in
-    let conjunction = chain place equality (and_links ands) in
-    tail_in place (chain place conjunction (or_links ors)) tail
+    let product = with_operators place first (mul_operands muls) in
+    let sum = with_operators place product (sum_operands sums) in
+    let comparison = with_operators place sum (compare_operand compared) in
+    let equality = with_operators place comparison (equal_operand equal) in
+    let conjunction = with_operators place equality (and_operands ands) in
+    tail_in place (with_operators place conjunction (or_operands ors)) tail
 rest_in place first _ = ValueOf place first
 
 -- Guards
@@ -339,63 +346,71 @@ abbrev pub initial_in : Forest → MaybeSide
 initial_in (Node _ (Leaf equals _ (Node _ rhs _)) _) = SomeSide (rhs_in rhs)
 initial_in _ = NoSide
 
--- behind a variable that begins a statement: "=" and a right side, or the rest of one
-abbrev pub after_variable : Place → Name → Forest → Statement
-after_variable place name (Leaf equals _ (Node _ rhs _)) = AssignOf place (ToVariable place (Written name)) (rhs_in rhs)
-after_variable place name (Node _ arguments (Node _ rest _)) = DoOf place (rest_in place (named place name (arguments_maybe arguments)) rest)
-after_variable place name _ = SkipOf place
+-- behind a variable that begins a statement: "=" and a right side, or the rest of one; the statement has this index
+abbrev pub after_variable : ℕ → Place → Name → Forest → Statement
+after_variable index place name (Leaf equals _ (Node _ rhs _)) = AssignOf index place (ToVariable place (Unresolved name)) (rhs_in rhs)
+after_variable index place name (Node _ arguments (Node _ rest _)) = DoOf index place (rest_in place (named place name (arguments_maybe arguments)) rest)
+after_variable index place name _ = SkipOf index place
 
 -- the same behind "this", "." and a name
-abbrev pub after_field : Place → Name → Forest → Statement
-after_field place name (Leaf equals _ (Node _ rhs _)) = AssignOf place (ToField place name) (rhs_in rhs)
-after_field place name (Node _ arguments (Node _ rest _)) = DoOf place (rest_in place (member place name (arguments_maybe arguments)) rest)
-after_field place name _ = SkipOf place
+abbrev pub after_field : ℕ → Place → Place → Name → Forest → Statement
+after_field index place name_place name (Leaf equals _ (Node _ rhs _)) = AssignOf index place (ToField place name_place name) (rhs_in rhs)
+after_field index place name_place name (Node _ arguments (Node _ rest _)) =
+    DoOf index place (rest_in place (member place name_place name (arguments_maybe arguments)) rest)
+after_field index place name_place name _ = SkipOf index place
 
-abbrev pub after_this : Place → Forest → Statement
-after_this place (Leaf dot _ (Leaf name _ (Node _ after _))) = after_field place (written name) after
-after_this place (Node _ rest _) = DoOf place (rest_in place (ThisOf place) rest)
-after_this place _ = SkipOf place
+abbrev pub after_this : ℕ → Place → Forest → Statement
+after_this index place (Leaf dot _ (Leaf name _ (Node _ after _))) = after_field index place (place_of_mark name) (written name) after
+after_this index place (Node _ rest _) = DoOf index place (rest_in place (ThisOf place) rest)
+after_this index place _ = SkipOf index place
 
 -- the statements of a branch: those of a block, or the one that it is
 abbrev pub branch_of : Statement → Statements
 branch_of (BlockOf place statements) = statements
 branch_of statement = NextStatement statement NoStatement
 
+-- a statement whose first index is this one
 abbrev mutual
-  pub statement_in : Forest → Statement
-  statement_in (Leaf mark _ others) = statement_by (kind_of mark) mark others
-  statement_in (Node _ block Empty) = BlockOf (place_in block) (block_in block)
-  statement_in (Node _ type (Leaf name _ (Node _ initial _))) = DeclareOf (place_in type) (type_in type) (place_of_mark name) (Written (written name)) (initial_in initial)
-  statement_in (Node _ rhs _) = DoOf (place_in rhs) (rhs_in rhs)
-  statement_in Empty = SkipOf start
+  pub statement_in : ℕ → Forest → Statement
+  statement_in index (Leaf mark _ others) = statement_by index (kind_of mark) mark others
+  statement_in index (Node _ block Empty) = BlockOf (place_in block) (block_in index block)
+  statement_in index (Node _ type (Leaf name _ (Node _ initial _))) =
+      DeclareOf index (place_in type) (type_in type) (place_of_mark name) (Unresolved (written name)) (initial_in initial)
+  statement_in index (Node _ rhs _) = DoOf index (place_in rhs) (rhs_in rhs)
+  statement_in index Empty = SkipOf index start
 
   -- by the first token
-  pub statement_by : Kind → Mark → Forest → Statement
-  statement_by (Word keyword.Suspend) mark others = SuspendOf (place_of_mark mark)
-  statement_by (Word keyword.Await) mark (Node _ guard _) = AwaitOf (place_of_mark mark) (guard_in guard)
-  statement_by (Word keyword.Return) mark (Node _ expr _) = ReturnOf (place_of_mark mark) (expr_in expr)
-  statement_by (Word keyword.Println) mark (Leaf opening _ (Node _ expr _)) = PrintOf (place_of_mark mark) (expr_in expr)
-  statement_by (Word keyword.If) mark (Leaf opening _ (Node _ test (Leaf closing _ (Node _ first (Node _ other _))))) =
-      IfOf (place_of_mark mark) (expr_in test) (branch_of (statement_in first)) (else_in other)
-  statement_by (Word keyword.While) mark (Leaf opening _ (Node _ test (Leaf closing _ (Node _ body _)))) =
-      WhileOf (place_of_mark mark) (expr_in test) (branch_of (statement_in body))
-  statement_by (Word keyword.This) mark (Node _ after _) = after_this (place_of_mark mark) after
-  statement_by LowerName mark (Node _ after _) = after_variable (place_of_mark mark) (written mark) after
-  statement_by LocalName mark (Node _ after _) = after_variable (place_of_mark mark) (written mark) after
-  statement_by _ mark others = SkipOf (place_of_mark mark)
+  pub statement_by : ℕ → Kind → Mark → Forest → Statement
+  statement_by index (Word keyword.Skip) mark others = SkipOf index (place_of_mark mark)
+  statement_by index (Word keyword.Suspend) mark others = SuspendOf index (place_of_mark mark)
+  statement_by index (Word keyword.Await) mark (Node _ guard _) = AwaitOf index (place_of_mark mark) (guard_in guard)
+  statement_by index (Word keyword.Return) mark (Node _ expr _) = ReturnOf index (place_of_mark mark) (expr_in expr)
+  statement_by index (Word keyword.Println) mark (Leaf opening _ (Node _ expr _)) = PrintOf index (place_of_mark mark) (expr_in expr)
+  statement_by index (Word keyword.If) mark (Leaf opening _ (Node _ test (Leaf closing _ (Node _ first (Node _ other _))))) =
+      let branch = branch_of (statement_in (index + 1) first) in
+      IfOf index (place_of_mark mark) (expr_in test) branch (else_in (index + 1 + statement_count branch) other)
+  statement_by index (Word keyword.While) mark (Leaf opening _ (Node _ test (Leaf closing _ (Node _ body _)))) =
+      WhileOf index (place_of_mark mark) (expr_in test) (branch_of (statement_in (index + 1) body))
+  statement_by index (Word keyword.This) mark (Node _ after _) = after_this index (place_of_mark mark) after
+  statement_by index LowerName mark (Node _ after _) = after_variable index (place_of_mark mark) (written mark) after
+  statement_by index LocalName mark (Node _ after _) = after_variable index (place_of_mark mark) (written mark) after
+  statement_by index _ mark others = SkipOf index (place_of_mark mark)
 
   -- perhaps "else" and a statement
-  pub else_in : Forest → MaybeStatements
-  else_in (Node _ (Leaf mark _ (Node _ other _)) _) = Else (branch_of (statement_in other))
-  else_in _ = NoElse
+  pub else_in : ℕ → Forest → MaybeStatements
+  else_in index (Node _ (Leaf mark _ (Node _ other _)) _) = Else (branch_of (statement_in index other))
+  else_in index _ = NoElse
 
-  pub block_in : Forest → Statements
-  block_in (Leaf opening _ (Node _ statements _)) = statements_in statements
-  block_in _ = NoStatement
+  pub block_in : ℕ → Forest → Statements
+  block_in index (Leaf opening _ (Node _ statements _)) = statements_in index statements
+  block_in index _ = NoStatement
 
-  pub statements_in : Forest → Statements
-  statements_in (Node _ statement (Node _ others _)) = NextStatement (statement_in statement) (statements_in others)
-  statements_in _ = NoStatement
+  -- each statement goes on where the one before it ends
+  pub statements_in : ℕ → Forest → Statements
+  statements_in index (Node _ statement (Node _ others _)) =
+      let first = statement_in index statement in
+      NextStatement first (statements_in (index + count_of first) others)
+  statements_in index _ = NoStatement
 
 -- the place of the brace that closes a block
 abbrev pub block_end : Forest → Place
@@ -418,7 +433,7 @@ names_maybe _ = []
 
 -- a parameter, in front of others
 abbrev pub param_in : Forest → List ParamTree → List ParamTree
-param_in (Node _ type (Leaf name _ _)) others = record { type_of = type_in type; place = place_of_mark name; variable = Written (written name) } ∷ others
+param_in (Node _ type (Leaf name _ _)) others = record { type_of = type_in type; place = place_of_mark name; variable = Unresolved (written name) } ∷ others
 param_in _ others = others
 
 abbrev pub more_params : Forest → List ParamTree
@@ -469,46 +484,49 @@ abbrev pub signatures_in : Forest → List SignatureTree
 signatures_in (Node _ signature (Node _ others _)) = signature_in signature (signatures_in others)
 signatures_in _ = []
 
--- behind the type and the name of a member: ";", a value, or parameters and a body
-abbrev pub member_by : TypeTree → DeclaredTree → Forest → MemberTree
-member_by type name (Leaf opening _ (Node _ params (Leaf closing _ (Node _ block _)))) =
-    MethodTree (record { result = type; name = name; params = params_maybe params }) (block_end block) (block_in block)
-member_by type name (Leaf equals _ (Node _ expr (Leaf semicolon _ _))) = FieldTree type name (Value (expr_in expr))
-member_by type name _ = FieldTree type name NoValue
+-- behind the type and the name of a member: ";", a value, or parameters and a body, whose first statement has this index
+abbrev pub member_by : ℕ → TypeTree → DeclaredTree → Forest → MemberTree
+member_by index type name (Leaf opening _ (Node _ params (Leaf closing _ (Node _ block _)))) =
+    MethodTree (record { result = type; name = name; params = params_maybe params }) (block_end block) (block_in index block)
+member_by index type name (Leaf equals _ (Node _ expr (Leaf semicolon _ _))) = FieldTree type name (Value (expr_in expr))
+member_by index type name _ = FieldTree type name NoValue
 
 -- a member, in front of others
-abbrev pub member_in : Forest → List MemberTree → List MemberTree
-member_in (Node _ type (Leaf name _ (Node _ tail _))) others = member_by (type_in type) (declared name) tail ∷ others
-member_in _ others = others
+abbrev pub member_in : ℕ → Forest → List MemberTree → List MemberTree
+member_in index (Node _ type (Leaf name _ (Node _ tail _))) others = member_by index (type_in type) (declared name) tail ∷ others
+member_in index _ others = others
 
-abbrev pub members_in : Forest → List MemberTree
-members_in (Node _ member (Node _ others _)) = member_in member (members_in others)
-members_in _ = []
+abbrev pub members_in : ℕ → Forest → List MemberTree
+members_in index (Node _ member (Node _ others _)) =
+    member_in index member (members_in (index + member_statements (member_in index member [])) others)
+members_in index _ = []
 
 -- a declaration by its first token, in front of others
-abbrev pub decl_by : Kind → Place → Forest → List DeclTree → List DeclTree
-decl_by (Word keyword.Data) place (Leaf name _ (Node _ parameters (Leaf equals _ (Node _ first (Node _ more _))))) others =
+abbrev pub decl_by : ℕ → Kind → Place → Forest → List DeclTree → List DeclTree
+decl_by index (Word keyword.Data) place (Leaf name _ (Node _ parameters (Leaf equals _ (Node _ first (Node _ more _))))) others =
     DataTree place (declared name) (names_maybe parameters) (constructor_in first (more_constructors more)) ∷ others
-decl_by (Word keyword.Def) place (Node _ type (Leaf name _ (Node _ parameters (Leaf opening _ (Node _ params (Leaf closing _ (Leaf equals _ (Node _ expr _)))))))) others =
+decl_by index (Word keyword.Def) place (Node _ type (Leaf name _ (Node _ parameters (Leaf opening _ (Node _ params (Leaf closing _ (Leaf equals _ (Node _ expr _)))))))) others =
     FunctionTree place (type_in type) (declared name) (names_maybe parameters) (params_maybe params) (expr_in expr) ∷ others
-decl_by (Word keyword.Interface) place (Leaf name _ (Node _ extended (Leaf opening _ (Node _ signatures _)))) others =
+decl_by index (Word keyword.Interface) place (Leaf name _ (Node _ extended (Leaf opening _ (Node _ signatures _)))) others =
     InterfaceTree place (declared name) (names_maybe extended) (signatures_in signatures) ∷ others
-decl_by (Word keyword.Class) place (Leaf name _ (Node _ params (Node _ implemented (Leaf opening _ (Node _ members _))))) others =
-    ClassTree place (declared name) (class_params_maybe params) (names_maybe implemented) (members_in members) ∷ others
-decl_by _ place forest others = others
+decl_by index (Word keyword.Class) place (Leaf name _ (Node _ params (Node _ implemented (Leaf opening _ (Node _ members _))))) others =
+    ClassTree place (declared name) (class_params_maybe params) (names_maybe implemented) (members_in index members) ∷ others
+decl_by index _ place forest others = others
 
 -- a declaration, in front of others
-abbrev pub decl_in : Forest → List DeclTree → List DeclTree
-decl_in (Leaf mark _ inside) others = decl_by (kind_of mark) (place_of_mark mark) inside others
-decl_in _ others = others
+abbrev pub decl_in : ℕ → Forest → List DeclTree → List DeclTree
+decl_in index (Leaf mark _ inside) others = decl_by index (kind_of mark) (place_of_mark mark) inside others
+decl_in index _ others = others
 
-abbrev pub decls_in : Forest → List DeclTree
-decls_in (Node _ decl (Node _ more _)) = decl_in decl (decls_in more)
-decls_in _ = []
+abbrev pub decls_in : ℕ → Forest → List DeclTree
+decls_in index (Node _ decl (Node _ more _)) = decl_in index decl (decls_in (index + decl_statements (decl_in index decl [])) more)
+decls_in index _ = []
 
--- Program: "module" and "import" lines are read and leave nothing
+-- Program: "module" and "import" lines are read and leave nothing; the statements of the main block come after those of the classes
 abbrev pub text_in : Forest → SourceTree
-text_in (Node _ heading (Node _ imported (Node _ decls (Node _ block _)))) = record { declarations = decls_in decls; main = block_in block; end = block_end block }
+text_in (Node _ heading (Node _ imported (Node _ decls (Node _ block _)))) =
+    let declarations = decls_in 0 decls in
+    record { declarations = declarations; main = block_in (decl_statements declarations) block; end = block_end block }
 text_in _ = record { declarations = []; main = NoStatement; end = start }
 
 -- the tree of a text, from its one reading

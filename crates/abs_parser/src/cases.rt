@@ -51,7 +51,12 @@ pub(crate) fn case_of<'a, 'b>(
     }
     let (_, end) = here.expect(Lexeme::Sign(Punctuator::CloseBrace))?;
     let subject = Box::new(alloc, subject)?;
-    Ok((Expr::Case(word.place, subject, branches), end))
+    let expr = Expr::Case {
+        place: word.place,
+        subject,
+        branches,
+    };
+    Ok((expr, end))
 }
 
 /// `p => e;`, and the cursor behind it.

@@ -1,8 +1,8 @@
 //! Reads classes and their members.
-ghost use Rattle.std.specs.Prelude.{◌≡◌, true, List, ◌∷◌, ◌+◌, ◌<◌, ◌≤◌, ◌^◌, length, IfOk, IfErr};
+ghost use Rattle.std.specs.Prelude.{◌≡◌, true, List, [], ◌∷◌, ◌+◌, ◌<◌, ◌≤◌, ◌^◌, length, IfOk, IfErr};
 ghost use Rattle.abs_lexer.specs.declared.lexeme.Keyword.TheVariants as keyword;
-ghost use Rattle.abs_tree.specs.Syntax.{MemberTree, DeclTree};
-ghost use Rattle.abs_tree.specs.SourceNumbers.{MemberNumbered, DeclNumbered};
+ghost use Rattle.abs_tree.specs.Syntax.{Name, MemberTree, DeclTree};
+ghost use Rattle.abs_tree.specs.SyntaxSizes.{member_statements, decl_statements};
 ghost use Rattle.abs_tree.specs.SyntaxViews.{type_tree, declared as declared_tree, member_tree, decl_tree};
 ghost use Rattle.abs_parser.specs.Kinds.{Word, fits, next};
 ghost use Rattle.abs_parser.specs.Productions.{Decl as DeclSymbol, Member as MemberSymbol, MemberTail};
@@ -25,7 +25,7 @@ use abs_tree::syntax::{Decl, Declared, Member, Signature, TypeTerm};
 use std::alloc::Global;
 use std::sync::Arc;
 
-/// A declaration of a class, whose first statement has the number that is free; the number that is free behind it; and
+/// A declaration of a class, whose first statement has the free index; the index that is free after it; and
 /// the cursor behind it.
 ///
 /// # Errors
@@ -33,19 +33,20 @@ use std::sync::Arc;
 pub(crate) fn class<'a, 'b>(
     alloc: Global,
     symbols: &mut Symbols<'a>,
-    number: u32,
+    index: u32,
     depth: u32,
     from: Cursor<'a, 'b>,
 ) -> Result<(Decl, u32, Cursor<'a, 'b>), ParseError>
     requires begins { fits (Word keyword.Class) (next (left_at (spot from))) ≡ true }
     requires names { length symbols.old + length (spot from).rest < 2 ^ 31 }
-    requires few { number + length (spot from).rest < 2 ^ 31 }
+    requires few { index + length (spot from).rest < 2 ^ 31 }
     requires depth { depth ≤ limit }
     ensures found { IfOk result (λ found. FoundAs (One DeclSymbol) depth symbols.old symbols.new (spot from.entry)
         (spot found.2)
-        (λ names inside. (others : List DeclTree) → decl_tree names found.0 ∷ others ≡ decl_in inside others)) }
-    ensures numbered { IfOk result (λ found. DeclNumbered number found.0 found.1) }
-    ensures few { IfOk result (λ found. found.1 + length (spot found.2).rest ≤ number + length (spot from.entry).rest) }
+        (λ names inside. (others : List DeclTree) → decl_tree names found.0 ∷ others ≡ decl_in index inside others)) }
+    ensures free { IfOk result (λ found. (names : List Name)
+        → found.1 ≡ index + decl_statements (decl_tree names found.0 ∷ [])) }
+    ensures few { IfOk result (λ found. found.1 + length (spot found.2).rest ≤ index + length (spot from.entry).rest) }
     ensures refused { IfErr result (λ error. IsRefused (Nonterminal (One DeclSymbol) depth) (spot from.entry) error) }
 {
     let (word, name_at) = from.expect(Lexeme::Word(Keyword::Class))?;
@@ -58,7 +59,7 @@ pub(crate) fn class<'a, 'b>(
     let (implemented, open) = names_behind(alloc, symbols, Heading::Implements, heading)?;
     let (_, mut here) = open.expect(Lexeme::Sign(Punctuator::OpenBrace))?;
     let mut members = Vec::new(alloc);
-    let mut free = number;
+    let mut free = index;
     while let Ok(_) = here.expect(Lexeme::UpperName) {
         let (next, behind, end) = member(alloc, symbols, free, depth, here)?;
         members.push(next)?;
@@ -66,27 +67,35 @@ pub(crate) fn class<'a, 'b>(
         here = end;
     }
     let (_, end) = here.expect(Lexeme::Sign(Punctuator::CloseBrace))?;
-    let decl = Decl::Class(word.place, declared, params, implemented, members);
+    let decl = Decl::Class {
+        place: word.place,
+        name: declared,
+        params,
+        implemented,
+        members,
+    };
     Ok((decl, free, end))
 }
 
-/// A member of a class, whose first statement has the number that is free; the number that is free behind it; and the
+/// A member of a class, whose first statement has the free index; the index that is free after it; and the
 /// cursor behind it.
 fn member<'a, 'b>(
     alloc: Global,
     symbols: &mut Symbols<'a>,
-    number: u32,
+    index: u32,
     depth: u32,
     from: Cursor<'a, 'b>,
 ) -> Result<(Member, u32, Cursor<'a, 'b>), ParseError>
     requires names { length symbols.old + length (spot from).rest < 2 ^ 31 }
-    requires few { number + length (spot from).rest < 2 ^ 31 }
+    requires few { index + length (spot from).rest < 2 ^ 31 }
     requires depth { depth ≤ limit }
     ensures found { IfOk result (λ found. FoundAs (One MemberSymbol) depth symbols.old symbols.new (spot from.entry)
         (spot found.2)
-        (λ names inside. (others : List MemberTree) → member_tree names found.0 ∷ others ≡ member_in inside others)) }
-    ensures numbered { IfOk result (λ found. MemberNumbered number found.0 found.1) }
-    ensures few { IfOk result (λ found. found.1 + length (spot found.2).rest ≤ number + length (spot from.entry).rest) }
+        (λ names inside. (others : List MemberTree)
+        → member_tree names found.0 ∷ others ≡ member_in index inside others)) }
+    ensures free { IfOk result (λ found. (names : List Name)
+        → found.1 ≡ index + member_statements (member_tree names found.0 ∷ [])) }
+    ensures few { IfOk result (λ found. found.1 + length (spot found.2).rest ≤ index + length (spot from.entry).rest) }
     ensures refused { IfErr result (λ error. IsRefused (Nonterminal (One MemberSymbol) depth) (spot from.entry) error) }
 {
     let (type_of, name_at) = type_term(alloc, symbols, depth, from)?;
@@ -95,43 +104,54 @@ fn member<'a, 'b>(
         place: name.place,
         name: symbols.intern(name.slice)?,
     };
-    member_behind(alloc, symbols, number, depth, type_of, declared, behind)
+    member_behind(alloc, symbols, index, depth, type_of, declared, behind)
 }
 
 /// What stands behind the type and the name of a member: `;`, a value, or parameters and a block.
 fn member_behind<'a, 'b>(
     alloc: Global,
     symbols: &mut Symbols<'a>,
-    number: u32,
+    index: u32,
     depth: u32,
     type_of: TypeTerm,
     name: Declared,
     from: Cursor<'a, 'b>,
 ) -> Result<(Member, u32, Cursor<'a, 'b>), ParseError>
     requires names { length symbols.old + length (spot from).rest < 2 ^ 31 }
-    requires few { number + length (spot from).rest < 2 ^ 31 }
+    requires few { index + length (spot from).rest < 2 ^ 31 }
     requires depth { depth ≤ limit }
     ensures found { IfOk result (λ found. FoundAs (One MemberTail) depth symbols.old symbols.new (spot from.entry)
         (spot found.2)
-        (λ names inside. member_tree names found.0 ≡ member_by (type_tree names type_of)
+        (λ names inside. member_tree names found.0 ≡ member_by index (type_tree names type_of)
         (declared_tree names name) inside)) }
-    ensures numbered { IfOk result (λ found. MemberNumbered number found.0 found.1) }
-    ensures few { IfOk result (λ found. found.1 + length (spot found.2).rest ≤ number + length (spot from.entry).rest) }
+    ensures free { IfOk result (λ found. (names : List Name)
+        → found.1 ≡ index + member_statements (member_tree names found.0 ∷ [])) }
+    ensures few { IfOk result (λ found. found.1 + length (spot found.2).rest ≤ index + length (spot from.entry).rest) }
     ensures refused { IfErr result (λ error. IsRefused (Nonterminal (One MemberTail) depth) (spot from.entry) error) }
 {
     if let Ok((_, end)) = from.expect(Lexeme::Sign(Punctuator::Semicolon)) {
-        return Ok((Member::Field(type_of, name, None), number, end));
+        let field = Member::Field {
+            type_of,
+            name,
+            initial: None,
+        };
+        return Ok((field, index, end));
     }
     if let Ok((_, value_at)) = from.expect(Lexeme::Sign(Punctuator::Assign)) {
         let (value, last) = expression(alloc, symbols, depth, value_at)?;
         let (_, end) = last.expect(Lexeme::Sign(Punctuator::Semicolon))?;
-        let value = Arc::new(alloc, value)?;
-        return Ok((Member::Field(type_of, name, Some(value)), number, end));
+        let initial = Some(Arc::new(alloc, value)?);
+        let field = Member::Field {
+            type_of,
+            name,
+            initial,
+        };
+        return Ok((field, index, end));
     }
     let (_, inside) = from.expect(Lexeme::Sign(Punctuator::OpenParen))?;
     let (params, close) = params_maybe(alloc, symbols, depth, inside)?;
     let (_, block_at) = close.expect(Lexeme::Sign(Punctuator::CloseParen))?;
-    let (body, behind, end) = block(alloc, symbols, number, depth, block_at)?;
+    let (body, behind, end) = block(alloc, symbols, index, depth, block_at)?;
     let signature = Signature {
         result: type_of,
         name,

@@ -1,7 +1,8 @@
 //! Reads declarations of data, functions and interfaces.
-ghost use Rattle.std.specs.Prelude.{◌≡◌, true, List, ◌∷◌, ◌+◌, ◌<◌, ◌≤◌, ◌^◌, length, IfOk, IfErr};
+ghost use Rattle.std.specs.Prelude.{◌≡◌, true, ℕ, List, [], ◌∷◌, ◌+◌, ◌<◌, ◌≤◌, ◌^◌, length, IfOk, IfErr};
 ghost use Rattle.abs_lexer.specs.declared.lexeme.Keyword.TheVariants as keyword;
-ghost use Rattle.abs_tree.specs.Syntax.{ConstructorTree, SignatureTree, DeclTree};
+ghost use Rattle.abs_tree.specs.Syntax.{Name, ConstructorTree, SignatureTree, DeclTree};
+ghost use Rattle.abs_tree.specs.SyntaxSizes.{decl_statements};
 ghost use Rattle.abs_tree.specs.SyntaxViews.{constructor_tree, signature_tree, decl_tree};
 ghost use Rattle.abs_parser.specs.Kinds.{Word, fits, next};
 ghost use Rattle.abs_parser.specs.Productions.{Decl as DeclSymbol, Constructor as ConstructorSymbol, Signature as SignatureSymbol};
@@ -62,7 +63,9 @@ pub(crate) fn data<'a, 'b>(
     requires depth { depth ≤ limit }
     ensures found { IfOk result (λ found. FoundAs (One DeclSymbol) depth symbols.old symbols.new (spot from.entry)
         (spot found.1)
-        (λ names inside. (others : List DeclTree) → decl_tree names found.0 ∷ others ≡ decl_in inside others)) }
+        (λ names inside. (index : ℕ) (others : List DeclTree)
+        → decl_tree names found.0 ∷ others ≡ decl_in index inside others)) }
+    ensures none { IfOk result (λ found. (names : List Name) → decl_statements (decl_tree names found.0 ∷ []) ≡ 0) }
     ensures refused { IfErr result (λ error. IsRefused (Nonterminal (One DeclSymbol) depth) (spot from.entry) error) }
 {
     let (word, name_at) = from.expect(Lexeme::Word(Keyword::Data))?;
@@ -81,7 +84,12 @@ pub(crate) fn data<'a, 'b>(
         here = behind;
     }
     let (_, end) = here.expect(Lexeme::Sign(Punctuator::Semicolon))?;
-    let decl = Decl::Data(word.place, declared, parameters, constructors);
+    let decl = Decl::Data {
+        place: word.place,
+        name: declared,
+        type_params: parameters,
+        constructors,
+    };
     Ok((decl, end))
 }
 
@@ -100,7 +108,9 @@ pub(crate) fn function<'a, 'b>(
     requires depth { depth ≤ limit }
     ensures found { IfOk result (λ found. FoundAs (One DeclSymbol) depth symbols.old symbols.new (spot from.entry)
         (spot found.1)
-        (λ names inside. (others : List DeclTree) → decl_tree names found.0 ∷ others ≡ decl_in inside others)) }
+        (λ names inside. (index : ℕ) (others : List DeclTree)
+        → decl_tree names found.0 ∷ others ≡ decl_in index inside others)) }
+    ensures none { IfOk result (λ found. (names : List Name) → decl_statements (decl_tree names found.0 ∷ []) ≡ 0) }
     ensures refused { IfErr result (λ error. IsRefused (Nonterminal (One DeclSymbol) depth) (spot from.entry) error) }
 {
     let (word, type_at) = from.expect(Lexeme::Word(Keyword::Def))?;
@@ -118,7 +128,14 @@ pub(crate) fn function<'a, 'b>(
     let (value, last) = expression(alloc, symbols, depth, value_at)?;
     let (_, end) = last.expect(Lexeme::Sign(Punctuator::Semicolon))?;
     let value = Arc::new(alloc, value)?;
-    let decl = Decl::Function(word.place, result, declared, parameters, params, value);
+    let decl = Decl::Function {
+        place: word.place,
+        result,
+        name: declared,
+        type_params: parameters,
+        params,
+        value,
+    };
     Ok((decl, end))
 }
 
@@ -137,7 +154,9 @@ pub(crate) fn interface<'a, 'b>(
     requires depth { depth ≤ limit }
     ensures found { IfOk result (λ found. FoundAs (One DeclSymbol) depth symbols.old symbols.new (spot from.entry)
         (spot found.1)
-        (λ names inside. (others : List DeclTree) → decl_tree names found.0 ∷ others ≡ decl_in inside others)) }
+        (λ names inside. (index : ℕ) (others : List DeclTree)
+        → decl_tree names found.0 ∷ others ≡ decl_in index inside others)) }
+    ensures none { IfOk result (λ found. (names : List Name) → decl_statements (decl_tree names found.0 ∷ []) ≡ 0) }
     ensures refused { IfErr result (λ error. IsRefused (Nonterminal (One DeclSymbol) depth) (spot from.entry) error) }
 {
     let (word, name_at) = from.expect(Lexeme::Word(Keyword::Interface))?;
@@ -155,7 +174,12 @@ pub(crate) fn interface<'a, 'b>(
         here = behind;
     }
     let (_, end) = here.expect(Lexeme::Sign(Punctuator::CloseBrace))?;
-    let decl = Decl::Interface(word.place, declared, extended, signatures);
+    let decl = Decl::Interface {
+        place: word.place,
+        name: declared,
+        extended,
+        signatures,
+    };
     Ok((decl, end))
 }
 

@@ -15,8 +15,8 @@ use crate::cursor::{Cursor, LIMIT};
 use crate::operators::{Level, operators};
 use crate::types::type_term;
 use abs_lexer::{Keyword, Lexeme, Punctuator};
-use abs_tree::syntax::Expr;
-use abs_tree::{Symbols, Variable};
+use abs_tree::Symbols;
+use abs_tree::syntax::{Expr, Variable};
 use std::alloc::Global;
 
 /// An expression that stands in so many counted symbols, and the cursor behind it.
@@ -69,7 +69,7 @@ fn let_in<'a, 'b>(
     let (_, type_at) = open.expect(Lexeme::Sign(Punctuator::OpenParen))?;
     let (type_of, name_at) = type_term(alloc, symbols, depth + 1, type_at)?;
     let (name, close) = name_at.expect(Lexeme::LowerName)?;
-    let variable = Variable::Named(symbols.intern(name.slice)?);
+    let variable = Variable::Unresolved(symbols.intern(name.slice)?);
     let (_, equals) = close.expect(Lexeme::Sign(Punctuator::CloseParen))?;
     let (_, value_at) = equals.expect(Lexeme::Sign(Punctuator::Assign))?;
     let (value, in_at) = expression(alloc, symbols, depth + 1, value_at)?;
@@ -77,7 +77,15 @@ fn let_in<'a, 'b>(
     let (body, end) = expression(alloc, symbols, depth + 1, body_at)?;
     let value = Box::new(alloc, value)?;
     let body = Box::new(alloc, body)?;
-    Ok((Expr::Let(word.place, type_of, variable, value, body), end))
+    let expr = Expr::Let {
+        place: word.place,
+        type_of,
+        variable_place: name.place,
+        variable,
+        value,
+        body,
+    };
+    Ok((expr, end))
 }
 
 /// `if e then e else e`, and the cursor behind it.
@@ -105,8 +113,14 @@ fn if_else<'a, 'b>(
     let (first, else_at) = expression(alloc, symbols, depth + 1, first_at)?;
     let (_, second_at) = else_at.expect(Lexeme::Word(Keyword::Else))?;
     let (second, end) = expression(alloc, symbols, depth + 1, second_at)?;
-    let test = Box::new(alloc, test)?;
+    let condition = Box::new(alloc, test)?;
     let first = Box::new(alloc, first)?;
     let second = Box::new(alloc, second)?;
-    Ok((Expr::If(word.place, test, first, second), end))
+    let expr = Expr::If {
+        place: word.place,
+        condition,
+        first,
+        second,
+    };
+    Ok((expr, end))
 }

@@ -1,15 +1,16 @@
-//! Reads operators between operands, level by level: on each, operands of the next one with operators of one precedence
-//! between them.
+//! Reads operators between operands: a unary once, and then the operators that follow it, level by level, from the one
+//! that binds most.
 ghost use Rattle.std.specs.Prelude.{◌≡◌, ℕ, List, false, ◌+◌, ◌<◌, ◌≤◌, ◌^◌, length, IfOk, IfErr, IfSome, IfNone};
-ghost use Rattle.abs_tree.specs.SyntaxViews.{phrase, links};
+ghost use Rattle.abs_tree.specs.SyntaxViews.{phrase, operand_trees};
 ghost use Rattle.abs_lexer.specs.declared.lexeme.Lexeme.TheVariants as lexeme;
 ghost use Rattle.abs_tree.specs.declared.syntax.expression.Operator as operator_type;
 ghost use Rattle.abs_parser.specs.Kinds.{Sign, fits, next};
-ghost use Rattle.abs_parser.specs.Levels.{symbol_of, operand_symbol, rest_of, level_in, operand_in, links_in, level_of as on_level, sign_of, repeats as may_repeat};
+ghost use Rattle.abs_parser.specs.Levels.{rank, looser as looser_of, symbol_of, operand_symbol, rest_of, level_in, operand_in, operands_in, level_of as on_level, sign_of, repeats as may_repeat};
+ghost use Rattle.abs_parser.specs.Climbing.{Climbs, FailsToClimb};
 ghost use Rattle.abs_parser.specs.Readings.{One, Nonterminal};
 ghost use Rattle.abs_parser.specs.ReaderAnswers.{FoundAs, IsRefused, Passes, left_at};
 ghost use Rattle.abs_parser.specs.Stops.{limit};
-ghost use Rattle.abs_parser.specs.TreesOf.{chain};
+ghost use Rattle.abs_parser.specs.TreesOf.{with_operators};
 ghost use Rattle.abs_parser.specs.Views.{spot};
 
 use crate::ParseError;
@@ -45,6 +46,19 @@ impl Level {
         match self {
             Level::Equal | Level::Compare => false,
             Level::Or | Level::And | Level::Sum | Level::Mul => true,
+        }
+    }
+
+    /// The next level that binds less; below `||` there is none.
+    fn looser(self) -> Level
+        ensures { result ≡ looser_of self }
+    {
+        match self {
+            Level::Or | Level::And => Level::Or,
+            Level::Equal => Level::And,
+            Level::Compare => Level::Equal,
+            Level::Sum => Level::Compare,
+            Level::Mul => Level::Sum,
         }
     }
 }
@@ -106,7 +120,22 @@ fn operator_at<'a, 'b>(level: Level, from: Cursor<'a, 'b>) -> Option<(Operator, 
     Some((operator, behind))
 }
 
-/// Operands of a level with its operators between them, and the cursor behind them.
+/// Whether an operator between operands is the next token.
+fn operator_follows(from: Cursor<'_, '_>) -> bool
+    ensures { result ≡ false → (operator : operator_type.Operator)
+        → fits (Sign (sign_of operator)) (next (left_at (spot from.entry))) ≡ false }
+{
+    let Some((token, _)) = from.next() else {
+        return false;
+    };
+    let Lexeme::Sign(sign) = token.kind else {
+        return false;
+    };
+    operator_of(sign).is_some()
+}
+
+/// Operands of a level with its operators between them, and the cursor behind them. Its first unary is read once, and
+/// then the operators that follow it, level by level.
 ///
 /// # Errors
 /// The refusal of the first token that stands in nothing of this form, or that stands too deep.
@@ -126,8 +155,47 @@ pub(crate) fn operators<'a, 'b>(
     ensures refused { IfErr result (λ error. IsRefused (Nonterminal (One (symbol_of level)) depth)
         (spot from.entry) error) }
 {
-    let (first, here) = operand(alloc, symbols, level, depth, from)?;
-    operators_behind(alloc, symbols, level, depth, from.place(), first, here)
+    let (first, here) = unary(alloc, symbols, depth, from)?;
+    climb(
+        alloc,
+        symbols,
+        Level::Mul,
+        level,
+        depth,
+        from.place(),
+        first,
+        here,
+    )
+}
+
+/// A first operand of the level `at`, which begins at `place`, with the operators and operands that follow it, up to
+/// the level `to`; and the cursor behind them.
+#[cycle(phrases)]
+fn climb<'a, 'b>(
+    alloc: Global,
+    symbols: &mut Symbols<'a>,
+    at: Level,
+    to: Level,
+    depth: u32,
+    place: Place,
+    first: Expr,
+    from: Cursor<'a, 'b>,
+) -> Result<(Expr, Cursor<'a, 'b>), ParseError>
+    requires order { rank at ≤ rank to }
+    requires names { length symbols.old + length (spot from).rest < 2 ^ 31 }
+    requires depth { depth ≤ limit }
+    ensures found { IfOk result (λ found. Climbs at to depth symbols.old symbols.new place first found.0
+        (spot from.entry) (spot found.1)) }
+    ensures refused { IfErr result (λ error. FailsToClimb at to depth symbols.old place first (spot from.entry) error) }
+{
+    if !operator_follows(from) {
+        return Ok((first, from));
+    }
+    let (left, here) = operators_behind(alloc, symbols, at, depth, place, first, from)?;
+    if at == to {
+        return Ok((left, here));
+    }
+    climb(alloc, symbols, at.looser(), to, depth, place, left, here)
 }
 
 /// A first operand of a level, which begins at `place`, with the operators and operands that stand behind it; and the
@@ -149,7 +217,7 @@ pub(crate) fn operators_behind<'a, 'b>(
     requires depth { depth ≤ limit }
     ensures found { IfOk result (λ found. FoundAs (rest_of level) depth symbols.old symbols.new (spot from.entry)
         (spot found.1)
-        (λ names inside. phrase names found.0 ≡ chain place (phrase names first) (links_in level inside))) }
+        (λ names inside. phrase names found.0 ≡ with_operators place (phrase names first) (operands_in level inside))) }
     ensures refused { IfErr result (λ error. IsRefused (Nonterminal (rest_of level) depth) (spot from.entry) error) }
 {
     let mut operands = Vec::new(alloc);
@@ -200,10 +268,14 @@ fn node(
     operands: Vec<Operand>,
 ) -> Result<Expr, AllocError>
     ensures { IfOk result (λ expr. (names : List (List ℕ))
-        → phrase names expr ≡ chain place (phrase names first) (links names operands.items)) }
+        → phrase names expr ≡ with_operators place (phrase names first) (operand_trees names operands.items)) }
 {
     if operands.is_empty() {
         return Ok(first);
     }
-    Ok(Expr::Chain(place, Box::new(alloc, first)?, operands))
+    Ok(Expr::Operators {
+        place,
+        first: Box::new(alloc, first)?,
+        operands,
+    })
 }

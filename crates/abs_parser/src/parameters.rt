@@ -13,8 +13,8 @@ use crate::ParseError;
 use crate::cursor::Cursor;
 use crate::types::{type_term, types};
 use abs_lexer::{Lexeme, Punctuator};
-use abs_tree::syntax::{Param, TypeTerm};
-use abs_tree::{Symbols, Variable};
+use abs_tree::Symbols;
+use abs_tree::syntax::{Param, TypeTerm, Variable};
 use std::alloc::Global;
 
 /// A parameter, `T x`, and the cursor behind it.
@@ -33,7 +33,7 @@ fn param<'a, 'b>(
 {
     let (type_of, name_at) = type_term(alloc, symbols, depth, from)?;
     let (name, end) = name_at.expect(Lexeme::LowerName)?;
-    let variable = Variable::Named(symbols.intern(name.slice)?);
+    let variable = Variable::Unresolved(symbols.intern(name.slice)?);
     let param = Param {
         type_of,
         place: name.place,

@@ -1,5 +1,5 @@
 //! Reads a whole text: its declarations and its main block, and nothing behind it.
-ghost use Rattle.std.specs.Prelude.{◌≡◌, ◌≤◌, ℕ, length, All, IfOk, IfErr};
+ghost use Rattle.std.specs.Prelude.{◌≡◌, ◌≤◌, length, All, IfOk, IfErr};
 ghost use Rattle.abs_tree.specs.Limits.{parsed_table_limit};
 ghost use Rattle.abs_tree.specs.SyntaxSizes.{all_statements};
 ghost use Rattle.abs_tree.specs.SourceNumbers.{IsNumberedWhole};
@@ -27,8 +27,7 @@ use std::alloc::Global;
 /// outside the profile, and S1 for any other; and [`ParseError::Memory`] where memory runs out.
 pub fn parse<'a>(alloc: Global, list: &Tokens<'a>) -> Result<Program<'a>, ParseError>
     ensures found { IfOk result (λ program. IsTextOf list.now program.symbols (source_tree program)) }
-    ensures numbered { IfOk result (λ program. (all : ℕ)
-        × IsNumberedWhole program.declarations.items program.main all) }
+    ensures numbered { IfOk result (λ program. IsNumberedWhole (source_tree program)) }
     ensures names { IfOk result (λ program. All (IsWritten list.now.tokens) program.symbols) }
     ensures few_symbols { IfOk result (λ program. length program.symbols ≤ parsed_table_limit) }
     ensures few_statements { IfOk result (λ program. all_statements (source_tree program) ≤ parsed_table_limit) }

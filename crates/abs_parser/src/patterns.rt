@@ -13,8 +13,8 @@ use crate::ParseError;
 use crate::cursor::{Cursor, LIMIT};
 use crate::literals::{numeral, text};
 use abs_lexer::{Lexeme, Punctuator};
-use abs_tree::syntax::Pattern;
-use abs_tree::{Symbols, Variable};
+use abs_tree::Symbols;
+use abs_tree::syntax::{Pattern, Variable};
 use std::alloc::Global;
 
 /// Whether a pattern may begin with a token of this kind, however it is written.
@@ -70,12 +70,20 @@ pub(crate) fn pattern<'a, 'b>(
     match token.kind {
         Lexeme::LowerName => {
             let symbol = symbols.intern(token.slice)?;
-            Ok((Pattern::Binds(token.place, Variable::Named(symbol)), behind))
+            Ok((
+                Pattern::Binds(token.place, Variable::Unresolved(symbol)),
+                behind,
+            ))
         }
         Lexeme::UpperName => {
             let symbol = symbols.intern(token.slice)?;
             let (arguments, end) = pattern_arguments(alloc, symbols, depth + 1, behind)?;
-            Ok((Pattern::Built(token.place, symbol, arguments), end))
+            let built = Pattern::Built {
+                place: token.place,
+                constructor: symbol,
+                arguments,
+            };
+            Ok((built, end))
         }
         Lexeme::Number => Ok((Pattern::Number(token.place, numeral(token.slice)), behind)),
         Lexeme::Text => Ok((

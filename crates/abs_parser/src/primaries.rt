@@ -4,14 +4,16 @@ ghost use Rattle.std.specs.Prelude.{◌≡◌, ℕ, List, true, ◌+◌, ◌<◌
 ghost use Rattle.abs_lexer.specs.declared.lexeme.Keyword.TheVariants as keyword;
 ghost use Rattle.abs_lexer.specs.declared.lexeme.Lexeme.TheVariants as lexeme;
 ghost use Rattle.abs_tree.specs.declared.syntax.expression.Prefix as prefix_type;
+ghost use Rattle.abs_tree.specs.Syntax.{Name};
 ghost use Rattle.abs_tree.specs.SyntaxViews.{phrase};
+ghost use Rattle.abs_tree.specs.Trees.{name_of};
 ghost use Rattle.abs_parser.specs.Kinds.{LowerName, UpperName, Word, Sign, fits, next, kind_of_lexeme};
 ghost use Rattle.abs_parser.specs.Levels.{prefix_sign};
 ghost use Rattle.abs_parser.specs.Productions.{begins, Unary, Primary};
 ghost use Rattle.abs_parser.specs.Readings.{One, Nonterminal};
-ghost use Rattle.abs_parser.specs.ReaderAnswers.{FoundAs, IsRefused, left_at};
+ghost use Rattle.abs_parser.specs.ReaderAnswers.{FoundAs, IsRefused, left_at, maybe_phrases};
 ghost use Rattle.abs_parser.specs.Stops.{limit};
-ghost use Rattle.abs_parser.specs.TreesOf.{unary_in, primary_in};
+ghost use Rattle.abs_parser.specs.TreesOf.{unary_in, primary_in, named as named_tree, member as member_tree};
 ghost use Rattle.abs_parser.specs.Views.{spot};
 
 use crate::ParseError;
@@ -21,9 +23,10 @@ use crate::cursor::{Cursor, LIMIT};
 use crate::expressions::expression;
 use crate::literals::{numeral, text};
 use abs_lexer::{Keyword, Lexeme, Punctuator};
-use abs_tree::syntax::{Expr, Prefix};
-use abs_tree::{Symbols, Variable};
-use std::alloc::Global;
+use abs_tree::syntax::{Expr, Prefix, Variable};
+use abs_tree::{Place, Symbol, Symbols};
+use std::alloc::{AllocError, Global};
+use std::sync::Arc;
 
 /// The operator before an operand that a token of this kind is, where it is one.
 fn prefix_of(kind: Lexeme) -> Option<Prefix>
@@ -91,7 +94,12 @@ pub(crate) fn unary<'a, 'b>(
     }
     let (operand, end) = unary(alloc, symbols, depth + 1, behind)?;
     let operand = Box::new(alloc, operand)?;
-    Ok((Expr::Prefixed(token.place, prefix, operand), end))
+    let prefixed = Expr::Prefixed {
+        place: token.place,
+        prefix,
+        operand,
+    };
+    Ok((prefixed, end))
 }
 
 /// A primary that stands in so many counted symbols, and the cursor behind it.
@@ -115,7 +123,7 @@ fn primary<'a, 'b>(
     match token.kind {
         Lexeme::Number => Ok((Expr::Number(token.place, numeral(token.slice)), behind)),
         Lexeme::Text => Ok((Expr::Text(token.place, text(alloc, token.slice)?), behind)),
-        Lexeme::LowerName => named(alloc, symbols, depth, from),
+        Lexeme::LowerName => lower_primary(alloc, symbols, depth, from),
         Lexeme::UpperName => built(alloc, symbols, depth, from),
         Lexeme::Word(word) => worded(alloc, symbols, depth, word, from),
         Lexeme::Sign(sign) => group(alloc, symbols, depth, sign, from),
@@ -125,7 +133,7 @@ fn primary<'a, 'b>(
 
 /// A variable, or a function with its arguments, and the cursor behind it.
 #[cycle(phrases)]
-fn named<'a, 'b>(
+fn lower_primary<'a, 'b>(
     alloc: Global,
     symbols: &mut Symbols<'a>,
     depth: u32,
@@ -142,11 +150,22 @@ fn named<'a, 'b>(
     let (name, behind) = from.expect(Lexeme::LowerName)?;
     let symbol = symbols.intern(name.slice)?;
     let (arguments, end) = arguments_maybe(alloc, symbols, depth, behind)?;
-    let expr = match arguments {
-        Some(arguments) => Expr::Apply(name.place, symbol, arguments),
-        None => Expr::Local(name.place, Variable::Named(symbol)),
-    };
-    Ok((expr, end))
+    Ok((named(name.place, symbol, arguments), end))
+}
+
+/// `x`, or with arguments `f(es)`.
+pub(crate) fn named(place: Place, name: Symbol, arguments: Option<Vec<Expr>>) -> Expr
+    ensures { (names : List Name)
+        → phrase names result ≡ named_tree place (name_of names name) (maybe_phrases names arguments) }
+{
+    match arguments {
+        Some(arguments) => Expr::Apply {
+            place,
+            function: name,
+            arguments,
+        },
+        None => Expr::Variable(place, Variable::Unresolved(name)),
+    }
 }
 
 /// A constructor with its arguments, where it has any, and the cursor behind it.
@@ -172,7 +191,12 @@ fn built<'a, 'b>(
         Some(arguments) => arguments,
         None => Vec::new(alloc),
     };
-    Ok((Expr::Build(name.place, symbol, arguments), end))
+    let build = Expr::Build {
+        place: name.place,
+        constructor: symbol,
+        arguments,
+    };
+    Ok((build, end))
 }
 
 /// A primary that begins with a word, and the cursor behind it.
@@ -225,11 +249,33 @@ fn this_of<'a, 'b>(
     let (name, open) = name_at.expect(Lexeme::LowerName)?;
     let symbol = symbols.intern(name.slice)?;
     let (arguments, end) = arguments_maybe(alloc, symbols, depth, open)?;
-    let expr = match arguments {
-        Some(arguments) => Expr::OwnCall(this.place, symbol, arguments),
-        None => Expr::Field(this.place, symbol),
-    };
+    let expr = member(alloc, this.place, name.place, symbol, arguments)?;
     Ok((expr, end))
+}
+
+/// `this.x`, or with arguments `this.m(es)`.
+pub(crate) fn member(
+    alloc: Global,
+    place: Place,
+    name_place: Place,
+    name: Symbol,
+    arguments: Option<Vec<Expr>>,
+) -> Result<Expr, AllocError>
+    ensures { IfOk result (λ expr. (names : List Name)
+        → phrase names expr ≡ member_tree place name_place (name_of names name) (maybe_phrases names arguments)) }
+{
+    match arguments {
+        Some(arguments) => Ok(Expr::OwnCall {
+            place,
+            method: name,
+            arguments: Arc::new(alloc, arguments)?,
+        }),
+        None => Ok(Expr::Field {
+            place,
+            name_place,
+            name,
+        }),
+    }
 }
 
 /// An expression in parentheses, which leave no node, and the cursor behind it.

@@ -1,8 +1,8 @@
 //! Reads declarations of every kind, one behind another.
-ghost use Rattle.std.specs.Prelude.{◌≡◌, List, ◌∷◌, ◌+◌, ◌<◌, ◌≤◌, ◌^◌, length, map, IfOk, IfErr};
-ghost use Rattle.abs_tree.specs.Syntax.{DeclTree};
+ghost use Rattle.std.specs.Prelude.{◌≡◌, List, [], ◌∷◌, ◌+◌, ◌<◌, ◌≤◌, ◌^◌, length, map, IfOk, IfErr};
+ghost use Rattle.abs_tree.specs.Syntax.{Name, DeclTree};
 ghost use Rattle.abs_tree.specs.SyntaxViews.{decl_tree};
-ghost use Rattle.abs_tree.specs.SourceNumbers.{DeclNumbered, DeclsNumbered};
+ghost use Rattle.abs_tree.specs.SyntaxSizes.{decl_statements};
 ghost use Rattle.abs_parser.specs.Kinds.{next};
 ghost use Rattle.abs_parser.specs.Productions.{begins, Decl as DeclSymbol};
 ghost use Rattle.abs_parser.specs.Readings.{One, Repeated, Nonterminal};
@@ -19,28 +19,29 @@ use abs_tree::Symbols;
 use abs_tree::syntax::Decl;
 use std::alloc::Global;
 
-/// Declarations, as many as stand here, whose first statement has the number that is free; the number that is free
-/// behind them; and the cursor behind them.
+/// Declarations, as many as stand here, whose first statement has the free index; the index that is free
+/// after them; and the cursor behind them.
 ///
 /// # Errors
 /// The refusal of the first token that no declaration has there, or that stands too deep.
 pub(crate) fn declarations<'a, 'b>(
     alloc: Global,
     symbols: &mut Symbols<'a>,
-    number: u32,
+    index: u32,
     from: Cursor<'a, 'b>,
 ) -> Result<(Vec<Decl>, u32, Cursor<'a, 'b>), ParseError>
     requires names { length symbols.old + length (spot from).rest < 2 ^ 31 }
-    requires few { number + length (spot from).rest < 2 ^ 31 }
+    requires few { index + length (spot from).rest < 2 ^ 31 }
     ensures found { IfOk result (λ found. FoundAs (Repeated DeclSymbol) 0 symbols.old symbols.new (spot from.entry)
         (spot found.2)
-        (λ names inside. map (decl_tree names) found.0.items ≡ decls_in inside)) }
-    ensures numbered { IfOk result (λ found. DeclsNumbered number found.0.items found.1) }
-    ensures few { IfOk result (λ found. found.1 + length (spot found.2).rest ≤ number + length (spot from.entry).rest) }
+        (λ names inside. map (decl_tree names) found.0.items ≡ decls_in index inside)) }
+    ensures free { IfOk result (λ found. (names : List Name)
+        → found.1 ≡ index + decl_statements (map (decl_tree names) found.0.items)) }
+    ensures few { IfOk result (λ found. found.1 + length (spot found.2).rest ≤ index + length (spot from.entry).rest) }
     ensures refused { IfErr result (λ error. IsRefused (Nonterminal (Repeated DeclSymbol) 0) (spot from.entry) error) }
 {
     let mut declarations = Vec::new(alloc);
-    let mut free = number;
+    let mut free = index;
     let mut here = from;
     while declaration_begins(here) {
         let (next, behind, end) = declaration(alloc, symbols, free, here)?;
@@ -67,21 +68,22 @@ fn declaration_begins(from: Cursor<'_, '_>) -> bool
     }
 }
 
-/// A declaration, whose first statement has the number that is free; the number that is free behind it; and the cursor
+/// A declaration, whose first statement has the free index; the index that is free after it; and the cursor
 /// behind it.
 fn declaration<'a, 'b>(
     alloc: Global,
     symbols: &mut Symbols<'a>,
-    number: u32,
+    index: u32,
     from: Cursor<'a, 'b>,
 ) -> Result<(Decl, u32, Cursor<'a, 'b>), ParseError>
     requires names { length symbols.old + length (spot from).rest < 2 ^ 31 }
-    requires few { number + length (spot from).rest < 2 ^ 31 }
+    requires few { index + length (spot from).rest < 2 ^ 31 }
     ensures found { IfOk result (λ found. FoundAs (One DeclSymbol) 0 symbols.old symbols.new (spot from.entry)
         (spot found.2)
-        (λ names inside. (others : List DeclTree) → decl_tree names found.0 ∷ others ≡ decl_in inside others)) }
-    ensures numbered { IfOk result (λ found. DeclNumbered number found.0 found.1) }
-    ensures few { IfOk result (λ found. found.1 + length (spot found.2).rest ≤ number + length (spot from.entry).rest) }
+        (λ names inside. (others : List DeclTree) → decl_tree names found.0 ∷ others ≡ decl_in index inside others)) }
+    ensures free { IfOk result (λ found. (names : List Name)
+        → found.1 ≡ index + decl_statements (decl_tree names found.0 ∷ [])) }
+    ensures few { IfOk result (λ found. found.1 + length (spot found.2).rest ≤ index + length (spot from.entry).rest) }
     ensures refused { IfErr result (λ error. IsRefused (Nonterminal (One DeclSymbol) 0) (spot from.entry) error) }
 {
     let Some((token, _)) = from.next() else {
@@ -94,8 +96,8 @@ fn declaration<'a, 'b>(
         Keyword::Data => data(alloc, symbols, 0, from)?,
         Keyword::Def => function(alloc, symbols, 0, from)?,
         Keyword::Interface => interface(alloc, symbols, 0, from)?,
-        Keyword::Class => return class(alloc, symbols, number, 0, from),
+        Keyword::Class => return class(alloc, symbols, index, 0, from),
         _ => return Err(from.wrong()),
     };
-    Ok((decl, number, end))
+    Ok((decl, index, end))
 }

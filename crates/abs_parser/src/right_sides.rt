@@ -1,7 +1,8 @@
 //! Reads right sides: a new object, or an expression with what stands behind it.
-ghost use Rattle.std.specs.Prelude.{◌≡◌, ℕ, true, false, ◌+◌, ◌<◌, ◌≤◌, ◌^◌, length, IfOk, IfErr, OnErr};
+ghost use Rattle.std.specs.Prelude.{◌≡◌, ℕ, List, true, false, ◌+◌, ◌<◌, ◌≤◌, ◌^◌, length, IfOk, IfErr, OnErr};
 ghost use Rattle.abs_lexer.specs.declared.lexeme.Keyword.TheVariants as keyword;
-ghost use Rattle.abs_tree.specs.SyntaxViews.{phrase, side_tree};
+ghost use Rattle.abs_tree.specs.Syntax.{Name, NextPhrase};
+ghost use Rattle.abs_tree.specs.SyntaxViews.{phrase, phrases, side_tree};
 ghost use Rattle.abs_parser.specs.Kinds.{Word, fits, next};
 ghost use Rattle.abs_parser.specs.Productions.{Rhs, RhsTail, Selected, Where};
 ghost use Rattle.abs_parser.specs.Readings.{One, Optional, Nonterminal};
@@ -64,8 +65,14 @@ fn new_object<'a, 'b>(
     let (name, open) = name_at.expect(Lexeme::UpperName)?;
     let class = symbols.intern(name.slice)?;
     let (arguments, end) = arguments(alloc, symbols, depth, open)?;
-    let arguments = Arc::new(alloc, arguments)?;
-    Ok((RightSide::New(word.place, mode, class, arguments), end))
+    let side = RightSide::New {
+        place: word.place,
+        mode,
+        class_place: name.place,
+        class,
+        arguments: Arc::new(alloc, arguments)?,
+    };
+    Ok((side, end))
 }
 
 /// Where a new object is to live, by the word behind `new`, and the cursor behind that word. `local` is a name like
@@ -84,7 +91,7 @@ fn mode<'a, 'b>(
     }
     if let Ok((name, behind)) = from.expect_name(FixedName::Local) {
         symbols.intern(name.slice)?;
-        return Ok((Mode::Local, behind));
+        return Ok((Mode::Local(name.place), behind));
     }
     Ok((Mode::Plain, from))
 }
@@ -109,16 +116,15 @@ pub(crate) fn side_behind<'a, 'b>(
         (λ names inside. side_tree names found.0 ≡ tail_in place (phrase names first) inside)) }
     ensures refused { IfErr result (λ error. IsRefused (Nonterminal (Optional RhsTail) depth) (spot from.entry) error) }
 {
-    let first = Arc::new(alloc, first)?;
     if let Ok((_, behind)) = from.expect(Lexeme::Sign(Punctuator::Not)) {
         let (name, open) = behind.expect(Lexeme::LowerName)?;
         let method = symbols.intern(name.slice)?;
         let (arguments, end) = arguments(alloc, symbols, depth, open)?;
-        let arguments = Arc::new(alloc, arguments)?;
-        return Ok((RightSide::Send(place, first, method, arguments), end));
+        let row = row_of(alloc, first, arguments)?;
+        return Ok((RightSide::Send { place, method, row }, end));
     }
     let Ok((_, behind)) = from.expect(Lexeme::Sign(Punctuator::Dot)) else {
-        return Ok((RightSide::Value(place, first), from));
+        return Ok((RightSide::Value(place, Arc::new(alloc, first)?), from));
     };
     selected(alloc, symbols, depth, place, first, behind)
 }
@@ -129,22 +135,42 @@ fn selected<'a, 'b>(
     symbols: &mut Symbols<'a>,
     depth: u32,
     place: Place,
-    first: Arc<Expr>,
+    first: Expr,
     from: Cursor<'a, 'b>,
 ) -> Result<(RightSide, Cursor<'a, 'b>), ParseError>
     requires names { length symbols.old + length (spot from).rest < 2 ^ 31 }
     requires depth { depth ≤ limit }
     ensures found { IfOk result (λ found. FoundAs (One Selected) depth symbols.old symbols.new (spot from.entry)
         (spot found.1)
-        (λ names inside. side_tree names found.0 ≡ selected_in place (phrase names first.value) inside)) }
+        (λ names inside. side_tree names found.0 ≡ selected_in place (phrase names first) inside)) }
     ensures refused { IfErr result (λ error. IsRefused (Nonterminal (One Selected) depth) (spot from.entry) error) }
 {
-    if let Ok((_, end)) = from.expect(Lexeme::Word(Keyword::Get)) {
-        return Ok((RightSide::Get(place, first), end));
+    if let Ok((word, end)) = from.expect(Lexeme::Word(Keyword::Get)) {
+        let side = RightSide::Get {
+            place,
+            get_place: word.place,
+            future: Arc::new(alloc, first)?,
+        };
+        return Ok((side, end));
     }
     let (name, open) = from.expect(Lexeme::LowerName)?;
     let method = symbols.intern(name.slice)?;
     let (arguments, end) = arguments(alloc, symbols, depth, open)?;
-    let arguments = Arc::new(alloc, arguments)?;
-    Ok((RightSide::Call(place, first, method, arguments), end))
+    let side = RightSide::Call {
+        place,
+        method,
+        row: row_of(alloc, first, arguments)?,
+        slot: None,
+    };
+    Ok((side, end))
+}
+
+/// The row of a call: its receiver, and after it its arguments.
+fn row_of(alloc: Global, receiver: Expr, arguments: Vec<Expr>) -> Result<Arc<Vec<Expr>>, AllocError>
+    ensures { IfOk result (λ row. (names : List Name) → phrases names row.value.items
+        ≡ NextPhrase (phrase names receiver) (phrases names arguments.items)) }
+{
+    let mut row = arguments;
+    row.insert(0, receiver)?;
+    Ok(Arc::new(alloc, row)?)
 }

@@ -2,7 +2,7 @@
 ghost use Rattle.std.specs.Prelude.{◌≡◌, List, true, false, ◌+◌, ◌<◌, ◌≤◌, ◌^◌, length, IfOk, IfErr};
 ghost use Rattle.abs_lexer.specs.declared.lexeme.Keyword.TheVariants as keyword;
 ghost use Rattle.abs_tree.specs.Syntax.{Name};
-ghost use Rattle.abs_tree.specs.SyntaxNumbers.{IsNumbered};
+ghost use Rattle.abs_tree.specs.SyntaxSizes.{count_of};
 ghost use Rattle.abs_tree.specs.SyntaxViews.{phrase, side_tree, target_tree, statement as statement_tree, maybe_side};
 ghost use Rattle.abs_parser.specs.Kinds.{LowerName, UpperName, Word, fits, next};
 ghost use Rattle.abs_parser.specs.Productions.{begins, Stmt as StmtSymbol, Rhs, Initial, Rest, AfterName};
@@ -19,12 +19,13 @@ use crate::cursor::{Cursor, LIMIT};
 use crate::expressions::expression;
 use crate::guards::guard;
 use crate::operators::{Level, operators_behind};
+use crate::primaries::{member, named};
 use crate::right_sides::{right_side, side_behind};
 use crate::types::type_term;
 use abs_lexer::{Keyword, Lexeme, Punctuator};
-use abs_tree::syntax::{Expr, RightSide, Stmt, Target};
-use abs_tree::{Place, Symbol, Symbols, Variable};
-use std::alloc::Global;
+use abs_tree::syntax::{Expr, RightSide, Stmt, Target, Variable};
+use abs_tree::{Place, Symbol, Symbols};
+use std::alloc::{AllocError, Global};
 use std::sync::Arc;
 
 /// A variable or a field with which a statement begins, with the place where it begins.
@@ -32,8 +33,8 @@ use std::sync::Arc;
 pub(crate) enum First {
     /// `x`
     Variable(Place, Symbol),
-    /// `this.x`
-    Field(Place, Symbol),
+    /// `this.x`, with the place of the name.
+    Field(Place, Place, Symbol),
 }
 
 impl First {
@@ -42,7 +43,7 @@ impl First {
         ensures { result ≡ place_of_first self }
     {
         match self {
-            First::Variable(place, _) | First::Field(place, _) => place,
+            First::Variable(place, _) | First::Field(place, ..) => place,
         }
     }
 
@@ -51,20 +52,28 @@ impl First {
         ensures { (names : List Name) → target_tree names result ≡ target_of names self }
     {
         match self {
-            First::Variable(place, symbol) => Target::Local(place, Variable::Named(symbol)),
-            First::Field(place, symbol) => Target::Field(place, symbol),
+            First::Variable(place, symbol) => Target::Variable(place, Variable::Unresolved(symbol)),
+            First::Field(place, name_place, name) => Target::Field {
+                place,
+                name_place,
+                name,
+            },
         }
     }
 
     /// The same as an expression, with arguments behind it or without.
-    fn expr(self, arguments: Option<Vec<Expr>>) -> Expr
-        ensures { (names : List Name) → phrase names result ≡ phrase_of names self (maybe_phrases names arguments) }
+    ///
+    /// # Errors
+    /// [`AllocError`] if an allocation fails.
+    fn expr(self, alloc: Global, arguments: Option<Vec<Expr>>) -> Result<Expr, AllocError>
+        ensures { IfOk result (λ expr. (names : List Name)
+            → phrase names expr ≡ phrase_of names self (maybe_phrases names arguments)) }
     {
-        match (self, arguments) {
-            (First::Variable(place, symbol), None) => Expr::Local(place, Variable::Named(symbol)),
-            (First::Variable(place, symbol), Some(given)) => Expr::Apply(place, symbol, given),
-            (First::Field(place, symbol), None) => Expr::Field(place, symbol),
-            (First::Field(place, symbol), Some(given)) => Expr::OwnCall(place, symbol, given),
+        match self {
+            First::Variable(place, symbol) => Ok(named(place, symbol, arguments)),
+            First::Field(place, name_place, symbol) => {
+                member(alloc, place, name_place, symbol, arguments)
+            }
         }
     }
 }
@@ -73,7 +82,7 @@ impl First {
 pub(crate) fn skip<'a, 'b>(
     alloc: Global,
     symbols: &mut Symbols<'a>,
-    number: u32,
+    index: u32,
     depth: u32,
     from: Cursor<'a, 'b>,
 ) -> Result<(Stmt, Cursor<'a, 'b>), ParseError>
@@ -82,8 +91,8 @@ pub(crate) fn skip<'a, 'b>(
     requires depth { depth ≤ limit }
     ensures found { IfOk result (λ found. FoundAs (One StmtSymbol) depth symbols.old symbols.new (spot from.entry)
         (spot found.1)
-        (λ names inside. statement_tree names found.0 ≡ statement_in inside)) }
-    ensures numbered { IfOk result (λ found. IsNumbered number found.0 (1 + number)) }
+        (λ names inside. statement_tree names found.0 ≡ statement_in index inside)) }
+    ensures one { IfOk result (λ found. (names : List Name) → count_of (statement_tree names found.0) ≡ 1) }
     ensures shorter { IfOk result (λ found. length (spot found.1).rest < length (spot from.entry).rest) }
     ensures refused { IfErr result (λ error. IsRefused (Nonterminal (One StmtSymbol) depth) (spot from.entry) error) }
 {
@@ -92,14 +101,20 @@ pub(crate) fn skip<'a, 'b>(
         return Err(from.deep());
     }
     let (_, end) = last.expect(Lexeme::Sign(Punctuator::Semicolon))?;
-    Ok((Stmt::Skip(number, word.place), end))
+    Ok((
+        Stmt::Skip {
+            index,
+            place: word.place,
+        },
+        end,
+    ))
 }
 
 /// `suspend;`, and the cursor behind it.
 pub(crate) fn suspend<'a, 'b>(
     alloc: Global,
     symbols: &mut Symbols<'a>,
-    number: u32,
+    index: u32,
     depth: u32,
     from: Cursor<'a, 'b>,
 ) -> Result<(Stmt, Cursor<'a, 'b>), ParseError>
@@ -108,8 +123,8 @@ pub(crate) fn suspend<'a, 'b>(
     requires depth { depth ≤ limit }
     ensures found { IfOk result (λ found. FoundAs (One StmtSymbol) depth symbols.old symbols.new (spot from.entry)
         (spot found.1)
-        (λ names inside. statement_tree names found.0 ≡ statement_in inside)) }
-    ensures numbered { IfOk result (λ found. IsNumbered number found.0 (1 + number)) }
+        (λ names inside. statement_tree names found.0 ≡ statement_in index inside)) }
+    ensures one { IfOk result (λ found. (names : List Name) → count_of (statement_tree names found.0) ≡ 1) }
     ensures shorter { IfOk result (λ found. length (spot found.1).rest < length (spot from.entry).rest) }
     ensures refused { IfErr result (λ error. IsRefused (Nonterminal (One StmtSymbol) depth) (spot from.entry) error) }
 {
@@ -118,14 +133,20 @@ pub(crate) fn suspend<'a, 'b>(
         return Err(from.deep());
     }
     let (_, end) = last.expect(Lexeme::Sign(Punctuator::Semicolon))?;
-    Ok((Stmt::Suspend(number, word.place), end))
+    Ok((
+        Stmt::Suspend {
+            index,
+            place: word.place,
+        },
+        end,
+    ))
 }
 
 /// `await g;`, and the cursor behind it.
 pub(crate) fn awaiting<'a, 'b>(
     alloc: Global,
     symbols: &mut Symbols<'a>,
-    number: u32,
+    index: u32,
     depth: u32,
     from: Cursor<'a, 'b>,
 ) -> Result<(Stmt, Cursor<'a, 'b>), ParseError>
@@ -134,8 +155,8 @@ pub(crate) fn awaiting<'a, 'b>(
     requires depth { depth ≤ limit }
     ensures found { IfOk result (λ found. FoundAs (One StmtSymbol) depth symbols.old symbols.new (spot from.entry)
         (spot found.1)
-        (λ names inside. statement_tree names found.0 ≡ statement_in inside)) }
-    ensures numbered { IfOk result (λ found. IsNumbered number found.0 (1 + number)) }
+        (λ names inside. statement_tree names found.0 ≡ statement_in index inside)) }
+    ensures one { IfOk result (λ found. (names : List Name) → count_of (statement_tree names found.0) ≡ 1) }
     ensures shorter { IfOk result (λ found. length (spot found.1).rest < length (spot from.entry).rest) }
     ensures refused { IfErr result (λ error. IsRefused (Nonterminal (One StmtSymbol) depth) (spot from.entry) error) }
 {
@@ -143,16 +164,21 @@ pub(crate) fn awaiting<'a, 'b>(
     if depth == LIMIT {
         return Err(from.deep());
     }
-    let (tests, last) = guard(alloc, symbols, depth + 1, guard_at)?;
+    let (guard, last) = guard(alloc, symbols, depth + 1, guard_at)?;
     let (_, end) = last.expect(Lexeme::Sign(Punctuator::Semicolon))?;
-    Ok((Stmt::Await(number, word.place, tests), end))
+    let stmt = Stmt::Await {
+        index,
+        place: word.place,
+        guard,
+    };
+    Ok((stmt, end))
 }
 
 /// `return e;`, and the cursor behind it.
 pub(crate) fn returning<'a, 'b>(
     alloc: Global,
     symbols: &mut Symbols<'a>,
-    number: u32,
+    index: u32,
     depth: u32,
     from: Cursor<'a, 'b>,
 ) -> Result<(Stmt, Cursor<'a, 'b>), ParseError>
@@ -161,8 +187,8 @@ pub(crate) fn returning<'a, 'b>(
     requires depth { depth ≤ limit }
     ensures found { IfOk result (λ found. FoundAs (One StmtSymbol) depth symbols.old symbols.new (spot from.entry)
         (spot found.1)
-        (λ names inside. statement_tree names found.0 ≡ statement_in inside)) }
-    ensures numbered { IfOk result (λ found. IsNumbered number found.0 (1 + number)) }
+        (λ names inside. statement_tree names found.0 ≡ statement_in index inside)) }
+    ensures one { IfOk result (λ found. (names : List Name) → count_of (statement_tree names found.0) ≡ 1) }
     ensures shorter { IfOk result (λ found. length (spot found.1).rest < length (spot from.entry).rest) }
     ensures refused { IfErr result (λ error. IsRefused (Nonterminal (One StmtSymbol) depth) (spot from.entry) error) }
 {
@@ -173,14 +199,19 @@ pub(crate) fn returning<'a, 'b>(
     let (value, last) = expression(alloc, symbols, depth + 1, value_at)?;
     let (_, end) = last.expect(Lexeme::Sign(Punctuator::Semicolon))?;
     let value = Arc::new(alloc, value)?;
-    Ok((Stmt::Return(number, word.place, value), end))
+    let stmt = Stmt::Return {
+        index,
+        place: word.place,
+        value,
+    };
+    Ok((stmt, end))
 }
 
 /// `println(e);`, and the cursor behind it.
 pub(crate) fn printing<'a, 'b>(
     alloc: Global,
     symbols: &mut Symbols<'a>,
-    number: u32,
+    index: u32,
     depth: u32,
     from: Cursor<'a, 'b>,
 ) -> Result<(Stmt, Cursor<'a, 'b>), ParseError>
@@ -189,8 +220,8 @@ pub(crate) fn printing<'a, 'b>(
     requires depth { depth ≤ limit }
     ensures found { IfOk result (λ found. FoundAs (One StmtSymbol) depth symbols.old symbols.new (spot from.entry)
         (spot found.1)
-        (λ names inside. statement_tree names found.0 ≡ statement_in inside)) }
-    ensures numbered { IfOk result (λ found. IsNumbered number found.0 (1 + number)) }
+        (λ names inside. statement_tree names found.0 ≡ statement_in index inside)) }
+    ensures one { IfOk result (λ found. (names : List Name) → count_of (statement_tree names found.0) ≡ 1) }
     ensures shorter { IfOk result (λ found. length (spot found.1).rest < length (spot from.entry).rest) }
     ensures refused { IfErr result (λ error. IsRefused (Nonterminal (One StmtSymbol) depth) (spot from.entry) error) }
 {
@@ -202,15 +233,20 @@ pub(crate) fn printing<'a, 'b>(
     let (text, close) = expression(alloc, symbols, depth + 1, text_at)?;
     let (_, last) = close.expect(Lexeme::Sign(Punctuator::CloseParen))?;
     let (_, end) = last.expect(Lexeme::Sign(Punctuator::Semicolon))?;
-    let text = Arc::new(alloc, text)?;
-    Ok((Stmt::Print(number, word.place, text), end))
+    let value = Arc::new(alloc, text)?;
+    let stmt = Stmt::Print {
+        index,
+        place: word.place,
+        value,
+    };
+    Ok((stmt, end))
 }
 
 /// `T x;` or `T x = r;`, and the cursor behind it.
 pub(crate) fn declaration<'a, 'b>(
     alloc: Global,
     symbols: &mut Symbols<'a>,
-    number: u32,
+    index: u32,
     depth: u32,
     from: Cursor<'a, 'b>,
 ) -> Result<(Stmt, Cursor<'a, 'b>), ParseError>
@@ -219,8 +255,8 @@ pub(crate) fn declaration<'a, 'b>(
     requires depth { depth ≤ limit }
     ensures found { IfOk result (λ found. FoundAs (One StmtSymbol) depth symbols.old symbols.new (spot from.entry)
         (spot found.1)
-        (λ names inside. statement_tree names found.0 ≡ statement_in inside)) }
-    ensures numbered { IfOk result (λ found. IsNumbered number found.0 (1 + number)) }
+        (λ names inside. statement_tree names found.0 ≡ statement_in index inside)) }
+    ensures one { IfOk result (λ found. (names : List Name) → count_of (statement_tree names found.0) ≡ 1) }
     ensures shorter { IfOk result (λ found. length (spot found.1).rest < length (spot from.entry).rest) }
     ensures refused { IfErr result (λ error. IsRefused (Nonterminal (One StmtSymbol) depth) (spot from.entry) error) }
 {
@@ -229,10 +265,17 @@ pub(crate) fn declaration<'a, 'b>(
     }
     let (type_of, name_at) = type_term(alloc, symbols, depth + 1, from)?;
     let (name, behind) = name_at.expect(Lexeme::LowerName)?;
-    let variable = Variable::Named(symbols.intern(name.slice)?);
+    let variable = Variable::Unresolved(symbols.intern(name.slice)?);
     let (initial, last) = initial(alloc, symbols, depth + 1, behind)?;
     let (_, end) = last.expect(Lexeme::Sign(Punctuator::Semicolon))?;
-    let stmt = Stmt::Declare(number, from.place(), type_of, name.place, variable, initial);
+    let stmt = Stmt::Declare {
+        index,
+        place: from.place(),
+        type_of,
+        variable_place: name.place,
+        variable,
+        initial,
+    };
     Ok((stmt, end))
 }
 
@@ -261,7 +304,7 @@ fn initial<'a, 'b>(
 pub(crate) fn from_variable<'a, 'b>(
     alloc: Global,
     symbols: &mut Symbols<'a>,
-    number: u32,
+    index: u32,
     depth: u32,
     from: Cursor<'a, 'b>,
 ) -> Result<(Stmt, Cursor<'a, 'b>), ParseError>
@@ -270,8 +313,8 @@ pub(crate) fn from_variable<'a, 'b>(
     requires depth { depth ≤ limit }
     ensures found { IfOk result (λ found. FoundAs (One StmtSymbol) depth symbols.old symbols.new (spot from.entry)
         (spot found.1)
-        (λ names inside. statement_tree names found.0 ≡ statement_in inside)) }
-    ensures numbered { IfOk result (λ found. IsNumbered number found.0 (1 + number)) }
+        (λ names inside. statement_tree names found.0 ≡ statement_in index inside)) }
+    ensures one { IfOk result (λ found. (names : List Name) → count_of (statement_tree names found.0) ≡ 1) }
     ensures shorter { IfOk result (λ found. length (spot found.1).rest < length (spot from.entry).rest) }
     ensures refused { IfErr result (λ error. IsRefused (Nonterminal (One StmtSymbol) depth) (spot from.entry) error) }
 {
@@ -281,14 +324,14 @@ pub(crate) fn from_variable<'a, 'b>(
     }
     let symbol = symbols.intern(name.slice)?;
     let first = First::Variable(name.place, symbol);
-    behind_first(alloc, symbols, number, depth + 1, first, behind)
+    behind_first(alloc, symbols, index, depth + 1, first, behind)
 }
 
 /// A statement that begins with `this`: `this.x = r;`, or a right side; and the cursor behind it.
 pub(crate) fn from_this<'a, 'b>(
     alloc: Global,
     symbols: &mut Symbols<'a>,
-    number: u32,
+    index: u32,
     depth: u32,
     from: Cursor<'a, 'b>,
 ) -> Result<(Stmt, Cursor<'a, 'b>), ParseError>
@@ -297,8 +340,8 @@ pub(crate) fn from_this<'a, 'b>(
     requires depth { depth ≤ limit }
     ensures found { IfOk result (λ found. FoundAs (One StmtSymbol) depth symbols.old symbols.new (spot from.entry)
         (spot found.1)
-        (λ names inside. statement_tree names found.0 ≡ statement_in inside)) }
-    ensures numbered { IfOk result (λ found. IsNumbered number found.0 (1 + number)) }
+        (λ names inside. statement_tree names found.0 ≡ statement_in index inside)) }
+    ensures one { IfOk result (λ found. (names : List Name) → count_of (statement_tree names found.0) ≡ 1) }
     ensures shorter { IfOk result (λ found. length (spot found.1).rest < length (spot from.entry).rest) }
     ensures refused { IfErr result (λ error. IsRefused (Nonterminal (One StmtSymbol) depth) (spot from.entry) error) }
 {
@@ -315,12 +358,17 @@ pub(crate) fn from_this<'a, 'b>(
             Expr::This(this.place),
             behind,
         )?;
-        return Ok((Stmt::Do(number, this.place, side), end));
+        let stmt = Stmt::Do {
+            index,
+            place: this.place,
+            side,
+        };
+        return Ok((stmt, end));
     };
     let (name, last) = name_at.expect(Lexeme::LowerName)?;
     let symbol = symbols.intern(name.slice)?;
-    let first = First::Field(this.place, symbol);
-    behind_first(alloc, symbols, number, depth + 1, first, last)
+    let first = First::Field(this.place, name.place, symbol);
+    behind_first(alloc, symbols, index, depth + 1, first, last)
 }
 
 /// What stands behind the variable or the field with which a statement begins: `= r;`, or the rest of a right side;
@@ -328,7 +376,7 @@ pub(crate) fn from_this<'a, 'b>(
 fn behind_first<'a, 'b>(
     alloc: Global,
     symbols: &mut Symbols<'a>,
-    number: u32,
+    index: u32,
     depth: u32,
     first: First,
     from: Cursor<'a, 'b>,
@@ -337,19 +385,26 @@ fn behind_first<'a, 'b>(
     requires names { length symbols.old + length (spot from).rest < 2 ^ 31 }
     ensures found { IfOk result (λ found. FoundAs (One AfterName) depth symbols.old symbols.new (spot from.entry)
         (spot found.1)
-        (λ names inside. statement_tree names found.0 ≡ after_first names first inside)) }
-    ensures numbered { IfOk result (λ found. IsNumbered number found.0 (1 + number)) }
+        (λ names inside. statement_tree names found.0 ≡ after_first index names first inside)) }
+    ensures one { IfOk result (λ found. (names : List Name) → count_of (statement_tree names found.0) ≡ 1) }
     ensures refused { IfErr result (λ error. IsRefused (Nonterminal (One AfterName) depth) (spot from.entry) error) }
 {
     let place = first.place();
     if let Ok((_, side_at)) = from.expect(Lexeme::Sign(Punctuator::Assign)) {
         let (side, last) = right_side(alloc, symbols, depth, side_at)?;
         let (_, end) = last.expect(Lexeme::Sign(Punctuator::Semicolon))?;
-        return Ok((Stmt::Assign(number, place, first.target(), side), end));
+        let stmt = Stmt::Assign {
+            index,
+            place,
+            target: first.target(),
+            side,
+        };
+        return Ok((stmt, end));
     }
     let (arguments, behind) = arguments_maybe(alloc, symbols, depth + 2, from)?;
-    let (side, end) = rest(alloc, symbols, depth, place, first.expr(arguments), behind)?;
-    Ok((Stmt::Do(number, place, side), end))
+    let operand = first.expr(alloc, arguments)?;
+    let (side, end) = rest(alloc, symbols, depth, place, operand, behind)?;
+    Ok((Stmt::Do { index, place, side }, end))
 }
 
 /// The rest of a right side, behind its first operand, which begins at `place`; `;`; and the cursor behind it.
@@ -468,7 +523,7 @@ pub(crate) fn statement_begins(from: Cursor<'_, '_>) -> bool
 pub(crate) fn plain<'a, 'b>(
     alloc: Global,
     symbols: &mut Symbols<'a>,
-    number: u32,
+    index: u32,
     depth: u32,
     from: Cursor<'a, 'b>,
 ) -> Result<(Stmt, Cursor<'a, 'b>), ParseError>
@@ -477,8 +532,8 @@ pub(crate) fn plain<'a, 'b>(
     requires depth { depth ≤ limit }
     ensures found { IfOk result (λ found. FoundAs (One StmtSymbol) depth symbols.old symbols.new (spot from.entry)
         (spot found.1)
-        (λ names inside. statement_tree names found.0 ≡ statement_in inside)) }
-    ensures numbered { IfOk result (λ found. IsNumbered number found.0 (1 + number)) }
+        (λ names inside. statement_tree names found.0 ≡ statement_in index inside)) }
+    ensures one { IfOk result (λ found. (names : List Name) → count_of (statement_tree names found.0) ≡ 1) }
     ensures shorter { IfOk result (λ found. length (spot found.1).rest < length (spot from.entry).rest) }
     ensures refused { IfErr result (λ error. IsRefused (Nonterminal (One StmtSymbol) depth) (spot from.entry) error) }
 {
@@ -491,5 +546,10 @@ pub(crate) fn plain<'a, 'b>(
     }
     let (side, last) = right_side(alloc, symbols, depth + 1, from)?;
     let (_, end) = last.expect(Lexeme::Sign(Punctuator::Semicolon))?;
-    Ok((Stmt::Do(number, from.place(), side), end))
+    let stmt = Stmt::Do {
+        index,
+        place: from.place(),
+        side,
+    };
+    Ok((stmt, end))
 }

@@ -40,7 +40,11 @@ pub(crate) fn type_term<'a, 'b>(
     }
     let symbol = symbols.intern(name.slice)?;
     let (arguments, end) = type_arguments(alloc, symbols, depth + 1, behind)?;
-    let term = TypeTerm::Name(name.place, symbol, Arc::new(alloc, arguments)?);
+    let term = TypeTerm::Unresolved {
+        place: name.place,
+        name: symbol,
+        arguments: Arc::new(alloc, arguments)?,
+    };
     Ok((term, end))
 }
 

@@ -17,28 +17,58 @@ impl Printer<'_, '_> {
     fn decl(&mut self, decl: &Decl) -> Result<(), AllocError> {
         self.at(decl.place())?;
         match decl {
-            Decl::Data(_, name, parameters, constructors) => {
+            Decl::Data {
+                name,
+                type_params,
+                constructors,
+                ..
+            } => {
                 self.push("data ")?;
-                self.generic(name, parameters)?;
+                self.generic(name, type_params)?;
                 self.constructors(constructors)
             }
-            Decl::Function(_, result, name, parameters, params, value) => {
+            Decl::Function {
+                result,
+                name,
+                type_params,
+                params,
+                value,
+                ..
+            } => {
                 self.push("def ")?;
                 self.type_term(result)?;
                 self.push(" ")?;
-                self.generic(name, parameters)?;
+                self.generic(name, type_params)?;
                 self.params(params)?;
                 self.push(" = ")?;
                 self.expr(value)
             }
-            Decl::Interface(_, name, extended, signatures) => {
+            Decl::Interface { .. } | Decl::Class { .. } => self.members_of(decl),
+        }
+    }
+
+    /// An interface with its signatures, or a class with its members.
+    fn members_of(&mut self, decl: &Decl) -> Result<(), AllocError> {
+        match decl {
+            Decl::Interface {
+                name,
+                extended,
+                signatures,
+                ..
+            } => {
                 self.push("interface ")?;
                 self.declared(name)?;
                 self.push(" extends")?;
                 self.names(extended)?;
                 self.signatures(signatures)
             }
-            Decl::Class(_, name, params, implemented, members) => {
+            Decl::Class {
+                name,
+                params,
+                implemented,
+                members,
+                ..
+            } => {
                 self.push("class ")?;
                 self.declared(name)?;
                 self.params(params)?;
@@ -46,14 +76,15 @@ impl Printer<'_, '_> {
                 self.names(implemented)?;
                 self.members(members)
             }
+            _ => Ok(()),
         }
     }
 
     /// A name, and its type parameters between angle brackets.
-    fn generic(&mut self, name: &Declared, parameters: &Vec<Declared>) -> Result<(), AllocError> {
+    fn generic(&mut self, name: &Declared, type_params: &Vec<Declared>) -> Result<(), AllocError> {
         self.declared(name)?;
         self.push("<")?;
-        self.names(parameters)?;
+        self.names(type_params)?;
         self.push(">")
     }
 
@@ -118,11 +149,15 @@ impl Printer<'_, '_> {
     /// A member of a class.
     fn member(&mut self, member: &Member) -> Result<(), AllocError> {
         match member {
-            Member::Field(type_of, name, value) => {
+            Member::Field {
+                type_of,
+                name,
+                initial,
+            } => {
                 self.type_term(type_of)?;
                 self.push(" ")?;
                 self.declared(name)?;
-                match value {
+                match initial {
                     Some(value) => {
                         self.push(" = ")?;
                         self.expr(value)

@@ -17,20 +17,25 @@ impl Printer<'_, '_> {
     /// What names the form of an expression, and the bracket that opens its parts; a leaf has no parts.
     fn form(&mut self, expr: &Expr) -> Result<(), AllocError> {
         match expr {
-            Expr::Let(..) => self.push("let("),
-            Expr::If(..) => self.push("if("),
-            Expr::Chain(..) => self.push("["),
-            Expr::Case(..) => self.push("case("),
-            Expr::Prefixed(_, prefix, _) => self.prefix(*prefix),
-            Expr::OwnCall(_, method, _) => self.name_between("this.", *method, "("),
-            Expr::Apply(_, name, _) | Expr::Build(_, name, _) => self.name_between("", *name, "("),
-            Expr::Field(_, field) => self.name_between("this.", *field, ""),
+            Expr::Let { .. } => self.push("let("),
+            Expr::If { .. } => self.push("if("),
+            Expr::Operators { .. } => self.push("["),
+            Expr::Case { .. } => self.push("case("),
+            Expr::Prefixed { prefix, .. } => self.prefix(*prefix),
+            Expr::OwnCall { method, .. } => self.name_between("this.", *method, "("),
+            Expr::Apply { function, .. } => self.name_between("", *function, "("),
+            Expr::Build { constructor, .. } => self.name_between("", *constructor, "("),
+            Expr::Field {
+                name_place,
+                name,
+                ..
+            } => self.field(*name_place, *name),
             Expr::Number(_, number) => self.number(*number),
             Expr::Text(_, literal) => self.literal(literal),
             Expr::Null(_) => self.push("null"),
             Expr::Destiny(_) => self.push("destiny"),
             Expr::This(_) => self.push("this"),
-            Expr::Local(_, variable) => self.variable(*variable),
+            Expr::Variable(_, variable) => self.variable(*variable),
         }
     }
 
@@ -38,30 +43,58 @@ impl Printer<'_, '_> {
     #[cycle(printed_expressions)]
     fn parts(&mut self, expr: &Expr) -> Result<(), AllocError> {
         match expr {
-            Expr::Let(_, type_of, variable, value, body) => {
+            Expr::Let {
+                type_of,
+                variable_place,
+                variable,
+                value,
+                body,
+                ..
+            } => {
                 self.type_term(type_of)?;
                 self.push(" ")?;
+                self.at(*variable_place)?;
                 self.variable(*variable)?;
                 self.after_space(value)?;
                 self.after_space(body)
             }
-            Expr::If(_, test, first, second) => {
-                self.expr(test)?;
+            Expr::If {
+                condition,
+                first,
+                second,
+                ..
+            } => {
+                self.expr(condition)?;
                 self.after_space(first)?;
                 self.after_space(second)
             }
-            Expr::Chain(_, first, operands) => {
+            other => self.listed(other),
+        }
+    }
+
+    /// The parts of an expression that holds an operand, operators, branches or arguments; a leaf has no parts.
+    #[cycle(printed_expressions)]
+    fn listed(&mut self, expr: &Expr) -> Result<(), AllocError> {
+        match expr {
+            Expr::Operators {
+                first,
+                operands,
+                ..
+            } => {
                 self.expr(first)?;
                 self.operands(operands)
             }
-            Expr::Case(_, subject, branches) => {
+            Expr::Case {
+                subject,
+                branches,
+                ..
+            } => {
                 self.expr(subject)?;
                 self.branches(branches)
             }
-            Expr::Prefixed(_, _, operand) => self.expr(operand),
-            Expr::OwnCall(_, _, arguments)
-            | Expr::Apply(_, _, arguments)
-            | Expr::Build(_, _, arguments) => self.exprs(arguments),
+            Expr::Prefixed { operand, .. } => self.expr(operand),
+            Expr::OwnCall { arguments, .. } => self.exprs(arguments),
+            Expr::Apply { arguments, .. } | Expr::Build { arguments, .. } => self.exprs(arguments),
             _ => Ok(()),
         }
     }
@@ -109,8 +142,15 @@ impl Printer<'_, '_> {
     pub(crate) fn side(&mut self, side: &RightSide) -> Result<(), AllocError> {
         self.at(side.place())?;
         match side {
-            RightSide::New(_, mode, class, arguments) => {
+            RightSide::New {
+                mode,
+                class_place,
+                class,
+                arguments,
+                ..
+            } => {
                 self.mode(*mode)?;
+                self.at(*class_place)?;
                 self.name_between("", *class, "(")?;
                 self.exprs(arguments)?;
             }
@@ -118,45 +158,47 @@ impl Printer<'_, '_> {
                 self.push("value(")?;
                 self.expr(value)?;
             }
-            RightSide::Get(_, future) => {
+            RightSide::Get {
+                get_place,
+                future,
+                ..
+            } => {
                 self.push("get(")?;
                 self.expr(future)?;
+                self.push(" ")?;
+                self.word_at(*get_place, "get")?;
             }
-            RightSide::Send(_, receiver, method, arguments) => {
-                self.push("send(")?;
-                self.called(receiver, *method, arguments)?;
-            }
-            RightSide::Call(_, receiver, method, arguments) => {
-                self.push("call(")?;
-                self.called(receiver, *method, arguments)?;
-            }
+            RightSide::Send { method, row, .. } => self.called("send(", *method, row)?,
+            RightSide::Call { method, row, .. } => self.called("call(", *method, row)?,
         }
         self.push(")")
     }
 
-    /// The receiver of a call, the method, and the arguments.
-    fn called(
-        &mut self,
-        receiver: &Expr,
-        method: Symbol,
-        arguments: &Vec<Expr>,
-    ) -> Result<(), AllocError> {
-        self.expr(receiver)?;
+    /// What names the form of a call, the receiver, with which its row begins, the method, and the arguments.
+    fn called(&mut self, form: &str, method: Symbol, row: &Vec<Expr>) -> Result<(), AllocError> {
+        self.push(form)?;
+        let mut row = row.iter();
+        if let Some(receiver) = row.next() {
+            self.expr(receiver)?;
+        }
         self.name_between(" ", method, "")?;
-        self.exprs(arguments)
+        for argument in row {
+            self.after_space(argument)?;
+        }
+        Ok(())
     }
 }
 
 /// The bracket that closes the parts of an expression.
 fn closing(expr: &Expr) -> &'static str {
     match expr {
-        Expr::Chain(..) | Expr::Prefixed(..) => "]",
-        Expr::Let(..)
-        | Expr::If(..)
-        | Expr::Case(..)
-        | Expr::OwnCall(..)
-        | Expr::Apply(..)
-        | Expr::Build(..) => ")",
+        Expr::Operators { .. } | Expr::Prefixed { .. } => "]",
+        Expr::Let { .. }
+        | Expr::If { .. }
+        | Expr::Case { .. }
+        | Expr::OwnCall { .. }
+        | Expr::Apply { .. }
+        | Expr::Build { .. } => ")",
         _ => "",
     }
 }

@@ -1,7 +1,7 @@
 //! The printer of trees: appends to one string, and prints a line number only where a place is on another line than
 //! the place printed before it.
-use abs_tree::syntax::{Declared, Mode, Operator, Prefix};
-use abs_tree::{Place, Symbol, Symbols, Text, Variable};
+use abs_tree::syntax::{Declared, Mode, Operator, Prefix, Variable};
+use abs_tree::{Place, Symbol, Symbols, Text};
 use std::alloc::{AllocError, Global};
 
 /// What was printed so far, and what the rest is printed with. Each method appends one part of the tree.
@@ -53,6 +53,12 @@ impl<'s, 'a> Printer<'s, 'a> {
         self.push(":")
     }
 
+    /// A word at its place.
+    pub(crate) fn word_at(&mut self, place: Place, word: &str) -> Result<(), AllocError> {
+        self.at(place)?;
+        self.push(word)
+    }
+
     /// The name of a symbol.
     pub(crate) fn name(&mut self, symbol: Symbol) -> Result<(), AllocError> {
         let name = self.symbols.name(symbol);
@@ -77,12 +83,21 @@ impl<'s, 'a> Printer<'s, 'a> {
         self.name(declared.name)
     }
 
-    /// A variable, by its name or its slot.
+    /// A variable: unresolved, its name; resolved, what it stands for and a number.
     pub(crate) fn variable(&mut self, variable: Variable) -> Result<(), AllocError> {
         match variable {
-            Variable::Named(symbol) => self.name(symbol),
+            Variable::Unresolved(symbol) => self.name(symbol),
             Variable::Slot(slot) => write!(self.out, "slot {slot}"),
+            Variable::Bound(depth) => write!(self.out, "bound {depth}"),
+            Variable::Field(field) => write!(self.out, "field {field}"),
         }
+    }
+
+    /// A field of `this`: the word and a dot, and the name at its own place.
+    pub(crate) fn field(&mut self, name_place: Place, name: Symbol) -> Result<(), AllocError> {
+        self.push("this.")?;
+        self.at(name_place)?;
+        self.name(name)
     }
 
     /// A number in decimal.
@@ -112,8 +127,13 @@ impl<'s, 'a> Printer<'s, 'a> {
         write!(self.out, "{prefix:?}[")
     }
 
-    /// The word `new`, and where the object lives.
+    /// The word `new`, and where the object lives; `local` is at its place.
     pub(crate) fn mode(&mut self, mode: Mode) -> Result<(), AllocError> {
-        write!(self.out, "new {mode:?} ")
+        self.push("new ")?;
+        match mode {
+            Mode::Plain => self.push("Plain "),
+            Mode::Cog => self.push("Cog "),
+            Mode::Local(place) => self.word_at(place, "local "),
+        }
     }
 }

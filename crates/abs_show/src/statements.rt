@@ -21,7 +21,7 @@ impl Printer<'_, '_> {
     fn stmt(&mut self, stmt: &Stmt) -> Result<(), AllocError> {
         self.at(stmt.place())?;
         self.word(stmt)?;
-        if matches!(stmt, Stmt::Skip(..) | Stmt::Suspend(..)) {
+        if matches!(stmt, Stmt::Skip { .. } | Stmt::Suspend { .. }) {
             return Ok(());
         }
         self.push("(")?;
@@ -33,16 +33,16 @@ impl Printer<'_, '_> {
     fn word(&mut self, stmt: &Stmt) -> Result<(), AllocError> {
         match stmt {
             Stmt::Block(..) => self.push("block"),
-            Stmt::Skip(index, _) => self.indexed("skip", *index),
-            Stmt::Suspend(index, _) => self.indexed("suspend", *index),
-            Stmt::Await(index, ..) => self.indexed("await", *index),
-            Stmt::Return(index, ..) => self.indexed("return", *index),
-            Stmt::Print(index, ..) => self.indexed("println", *index),
-            Stmt::If(index, ..) => self.indexed("if", *index),
-            Stmt::While(index, ..) => self.indexed("while", *index),
-            Stmt::Declare(index, ..) => self.indexed("declare", *index),
-            Stmt::Assign(index, ..) => self.indexed("assign", *index),
-            Stmt::Do(index, ..) => self.indexed("do", *index),
+            Stmt::Skip { index, .. } => self.indexed("skip", *index),
+            Stmt::Suspend { index, .. } => self.indexed("suspend", *index),
+            Stmt::Await { index, .. } => self.indexed("await", *index),
+            Stmt::Return { index, .. } => self.indexed("return", *index),
+            Stmt::Print { index, .. } => self.indexed("println", *index),
+            Stmt::If { index, .. } => self.indexed("if", *index),
+            Stmt::While { index, .. } => self.indexed("while", *index),
+            Stmt::Declare { index, .. } => self.indexed("declare", *index),
+            Stmt::Assign { index, .. } => self.indexed("assign", *index),
+            Stmt::Do { index, .. } => self.indexed("do", *index),
         }
     }
 
@@ -54,18 +54,27 @@ impl Printer<'_, '_> {
                 self.stmts(block)?;
                 self.push(" ")
             }
-            Stmt::If(_, _, test, first, other) => {
-                self.expr(test)?;
+            Stmt::If {
+                condition,
+                first,
+                second,
+                ..
+            } => {
+                self.expr(condition)?;
                 self.push(" then")?;
                 self.stmts(first)?;
                 self.push(" else")?;
-                match other {
-                    Some(other) => self.stmts(other),
+                match second {
+                    Some(second) => self.stmts(second),
                     None => self.push(" none"),
                 }
             }
-            Stmt::While(_, _, test, body) => {
-                self.expr(test)?;
+            Stmt::While {
+                condition,
+                body,
+                ..
+            } => {
+                self.expr(condition)?;
                 self.push(" do")?;
                 self.stmts(body)
             }
@@ -76,13 +85,18 @@ impl Printer<'_, '_> {
     /// The parts of a statement that holds no others.
     fn simple(&mut self, stmt: &Stmt) -> Result<(), AllocError> {
         match stmt {
-            Stmt::Await(_, _, tests) => self.tests(tests),
-            Stmt::Return(_, _, value) => self.expr(value),
-            Stmt::Print(_, _, printed) => self.expr(printed),
-            Stmt::Declare(_, _, type_of, name_at, variable, initial) => {
+            Stmt::Await { guard, .. } => self.tests(guard),
+            Stmt::Return { value, .. } | Stmt::Print { value, .. } => self.expr(value),
+            Stmt::Declare {
+                type_of,
+                variable_place,
+                variable,
+                initial,
+                ..
+            } => {
                 self.type_term(type_of)?;
                 self.push(" ")?;
-                self.at(*name_at)?;
+                self.at(*variable_place)?;
                 self.variable(*variable)?;
                 self.push(" ")?;
                 match initial {
@@ -90,12 +104,12 @@ impl Printer<'_, '_> {
                     None => self.push("none"),
                 }
             }
-            Stmt::Assign(_, _, target, side) => {
+            Stmt::Assign { target, side, .. } => {
                 self.target(*target)?;
                 self.push(" ")?;
                 self.side(side)
             }
-            Stmt::Do(_, _, side) => self.side(side),
+            Stmt::Do { side, .. } => self.side(side),
             _ => Ok(()),
         }
     }
@@ -103,13 +117,17 @@ impl Printer<'_, '_> {
     /// Where a value goes.
     fn target(&mut self, target: Target) -> Result<(), AllocError> {
         match target {
-            Target::Local(place, variable) => {
+            Target::Variable(place, variable) => {
                 self.at(place)?;
                 self.variable(variable)
             }
-            Target::Field(place, field) => {
+            Target::Field {
+                place,
+                name_place,
+                name,
+            } => {
                 self.at(place)?;
-                self.name_between("this.", field, "")
+                self.field(name_place, name)
             }
         }
     }

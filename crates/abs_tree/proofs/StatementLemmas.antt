@@ -1,5 +1,5 @@
--- Statements that hold others: the trees and the numbers of the statements inside one that stands in memory are those of its lists.
-use Rattle.std.proofs.Common.{◌≡◌, ℕ, List, ◌+◌, Option, Some, None, refl, sym, ap, subst, ◌∙◌}
+-- Statements that hold others: the trees of the statements inside one in memory are those of its lists.
+use Rattle.std.proofs.Common.{◌≡◌, ℕ, List, Option, Some, None, refl, ap, ◌∙◌}
 use Rattle.std.specs.declared.alloc.Global.{Global}
 use Rattle.std.specs.declared.sync.Arc.{Arc}
 use Rattle.std.specs.declared.vec.Vec.{Vec}
@@ -8,7 +8,6 @@ use Rattle.abs_tree.specs.declared.syntax.expression.Expr.{Expr}
 use Rattle.abs_tree.specs.declared.syntax.statement.Stmt as code_stmt
 use Rattle.abs_tree.specs.declared.syntax.statement.Stmt.{Stmt, Block', If', While', Row_of-Stmt, end_of-Stmt, more_of-Stmt, items-the_row-Stmt, items_hidden-the_row-Stmt-0, Held-Stmt-If-4, None', Some'}
 use Rattle.abs_tree.specs.Syntax.{BlockOf, IfOf, WhileOf, NextStatement, Else, NoElse}
-use Rattle.abs_tree.specs.SyntaxNumbers.{IsNumbered, RowNumbered, AreNumbered, BranchNumbered}
 use Rattle.abs_tree.specs.SyntaxViews.{phrase, statement, statement_row, statements, maybe_statements}
 use mathlib.Core.Former.{Count}
 
@@ -16,16 +15,6 @@ use mathlib.Core.Former.{Count}
 statements_in_row : (names : List (List ℕ)) (n : _) (row : Row_of-Stmt n) → statement_row names row ≡ statements names (items-the_row-Stmt n row)
 statements_in_row names n end_of-Stmt = refl
 statements_in_row names n (more_of-Stmt stmt others) = ap (NextStatement (statement names stmt)) (statements_in_row names _ others)
-
--- their numbers
-numbers_in_row : (first : ℕ) (n : _) (row : Row_of-Stmt n) (behind : ℕ) → AreNumbered first (items-the_row-Stmt n row) behind → RowNumbered first row behind
-numbers_in_row first n end_of-Stmt behind are = are
-numbers_in_row first n (more_of-Stmt stmt others) behind (middle, is, are) = (middle, is, numbers_in_row middle _ others behind are)
-
--- and back
-row_numbered : (first : ℕ) (n : _) (row : Row_of-Stmt n) (behind : ℕ) → RowNumbered first row behind → AreNumbered first (items-the_row-Stmt n row) behind
-row_numbered first n end_of-Stmt behind are = are
-row_numbered first n (more_of-Stmt stmt others) behind (middle, is, are) = (middle, is, row_numbered middle _ others behind are)
 
 -- how many statements a statement has inside, and the row of them: the first row of an `if`
 abbrev inside_of : Stmt → (n : Count) × Row_of-Stmt n
@@ -46,43 +35,20 @@ statement-block names place block =
     ap (BlockOf place) (statements_in_row names row.0 row.1 ∙ ap (statements names) (items_hidden-the_row-Stmt-0 block))
 
 -- so are those of a loop
-pub statement-while : (names : List (List ℕ)) (number : ℕ) (place : Place) (test : Arc Expr Global) (body : Vec Stmt Global)
-    → statement names (code_stmt.While number place test body) ≡ WhileOf place (phrase names test.value) (statements names body.items)
-statement-while names number place test body =
-    let row = inside_of (code_stmt.While number place test body) in
-    ap (WhileOf place (phrase names test.value)) (statements_in_row names row.0 row.1 ∙ ap (statements names) (items_hidden-the_row-Stmt-0 body))
+pub statement-while : (names : List (List ℕ)) (index : ℕ) (place : Place) (test : Arc Expr Global) (body : Vec Stmt Global)
+    → statement names (code_stmt.While index place test body) ≡ WhileOf index place (phrase names test.value) (statements names body.items)
+statement-while names index place test body =
+    let row = inside_of (code_stmt.While index place test body) in
+    ap (WhileOf index place (phrase names test.value)) (statements_in_row names row.0 row.1 ∙ ap (statements names) (items_hidden-the_row-Stmt-0 body))
 
 -- and those of the branches of an `if`
-pub statement-if : (names : List (List ℕ)) (number : ℕ) (place : Place) (test : Arc Expr Global) (first : Vec Stmt Global) (other : Option (Vec Stmt Global))
-    → statement names (code_stmt.If number place test first other) ≡ IfOf place (phrase names test.value) (statements names first.items) (maybe_statements names other)
-statement-if names number place test first None =
-    let row = inside_of (code_stmt.If number place test first None) in
-    ap (λ trees. IfOf place (phrase names test.value) trees NoElse) (statements_in_row names row.0 row.1 ∙ ap (statements names) (items_hidden-the_row-Stmt-0 first))
-statement-if names number place test first (Some other) =
-    let row = inside_of (code_stmt.If number place test first (Some other)) in
+pub statement-if : (names : List (List ℕ)) (index : ℕ) (place : Place) (test : Arc Expr Global) (first : Vec Stmt Global) (other : Option (Vec Stmt Global))
+    → statement names (code_stmt.If index place test first other) ≡ IfOf index place (phrase names test.value) (statements names first.items) (maybe_statements names other)
+statement-if names index place test first None =
+    let row = inside_of (code_stmt.If index place test first None) in
+    ap (λ trees. IfOf index place (phrase names test.value) trees NoElse) (statements_in_row names row.0 row.1 ∙ ap (statements names) (items_hidden-the_row-Stmt-0 first))
+statement-if names index place test first (Some other) =
+    let row = inside_of (code_stmt.If index place test first (Some other)) in
     let second = inside_of (code_stmt.Block place other) in
-    ap (λ trees. IfOf place (phrase names test.value) trees (Else (statement_row names second.1))) (statements_in_row names row.0 row.1 ∙ ap (statements names) (items_hidden-the_row-Stmt-0 first))
-    ∙ ap (λ trees. IfOf place (phrase names test.value) (statements names first.items) (Else trees)) (statements_in_row names second.0 second.1 ∙ ap (statements names) (items_hidden-the_row-Stmt-0 other))
-
--- the statements of a list keep their numbers in a block
-pub numbered-block : (first : ℕ) (place : Place) (block : Vec Stmt Global) (behind : ℕ) → AreNumbered first block.items behind → IsNumbered first (code_stmt.Block place block) behind
-numbered-block first place block behind are =
-    let row = inside_of (code_stmt.Block place block) in
-    numbers_in_row first row.0 row.1 behind (subst (λ (items : List Stmt). AreNumbered first items behind) (sym (items_hidden-the_row-Stmt-0 block)) are)
-
--- and in a loop, behind its own
-pub numbered-while : (first : ℕ) (place : Place) (test : Arc Expr Global) (body : Vec Stmt Global) (behind : ℕ) → AreNumbered (1 + first) body.items behind
-    → IsNumbered first (code_stmt.While first place test body) behind
-numbered-while first place test body behind are = (refl, numbered-block (1 + first) place body behind are)
-
--- and in the branches of an `if`
-pub numbered-if : (first : ℕ) (place : Place) (test : Arc Expr Global) (chosen : Vec Stmt Global) (middle : ℕ) (other : Option (Vec Stmt Global)) (behind : ℕ)
-    → AreNumbered (1 + first) chosen.items middle → BranchNumbered middle other behind → IsNumbered first (code_stmt.If first place test chosen other) behind
-numbered-if first place test chosen middle None behind are others = (refl, middle, numbered-block (1 + first) place chosen middle are, others)
-numbered-if first place test chosen middle (Some other) behind are others = (refl, middle, numbered-block (1 + first) place chosen middle are, numbered-block middle place other behind others)
-
--- the numbers of the statements of a block are those of its list
-pub block-numbered : (first : ℕ) (place : Place) (block : Vec Stmt Global) (behind : ℕ) → IsNumbered first (code_stmt.Block place block) behind → AreNumbered first block.items behind
-block-numbered first place block behind is =
-    let row = inside_of (code_stmt.Block place block) in
-    subst (λ (items : List Stmt). AreNumbered first items behind) (items_hidden-the_row-Stmt-0 block) (row_numbered first row.0 row.1 behind is)
+    ap (λ trees. IfOf index place (phrase names test.value) trees (Else (statement_row names second.1))) (statements_in_row names row.0 row.1 ∙ ap (statements names) (items_hidden-the_row-Stmt-0 first))
+    ∙ ap (λ trees. IfOf index place (phrase names test.value) (statements names first.items) (Else trees)) (statements_in_row names second.0 second.1 ∙ ap (statements names) (items_hidden-the_row-Stmt-0 other))

@@ -6,16 +6,16 @@ use Rattle.std.specs.declared.vec.Vec.{Vec}
 use Rattle.abs_tree.specs.declared.place.Place.{Place}
 use Rattle.abs_tree.specs.declared.symbol.Symbol.{Symbol}
 use Rattle.abs_tree.specs.declared.syntax.types.TypeTerm as code_type
-use Rattle.abs_tree.specs.declared.syntax.types.TypeTerm.{TypeTerm, Name', Row_of-TypeTerm, end_of-TypeTerm, more_of-TypeTerm, items-the_row-TypeTerm, items_hidden-the_row-TypeTerm-0}
+use Rattle.abs_tree.specs.declared.syntax.types.TypeTerm.{TypeTerm, Unresolved', Row_of-TypeTerm, end_of-TypeTerm, more_of-TypeTerm, items-the_row-TypeTerm, items_hidden-the_row-TypeTerm-0}
 use Rattle.abs_tree.specs.declared.syntax.pattern.Pattern as code_pattern
 use Rattle.abs_tree.specs.declared.syntax.pattern.Pattern.{Pattern, Built', Row_of-Pattern, end_of-Pattern, more_of-Pattern, items-the_row-Pattern, items_hidden-the_row-Pattern-0}
 use Rattle.abs_tree.specs.declared.syntax.expression.Expr as code_expr
-use Rattle.abs_tree.specs.declared.syntax.expression.Expr.{Expr, Chain', OwnCall', Apply', Build', Case', Row_of-Expr, end_of-Expr, more_of-Expr, items-the_row-Expr, items_hidden-the_row-Expr-1, Row_of-Operand, end_of-Operand, more_of-Operand, items-the_row-Operand, items_hidden-the_row-Operand-0, Row_of-Branch, end_of-Branch, more_of-Branch, items-the_row-Branch, items_hidden-the_row-Branch-2}
+use Rattle.abs_tree.specs.declared.syntax.expression.Expr.{Expr, Operators', OwnCall', Apply', Build', Case', Row_of-Expr, end_of-Expr, more_of-Expr, items-the_row-Expr, items_hidden-the_row-Expr-1, Row_of-Operand, end_of-Operand, more_of-Operand, items-the_row-Operand, items_hidden-the_row-Operand-0, Row_of-Branch, end_of-Branch, more_of-Branch, items-the_row-Branch, items_hidden-the_row-Branch-2}
 use Rattle.abs_tree.specs.declared.syntax.expression.Operand.{Operand}
 use Rattle.abs_tree.specs.declared.syntax.expression.Branch.{Branch}
 use Rattle.std.specs.declared.boxed.Box.{Box}
-use Rattle.abs_tree.specs.Syntax.{TypeName, NextType, Built, NextPattern, Chain, OwnCallOf, ApplyOf, BuildOf, CaseOf, NextPhrase, Link, NextBranch}
-use Rattle.abs_tree.specs.SyntaxViews.{type_tree, type_row, type_trees, pattern_tree, pattern_row, pattern_trees, phrase, phrase_row, phrases, link_row, links, branch_row, branches}
+use Rattle.abs_tree.specs.Syntax.{UnresolvedType, NextType, Built, NextPattern, OperatorsOf, OwnCallOf, ApplyOf, BuildOf, CaseOf, NextPhrase, NextOperand, NextBranch}
+use Rattle.abs_tree.specs.SyntaxViews.{type_tree, type_row, type_trees, pattern_tree, pattern_row, pattern_trees, phrase, phrase_row, phrases, operand_row, operand_trees, branch_row, branches}
 use Rattle.abs_tree.specs.Trees.{name_of}
 use mathlib.Core.Former.{Count}
 
@@ -26,15 +26,15 @@ types_in_row names n (more_of-TypeTerm type others) = ap (NextType (type_tree na
 
 -- how many arguments a type has, and the row of them
 abbrev row_of : TypeTerm → (n : Count) × Row_of-TypeTerm n
-row_of (Name' _ _ _ _ row) = (_, row)
+row_of (Unresolved' _ _ _ _ row) = (_, row)
 row_of _ = (_, end_of-TypeTerm)
 
 -- the arguments of a type are those of its vector
-pub type_tree-name : (names : List (List ℕ)) (place : Place) (symbol : Symbol) (arguments : Arc (Vec TypeTerm Global) Global)
-    → type_tree names (code_type.Name place symbol arguments) ≡ TypeName place (name_of names symbol) (type_trees names arguments.value.items)
-type_tree-name names place symbol arguments =
-    let row = row_of (code_type.Name place symbol arguments) in
-    ap (TypeName place (name_of names symbol)) (types_in_row names row.0 row.1 ∙ ap (type_trees names) (items_hidden-the_row-TypeTerm-0 arguments.value))
+pub type_tree-unresolved : (names : List (List ℕ)) (place : Place) (symbol : Symbol) (arguments : Arc (Vec TypeTerm Global) Global)
+    → type_tree names (code_type.Unresolved place symbol arguments) ≡ UnresolvedType place (name_of names symbol) (type_trees names arguments.value.items)
+type_tree-unresolved names place symbol arguments =
+    let row = row_of (code_type.Unresolved place symbol arguments) in
+    ap (UnresolvedType place (name_of names symbol)) (types_in_row names row.0 row.1 ∙ ap (type_trees names) (items_hidden-the_row-TypeTerm-0 arguments.value))
 
 -- the patterns in a row in memory
 patterns_in_row : (names : List (List ℕ)) (n : _) (row : Row_of-Pattern n) → pattern_row names row ≡ pattern_trees names (items-the_row-Pattern n row)
@@ -60,17 +60,17 @@ phrases_in_row names n (more_of-Expr expr others) = ap (NextPhrase (phrase names
 
 -- how many arguments an expression has, and the row of them
 abbrev arguments_of : Expr → (n : Count) × Row_of-Expr n
-arguments_of (OwnCall' _ _ _ row) = (_, row)
+arguments_of (OwnCall' _ _ _ _ row) = (_, row)
 arguments_of (Apply' _ _ _ row) = (_, row)
 arguments_of (Build' _ _ _ row) = (_, row)
 arguments_of _ = (_, end_of-Expr)
 
 -- the arguments of a call on `this`, of a function and of a constructor are those of their vector
-pub phrase-own_call : (names : List (List ℕ)) (place : Place) (symbol : Symbol) (arguments : Vec Expr Global)
-    → phrase names (code_expr.OwnCall place symbol arguments) ≡ OwnCallOf place (name_of names symbol) (phrases names arguments.items)
+pub phrase-own_call : (names : List (List ℕ)) (place : Place) (symbol : Symbol) (arguments : Arc (Vec Expr Global) Global)
+    → phrase names (code_expr.OwnCall place symbol arguments) ≡ OwnCallOf place (name_of names symbol) (phrases names arguments.value.items)
 phrase-own_call names place symbol arguments =
     let row = arguments_of (code_expr.OwnCall place symbol arguments) in
-    ap (OwnCallOf place (name_of names symbol)) (phrases_in_row names row.0 row.1 ∙ ap (phrases names) (items_hidden-the_row-Expr-1 arguments))
+    ap (OwnCallOf place (name_of names symbol)) (phrases_in_row names row.0 row.1 ∙ ap (phrases names) (items_hidden-the_row-Expr-1 arguments.value))
 
 pub phrase-apply : (names : List (List ℕ)) (place : Place) (symbol : Symbol) (arguments : Vec Expr Global)
     → phrase names (code_expr.Apply place symbol arguments) ≡ ApplyOf place (name_of names symbol) (phrases names arguments.items)
@@ -85,21 +85,21 @@ phrase-build names place symbol arguments =
     ap (BuildOf place (name_of names symbol)) (phrases_in_row names row.0 row.1 ∙ ap (phrases names) (items_hidden-the_row-Expr-1 arguments))
 
 -- the operators in a row in memory
-links_in_row : (names : List (List ℕ)) (n : _) (row : Row_of-Operand n) → link_row names row ≡ links names (items-the_row-Operand n row)
-links_in_row names n end_of-Operand = refl
-links_in_row names n (more_of-Operand operator right others) = ap (Link operator (phrase names right)) (links_in_row names _ others)
+operands_in_row : (names : List (List ℕ)) (n : _) (row : Row_of-Operand n) → operand_row names row ≡ operand_trees names (items-the_row-Operand n row)
+operands_in_row names n end_of-Operand = refl
+operands_in_row names n (more_of-Operand operator right others) = ap (NextOperand operator (phrase names right)) (operands_in_row names _ others)
 
 -- how many operators an expression has, and the row of them
 abbrev operands_of : Expr → (n : Count) × Row_of-Operand n
-operands_of (Chain' _ _ _ _ row) = (_, row)
+operands_of (Operators' _ _ _ _ row) = (_, row)
 operands_of _ = (_, end_of-Operand)
 
 -- the operators of one precedence are those of their vector
-pub phrase-chain : (names : List (List ℕ)) (place : Place) (first : Box Expr Global) (operands : Vec Operand Global)
-    → phrase names (code_expr.Chain place first operands) ≡ Chain place (phrase names first.value) (links names operands.items)
-phrase-chain names place first operands =
-    let row = operands_of (code_expr.Chain place first operands) in
-    ap (Chain place (phrase names first.value)) (links_in_row names row.0 row.1 ∙ ap (links names) (items_hidden-the_row-Operand-0 operands))
+pub phrase-operators : (names : List (List ℕ)) (place : Place) (first : Box Expr Global) (operands : Vec Operand Global)
+    → phrase names (code_expr.Operators place first operands) ≡ OperatorsOf place (phrase names first.value) (operand_trees names operands.items)
+phrase-operators names place first operands =
+    let row = operands_of (code_expr.Operators place first operands) in
+    ap (OperatorsOf place (phrase names first.value)) (operands_in_row names row.0 row.1 ∙ ap (operand_trees names) (items_hidden-the_row-Operand-0 operands))
 
 -- the branches in a row in memory
 branches_in_row : (names : List (List ℕ)) (n : _) (row : Row_of-Branch n) → branch_row names row ≡ branches names (items-the_row-Branch n row)

@@ -1,14 +1,15 @@
 -- The tree of a source without its memory, for every kind of phrase: one constructor for each alternative of its rule. A constructor
--- has the place of the first token and a field for each name, literal, operator and part, in order. Names are written out. Operators
--- of one precedence make one node, so a long sum is not deep. Parentheses, and a rule with one operand, make no node.
+-- has the place of the first token and a field for each name, literal, operator and part, in order; where a name or a keyword after the
+-- first token can offend, it has that place too. Names are written out. Operators of one precedence make one node, so a long sum is not
+-- deep. Parentheses, and a rule with one operand, make no node.
 --
 --   `VariableTree`                                     variables
 --   `TypeTree`, `PatternTree`                          types, patterns
---   `Phrase`, `Links`, `Branches`                      expressions, operators of one precedence, branches of a `case`
+--   `Phrase`, `Operands`, `Branches`                   expressions, operators of one precedence, branches of a `case`
 --   `SideTree`, `Tests`, `TargetTree`                  right sides, guards, where a value goes
 --   `Statement`                                        statements
 --   `MemberTree`, `DeclTree`, `SourceTree`             members, declarations, a source
-use Rattle.std.specs.Prelude.{ℕ, ℤ, Bool, List}
+use Rattle.std.specs.Prelude.{ℕ, ℤ, Bool, List, Option}
 use Rattle.abs_tree.specs.declared.place.Place.{Place}
 use Rattle.abs_tree.specs.declared.syntax.expression.Operator.{Operator}
 use Rattle.abs_tree.specs.declared.syntax.expression.Prefix.{Prefix}
@@ -18,112 +19,123 @@ use Rattle.abs_tree.specs.declared.syntax.statement.Mode.{Mode}
 abbrev pub Name : Type 0
 Name = List ℕ
 
--- a variable: unresolved, its name; resolved, its slot
+-- a variable: unresolved, its name; resolved, a slot of its body, a variable of a pattern or of `let` (by how many of these are visible
+-- where it is bound), or a field of the own object
 pub data VariableTree : Type 0 where
-  Written : Name → VariableTree
-  AtSlot : ℕ → VariableTree
+  Unresolved : (name : Name) → VariableTree
+  AtSlot : (slot : ℕ) → VariableTree
+  AtBound : (depth : ℕ) → VariableTree
+  AtField : (field : ℕ) → VariableTree
 
--- a type: a name with its arguments; or one that no source writes: of no value, of `null`, or of an object of a class
+-- a type: unresolved, its name with its arguments; resolved, a built-in type, `Fut` of a type, data, an interface, or a type parameter by
+-- its index; or one that no source writes: of no value, of `null`, or of an object of a class
 mutual
   pub data TypeTree : Type 0 where
-    TypeName : Place → Name → TypeTrees → TypeTree
+    UnresolvedType : (place : Place) (name : Name) (arguments : TypeTrees) → TypeTree
+    IntType : (place : Place) → TypeTree
+    StringType : (place : Place) → TypeTree
+    FutType : (place : Place) (value : TypeTree) → TypeTree
+    DataType : (place : Place) (name : Name) (arguments : TypeTrees) → TypeTree
+    InterfaceType : (place : Place) (name : Name) → TypeTree
+    ParameterType : (place : Place) (parameter : ℕ) → TypeTree
     BottomType : TypeTree
     NullType : TypeTree
-    ClassType : Name → TypeTree
+    ClassType : (name : Name) → TypeTree
 
   pub data TypeTrees : Type 0 where
     NoType : TypeTrees
-    NextType : TypeTree → TypeTrees → TypeTrees
+    NextType : (first : TypeTree) (others : TypeTrees) → TypeTrees
 
 -- a pattern: any value, a variable, a number, a string, or a constructor with its patterns
 mutual
   pub data PatternTree : Type 0 where
-    AnyValue : Place → PatternTree
-    Binds : Place → VariableTree → PatternTree
-    SameNumber : Place → ℤ → PatternTree
-    SameString : Place → List ℕ → PatternTree
-    Built : Place → Name → PatternTrees → PatternTree
+    AnyValue : (place : Place) → PatternTree
+    Binds : (place : Place) (variable : VariableTree) → PatternTree
+    SameNumber : (place : Place) (number : ℤ) → PatternTree
+    SameString : (place : Place) (string : List ℕ) → PatternTree
+    Built : (place : Place) (constructor : Name) (arguments : PatternTrees) → PatternTree
 
   pub data PatternTrees : Type 0 where
     NoPattern : PatternTrees
-    NextPattern : PatternTree → PatternTrees → PatternTrees
+    NextPattern : (first : PatternTree) (others : PatternTrees) → PatternTrees
 
 mutual
   -- an expression
   pub data Phrase : Type 0 where
-    LetIn : Place → TypeTree → VariableTree → Phrase → Phrase → Phrase
-    IfElse : Place → Phrase → Phrase → Phrase → Phrase
-    Chain : Place → Phrase → Links → Phrase
-    Prefixed : Place → Prefix → Phrase → Phrase
-    NumberOf : Place → ℤ → Phrase
-    StringOf : Place → List ℕ → Phrase
-    NullOf : Place → Phrase
-    DestinyOf : Place → Phrase
-    ThisOf : Place → Phrase
-    FieldOf : Place → Name → Phrase
-    OwnCallOf : Place → Name → Phrases → Phrase
-    VariableOf : Place → VariableTree → Phrase
-    ApplyOf : Place → Name → Phrases → Phrase
-    BuildOf : Place → Name → Phrases → Phrase
-    CaseOf : Place → Phrase → Branches → Phrase
+    LetIn : (place : Place) (type : TypeTree) (variable_place : Place) (variable : VariableTree) (value body : Phrase) → Phrase
+    IfElse : (place : Place) (condition first second : Phrase) → Phrase
+    OperatorsOf : (place : Place) (first : Phrase) (operands : Operands) → Phrase
+    Prefixed : (place : Place) (prefix : Prefix) (operand : Phrase) → Phrase
+    NumberOf : (place : Place) (number : ℤ) → Phrase
+    StringOf : (place : Place) (string : List ℕ) → Phrase
+    NullOf : (place : Place) → Phrase
+    DestinyOf : (place : Place) → Phrase
+    ThisOf : (place : Place) → Phrase
+    FieldOf : (place name_place : Place) (name : Name) → Phrase
+    OwnCallOf : (place : Place) (method : Name) (arguments : Phrases) → Phrase
+    VariableOf : (place : Place) (variable : VariableTree) → Phrase
+    ApplyOf : (place : Place) (function : Name) (arguments : Phrases) → Phrase
+    BuildOf : (place : Place) (constructor : Name) (arguments : Phrases) → Phrase
+    CaseOf : (place : Place) (subject : Phrase) (branches : Branches) → Phrase
 
   pub data Phrases : Type 0 where
     NoPhrase : Phrases
-    NextPhrase : Phrase → Phrases → Phrases
+    NextPhrase : (first : Phrase) (others : Phrases) → Phrases
 
   -- operators of one precedence, each with its right operand
-  pub data Links : Type 0 where
-    NoLink : Links
-    Link : Operator → Phrase → Links → Links
+  pub data Operands : Type 0 where
+    NoOperands : Operands
+    NextOperand : (operator : Operator) (right : Phrase) (others : Operands) → Operands
 
   pub data Branches : Type 0 where
     NoBranch : Branches
-    NextBranch : PatternTree → Phrase → Branches → Branches
+    NextBranch : (pattern : PatternTree) (value : Phrase) (others : Branches) → Branches
 
--- the right side of "=", which may also be a statement: a new object, an expression, a call by "!" or by ".", or the value of a future
+-- the right side of "=", which may also be a statement: a new object, an expression, a call by "!" or by ".", or the value of a future. A
+-- call has one row: its receiver, and after it its arguments. One by "." has the hidden slot of its result once names are resolved.
 pub data SideTree : Type 0 where
-  NewOf : Place → Mode → Name → Phrases → SideTree
-  ValueOf : Place → Phrase → SideTree
-  SendOf : Place → Phrase → Name → Phrases → SideTree
-  GetOf : Place → Phrase → SideTree
-  CallOf : Place → Phrase → Name → Phrases → SideTree
+  NewOf : (place : Place) (mode : Mode) (class_place : Place) (class : Name) (arguments : Phrases) → SideTree
+  ValueOf : (place : Place) (value : Phrase) → SideTree
+  SendOf : (place : Place) (method : Name) (row : Phrases) → SideTree
+  GetOf : (place get_place : Place) (future : Phrase) → SideTree
+  CallOf : (place : Place) (method : Name) (row : Phrases) (slot : Option ℕ) → SideTree
 
 -- a part of a guard, and whether a "?" follows it
 pub data Tests : Type 0 where
   NoTest : Tests
-  NextTest : Place → Phrase → Bool → Tests → Tests
+  NextTest : (place : Place) (value : Phrase) (asks : Bool) (others : Tests) → Tests
 
 -- where a value goes: a variable, or a field of "this"
 pub data TargetTree : Type 0 where
-  ToVariable : Place → VariableTree → TargetTree
-  ToField : Place → Name → TargetTree
+  ToVariable : (place : Place) (variable : VariableTree) → TargetTree
+  ToField : (place name_place : Place) (name : Name) → TargetTree
 
 pub data MaybeSide : Type 0 where
   NoSide : MaybeSide
-  SomeSide : SideTree → MaybeSide
+  SomeSide : (side : SideTree) → MaybeSide
 
 mutual
-  -- a statement; a declaration has the place of its name besides, and a branch is a list of statements
+  -- a statement; but for a block it has an index. A branch is a list of statements.
   pub data Statement : Type 0 where
-    BlockOf : Place → Statements → Statement
-    SkipOf : Place → Statement
-    SuspendOf : Place → Statement
-    AwaitOf : Place → Tests → Statement
-    ReturnOf : Place → Phrase → Statement
-    PrintOf : Place → Phrase → Statement
-    IfOf : Place → Phrase → Statements → MaybeStatements → Statement
-    WhileOf : Place → Phrase → Statements → Statement
-    DeclareOf : Place → TypeTree → Place → VariableTree → MaybeSide → Statement
-    AssignOf : Place → TargetTree → SideTree → Statement
-    DoOf : Place → SideTree → Statement
+    BlockOf : (place : Place) (block : Statements) → Statement
+    SkipOf : (index : ℕ) (place : Place) → Statement
+    SuspendOf : (index : ℕ) (place : Place) → Statement
+    AwaitOf : (index : ℕ) (place : Place) (guard : Tests) → Statement
+    ReturnOf : (index : ℕ) (place : Place) (value : Phrase) → Statement
+    PrintOf : (index : ℕ) (place : Place) (value : Phrase) → Statement
+    IfOf : (index : ℕ) (place : Place) (condition : Phrase) (first : Statements) (second : MaybeStatements) → Statement
+    WhileOf : (index : ℕ) (place : Place) (condition : Phrase) (body : Statements) → Statement
+    DeclareOf : (index : ℕ) (place : Place) (type : TypeTree) (variable_place : Place) (variable : VariableTree) (initial : MaybeSide) → Statement
+    AssignOf : (index : ℕ) (place : Place) (target : TargetTree) (side : SideTree) → Statement
+    DoOf : (index : ℕ) (place : Place) (side : SideTree) → Statement
 
   pub data MaybeStatements : Type 0 where
     NoElse : MaybeStatements
-    Else : Statements → MaybeStatements
+    Else : (branch : Statements) → MaybeStatements
 
   pub data Statements : Type 0 where
     NoStatement : Statements
-    NextStatement : Statement → Statements → Statements
+    NextStatement : (first : Statement) (others : Statements) → Statements
 
 -- a parameter: its type, the place of its name, and the variable
 pub record ParamTree : Type 0 where
@@ -151,15 +163,15 @@ pub data MaybePhrase : Type 0 where
   Value : Phrase → MaybePhrase
 
 pub data MemberTree : Type 0 where
-  FieldTree : TypeTree → DeclaredTree → MaybePhrase → MemberTree
-  MethodTree : SignatureTree → Place → Statements → MemberTree
+  FieldTree : (type : TypeTree) (name : DeclaredTree) (initial : MaybePhrase) → MemberTree
+  MethodTree : (signature : SignatureTree) (end : Place) (body : Statements) → MemberTree
 
 -- a declaration
 pub data DeclTree : Type 0 where
-  DataTree : Place → DeclaredTree → List DeclaredTree → List ConstructorTree → DeclTree
-  FunctionTree : Place → TypeTree → DeclaredTree → List DeclaredTree → List ParamTree → Phrase → DeclTree
-  InterfaceTree : Place → DeclaredTree → List DeclaredTree → List SignatureTree → DeclTree
-  ClassTree : Place → DeclaredTree → List ParamTree → List DeclaredTree → List MemberTree → DeclTree
+  DataTree : (place : Place) (name : DeclaredTree) (type_params : List DeclaredTree) (constructors : List ConstructorTree) → DeclTree
+  FunctionTree : (place : Place) (result : TypeTree) (name : DeclaredTree) (type_params : List DeclaredTree) (params : List ParamTree) (value : Phrase) → DeclTree
+  InterfaceTree : (place : Place) (name : DeclaredTree) (extended : List DeclaredTree) (signatures : List SignatureTree) → DeclTree
+  ClassTree : (place : Place) (name : DeclaredTree) (params : List ParamTree) (implemented : List DeclaredTree) (members : List MemberTree) → DeclTree
 
 -- a source: its declarations, and its main block with the place of the closing brace
 pub record SourceTree : Type 0 where

@@ -5,7 +5,7 @@
 --   `body_sizes`                                       how many variables each of its bodies has, with its parameters
 --   `class_sizes`                                      how many fields each of its classes has, with its parameters
 use Rattle.std.specs.Prelude.{ℕ, ◌+◌, List, [], ◌∷◌, ◌++◌, length}
-use Rattle.abs_tree.specs.Syntax.{PatternTree, Binds, Built, PatternTrees, NoPattern, NextPattern, Phrase, LetIn, IfElse, Chain, Prefixed, OwnCallOf, ApplyOf, BuildOf, CaseOf, Phrases, NoPhrase, NextPhrase, Links, NoLink, Link, Branches, NoBranch, NextBranch, SideTree, NewOf, ValueOf, SendOf, GetOf, CallOf, Tests, NoTest, NextTest, NoSide, SomeSide, Statement, BlockOf, AwaitOf, ReturnOf, PrintOf, IfOf, WhileOf, DeclareOf, AssignOf, DoOf, MaybeStatements, NoElse, Else, Statements, NoStatement, NextStatement, Value, MemberTree, FieldTree, MethodTree, DeclTree, FunctionTree, ClassTree, SourceTree}
+use Rattle.abs_tree.specs.Syntax.{PatternTree, Binds, Built, PatternTrees, NoPattern, NextPattern, Phrase, LetIn, IfElse, OperatorsOf, Prefixed, OwnCallOf, ApplyOf, BuildOf, CaseOf, Phrases, NoPhrase, NextPhrase, Operands, NoOperands, NextOperand, Branches, NoBranch, NextBranch, SideTree, NewOf, ValueOf, SendOf, GetOf, CallOf, Tests, NoTest, NextTest, NoSide, SomeSide, Statement, BlockOf, AwaitOf, ReturnOf, PrintOf, IfOf, WhileOf, DeclareOf, AssignOf, DoOf, MaybeStatements, NoElse, Else, Statements, NoStatement, NextStatement, Value, MemberTree, FieldTree, MethodTree, DeclTree, FunctionTree, ClassTree, SourceTree}
 
 -- statements; a block counts as those in it
 abbrev mutual
@@ -15,8 +15,8 @@ abbrev mutual
 
   pub count_of : Statement → ℕ
   count_of (BlockOf _ block) = statement_count block
-  count_of (IfOf _ _ first second) = 1 + statement_count first + count_of_else second
-  count_of (WhileOf _ _ body) = 1 + statement_count body
+  count_of (IfOf _ _ _ first second) = 1 + statement_count first + count_of_else second
+  count_of (WhileOf _ _ _ body) = 1 + statement_count body
   count_of _ = 1
 
   pub count_of_else : MaybeStatements → ℕ
@@ -51,9 +51,9 @@ abbrev mutual
 -- those of `let` and of the patterns in an expression
 abbrev mutual
   pub phrase_variables : Phrase → ℕ
-  phrase_variables (LetIn _ _ _ value body) = 1 + phrase_variables value + phrase_variables body
-  phrase_variables (IfElse _ test first second) = phrase_variables test + phrase_variables first + phrase_variables second
-  phrase_variables (Chain _ first others) = phrase_variables first + link_variables others
+  phrase_variables (LetIn _ _ _ _ value body) = 1 + phrase_variables value + phrase_variables body
+  phrase_variables (IfElse _ condition first second) = phrase_variables condition + phrase_variables first + phrase_variables second
+  phrase_variables (OperatorsOf _ first operands) = phrase_variables first + operand_variables operands
   phrase_variables (Prefixed _ _ operand) = phrase_variables operand
   phrase_variables (OwnCallOf _ _ arguments) = phrases_variables arguments
   phrase_variables (ApplyOf _ _ arguments) = phrases_variables arguments
@@ -65,20 +65,20 @@ abbrev mutual
   phrases_variables NoPhrase = 0
   phrases_variables (NextPhrase first others) = phrase_variables first + phrases_variables others
 
-  pub link_variables : Links → ℕ
-  link_variables NoLink = 0
-  link_variables (Link _ right others) = phrase_variables right + link_variables others
+  pub operand_variables : Operands → ℕ
+  operand_variables NoOperands = 0
+  operand_variables (NextOperand _ right others) = phrase_variables right + operand_variables others
 
   pub branch_variables : Branches → ℕ
   branch_variables NoBranch = 0
   branch_variables (NextBranch pattern value others) = pattern_variables pattern + phrase_variables value + branch_variables others
 
 abbrev pub side_variables : SideTree → ℕ
-side_variables (NewOf _ _ _ arguments) = phrases_variables arguments
+side_variables (NewOf _ _ _ _ arguments) = phrases_variables arguments
 side_variables (ValueOf _ value) = phrase_variables value
-side_variables (SendOf _ receiver _ arguments) = phrase_variables receiver + phrases_variables arguments
-side_variables (GetOf _ future) = phrase_variables future
-side_variables (CallOf _ receiver _ arguments) = phrase_variables receiver + phrases_variables arguments
+side_variables (SendOf _ _ row) = phrases_variables row
+side_variables (GetOf _ _ future) = phrase_variables future
+side_variables (CallOf _ _ row _) = phrases_variables row
 
 abbrev pub test_variables : Tests → ℕ
 test_variables NoTest = 0
@@ -88,16 +88,16 @@ test_variables (NextTest _ value _ others) = phrase_variables value + test_varia
 abbrev mutual
   pub statement_variables : Statement → ℕ
   statement_variables (BlockOf _ block) = statements_variables block
-  statement_variables (AwaitOf _ guard) = test_variables guard
-  statement_variables (ReturnOf _ value) = phrase_variables value
-  statement_variables (PrintOf _ value) = phrase_variables value
-  statement_variables (IfOf _ test first NoElse) = phrase_variables test + statements_variables first
-  statement_variables (IfOf _ test first (Else second)) = phrase_variables test + statements_variables first + statements_variables second
-  statement_variables (WhileOf _ test body) = phrase_variables test + statements_variables body
-  statement_variables (DeclareOf _ _ _ _ NoSide) = 1
-  statement_variables (DeclareOf _ _ _ _ (SomeSide side)) = 1 + side_variables side
-  statement_variables (AssignOf _ _ side) = side_variables side
-  statement_variables (DoOf _ side) = side_variables side
+  statement_variables (AwaitOf _ _ guard) = test_variables guard
+  statement_variables (ReturnOf _ _ value) = phrase_variables value
+  statement_variables (PrintOf _ _ value) = phrase_variables value
+  statement_variables (IfOf _ _ condition first NoElse) = phrase_variables condition + statements_variables first
+  statement_variables (IfOf _ _ condition first (Else second)) = phrase_variables condition + statements_variables first + statements_variables second
+  statement_variables (WhileOf _ _ condition body) = phrase_variables condition + statements_variables body
+  statement_variables (DeclareOf _ _ _ _ _ NoSide) = 1
+  statement_variables (DeclareOf _ _ _ _ _ (SomeSide side)) = 1 + side_variables side
+  statement_variables (AssignOf _ _ _ side) = side_variables side
+  statement_variables (DoOf _ _ side) = side_variables side
   statement_variables _ = 0
 
   pub statements_variables : Statements → ℕ

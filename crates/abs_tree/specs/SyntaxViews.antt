@@ -4,14 +4,14 @@
 --   `side_tree`, `tests`, `statement`                  right sides, guards, statements
 --   `member_tree`, `decl_tree`, `tree_of_parts`        members, declarations, a source from its parts
 --   `.._row`                                           the children of a tree
---   `type_trees`, `phrases`, `links`, ..               a list of trees by itself
+--   `type_trees`, `phrases`, `operand_trees`, ..       a list of trees by itself
 use Rattle.std.specs.Prelude.{List, [], ◌∷◌, map, Option, Some, None}
 use Rattle.std.specs.declared.alloc.Global.{Global}
 use Rattle.std.specs.declared.vec.Vec.{Vec}
-use Rattle.abs_tree.specs.Syntax.{Name, VariableTree, Written, AtSlot, TypeTree, TypeName, BottomType, NullType, ClassType, TypeTrees, NoType, NextType, PatternTree, AnyValue, Binds, SameNumber, SameString, Built, PatternTrees, NoPattern, NextPattern, Phrase, LetIn, IfElse, Chain, Prefixed, NumberOf, StringOf, NullOf, DestinyOf, ThisOf, FieldOf, OwnCallOf, VariableOf, ApplyOf, BuildOf, CaseOf, Phrases, NoPhrase, NextPhrase, Links, NoLink, Link, Branches, NoBranch, NextBranch, SideTree, NewOf, ValueOf, SendOf, GetOf, CallOf, Tests, NoTest, NextTest, TargetTree, ToVariable, ToField, MaybeSide, NoSide, SomeSide, Statement, BlockOf, SkipOf, SuspendOf, AwaitOf, ReturnOf, PrintOf, IfOf, WhileOf, DeclareOf, AssignOf, DoOf, MaybeStatements, NoElse, Else, Statements, NoStatement, NextStatement, ParamTree, DeclaredTree, ConstructorTree, SignatureTree, NoValue, Value, MemberTree, FieldTree, MethodTree, DeclTree, DataTree, FunctionTree, InterfaceTree, ClassTree, SourceTree}
+use Rattle.abs_tree.specs.Syntax.{Name, VariableTree, Unresolved, AtSlot, AtBound, AtField, TypeTree, UnresolvedType, IntType, StringType, FutType, DataType, InterfaceType, ParameterType, BottomType, NullType, ClassType, TypeTrees, NoType, NextType, PatternTree, AnyValue, Binds, SameNumber, SameString, Built, PatternTrees, NoPattern, NextPattern, Phrase, LetIn, IfElse, OperatorsOf, Prefixed, NumberOf, StringOf, NullOf, DestinyOf, ThisOf, FieldOf, OwnCallOf, VariableOf, ApplyOf, BuildOf, CaseOf, Phrases, NoPhrase, NextPhrase, Operands, NoOperands, NextOperand, Branches, NoBranch, NextBranch, SideTree, NewOf, ValueOf, SendOf, GetOf, CallOf, Tests, NoTest, NextTest, TargetTree, ToVariable, ToField, MaybeSide, NoSide, SomeSide, Statement, BlockOf, SkipOf, SuspendOf, AwaitOf, ReturnOf, PrintOf, IfOf, WhileOf, DeclareOf, AssignOf, DoOf, MaybeStatements, NoElse, Else, Statements, NoStatement, NextStatement, ParamTree, DeclaredTree, ConstructorTree, SignatureTree, NoValue, Value, MemberTree, FieldTree, MethodTree, DeclTree, DataTree, FunctionTree, InterfaceTree, ClassTree, SourceTree}
 use Rattle.abs_tree.specs.Trees.{name_of}
-use Rattle.abs_tree.specs.declared.program.Variable.{Variable}
-use Rattle.abs_tree.specs.declared.program.Variable.TheVariants as variable
+use Rattle.abs_tree.specs.declared.syntax.variable.Variable.{Variable}
+use Rattle.abs_tree.specs.declared.syntax.variable.Variable.TheVariants as variable
 use Rattle.abs_tree.specs.declared.syntax.types.TypeTerm as code_type
 use Rattle.abs_tree.specs.declared.syntax.pattern.Pattern as code_pattern
 use Rattle.abs_tree.specs.declared.syntax.expression.Expr as code_expr
@@ -35,13 +35,21 @@ use Rattle.abs_tree.specs.declared.syntax.declaration.Body as code_body
 
 -- the tree of a variable
 abbrev pub variable_tree : List Name → Variable → VariableTree
-variable_tree names (variable.Named symbol) = Written (name_of names symbol)
+variable_tree names (variable.Unresolved symbol) = Unresolved (name_of names symbol)
 variable_tree names (variable.Slot slot) = AtSlot slot
+variable_tree names (variable.Bound depth) = AtBound depth
+variable_tree names (variable.Field field) = AtField field
 
 abbrev mutual
   -- the tree of a type
   pub type_tree : List Name → code_type.TypeTerm → TypeTree
-  type_tree names (code_type.Name' place symbol shared shape arguments) = TypeName place (name_of names symbol) (type_row names arguments)
+  type_tree names (code_type.Unresolved' place symbol shared shape arguments) = UnresolvedType place (name_of names symbol) (type_row names arguments)
+  type_tree names (code_type.Int place) = IntType place
+  type_tree names (code_type.String place) = StringType place
+  type_tree names (code_type.Fut' place shared value) = FutType place (type_tree names value)
+  type_tree names (code_type.Data' place symbol shared shape arguments) = DataType place (name_of names symbol) (type_row names arguments)
+  type_tree names (code_type.Interface place symbol) = InterfaceType place (name_of names symbol)
+  type_tree names (code_type.Parameter place parameter) = ParameterType place parameter
   type_tree names code_type.Bottom = BottomType
   type_tree names code_type.Null = NullType
   type_tree names (code_type.Class symbol) = ClassType (name_of names symbol)
@@ -76,19 +84,20 @@ pattern_trees names (pattern ∷ others) = NextPattern (pattern_tree names patte
 abbrev mutual
   -- the tree of an expression
   pub phrase : List Name → code_expr.Expr → Phrase
-  phrase names (code_expr.Let' place type variable at_value value at_body body) =
-      LetIn place (type_tree names type) (variable_tree names variable) (phrase names value) (phrase names body)
-  phrase names (code_expr.If' place at_test test at_first first at_second second) = IfElse place (phrase names test) (phrase names first) (phrase names second)
-  phrase names (code_expr.Chain' place at_first first shape operands) = Chain place (phrase names first) (link_row names operands)
+  phrase names (code_expr.Let' place type variable_place variable at_value value at_body body) =
+      LetIn place (type_tree names type) variable_place (variable_tree names variable) (phrase names value) (phrase names body)
+  phrase names (code_expr.If' place at_condition condition at_first first at_second second) =
+      IfElse place (phrase names condition) (phrase names first) (phrase names second)
+  phrase names (code_expr.Operators' place at_first first shape operands) = OperatorsOf place (phrase names first) (operand_row names operands)
   phrase names (code_expr.Prefixed' place prefix at_operand operand) = Prefixed place prefix (phrase names operand)
   phrase names (code_expr.Number place number) = NumberOf place number
   phrase names (code_expr.Text place text) = StringOf place text
   phrase names (code_expr.Null place) = NullOf place
   phrase names (code_expr.Destiny place) = DestinyOf place
   phrase names (code_expr.This place) = ThisOf place
-  phrase names (code_expr.Field place symbol) = FieldOf place (name_of names symbol)
-  phrase names (code_expr.OwnCall' place symbol shape arguments) = OwnCallOf place (name_of names symbol) (phrase_row names arguments)
-  phrase names (code_expr.Local place variable) = VariableOf place (variable_tree names variable)
+  phrase names (code_expr.Field place name_place symbol) = FieldOf place name_place (name_of names symbol)
+  phrase names (code_expr.OwnCall' place symbol shared shape arguments) = OwnCallOf place (name_of names symbol) (phrase_row names arguments)
+  phrase names (code_expr.Variable place variable) = VariableOf place (variable_tree names variable)
   phrase names (code_expr.Apply' place symbol shape arguments) = ApplyOf place (name_of names symbol) (phrase_row names arguments)
   phrase names (code_expr.Build' place symbol shape arguments) = BuildOf place (name_of names symbol) (phrase_row names arguments)
   phrase names (code_expr.Case' place at_subject subject shape branches) = CaseOf place (phrase names subject) (branch_row names branches)
@@ -97,9 +106,9 @@ abbrev mutual
   phrase_row names code_expr.end_of-Expr = NoPhrase
   phrase_row names (code_expr.more_of-Expr expr others) = NextPhrase (phrase names expr) (phrase_row names others)
 
-  pub link_row : {n : _} → List Name → code_expr.Row_of-Operand n → Links
-  link_row names code_expr.end_of-Operand = NoLink
-  link_row names (code_expr.more_of-Operand operator right others) = Link operator (phrase names right) (link_row names others)
+  pub operand_row : {n : _} → List Name → code_expr.Row_of-Operand n → Operands
+  operand_row names code_expr.end_of-Operand = NoOperands
+  operand_row names (code_expr.more_of-Operand operator right others) = NextOperand operator (phrase names right) (operand_row names others)
 
   pub branch_row : {n : _} → List Name → code_expr.Row_of-Branch n → Branches
   branch_row names code_expr.end_of-Branch = NoBranch
@@ -111,9 +120,9 @@ phrases names [] = NoPhrase
 phrases names (expr ∷ others) = NextPhrase (phrase names expr) (phrases names others)
 
 -- the trees of a list of operators with their right operands, and of a list of branches
-abbrev pub links : List Name → List code_operand.Operand → Links
-links names [] = NoLink
-links names (operand ∷ others) = Link operand.operator (phrase names operand.right) (links names others)
+abbrev pub operand_trees : List Name → List code_operand.Operand → Operands
+operand_trees names [] = NoOperands
+operand_trees names (operand ∷ others) = NextOperand operand.operator (phrase names operand.right) (operand_trees names others)
 
 abbrev pub branches : List Name → List code_branch.Branch → Branches
 branches names [] = NoBranch
@@ -121,13 +130,11 @@ branches names (branch ∷ others) = NextBranch (pattern_tree names branch.patte
 
 -- the tree of a right side
 abbrev pub side_tree : List Name → code_side.RightSide → SideTree
-side_tree names (side.New place mode class arguments) = NewOf place mode (name_of names class) (phrases names arguments.value.items)
+side_tree names (side.New place mode class_place class arguments) = NewOf place mode class_place (name_of names class) (phrases names arguments.value.items)
 side_tree names (side.Value place value) = ValueOf place (phrase names value.value)
-side_tree names (side.Send place receiver method arguments) =
-    SendOf place (phrase names receiver.value) (name_of names method) (phrases names arguments.value.items)
-side_tree names (side.Get place future) = GetOf place (phrase names future.value)
-side_tree names (side.Call place receiver method arguments) =
-    CallOf place (phrase names receiver.value) (name_of names method) (phrases names arguments.value.items)
+side_tree names (side.Send place method row) = SendOf place (name_of names method) (phrases names row.value.items)
+side_tree names (side.Get place get_place future) = GetOf place get_place (phrase names future.value)
+side_tree names (side.Call place method row slot) = CallOf place (name_of names method) (phrases names row.value.items) slot
 
 abbrev pub maybe_side : List Name → Option code_side.RightSide → MaybeSide
 maybe_side names None = NoSide
@@ -139,24 +146,25 @@ tests names [] = NoTest
 tests names (test ∷ others) = NextTest test.place (phrase names test.value.value) test.asks (tests names others)
 
 abbrev pub target_tree : List Name → code_target.Target → TargetTree
-target_tree names (target.Local place variable) = ToVariable place (variable_tree names variable)
-target_tree names (target.Field place symbol) = ToField place (name_of names symbol)
+target_tree names (target.Variable place variable) = ToVariable place (variable_tree names variable)
+target_tree names (target.Field place name_place symbol) = ToField place name_place (name_of names symbol)
 
 abbrev mutual
   -- the tree of a statement
   pub statement : List Name → code_stmt.Stmt → Statement
   statement names (code_stmt.Block' place shape block) = BlockOf place (statement_row names block)
-  statement names (code_stmt.Skip number place) = SkipOf place
-  statement names (code_stmt.Suspend number place) = SuspendOf place
-  statement names (code_stmt.Await number place guard) = AwaitOf place (tests names guard.items)
-  statement names (code_stmt.Return number place value) = ReturnOf place (phrase names value.value)
-  statement names (code_stmt.Print number place value) = PrintOf place (phrase names value.value)
-  statement names (code_stmt.If' number place test shape first second) = IfOf place (phrase names test.value) (statement_row names first) (else_held names second)
-  statement names (code_stmt.While' number place test shape body) = WhileOf place (phrase names test.value) (statement_row names body)
-  statement names (code_stmt.Declare number place type name_place variable initial) =
-      DeclareOf place (type_tree names type) name_place (variable_tree names variable) (maybe_side names initial)
-  statement names (code_stmt.Assign number place target rhs) = AssignOf place (target_tree names target) (side_tree names rhs)
-  statement names (code_stmt.Do number place rhs) = DoOf place (side_tree names rhs)
+  statement names (code_stmt.Skip index place) = SkipOf index place
+  statement names (code_stmt.Suspend index place) = SuspendOf index place
+  statement names (code_stmt.Await index place guard) = AwaitOf index place (tests names guard.items)
+  statement names (code_stmt.Return index place value) = ReturnOf index place (phrase names value.value)
+  statement names (code_stmt.Print index place value) = PrintOf index place (phrase names value.value)
+  statement names (code_stmt.If' index place condition shape first second) =
+      IfOf index place (phrase names condition.value) (statement_row names first) (else_held names second)
+  statement names (code_stmt.While' index place condition shape body) = WhileOf index place (phrase names condition.value) (statement_row names body)
+  statement names (code_stmt.Declare index place type variable_place variable initial) =
+      DeclareOf index place (type_tree names type) variable_place (variable_tree names variable) (maybe_side names initial)
+  statement names (code_stmt.Assign index place target rhs) = AssignOf index place (target_tree names target) (side_tree names rhs)
+  statement names (code_stmt.Do index place rhs) = DoOf index place (side_tree names rhs)
 
   pub statement_row : {n : _} → List Name → code_stmt.Row_of-Stmt n → Statements
   statement_row names code_stmt.end_of-Stmt = NoStatement

@@ -53,6 +53,22 @@ impl<'a> Symbols<'a> {
         }
     }
 
+    /// A number for the name of a symbol: it is the same for two symbols exactly where their names are the same
+    /// ([`numbers_tell_names`](crate::numbers_tell_names)). For a symbol of the table it is its own.
+    pub fn number(&self, symbol: Symbol) -> u32
+        ensures number { result ≡ number_of_name self.now (name_of self.now symbol) }
+        ensures own { symbol.0 < length self.now → result ≡ symbol.0 }
+    {
+        let count = self.names.len();
+        if (symbol.0 as usize) < count {
+            return symbol.0;
+        }
+        match self.find(&[]) {
+            Some(empty) => empty.0,
+            None => count as u32,
+        }
+    }
+
     /// The symbol of a name, if the table has it.
     pub fn find(&self, name: &[u8]) -> Option<Symbol>
         requires { length self.now ≤ 2 ^ 32 }

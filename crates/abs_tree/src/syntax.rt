@@ -6,9 +6,11 @@ pub mod expression;
 pub mod pattern;
 pub mod statement;
 pub mod types;
+pub mod variable;
 
 pub use declaration::{Body, Constructor, Decl, Declared, Member, Param, Program, Signature};
 pub use expression::{Branch, Expr, Operand, Operator, Prefix};
 pub use pattern::Pattern;
 pub use statement::{Mode, RightSide, Stmt, Target, Test};
 pub use types::TypeTerm;
+pub use variable::Variable;

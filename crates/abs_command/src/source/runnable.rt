@@ -1,7 +1,7 @@
 //! From the tree of a source to the smaller tree of what runs today, or to the place of the first unsupported thing.
 ghost use Rattle.std.specs.Prelude.{◌≡◌, ◌≤◌, Ok, Err, length, map, IfOk, IfErr};
 ghost use Rattle.std.specs.Option.{ok_or};
-ghost use Rattle.abs_tree.specs.SyntaxViews.{variable_tree, type_tree, phrase, links, side_tree, statement as statement_tree, statements as statement_trees};
+ghost use Rattle.abs_tree.specs.SyntaxViews.{variable_tree, type_tree, phrase, operand_trees, side_tree, statement as statement_tree, statements as statement_trees};
 ghost use Rattle.abs_tree.specs.Limits.{table_limit};
 ghost use Rattle.abs_tree.specs.SourceViews.{source_tree};
 ghost use Rattle.abs_tree.specs.Trees.{expr_tree, operands_of, stmt_tree, program_tree};
@@ -96,21 +96,33 @@ fn statement(
         (statement_tree symbols.now stmt.now) ≡ Err place)) }
 {
     match stmt {
-        syntax::Stmt::Declare(_, place, type_of, at, variable, Some(side)) => {
+        syntax::Stmt::Declare {
+            place,
+            type_of,
+            variable_place,
+            variable,
+            initial: Some(side),
+            ..
+        } => {
             if !is_int(symbols, type_of) {
                 return Err(RunnableError::NotYet(*place));
             }
-            let variable = local(symbols, *at, *variable)?;
+            let variable = local(symbols, *variable_place, *variable)?;
             let value = Arc::new(alloc, value_of(alloc, symbols, side)?)?;
-            Ok(Stmt::Declare(*place, *at, variable, value))
+            Ok(Stmt::Declare(*place, *variable_place, variable, value))
         }
-        syntax::Stmt::Assign(_, place, syntax::Target::Local(at, variable), side) => {
-            let variable = local(symbols, *at, *variable)?;
+        syntax::Stmt::Assign {
+            place,
+            target: syntax::Target::Variable(variable_place, variable),
+            side,
+            ..
+        } => {
+            let variable = local(symbols, *variable_place, *variable)?;
             let value = Arc::new(alloc, value_of(alloc, symbols, side)?)?;
             Ok(Stmt::Assign(*place, variable, value))
         }
-        syntax::Stmt::Print(_, place, text) => {
-            let text = Arc::new(alloc, printed(alloc, symbols, text)?)?;
+        syntax::Stmt::Print { place, value, .. } => {
+            let text = Arc::new(alloc, printed(alloc, symbols, value)?)?;
             Ok(Stmt::Print(*place, text))
         }
         other => Err(RunnableError::NotYet(other.place())),
@@ -122,22 +134,28 @@ fn is_int(symbols: &Symbols<'_>, type_of: &syntax::TypeTerm) -> bool
     ensures { result ≡ is_int_type (type_tree symbols.now type_of.now) }
 {
     match type_of {
-        syntax::TypeTerm::Name(_, symbol, arguments) => {
-            arguments.is_empty() && symbols.name(*symbol) == b"Int".as_slice()
-        }
+        syntax::TypeTerm::Unresolved {
+            name,
+            arguments,
+            ..
+        } => arguments.is_empty() && symbols.name(*name) == b"Int".as_slice(),
         _ => false,
     }
 }
 
 /// A local. It is found by its name, since no clause says that the symbol in the tree is one of the table.
-fn local(symbols: &Symbols<'_>, at: Place, variable: Variable) -> Result<Variable, RunnableError>
+fn local(
+    symbols: &Symbols<'_>,
+    at: Place,
+    variable: syntax::Variable,
+) -> Result<Variable, RunnableError>
     requires few { length symbols.now ≤ table_limit }
     ensures found { IfOk result (λ found. ok_or (runnable_variable symbols.now
         (variable_tree symbols.now variable)) at ≡ Ok found) }
     ensures not_yet { IfErr result (λ error. ForNotYet error (λ place. ok_or (runnable_variable symbols.now
         (variable_tree symbols.now variable)) at ≡ Err place)) }
 {
-    let Variable::Named(symbol) = variable else {
+    let syntax::Variable::Unresolved(symbol) = variable else {
         return Err(RunnableError::NotYet(at));
     };
     match symbols.find(symbols.name(symbol)) {
@@ -172,7 +190,12 @@ fn printed(alloc: Global, symbols: &Symbols<'_>, text: &syntax::Expr) -> Result<
     ensures not_yet { IfErr result (λ error. ForNotYet error (λ place. runnable_text symbols.now
         (phrase symbols.now text.now) ≡ Err place)) }
 {
-    let syntax::Expr::Apply(place, function, arguments) = text else {
+    let syntax::Expr::Apply {
+        place,
+        function,
+        arguments,
+    } = text
+    else {
         return Err(RunnableError::NotYet(text.place()));
     };
     let name = symbols.name(*function);
@@ -202,15 +225,23 @@ fn expression(
 {
     match expr {
         syntax::Expr::Number(place, number) => Ok(Expr::Number(*place, *number)),
-        syntax::Expr::Local(place, variable) => {
+        syntax::Expr::Variable(place, variable) => {
             let variable = local(symbols, *place, *variable)?;
             Ok(Expr::Local(*place, variable))
         }
-        syntax::Expr::Prefixed(place, syntax::Prefix::Minus, operand) => {
+        syntax::Expr::Prefixed {
+            place,
+            prefix: syntax::Prefix::Minus,
+            operand,
+        } => {
             let operand = expression(alloc, symbols, operand)?;
             Ok(Expr::Negate(*place, Box::new(alloc, operand)?))
         }
-        syntax::Expr::Chain(place, first, others) => {
+        syntax::Expr::Operators {
+            place,
+            first,
+            operands: others,
+        } => {
             let first = Box::new(alloc, expression(alloc, symbols, first)?)?;
             let operands = operands(alloc, symbols, *place, others)?;
             Ok(Expr::Operators(*place, first, operands))
@@ -228,10 +259,10 @@ fn operands(
     others: &[syntax::Operand],
 ) -> Result<Vec<Operand>, RunnableError>
     requires few { length symbols.now ≤ table_limit }
-    ensures found { IfOk result (λ found. runnable_operands symbols.now place (links symbols.now others.now)
+    ensures found { IfOk result (λ found. runnable_operands symbols.now place (operand_trees symbols.now others.now)
         ≡ Ok (operands_of found.items)) }
     ensures not_yet { IfErr result (λ error. ForNotYet error (λ told. runnable_operands symbols.now place
-        (links symbols.now others.now) ≡ Err told)) }
+        (operand_trees symbols.now others.now) ≡ Err told)) }
 {
     let mut found = Vec::with_capacity(alloc, others.len())?;
     for other in others {

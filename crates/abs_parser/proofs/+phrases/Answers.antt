@@ -1,27 +1,28 @@
 use Rattle.abs_lexer.specs.Views.{lexed}
-use Rattle.abs_parser.proofs.+phrases.Goals.{operators::operators_behind-in-Some+in_ok-right+in_ok-push+then-not-repeats, operators::operators_behind-in_default, primaries::built-in-Some, primaries::built-in-None, primaries::named-in-Some, primaries::named-in-None, primaries::this_of-in-Some, primaries::this_of-in-None}
+use Rattle.abs_parser.proofs.+phrases.Goals.{operators::operators_behind-in-Some+in_ok-right+in_ok-push+then-not-repeats, operators::operators_behind-in_default, primaries::built-in-Some, primaries::built-in-None}
 use Rattle.abs_parser.proofs.CaseSteps.{case_begins, case_asked, refused_branch, refused_brace, branch_shorter, first_branch, next_branch, case_found, pattern_read, refused_pattern, branch_found}
 use Rattle.abs_parser.proofs.DigitLemmas.{number_digits, number_fits, narrowed}
 use Rattle.abs_parser.proofs.ExpressionSteps.{or_found, or_refused, if_opened, if_begins, if_tested, if_chosen, if_found, let_opened, let_begins, let_named, let_assigned, let_valued, let_found}
 use Rattle.abs_parser.proofs.FirstPlaceLemmas.{found_within}
 use Rattle.abs_parser.proofs.ListLemmas.{list_of_expressions, trees_of_expressions, arguments}
 use Rattle.abs_parser.proofs.ListSteps.{first_so_far, next_so_far, all_so_far, refused_first, refused_next, maybe_found, refused_between, parentheses_left_out, parentheses_follow, parentheses_shut, parenthesis_read, nothing_between}
-use Rattle.abs_parser.proofs.OperatorLemmas.{first_operand_refused, no_operand_read, next_operand_refused, next_operand_read, last_operand_found, operators_end, first_operand_read, level_found}
+use Rattle.abs_parser.proofs.OperatorLemmas.{no_operand_read, next_operand_refused, next_operand_read, last_operand_found, operators_end, first_operand_read, level_found}
+use Rattle.abs_parser.proofs.ClimbingLemmas.{unary_refused, level_refused, nothing_follows, same_level, other_level, last_level, next_order, next_operand}
 use Rattle.abs_parser.proofs.PatternSteps.{next_taken}
-use Rattle.abs_parser.proofs.PrimaryLemmas.{other_word, group_shut, no_tail, tree_by, named_tree, built_tree, member_tree, this_tree, group_tree, prefixed_tree, apply_phrase, local_phrase, call_phrase, field_phrase, build_phrase, constant_phrase}
+use Rattle.abs_parser.proofs.PrimaryLemmas.{other_word, group_shut, no_tail, tree_by, named_tree, built_tree, member_tree, this_tree, group_tree, prefixed_tree, build_phrase, constant_phrase}
 use Rattle.abs_parser.proofs.PrimarySteps.{stands, first_read, name_read, member_begins, call_found, prefix_read, prefix_deep, operand_deep, operand_found, operand_refused, unary_refused_at_end, primary_refused_at_end, refused_no_unary, refused_no_primary}
 use Rattle.abs_parser.proofs.StepLemmas.{token_shorter, found_shorter, opens, over_token, over_name, over_part, into_last, all_read, refused_inside, refused_other, refused_deep, fits_next, found_few}
 use Rattle.abs_parser.specs.Kinds.{Kind, Sign, fits, Word}
 use Rattle.abs_parser.specs.Productions.{Primary, ThisTail, Expr, Arguments}
-use Rattle.abs_parser.specs.ReaderAnswers.{TakesKind}
+use Rattle.abs_parser.specs.ReaderAnswers.{TakesKind, maybe_phrases}
 use Rattle.abs_parser.specs.Readings.{One, Optional, Empty, opened}
-use Rattle.abs_parser.specs.TreesOf.{args_maybe}
+use Rattle.abs_parser.specs.TreesOf.{args_maybe, named, member}
 use Rattle.abs_parser.specs.Views.{spot}
 use Rattle.abs_tree.specs.Syntax.{NumberOf, StringOf}
 use Rattle.abs_tree.specs.SyntaxViews.{phrase, phrases}
 use Rattle.abs_tree.specs.declared.syntax.expression.Branch.{Branch}
 use Rattle.abs_tree.specs.declared.syntax.expression.Operand.{Operand}
-use Rattle.std.proofs.Common.{◌∙◌, ap, sym, arith, rules, ◌+◌, Some, [], refl, ◌∷◌, ◌++◌, List}
+use Rattle.std.proofs.Common.{◌∙◌, ℕ, ap, sym, arith, rules, ◌+◌, Some, [], refl, ◌∷◌, ◌++◌, List}
 use Rattle.std.proofs.lemmas.Result.{err_from_is_err_and, IfOk-weaker, IfErr-weaker}
 use Rattle.std.specs.declared.alloc.Global.{Global}
 use Rattle.std.specs.declared.vec.Vec.{Vec}
@@ -88,7 +89,7 @@ expressions::if_else-returns-in_err-second-clause-refused t c =
 
 pub expressions::if_else-returns-clause-found : goal.expressions::if_else-returns-clause-found
 expressions::if_else-returns-clause-found t c =
-    if_found c.in_ok-test-2.test.value c.in_ok-first-2.first.value c.in_ok-second-2.second.value c.in_ok-test-2.ensures.ok c.in_ok-first-2.ensures.ok c.in_ok-second-2.ensures.ok
+    if_found c.in_ok-condition.condition.value c.in_ok-first-2.first.value c.in_ok-second-2.second.value c.in_ok-condition.ensures.ok c.in_ok-first-2.ensures.ok c.in_ok-second-2.ensures.ok
     c.in_ok-word.ensures.found c.in_ok-test.ensures.found c.in_ok-first_at.ensures.found c.in_ok-first.ensures.found c.in_ok-second_at.ensures.found c.in_ok-second.ensures.found (omega arith)
 
 pub expressions::let_in-returns-then-depth-eq-LIMIT-clause-refused : goal.expressions::let_in-returns-then-depth-eq-LIMIT-clause-refused
@@ -181,21 +182,56 @@ expressions::let_in-returns-clause-found t c =
 pub operators::operators-returns-in_err-first-clause-refused : goal.operators::operators-returns-in_err-first-clause-refused
 operators::operators-returns-in_err-first-clause-refused t c =
     let p = err_from_is_err_and c.from_residual.result c.from_residual.ensures.1 in
-    rw (p.1, p.2) (first_operand_refused c.args.level c.args.depth (spot c.args.from) _ c.in_err-first.ensures.refused)
+    rw (p.1, p.2) (unary_refused c.args.level c.args.depth (spot c.args.from) _ c.in_err-first.ensures.refused)
 
-pub operators::operators-operators_behind-requires : goal.operators::operators-operators_behind-requires
-operators::operators-operators_behind-requires t c =
+pub operators::operators-climb-requires : goal.operators::operators-climb-requires
+operators::operators-climb-requires t c =
     let few = found_few c.in_ok-first.ensures.found in
     let shorter = found_shorter c.in_ok-first.ensures.found in
-    (search rules, (omega arith, found_within c.in_ok-first.ensures.found))
+    (search rules, (omega arith, (omega arith, found_within c.in_ok-first.ensures.found)))
 
 pub operators::operators-returns-clause-found : goal.operators::operators-returns-clause-found
 operators::operators-returns-clause-found t c =
-    IfOk-weaker c.operators_behind.result _ _ (λ found. level_found c.args.level _ c.in_ok-first.first found.0 c.in_ok-first.ensures.found c.place.ensures) c.operators_behind.ensures.found
+    IfOk-weaker c.climb.result _ _ (λ found climbs. climbs c.args.symbols.now (spot c.args.from) c.place.ensures c.in_ok-first.ensures.found) c.climb.ensures.found
 
 pub operators::operators-returns-clause-refused : goal.operators::operators-returns-clause-refused
 operators::operators-returns-clause-refused t c =
-    IfErr-weaker c.operators_behind.result _ _ (refused_inside (first_operand_read c.args.level c.in_ok-first.ensures.found)) c.operators_behind.ensures.refused
+    IfErr-weaker c.climb.result _ _ (λ error fails. fails c.args.symbols.now (spot c.args.from) c.place.ensures c.in_ok-first.ensures.found) c.climb.ensures.refused
+
+pub operators::climb-returns-then-not-operator_follows-clause-found : goal.operators::climb-returns-then-not-operator_follows-clause-found
+operators::climb-returns-then-not-operator_follows-clause-found t c = λ older begin is found.
+    nothing_follows c.args.at c.args.to c.args.place c.args.first c.requires.order (c.operator_follows.ensures c.if-not-operator_follows.true) is found
+
+pub operators::climb-returns-in_err-left-clause-refused : goal.operators::climb-returns-in_err-left-clause-refused
+operators::climb-returns-in_err-left-clause-refused t c =
+    let p = err_from_is_err_and c.from_residual.result c.from_residual.ensures.1 in
+    rw (p.1, p.2) (λ older begin is found. level_refused c.args.at c.args.to c.args.depth begin _ c.requires.order (refused_inside (first_operand_read c.args.at found) _ c.in_err-left.ensures.refused))
+
+pub operators::climb-returns-then-eq-clause-found : goal.operators::climb-returns-then-eq-clause-found
+operators::climb-returns-then-eq-clause-found t c = λ older begin is found.
+    let here = level_found c.args.at c.args.place c.args.first c.in_ok-left.left found is c.in_ok-left.ensures.found in
+    last_level c.in_ok-left.left (same_level c.args.at c.args.to (sym c.eq.ensures ∙ c.if-eq.true)) here
+
+pub operators::climb-climb-requires : goal.operators::climb-climb-requires
+operators::climb-climb-requires t c =
+    let few = found_few c.in_ok-left.ensures.found in
+    let shorter = found_shorter c.in_ok-left.ensures.found in
+    let other = other_level c.args.at c.args.to (sym c.eq.ensures ∙ c.if-eq.false) in
+    (search rules, (rw c.looser.ensures (next_order c.args.at c.args.to c.requires.order other), (omega arith, c.requires.depth)))
+
+pub operators::climb-returns-clause-found : goal.operators::climb-returns-clause-found
+operators::climb-returns-clause-found t c =
+    let other = other_level c.args.at c.args.to (sym c.eq.ensures ∙ c.if-eq.false) in
+    IfOk-weaker c.climb.result _ _ (λ found climbs older begin is operand.
+    let here = level_found c.args.at c.args.place c.args.first c.in_ok-left.left operand is c.in_ok-left.ensures.found in
+    climbs older begin is (rw c.looser.ensures (next_operand c.args.at c.args.to c.in_ok-left.left c.requires.order other here))) c.climb.ensures.found
+
+pub operators::climb-returns-clause-refused : goal.operators::climb-returns-clause-refused
+operators::climb-returns-clause-refused t c =
+    let other = other_level c.args.at c.args.to (sym c.eq.ensures ∙ c.if-eq.false) in
+    IfErr-weaker c.climb.result _ _ (λ error fails older begin is operand.
+    let here = level_found c.args.at c.args.place c.args.first c.in_ok-left.left operand is c.in_ok-left.ensures.found in
+    fails older begin is (rw c.looser.ensures (next_operand c.args.at c.args.to c.in_ok-left.left c.requires.order other here))) c.climb.ensures.refused
 
 pub operators::operators_behind-loop-operator-init : goal.operators::operators_behind-loop-operator-init
 operators::operators_behind-loop-operator-init t c = record { read = no_operand_read c.args.level c.args.depth c.args.symbols.now (spot c.args.from) c.new-operands.ensures.items; first_is = refl }
@@ -277,19 +313,17 @@ primaries::group-returns-clause-found t c =
     all_read (over_token {kind = lexeme.Sign punctuator.CloseParen} so c.in_ok-end.ensures.found refl refl c.requires.depth)
     (λ names more. group_tree (lexed c.in_ok-inside.field-0-0) (lexed c.in_ok-end.field-0-0) c.args.depth expr.inside opening.kind_is (expr.is names more))
 
-pub primaries::named-returns-in_err-arguments-clause-refused : goal.primaries::named-returns-in_err-arguments-clause-refused
-primaries::named-returns-in_err-arguments-clause-refused t c =
+pub primaries::lower_primary-returns-in_err-arguments-clause-refused : goal.primaries::lower_primary-returns-in_err-arguments-clause-refused
+primaries::lower_primary-returns-in_err-arguments-clause-refused t c =
     let p = err_from_is_err_and c.from_residual-in_err-arguments.result c.from_residual-in_err-arguments.ensures.1 in
     rw (p.1, p.2) (refused_inside (name_read c.args.depth c.args.symbols.now c.in_ok-name.ensures.found refl refl c.requires.depth c.in_ok-symbol.ensures.names) _ c.in_err-arguments.ensures.refused)
 
-pub primaries::named-returns-clause-found : goal.primaries::named-returns-clause-found
-primaries::named-returns-clause-found t c =
+pub primaries::lower_primary-returns-clause-found : goal.primaries::lower_primary-returns-clause-found
+primaries::lower_primary-returns-clause-found t c =
     call_found c.args.symbols.now c.in_ok-symbol.symbol c.in_ok-arguments.arguments _
     (name_read c.args.depth c.args.symbols.now c.in_ok-name.ensures.found refl refl c.requires.depth c.in_ok-symbol.ensures.names) c.in_ok-symbol.ensures.symbol c.in_ok-symbol.ensures.names c.in_ok-arguments.ensures.found (λ names kept trees.
-    elim c.match-arguments.branch [
-      | primaries::named-in-Some w ↦ rw w.expr-is (apply_phrase names _ _ w.in-Some.arguments w.in-Some.is kept)
-      | primaries::named-in-None w ↦ rw w.expr-is (local_phrase names _ _ w.in-None.is kept)
-    ] ∙ named_tree (lexed c.in_ok-name.name) c.args.depth c.in_ok-arguments.ensures.found.inside c.in_ok-name.ensures.found.kind_is trees)
+    c.named.ensures names ∙ ap (λ (name : List ℕ). named c.in_ok-name.name.place name (maybe_phrases names c.in_ok-arguments.arguments)) kept
+    ∙ named_tree (lexed c.in_ok-name.name) c.args.depth c.in_ok-arguments.ensures.found.inside c.in_ok-name.ensures.found.kind_is trees)
 
 pub primaries::primary-returns-in_default-clause-refused : goal.primaries::primary-returns-in_default-clause-refused
 primaries::primary-returns-in_default-clause-refused t c = primary_refused_at_end c.args.depth (spot c.args.from) _ c.wrong.ensures c.in_default.ensures.none
@@ -342,10 +376,8 @@ primaries::this_of-returns-clause-found t c =
     let so = member_begins c.args.depth c.args.symbols.now c.in_ok-this.ensures.found c.in-Ok.ensures.found c.requires.depth in
     call_found c.args.symbols.now c.in_ok-symbol.symbol c.in_ok-arguments.arguments _
     (over_name {kind = lexeme.LowerName} so c.in_ok-name.ensures.found refl refl c.requires.depth c.in_ok-symbol.ensures.names) c.in_ok-symbol.ensures.symbol c.in_ok-symbol.ensures.names c.in_ok-arguments.ensures.found (λ names kept trees.
-    elim c.match-arguments.branch [
-      | primaries::this_of-in-Some w ↦ rw w.expr-is (call_phrase names _ _ w.in-Some.arguments w.in-Some.is kept)
-      | primaries::this_of-in-None w ↦ rw w.expr-is (field_phrase names _ _ w.in-None.is kept)
-    ] ∙ member_tree (lexed c.in_ok-this.this) (lexed c.in-Ok.field-0-0) (lexed c.in_ok-name.name) c.args.depth c.in_ok-arguments.ensures.found.inside c.in_ok-this.ensures.found.kind_is trees)
+    c.in_ok-expr.ensures names ∙ ap (λ (name : List ℕ). member c.in_ok-this.this.place c.in_ok-name.name.place name (maybe_phrases names c.in_ok-arguments.arguments)) kept
+    ∙ member_tree (lexed c.in_ok-this.this) (lexed c.in-Ok.field-0-0) (lexed c.in_ok-name.name) c.args.depth c.in_ok-arguments.ensures.found.inside c.in_ok-this.ensures.found.kind_is trees)
 
 pub primaries::unary-returns-in_default-clause-refused : goal.primaries::unary-returns-in_default-clause-refused
 primaries::unary-returns-in_default-clause-refused t c = unary_refused_at_end c.args.depth (spot c.args.from) _ c.wrong.ensures c.in_default.ensures.none

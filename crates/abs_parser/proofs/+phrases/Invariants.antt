@@ -1,6 +1,7 @@
-use Rattle.std.proofs.Common.{◌≡◌, ◌+◌, ◌*◌, length}
+use Rattle.std.proofs.Common.{◌≡◌, ◌+◌, ◌-◌, ◌*◌, length}
 use Rattle.abs_parser.specs.Views.{spot}
-use Rattle.abs_parser.proofs.OperatorLemmas.{rank, OperatorsSoFar}
+use Rattle.abs_parser.specs.Levels.{rank}
+use Rattle.abs_parser.proofs.OperatorLemmas.{OperatorsSoFar}
 use Rattle.abs_parser.proofs.CaseSteps.{ReadsCase}
 use Rattle.abs_parser.proofs.ListLemmas.{list_of_expressions, trees_of_expressions}
 use Rattle.abs_parser.proofs.ListSteps.{ReadsSoFar}
@@ -8,58 +9,61 @@ use Rattle.abs_parser.proofs.+phrases.Given as goal
 
 -- each call reads fewer tokens than its caller, or as many and less of the grammar
 abbrev pub decreases-expressions::expression : goal.decreases-expressions::expression
-decreases-expressions::expression l = 24 * length (spot l.from).rest + 20
+decreases-expressions::expression l = 40 * length (spot l.from).rest + 32
 
 abbrev pub decreases-expressions::let_in : goal.decreases-expressions::let_in
-decreases-expressions::let_in l = 24 * length (spot l.from).rest + 19
+decreases-expressions::let_in l = 40 * length (spot l.from).rest + 31
 
 abbrev pub decreases-expressions::if_else : goal.decreases-expressions::if_else
-decreases-expressions::if_else l = 24 * length (spot l.from).rest + 19
+decreases-expressions::if_else l = 40 * length (spot l.from).rest + 31
 
 abbrev pub decreases-operators::operators : goal.decreases-operators::operators
-decreases-operators::operators l = 24 * length (spot l.from).rest + (2 * rank l.level + 7)
+decreases-operators::operators l = 40 * length (spot l.from).rest + (2 * rank l.level + 20)
+
+abbrev pub decreases-operators::climb : goal.decreases-operators::climb
+decreases-operators::climb l = 40 * length (spot l.from).rest + (2 * (rank l.to - rank l.at) + 8)
 
 abbrev pub decreases-operators::operators_behind : goal.decreases-operators::operators_behind
-decreases-operators::operators_behind l = 24 * length (spot l.from).rest + (2 * rank l.level + 6)
+decreases-operators::operators_behind l = 40 * length (spot l.from).rest + 7
 
 abbrev pub decreases-operators::operand : goal.decreases-operators::operand
-decreases-operators::operand l = 24 * length (spot l.from).rest + (2 * rank l.level + 6)
+decreases-operators::operand l = 40 * length (spot l.from).rest + (2 * rank l.level + 19)
 
 abbrev pub decreases-primaries::unary : goal.decreases-primaries::unary
-decreases-primaries::unary l = 24 * length (spot l.from).rest + 5
+decreases-primaries::unary l = 40 * length (spot l.from).rest + 5
 
 abbrev pub decreases-primaries::primary : goal.decreases-primaries::primary
-decreases-primaries::primary l = 24 * length (spot l.from).rest + 4
+decreases-primaries::primary l = 40 * length (spot l.from).rest + 4
 
 abbrev pub decreases-primaries::worded : goal.decreases-primaries::worded
-decreases-primaries::worded l = 24 * length (spot l.from).rest + 3
+decreases-primaries::worded l = 40 * length (spot l.from).rest + 3
 
 abbrev pub decreases-primaries::this_of : goal.decreases-primaries::this_of
-decreases-primaries::this_of l = 24 * length (spot l.from).rest + 2
+decreases-primaries::this_of l = 40 * length (spot l.from).rest + 2
 
-abbrev pub decreases-primaries::named : goal.decreases-primaries::named
-decreases-primaries::named l = 24 * length (spot l.from).rest + 2
+abbrev pub decreases-primaries::lower_primary : goal.decreases-primaries::lower_primary
+decreases-primaries::lower_primary l = 40 * length (spot l.from).rest + 2
 
 abbrev pub decreases-primaries::built : goal.decreases-primaries::built
-decreases-primaries::built l = 24 * length (spot l.from).rest + 2
+decreases-primaries::built l = 40 * length (spot l.from).rest + 2
 
 abbrev pub decreases-primaries::group : goal.decreases-primaries::group
-decreases-primaries::group l = 24 * length (spot l.from).rest + 2
+decreases-primaries::group l = 40 * length (spot l.from).rest + 2
 
 abbrev pub decreases-cases::case_of : goal.decreases-cases::case_of
-decreases-cases::case_of l = 24 * length (spot l.from).rest + 2
+decreases-cases::case_of l = 40 * length (spot l.from).rest + 2
 
 abbrev pub decreases-cases::branch : goal.decreases-cases::branch
-decreases-cases::branch l = 24 * length (spot l.from).rest + 22
+decreases-cases::branch l = 40 * length (spot l.from).rest + 34
 
 abbrev pub decreases-arguments::arguments_maybe : goal.decreases-arguments::arguments_maybe
-decreases-arguments::arguments_maybe l = 24 * length (spot l.from).rest + 23
+decreases-arguments::arguments_maybe l = 40 * length (spot l.from).rest + 35
 
 abbrev pub decreases-arguments::arguments : goal.decreases-arguments::arguments
-decreases-arguments::arguments l = 24 * length (spot l.from).rest + 22
+decreases-arguments::arguments l = 40 * length (spot l.from).rest + 34
 
 abbrev pub decreases-arguments::expressions : goal.decreases-arguments::expressions
-decreases-arguments::expressions l = 24 * length (spot l.from).rest + 21
+decreases-arguments::expressions l = 40 * length (spot l.from).rest + 33
 
 -- what was read so far
 abbrev pub invariant-operators::operators_behind-loop-operator : goal.invariant-operators::operators_behind-loop-operator

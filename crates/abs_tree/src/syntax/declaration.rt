@@ -6,8 +6,8 @@ ghost use Rattle.abs_tree.specs.SyntaxSizes.{all_statements, body_sizes, class_s
 ghost use Rattle.abs_tree.specs.SyntaxViews.{decl_tree, tree_of_parts};
 ghost use Rattle.abs_tree.specs.Limits.{table_limit};
 
-use crate::syntax::{Expr, Stmt, TypeTerm};
-use crate::{Place, Symbol, Symbols, Variable};
+use crate::syntax::{Expr, Stmt, TypeTerm, Variable};
+use crate::{Place, Symbol, Symbols};
 use std::sync::Arc;
 
 /// A name where it is declared.
@@ -51,7 +51,11 @@ pub struct Body {
 #[derive(Drop)]
 pub enum Member {
     /// `T x;` or `T x = e;`
-    Field(TypeTerm, Declared, Option<Arc<Expr>>),
+    Field {
+        type_of: TypeTerm,
+        name: Declared,
+        initial: Option<Arc<Expr>>,
+    },
     /// `T m(T x, ..) { s .. }`
     Method(Signature, Body),
 }
@@ -60,13 +64,36 @@ pub enum Member {
 #[derive(Drop)]
 pub enum Decl {
     /// `data D<A, ..> = C(T, ..) | ..;`
-    Data(Place, Declared, Vec<Declared>, Vec<Constructor>),
+    Data {
+        place: Place,
+        name: Declared,
+        type_params: Vec<Declared>,
+        constructors: Vec<Constructor>,
+    },
     /// `def T f<A, ..>(T x, ..) = e;`
-    Function(Place, TypeTerm, Declared, Vec<Declared>, Vec<Param>, Arc<Expr>),
+    Function {
+        place: Place,
+        result: TypeTerm,
+        name: Declared,
+        type_params: Vec<Declared>,
+        params: Vec<Param>,
+        value: Arc<Expr>,
+    },
     /// `interface I extends J, .. { T m(T x, ..); .. }`
-    Interface(Place, Declared, Vec<Declared>, Vec<Signature>),
+    Interface {
+        place: Place,
+        name: Declared,
+        extended: Vec<Declared>,
+        signatures: Vec<Signature>,
+    },
     /// `class C(T x, ..) implements I, .. { members }`
-    Class(Place, Declared, Vec<Param>, Vec<Declared>, Vec<Member>),
+    Class {
+        place: Place,
+        name: Declared,
+        params: Vec<Param>,
+        implemented: Vec<Declared>,
+        members: Vec<Member>,
+    },
 }
 
 impl Decl {
@@ -75,10 +102,10 @@ impl Decl {
         ensures { (names : List Name) → result ≡ decl_place (decl_tree names self.now) }
     {
         match self {
-            Decl::Data(place, ..)
-            | Decl::Function(place, ..)
-            | Decl::Interface(place, ..)
-            | Decl::Class(place, ..) => *place,
+            Decl::Data { place, .. }
+            | Decl::Function { place, .. }
+            | Decl::Interface { place, .. }
+            | Decl::Class { place, .. } => *place,
         }
     }
 }

@@ -4,8 +4,9 @@ ghost use Rattle.abs_tree.specs.Syntax.{Name};
 ghost use Rattle.abs_tree.specs.SyntaxPlaces.{phrase_place};
 ghost use Rattle.abs_tree.specs.SyntaxViews.{phrase};
 
-use crate::syntax::{Pattern, TypeTerm};
-use crate::{Place, Symbol, Text, Variable};
+use crate::syntax::{Pattern, TypeTerm, Variable};
+use crate::{Place, Symbol, Text};
+use std::sync::Arc;
 
 /// An operator between operands.
 #[derive(Clone, Copy, Debug, PartialEq, Eq)]
@@ -49,18 +50,39 @@ pub enum Prefix {
     Minus,
 }
 
-/// An expression, with the place of its first token.
+/// An expression, with the place of its first token. Where its first operand is in parentheses, that is the first
+/// parenthesis.
 #[derive(Drop)]
 #[cycle(syntax_expressions)]
 pub enum Expr {
-    /// `let (T x) = e in e`
-    Let(Place, TypeTerm, Variable, Box<Expr>, Box<Expr>),
+    /// `let (T x) = e in e`, with the place of the variable.
+    Let {
+        place: Place,
+        type_of: TypeTerm,
+        variable_place: Place,
+        variable: Variable,
+        value: Box<Expr>,
+        body: Box<Expr>,
+    },
     /// `if e then e else e`
-    If(Place, Box<Expr>, Box<Expr>, Box<Expr>),
+    If {
+        place: Place,
+        condition: Box<Expr>,
+        first: Box<Expr>,
+        second: Box<Expr>,
+    },
     /// Operators of one precedence: the first operand, and each operator with its right operand.
-    Chain(Place, Box<Expr>, Vec<Operand>),
+    Operators {
+        place: Place,
+        first: Box<Expr>,
+        operands: Vec<Operand>,
+    },
     /// `!e`, `~e` or `-e`
-    Prefixed(Place, Prefix, Box<Expr>),
+    Prefixed {
+        place: Place,
+        prefix: Prefix,
+        operand: Box<Expr>,
+    },
     /// A number.
     Number(Place, i128),
     /// A string.
@@ -71,18 +93,38 @@ pub enum Expr {
     Destiny(Place),
     /// `this`
     This(Place),
-    /// `this.x`
-    Field(Place, Symbol),
+    /// `this.x`, with the place of the name.
+    Field {
+        place: Place,
+        name_place: Place,
+        name: Symbol,
+    },
     /// `this.m(es)`
-    OwnCall(Place, Symbol, Vec<Expr>),
+    OwnCall {
+        place: Place,
+        method: Symbol,
+        arguments: Arc<Vec<Expr>>,
+    },
     /// `x`
-    Local(Place, Variable),
+    Variable(Place, Variable),
     /// `f(es)`
-    Apply(Place, Symbol, Vec<Expr>),
+    Apply {
+        place: Place,
+        function: Symbol,
+        arguments: Vec<Expr>,
+    },
     /// `C` or `C(es)`
-    Build(Place, Symbol, Vec<Expr>),
+    Build {
+        place: Place,
+        constructor: Symbol,
+        arguments: Vec<Expr>,
+    },
     /// `case e { p => e; .. }`
-    Case(Place, Box<Expr>, Vec<Branch>),
+    Case {
+        place: Place,
+        subject: Box<Expr>,
+        branches: Vec<Branch>,
+    },
 }
 
 impl Expr {
@@ -91,21 +133,21 @@ impl Expr {
         ensures { (names : List Name) → result ≡ phrase_place (phrase names self.now) }
     {
         match self {
-            Expr::Let(place, ..)
-            | Expr::If(place, ..)
-            | Expr::Chain(place, ..)
-            | Expr::Prefixed(place, ..)
+            Expr::Let { place, .. }
+            | Expr::If { place, .. }
+            | Expr::Operators { place, .. }
+            | Expr::Prefixed { place, .. }
             | Expr::Number(place, ..)
             | Expr::Text(place, ..)
             | Expr::Null(place)
             | Expr::Destiny(place)
             | Expr::This(place)
-            | Expr::Field(place, ..)
-            | Expr::OwnCall(place, ..)
-            | Expr::Local(place, ..)
-            | Expr::Apply(place, ..)
-            | Expr::Build(place, ..)
-            | Expr::Case(place, ..) => *place,
+            | Expr::Field { place, .. }
+            | Expr::OwnCall { place, .. }
+            | Expr::Variable(place, ..)
+            | Expr::Apply { place, .. }
+            | Expr::Build { place, .. }
+            | Expr::Case { place, .. } => *place,
         }
     }
 }

@@ -1,5 +1,6 @@
 //! Patterns.
-use crate::{Place, Symbol, Text, Variable};
+use crate::syntax::Variable;
+use crate::{Place, Symbol, Text};
 
 /// A pattern, with the place of its first token.
 #[derive(Drop)]
@@ -14,5 +15,9 @@ pub enum Pattern {
     /// A string.
     Text(Place, Text),
     /// A constructor with the patterns of its arguments.
-    Built(Place, Symbol, Vec<Pattern>),
+    Built {
+        place: Place,
+        constructor: Symbol,
+        arguments: Vec<Pattern>,
+    },
 }

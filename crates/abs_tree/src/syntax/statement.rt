@@ -4,8 +4,8 @@ ghost use Rattle.abs_tree.specs.Syntax.{Name};
 ghost use Rattle.abs_tree.specs.SyntaxPlaces.{side_place, statement_place};
 ghost use Rattle.abs_tree.specs.SyntaxViews.{side_tree, statement};
 
-use crate::syntax::{Expr, TypeTerm};
-use crate::{Place, Symbol, Variable};
+use crate::syntax::{Expr, TypeTerm, Variable};
+use crate::{Place, Symbol};
 use std::sync::Arc;
 
 /// Where a new object lives.
@@ -15,23 +15,43 @@ pub enum Mode {
     Plain,
     /// `new cog C(es)`
     Cog,
-    /// `new local C(es)`
-    Local,
+    /// `new local C(es)`, with the place of `local`.
+    Local(Place),
 }
 
-/// The right side of `=`, which may also be a statement of its own.
+/// The right side of `=`, which may also be a statement of its own. A call on an object has one row: its receiver, and
+/// after it its arguments.
 #[derive(Drop)]
 pub enum RightSide {
-    /// `new C(es)`
-    New(Place, Mode, Symbol, Arc<Vec<Expr>>),
+    /// `new C(es)`, with the place of the class.
+    New {
+        place: Place,
+        mode: Mode,
+        class_place: Place,
+        class: Symbol,
+        arguments: Arc<Vec<Expr>>,
+    },
     /// `e`
     Value(Place, Arc<Expr>),
     /// `e!m(es)`
-    Send(Place, Arc<Expr>, Symbol, Arc<Vec<Expr>>),
-    /// `e.get`
-    Get(Place, Arc<Expr>),
-    /// `e.m(es)`
-    Call(Place, Arc<Expr>, Symbol, Arc<Vec<Expr>>),
+    Send {
+        place: Place,
+        method: Symbol,
+        row: Arc<Vec<Expr>>,
+    },
+    /// `e.get`, with the place of `get`.
+    Get {
+        place: Place,
+        get_place: Place,
+        future: Arc<Expr>,
+    },
+    /// `e.m(es)`, with the hidden slot of its result once names are resolved.
+    Call {
+        place: Place,
+        method: Symbol,
+        row: Arc<Vec<Expr>>,
+        slot: Option<u32>,
+    },
 }
 
 impl RightSide {
@@ -40,11 +60,11 @@ impl RightSide {
         ensures { (names : List Name) → result ≡ side_place (side_tree names self.now) }
     {
         match self {
-            RightSide::New(place, ..)
+            RightSide::New { place, .. }
             | RightSide::Value(place, ..)
-            | RightSide::Send(place, ..)
-            | RightSide::Get(place, ..)
-            | RightSide::Call(place, ..) => *place,
+            | RightSide::Send { place, .. }
+            | RightSide::Get { place, .. }
+            | RightSide::Call { place, .. } => *place,
         }
     }
 }
@@ -62,39 +82,87 @@ pub struct Test {
 #[derive(Clone, Copy, Debug, PartialEq, Eq)]
 pub enum Target {
     /// `x = ..`
-    Local(Place, Variable),
-    /// `this.x = ..`
-    Field(Place, Symbol),
+    Variable(Place, Variable),
+    /// `this.x = ..`, with the place of the name.
+    Field {
+        place: Place,
+        name_place: Place,
+        name: Symbol,
+    },
 }
 
-/// A statement, with the place of its first token. Each statement that is not a block has its index before the place:
-/// statements are numbered from 0 in the order in which they begin. A branch is a list of statements; without braces it
-/// has one.
+/// A statement, with the place of its first token. Each statement that is not a block has an index: statements are
+/// numbered from 0 in the order in which they begin. A branch is a list of statements; without braces it has one.
 #[derive(Drop)]
 #[cycle(statements)]
 pub enum Stmt {
     /// `{ s .. }`
     Block(Place, Vec<Stmt>),
     /// `skip;`
-    Skip(u32, Place),
+    Skip {
+        index: u32,
+        place: Place,
+    },
     /// `suspend;`
-    Suspend(u32, Place),
+    Suspend {
+        index: u32,
+        place: Place,
+    },
     /// `await g && ..;`
-    Await(u32, Place, Vec<Test>),
+    Await {
+        index: u32,
+        place: Place,
+        guard: Vec<Test>,
+    },
     /// `return e;`
-    Return(u32, Place, Arc<Expr>),
+    Return {
+        index: u32,
+        place: Place,
+        value: Arc<Expr>,
+    },
     /// `println(e);`
-    Print(u32, Place, Arc<Expr>),
+    Print {
+        index: u32,
+        place: Place,
+        value: Arc<Expr>,
+    },
     /// `if (e) { s .. }`, perhaps with `else { s .. }`
-    If(u32, Place, Arc<Expr>, Vec<Stmt>, Option<Vec<Stmt>>),
+    If {
+        index: u32,
+        place: Place,
+        condition: Arc<Expr>,
+        first: Vec<Stmt>,
+        second: Option<Vec<Stmt>>,
+    },
     /// `while (e) { s .. }`
-    While(u32, Place, Arc<Expr>, Vec<Stmt>),
-    /// `T x;` or `T x = r;`, with the place of the name
-    Declare(u32, Place, TypeTerm, Place, Variable, Option<RightSide>),
+    While {
+        index: u32,
+        place: Place,
+        condition: Arc<Expr>,
+        body: Vec<Stmt>,
+    },
+    /// `T x;` or `T x = r;`, with the place of the variable.
+    Declare {
+        index: u32,
+        place: Place,
+        type_of: TypeTerm,
+        variable_place: Place,
+        variable: Variable,
+        initial: Option<RightSide>,
+    },
     /// `x = r;` or `this.x = r;`
-    Assign(u32, Place, Target, RightSide),
+    Assign {
+        index: u32,
+        place: Place,
+        target: Target,
+        side: RightSide,
+    },
     /// `r;`
-    Do(u32, Place, RightSide),
+    Do {
+        index: u32,
+        place: Place,
+        side: RightSide,
+    },
 }
 
 impl Stmt {
@@ -104,16 +172,16 @@ impl Stmt {
     {
         match self {
             Stmt::Block(place, _)
-            | Stmt::Skip(_, place)
-            | Stmt::Suspend(_, place)
-            | Stmt::Await(_, place, ..)
-            | Stmt::Return(_, place, ..)
-            | Stmt::Print(_, place, ..)
-            | Stmt::If(_, place, ..)
-            | Stmt::While(_, place, ..)
-            | Stmt::Declare(_, place, ..)
-            | Stmt::Assign(_, place, ..)
-            | Stmt::Do(_, place, ..) => *place,
+            | Stmt::Skip { place, .. }
+            | Stmt::Suspend { place, .. }
+            | Stmt::Await { place, .. }
+            | Stmt::Return { place, .. }
+            | Stmt::Print { place, .. }
+            | Stmt::If { place, .. }
+            | Stmt::While { place, .. }
+            | Stmt::Declare { place, .. }
+            | Stmt::Assign { place, .. }
+            | Stmt::Do { place, .. } => *place,
         }
     }
 }

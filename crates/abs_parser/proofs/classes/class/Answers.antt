@@ -1,12 +1,10 @@
 use Rattle.std.proofs.Common.{◌∙◌, arith, refl}
 use Rattle.std.proofs.lemmas.Result.{err_from_is_err_and}
-use Rattle.abs_parser.proofs.ClassSteps.{class_opened, class_begun, first_member, next_member}
+use Rattle.abs_parser.proofs.ClassSteps.{class_opened, class_begun, first_member, next_member, next_member_free}
 use Rattle.abs_parser.proofs.WordSteps.{word_read}
 use Rattle.abs_parser.proofs.DeclarationSteps.{heading_read, refused_part, refused_closing, all_parts}
 use Rattle.abs_parser.proofs.MemberSteps.{member_begins_named, member_shorter}
-use Rattle.abs_tree.proofs.NumberLemmas.{numbered_more}
-use Rattle.abs_tree.specs.SourceNumbers.{MemberNumbered}
-use Rattle.abs_parser.proofs.StepLemmas.{over_part, refused_inside, fits_next}
+use Rattle.abs_parser.proofs.StepLemmas.{found_weaker, over_part, refused_inside, fits_next}
 use Rattle.abs_parser.proofs.classes.class.Goals as goal
 
 pub returns-in_err-name-clause-refused : goal.returns-in_err-name-clause-refused
@@ -40,13 +38,13 @@ returns-in_err-here-clause-refused c =
 
 pub loop-alloc-init : goal.loop-alloc-init
 loop-alloc-init c =
-    let read = first_member c.in_ok-intern.field-0 c.in_ok-params.params.items c.in_ok-implemented.implemented.items c.new-members.ensures.items c.in_ok-word.ensures.found
+    let read = first_member c.args.index c.in_ok-intern.field-0 c.in_ok-params.params.items c.in_ok-implemented.implemented.items c.new-members.ensures.items c.in_ok-word.ensures.found
     c.in_ok-name.ensures.found c.in_ok-intern.ensures.symbol c.in_ok-intern.ensures.names c.in_ok-params.ensures.found
     (c.in_ok-implemented.ensures.found c.args.depth c.requires.depth) c.in_ok-here.ensures.found c.requires.depth in
     let shorter = read.read.shorter in
     record {
       read = read;
-      numbered = rw c.new-members.ensures.items refl;
+      free = λ names. rw c.new-members.ensures.items (omega arith);
       few = omega arith;
     }
 
@@ -70,8 +68,8 @@ loop-alloc-preserved c =
     let few = c.in_ok-next.ensures.few in
     let before = c.loop-alloc.invariant.few in
     record {
-      read = next_member c.in_ok-next.next c.in_ok-push.ensures.items c.loop-alloc.invariant.read c.in-Ok.ensures.found c.in_ok-next.ensures.found;
-      numbered = rw c.in_ok-push.ensures.items (numbered_more MemberNumbered _ _ _ c.in_ok-next.next _ c.loop-alloc.invariant.numbered c.in_ok-next.ensures.numbered);
+      read = next_member c.in_ok-next.next c.in_ok-push.ensures.items c.loop-alloc.invariant.read c.in-Ok.ensures.found c.loop-alloc.invariant.free c.in_ok-next.ensures.found;
+      free = next_member_free c.args.index c.loop-alloc.members.items c.in_ok-next.next c.in_ok-push.ensures.items c.loop-alloc.invariant.free c.in_ok-next.ensures.free;
       few = omega arith;
     }
 
@@ -82,4 +80,7 @@ returns-in_err-end-clause-refused c =
 
 pub returns-clause-found : goal.returns-clause-found
 returns-clause-found c =
-    all_parts c.loop-alloc.invariant.read (member_begins_named _ ∙ c.in_default.ensures.other) c.in_ok-end.ensures.found c.requires.depth
+    found_weaker (all_parts c.loop-alloc.invariant.read (member_begins_named _ ∙ c.in_default.ensures.other) c.in_ok-end.ensures.found c.requires.depth) (λ names more read. read c.args.index refl)
+
+pub returns-clause-free : goal.returns-clause-free
+returns-clause-free c names = omega (arith, c.loop-alloc.invariant.free names)

@@ -34,7 +34,7 @@ pub returns-clause-found : goal.returns-clause-found
 returns-clause-found c =
     let name = c.in_ok-intern.ensures in
     IfOk-weaker c.member_behind.result _ _
-    (λ found. member_found c.in_ok-type_of.type_of c.in_ok-intern.field-0 found.0 c.in_ok-type_of.ensures.found c.in_ok-name.ensures.found name.symbol name.names c.requires.depth)
+    (λ found. member_found c.args.index c.in_ok-type_of.type_of c.in_ok-intern.field-0 found.0 c.in_ok-type_of.ensures.found c.in_ok-name.ensures.found name.symbol name.names c.requires.depth)
     c.member_behind.ensures.found
 
 pub returns-clause-few : goal.returns-clause-few

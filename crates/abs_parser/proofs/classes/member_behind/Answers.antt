@@ -7,7 +7,7 @@ use Rattle.abs_parser.proofs.StepLemmas.{over_part, refused_inside, found_shorte
 use Rattle.abs_parser.proofs.classes.member_behind.Goals as goal
 
 pub returns-in-Ok-clause-found : goal.returns-in-Ok-clause-found
-returns-in-Ok-clause-found c = field_found c.args.depth c.args.symbols.now c.args.type_of c.args.name c.in-Ok.ensures.found c.requires.depth
+returns-in-Ok-clause-found c = field_found c.args.index c.args.depth c.args.symbols.now c.args.type_of c.args.name c.in-Ok.ensures.found c.requires.depth
 
 pub returns-in_err-value-clause-refused : goal.returns-in_err-value-clause-refused
 returns-in_err-value-clause-refused c =
@@ -22,7 +22,7 @@ returns-in_err-end-clause-refused c =
 
 pub returns-in-Ok-expect-clause-found : goal.returns-in-Ok-expect-clause-found
 returns-in-Ok-expect-clause-found c =
-    field_with_value_found c.args.type_of c.args.name c.in_ok-value-2.value c.in_ok-value-2.ensures.ok c.in-Ok-expect.ensures.found c.in_ok-value.ensures.found
+    field_with_value_found c.args.index c.args.type_of c.args.name c.in_ok-new.field-0 c.in_ok-new.ensures.ok c.in-Ok-expect.ensures.found c.in_ok-value.ensures.found
     c.in_ok-end.ensures.found c.requires.depth
 
 pub returns-in-Ok-expect-clause-few : goal.returns-in-Ok-expect-clause-few
@@ -66,7 +66,7 @@ returns-in_err-body-clause-refused c =
 pub returns-clause-found : goal.returns-clause-found
 returns-clause-found c =
     let signature : Signature = record { result = c.args.type_of; name = c.args.name; params = c.in_ok-params.params } in
-    method_found signature c.in_ok-body.body c.in_ok-inside.ensures.found c.in_ok-params.ensures.found c.in_ok-block_at.ensures.found c.in_ok-body.ensures.found c.requires.depth
+    method_found c.args.index signature c.in_ok-body.body c.in_ok-inside.ensures.found c.in_ok-params.ensures.found c.in_ok-block_at.ensures.found c.in_ok-body.ensures.found c.requires.depth
 
 pub returns-clause-few : goal.returns-clause-few
 returns-clause-few c =

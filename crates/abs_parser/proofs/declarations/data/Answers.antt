@@ -2,7 +2,7 @@ use Rattle.std.proofs.Common.{◌∙◌, arith}
 use Rattle.std.proofs.lemmas.Result.{err_from_is_err_and}
 use Rattle.abs_parser.proofs.WordSteps.{word_read}
 use Rattle.abs_parser.proofs.DeclarationSteps.{heading_read, data_opened, data_assigned, first_constructor, next_constructor, next_constructor_begins, refused_constructor, refused_closing, all_parts}
-use Rattle.abs_parser.proofs.StepLemmas.{over_part, refused_inside, token_shorter, found_shorter}
+use Rattle.abs_parser.proofs.StepLemmas.{found_weaker, over_part, refused_inside, token_shorter, found_shorter}
 use Rattle.abs_parser.proofs.declarations.data.Goals as goal
 
 pub returns-in_err-name-clause-refused : goal.returns-in_err-name-clause-refused
@@ -69,4 +69,4 @@ returns-in_err-end-clause-refused c =
 
 pub returns-clause-found : goal.returns-clause-found
 returns-clause-found c =
-    all_parts c.loop-next_at.invariant.read (next_constructor_begins _ ∙ c.in_default.ensures.other) c.in_ok-end.ensures.found c.requires.depth
+    found_weaker (all_parts c.loop-next_at.invariant.read (next_constructor_begins _ ∙ c.in_default.ensures.other) c.in_ok-end.ensures.found c.requires.depth) (λ names more read index. read index tt)

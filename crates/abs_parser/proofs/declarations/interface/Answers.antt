@@ -3,7 +3,7 @@ use Rattle.std.proofs.lemmas.Result.{err_from_is_err_and}
 use Rattle.abs_parser.proofs.WordSteps.{word_read}
 use Rattle.abs_parser.proofs.DeclarationSteps.{heading_read, refused_part, refused_closing, all_parts}
 use Rattle.abs_parser.proofs.SignatureSteps.{interface_opened, first_signature, next_signature, signature_begins_named, signature_shorter}
-use Rattle.abs_parser.proofs.StepLemmas.{over_part, refused_inside, fits_next}
+use Rattle.abs_parser.proofs.StepLemmas.{found_weaker, over_part, refused_inside, fits_next}
 use Rattle.abs_parser.proofs.declarations.interface.Goals as goal
 
 pub returns-in_err-name-clause-refused : goal.returns-in_err-name-clause-refused
@@ -56,4 +56,4 @@ returns-in_err-end-clause-refused c =
 
 pub returns-clause-found : goal.returns-clause-found
 returns-clause-found c =
-    all_parts c.loop-alloc.invariant.read (signature_begins_named _ ∙ c.in_default.ensures.other) c.in_ok-end.ensures.found c.requires.depth
+    found_weaker (all_parts c.loop-alloc.invariant.read (signature_begins_named _ ∙ c.in_default.ensures.other) c.in_ok-end.ensures.found c.requires.depth) (λ names more read index. read index tt)

@@ -1,13 +1,13 @@
 use Rattle.std.proofs.Common.{length}
 use Rattle.abs_parser.specs.Views.{spot}
-use Rattle.abs_parser.proofs.DeclarationSteps.{ReadsParts}
+use Rattle.abs_parser.proofs.DeclarationSteps.{AnyIndex, ReadsParts}
 use Rattle.abs_parser.proofs.SignatureSteps.{signatures_of, interface_of}
 use Rattle.abs_parser.proofs.declarations.interface.Given as goal
 
 -- what was read so far
 abbrev pub invariant-loop-alloc : goal.invariant-loop-alloc
 invariant-loop-alloc l = record {
-  read : ReadsParts signatures_of (interface_of l.word.place l.declared l.extended.items) l.depth l.fn.symbols l.symbols (spot l.from) (spot l.here) l.signatures.items;
+  read : ReadsParts signatures_of AnyIndex (interface_of l.word.place l.declared l.extended.items) l.depth l.fn.symbols l.symbols (spot l.from) (spot l.here) l.signatures.items;
 }
 
 abbrev pub decreases-loop-alloc : goal.decreases-loop-alloc

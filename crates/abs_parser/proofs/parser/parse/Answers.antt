@@ -1,7 +1,8 @@
-use Rattle.std.proofs.Common.{[], ap, length, arith}
+use Rattle.std.proofs.Common.{[], sym, subst, ap, length, arith}
 use Rattle.std.proofs.lemmas.Result.{err_from_is_err_and}
 use Rattle.abs_tree.specs.Limits.{table_limit}
 use Rattle.abs_tree.specs.SourceNumbers.{IsNumberedWhole}
+use Rattle.abs_parser.proofs.NumberLemmas.{tree_is_numbered}
 use Rattle.abs_parser.specs.Views.{spot}
 use Rattle.abs_parser.proofs.StepLemmas.{found_few, refused_inside}
 use Rattle.abs_parser.proofs.WholeSteps.{program_begins, over_heading, over_import, over_declarations, over_block, heading_refused, import_refused, declarations_refused, block_refused, stops_from, ProgramFound, program_found, text_found, names_found, variables_found, bodies_found, fields_found, statements_found, few_at, few_tokens}
@@ -63,12 +64,10 @@ returns-in_err-finish-clause-refused c =
 pub invariant_of-result : goal.invariant_of-result
 invariant_of-result c =
     let found = program_found c.in_ok-declarations.declarations.items c.in_ok-main.main c.new-symbols.ensures c.new.ensures c.in_ok-import_at.ensures.found
-    c.in_ok-first.ensures.found c.in_ok-declarations.ensures.found c.in_ok-main.ensures.found c.in_ok-finish.ensures.found in
+    c.in_ok-first.ensures.found c.in_ok-declarations.ensures.found c.in_ok-declarations.ensures.free c.in_ok-main.ensures.found c.in_ok-finish.ensures.found in
     let tokens = few_tokens c.new.result c.new.ensures in
-    let numbered : IsNumberedWhole c.in_ok-declarations.declarations.items c.in_ok-main.main c.in_ok-main.field-0-1 =
-    record { middle = c.in_ok-declarations.free; declarations_are = c.in_ok-declarations.ensures.numbered; main_is = c.in_ok-main.ensures.numbered } in
-    let statements = statements_found (spot c.in_ok-declarations.main_at) (spot c.in_ok-main.end) c.block.new.symbols c.new.ensures c.in_ok-import_at.ensures.found
-    c.in_ok-first.ensures.found numbered c.in_ok-declarations.ensures.few c.in_ok-main.ensures.few in
+    let statements = statements_found (spot c.in_ok-declarations.main_at) (spot c.in_ok-main.end) c.block.new.symbols c.in_ok-declarations.declarations.items c.in_ok-main.main c.new.ensures c.in_ok-import_at.ensures.found
+    c.in_ok-first.ensures.found c.in_ok-declarations.ensures.free c.in_ok-main.ensures.free c.in_ok-declarations.ensures.few c.in_ok-main.ensures.few in
     record {
       few_names = omega (arith, found.read.few);
       few_statements = omega (arith, statements);
@@ -80,10 +79,15 @@ invariant_of-result c =
 found_program : (c : goal.After-result-1) → ProgramFound c.args.list.now c.block.new.symbols c.in_ok-declarations.declarations.items c.in_ok-main.main
 found_program c =
     program_found c.in_ok-declarations.declarations.items c.in_ok-main.main c.new-symbols.ensures c.new.ensures c.in_ok-import_at.ensures.found c.in_ok-first.ensures.found
-    c.in_ok-declarations.ensures.found c.in_ok-main.ensures.found c.in_ok-finish.ensures.found
+    c.in_ok-declarations.ensures.found c.in_ok-declarations.ensures.free c.in_ok-main.ensures.found c.in_ok-finish.ensures.found
 
 pub returns-clause-found : goal.returns-clause-found
 returns-clause-found c = text_found (found_program c)
+
+pub returns-clause-numbered : goal.returns-clause-numbered
+returns-clause-numbered c =
+    let found = text_found (found_program c) in
+    subst IsNumberedWhole (sym found.is) (tree_is_numbered found.forest)
 
 pub returns-clause-names : goal.returns-clause-names
 returns-clause-names c = names_found (found_program c)
@@ -93,10 +97,8 @@ returns-clause-few_symbols c = omega (arith, (found_program c).read.few, few_tok
 
 pub returns-clause-few_statements : goal.returns-clause-few_statements
 returns-clause-few_statements c =
-    let numbered : IsNumberedWhole c.in_ok-declarations.declarations.items c.in_ok-main.main c.in_ok-main.field-0-1 =
-    record { middle = c.in_ok-declarations.free; declarations_are = c.in_ok-declarations.ensures.numbered; main_is = c.in_ok-main.ensures.numbered } in
-    let statements = statements_found (spot c.in_ok-declarations.main_at) (spot c.in_ok-main.end) c.block.new.symbols c.new.ensures c.in_ok-import_at.ensures.found
-    c.in_ok-first.ensures.found numbered c.in_ok-declarations.ensures.few c.in_ok-main.ensures.few in
+    let statements = statements_found (spot c.in_ok-declarations.main_at) (spot c.in_ok-main.end) c.block.new.symbols c.in_ok-declarations.declarations.items c.in_ok-main.main c.new.ensures c.in_ok-import_at.ensures.found
+    c.in_ok-first.ensures.found c.in_ok-declarations.ensures.free c.in_ok-main.ensures.free c.in_ok-declarations.ensures.few c.in_ok-main.ensures.few in
     omega (arith, few_tokens c.new.result c.new.ensures, statements)
 
 pub returns-clause-few_variables : goal.returns-clause-few_variables

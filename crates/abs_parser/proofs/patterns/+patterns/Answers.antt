@@ -3,7 +3,7 @@ use Rattle.std.proofs.lemmas.Result.{err_from_is_err_and}
 use Rattle.abs_lexer.specs.declared.lexeme.Lexeme.TheVariants as lexeme
 use Rattle.abs_lexer.specs.declared.lexeme.Punctuator.TheVariants as punctuator
 use Rattle.abs_lexer.specs.Views.{lexed}
-use Rattle.abs_tree.specs.Syntax.{Written, Binds, SameNumber, SameString, Built}
+use Rattle.abs_tree.specs.Syntax.{Unresolved, Binds, SameNumber, SameString, Built}
 use Rattle.abs_tree.specs.SyntaxViews.{pattern_trees}
 use Rattle.abs_tree.specs.declared.syntax.pattern.Pattern as code
 use Rattle.abs_parser.specs.Readings.{Optional}
@@ -42,7 +42,7 @@ pattern-returns-in_ok-symbol-in-LowerName-clause-found t c =
     let named = c.in_ok-symbol-in-LowerName.ensures in
     all_read (over_name {kind = lexeme.LowerName} (pattern_begins c.args.depth c.args.symbols.now takes refl) takes refl refl within named.names)
     (λ names more.
-    ap (λ name. Binds c.in-Some.token.place (Written name)) (symbol_kept c.args.symbols.now c.in_ok-symbol-in-LowerName.symbol named.symbol named.names names more)
+    ap (λ name. Binds c.in-Some.token.place (Unresolved name)) (symbol_kept c.args.symbols.now c.in_ok-symbol-in-LowerName.symbol named.symbol named.names names more)
     ∙ sym (binds_tree (lexed c.in-Some.token) (c.args.depth + 1) takes.kind_is))
 
 pub pattern-returns-in-Number-clause-found : goal.pattern-returns-in-Number-clause-found

@@ -1,8 +1,7 @@
-use Rattle.std.proofs.Common.{arith, refl}
-use Rattle.abs_lexer.specs.declared.lexeme.Keyword.TheVariants as keyword
+use Rattle.std.proofs.Common.{arith}
 use Rattle.abs_parser.specs.Views.{spot}
-use Rattle.abs_parser.proofs.DeclarationListSteps.{refused_no_declaration, no_declaration_at_end, no_declaration_kind, no_declaration_word, no_class_next, plain_numbered}
-use Rattle.abs_parser.proofs.StepLemmas.{found_shorter}
+use Rattle.abs_parser.proofs.DeclarationListSteps.{refused_no_declaration, no_declaration_at_end, no_declaration_kind, no_declaration_word}
+use Rattle.abs_parser.proofs.StepLemmas.{found_shorter, found_weaker}
 use Rattle.abs_parser.proofs.programs.declaration.Goals.{in-Data+in_ok-data-in-Data, in-Def+in_ok-function-in-Def, in-Interface+in_ok-decl-in-Interface}
 use Rattle.abs_parser.proofs.programs.declaration.Goals as goal
 
@@ -23,21 +22,17 @@ returns-in_default-word-clause-refused c =
 pub returns-clause-found : goal.returns-clause-found
 returns-clause-found c =
     elim c.match-word.branch [
-      | in-Data+in_ok-data-in-Data w ↦ rw (w.symbols-is, w.decl-is) w.in_ok-data-in-Data.ensures.found
-      | in-Def+in_ok-function-in-Def w ↦ rw (w.symbols-is, w.decl-is) w.in_ok-function-in-Def.ensures.found
-      | in-Interface+in_ok-decl-in-Interface w ↦ rw (w.symbols-is, w.decl-is) w.in_ok-decl-in-Interface.ensures.found
+      | in-Data+in_ok-data-in-Data w ↦ rw (w.symbols-is, w.decl-is) (found_weaker w.in_ok-data-in-Data.ensures.found (λ names more read. read c.args.index))
+      | in-Def+in_ok-function-in-Def w ↦ rw (w.symbols-is, w.decl-is) (found_weaker w.in_ok-function-in-Def.ensures.found (λ names more read. read c.args.index))
+      | in-Interface+in_ok-decl-in-Interface w ↦ rw (w.symbols-is, w.decl-is) (found_weaker w.in_ok-decl-in-Interface.ensures.found (λ names more read. read c.args.index))
     ]
 
-pub returns-clause-numbered : goal.returns-clause-numbered
-returns-clause-numbered c =
-    let takes = c.in-Some.ensures.some in
+pub returns-clause-free : goal.returns-clause-free
+returns-clause-free c names =
     elim c.match-word.branch [
-      | in-Data+in_ok-data-in-Data w ↦
-          rw w.decl-is (plain_numbered c.args.number _ (no_class_next keyword.Data takes c.in-Word.is w.in-Data.is refl) w.in_ok-data-in-Data.ensures.found)
-      | in-Def+in_ok-function-in-Def w ↦
-          rw w.decl-is (plain_numbered c.args.number _ (no_class_next keyword.Def takes c.in-Word.is w.in-Def.is refl) w.in_ok-function-in-Def.ensures.found)
-      | in-Interface+in_ok-decl-in-Interface w ↦
-          rw w.decl-is (plain_numbered c.args.number _ (no_class_next keyword.Interface takes c.in-Word.is w.in-Interface.is refl) w.in_ok-decl-in-Interface.ensures.found)
+      | in-Data+in_ok-data-in-Data w ↦ rw w.decl-is (omega (arith, w.in_ok-data-in-Data.ensures.none names))
+      | in-Def+in_ok-function-in-Def w ↦ rw w.decl-is (omega (arith, w.in_ok-function-in-Def.ensures.none names))
+      | in-Interface+in_ok-decl-in-Interface w ↦ rw w.decl-is (omega (arith, w.in_ok-decl-in-Interface.ensures.none names))
     ]
 
 pub returns-clause-few : goal.returns-clause-few

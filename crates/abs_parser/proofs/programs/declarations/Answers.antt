@@ -5,7 +5,7 @@ use Rattle.abs_parser.proofs.DeclarationListSteps.{declaration_shorter, no_decla
 use Rattle.abs_parser.proofs.programs.declarations.Goals as goal
 
 pub loop-alloc-init : goal.loop-alloc-init
-loop-alloc-init c = record { read = no_declaration_yet c.args.symbols.now c.args.number (spot c.args.from) c.new-declarations.ensures.items }
+loop-alloc-init c = record { read = no_declaration_yet c.args.symbols.now c.args.index (spot c.args.from) c.new-declarations.ensures.items }
 
 pub declaration-requires-clause-names : goal.declaration-requires-clause-names
 declaration-requires-clause-names c = let few = c.loop-alloc.invariant.read.read.few in omega arith
@@ -19,18 +19,18 @@ returns-in_err-next-clause-refused c =
     rw (p.1, p.2) (refused_declaration _ c.loop-alloc.invariant.read c.loop-alloc-test.ensures c.in_err-next.ensures.refused)
 
 pub loop-alloc-smaller : goal.loop-alloc-smaller
-loop-alloc-smaller c = let shorter = declaration_shorter c.in_ok-next.next c.in_ok-next.ensures.found in omega arith
+loop-alloc-smaller c = let shorter = declaration_shorter c.loop-alloc.free c.in_ok-next.next c.in_ok-next.ensures.found in omega arith
 
 pub loop-alloc-preserved : goal.loop-alloc-preserved
 loop-alloc-preserved c =
     let next = c.in_ok-next.ensures in
-    record { read = next_declaration c.in_ok-next.next c.in_ok-push.ensures.items c.loop-alloc.invariant.read c.loop-alloc-test.ensures next.found next.numbered next.few }
+    record { read = next_declaration c.in_ok-next.next c.in_ok-push.ensures.items c.loop-alloc.invariant.read c.loop-alloc-test.ensures next.found next.free next.few }
 
 pub returns-clause-found : goal.returns-clause-found
 returns-clause-found c = declarations_found c.loop-alloc.invariant.read c.loop-alloc-test.ensures
 
-pub returns-clause-numbered : goal.returns-clause-numbered
-returns-clause-numbered c = c.loop-alloc.invariant.read.numbered
+pub returns-clause-free : goal.returns-clause-free
+returns-clause-free c = c.loop-alloc.invariant.read.is_free
 
 pub returns-clause-few : goal.returns-clause-few
 returns-clause-few c = c.loop-alloc.invariant.read.few

@@ -1,8 +1,13 @@
-use Rattle.std.proofs.Common.{refl, arith}
+use Rattle.std.proofs.Common.{List, refl, ap, arith}
 use Rattle.std.proofs.lemmas.Result.{err_from_is_err_and}
-use Rattle.abs_tree.specs.Syntax.{NewOf}
+use Rattle.std.specs.declared.alloc.Global.{Global}
+use Rattle.std.specs.declared.vec.Vec.{Vec}
+use Rattle.abs_tree.specs.Syntax.{Name, Phrases, SideTree, NewOf}
+use Rattle.abs_tree.specs.SyntaxViews.{phrases}
+use Rattle.abs_tree.specs.Trees.{name_of}
+use Rattle.abs_tree.specs.declared.syntax.expression.Expr.{Expr}
 use Rattle.abs_parser.specs.TreesOf.{rhs_in}
-use Rattle.abs_parser.proofs.RightSideSteps.{named_call_found, mode_found, new_begins, new_named}
+use Rattle.abs_parser.proofs.RightSideSteps.{named_call_found, found_same, mode_found, new_begins, new_named}
 use Rattle.abs_parser.proofs.StepLemmas.{refused_inside}
 use Rattle.abs_parser.proofs.right_sides.new_object.Goals as goal
 
@@ -33,6 +38,8 @@ pub returns-clause-found : goal.returns-clause-found
 returns-clause-found c =
     let placed = c.in_ok-mode.ensures.found c.args.depth c.requires.depth in
     let class = c.in_ok-class.ensures in
-    named_call_found c.mode.new.symbols c.in_ok-class.class c.in_ok-arguments-2.arguments.value (λ names. NewOf c.in_ok-word.word.place c.in_ok-mode.mode) (λ names. rhs_in)
-    (new_named c.in_ok-word.ensures.found placed c.in_ok-name.ensures.found c.requires.depth class.names) class.symbol class.names c.in_ok-arguments-2.ensures.ok c.in_ok-arguments.ensures.found
-    (λ names inside. rw (mode_found placed) refl)
+    let made : List Name → Name → Phrases → SideTree = λ names. NewOf c.in_ok-word.word.place c.in_ok-mode.mode c.in_ok-name.name.place in
+    found_same (λ names. ap (λ (arguments : Vec Expr Global). made names (name_of names c.in_ok-class.class) (phrases names arguments.items)) c.in_ok-new.ensures.ok)
+    (named_call_found c.mode.new.symbols c.in_ok-class.class c.in_ok-arguments.arguments made (λ names. rhs_in)
+    (new_named c.in_ok-word.ensures.found placed c.in_ok-name.ensures.found c.requires.depth class.names) class.symbol class.names c.in_ok-arguments.ensures.found
+    (λ names inside. rw (mode_found placed) refl))

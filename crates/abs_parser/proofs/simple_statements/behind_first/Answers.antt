@@ -18,7 +18,7 @@ returns-in_err-end-clause-refused c =
 
 pub returns-in-Ok-clause-found : goal.returns-in-Ok-clause-found
 returns-in-Ok-clause-found c =
-    assign_found c.args.first c.place-place.result c.target.result c.in_ok-side.side c.place-place.ensures c.target.ensures
+    assign_found c.args.index c.args.first c.place-place.result c.target.result c.in_ok-side.side c.place-place.ensures c.target.ensures
     c.in-Ok.ensures.found c.in_ok-side.ensures.found c.in_ok-end.ensures.found (omega (arith, c.requires.within))
 
 pub returns-in_err-arguments-clause-refused : goal.returns-in_err-arguments-clause-refused
@@ -36,5 +36,5 @@ returns-in_err-side-2-clause-refused c =
 
 pub returns-clause-found : goal.returns-clause-found
 returns-clause-found c =
-    side_found c.args.first c.place-place.result c.in_ok-arguments.arguments c.expr.result c.in_ok-side-2.side c.in_default.ensures.other c.place-place.ensures c.expr.ensures
+    side_found c.args.index c.args.first c.place-place.result c.in_ok-arguments.arguments c.in_ok-operand.operand c.in_ok-side-2.side c.in_default.ensures.other c.place-place.ensures c.in_ok-operand.ensures
     c.in_ok-arguments.ensures.found c.in_ok-side-2.ensures.found

@@ -42,7 +42,7 @@ returns-in_err-end-clause-refused c =
 
 pub returns-clause-found : goal.returns-clause-found
 returns-clause-found c =
-    local_found c.in_ok-type_of.type_of c.in_ok-intern.field-0 c.in_ok-initial.initial c.requires.begins c.place.ensures c.in_ok-type_of.ensures.found c.in_ok-name.ensures.found
+    local_found c.args.index c.in_ok-type_of.type_of c.in_ok-intern.field-0 c.in_ok-initial.initial c.requires.begins c.place.ensures c.in_ok-type_of.ensures.found c.in_ok-name.ensures.found
     c.in_ok-intern.ensures.symbol c.in_ok-intern.ensures.names c.in_ok-initial.ensures.found c.in_ok-end.ensures.found (omega arith)
 
 pub returns-clause-shorter : goal.returns-clause-shorter

@@ -16,7 +16,7 @@ returns-in_err-side-clause-refused c =
 
 pub returns-in_default-clause-found : goal.returns-in_default-clause-found
 returns-in_default-clause-found c =
-    alone_found c.in_ok-this.this.place (code_expr.This c.in_ok-this.this.place) c.in_ok-side.side c.in_ok-this.ensures.found (omega (arith, c.if-depth-gt-LIMIT.false))
+    alone_found c.args.index c.in_ok-this.this.place (code_expr.This c.in_ok-this.this.place) c.in_ok-side.side c.in_ok-this.ensures.found (omega (arith, c.if-depth-gt-LIMIT.false))
     c.in_default.ensures.other refl (λ names. refl) c.in_ok-side.ensures.found
 
 pub returns-in_default-clause-shorter : goal.returns-in_default-clause-shorter
@@ -37,7 +37,7 @@ behind_first-requires-clause-names c =
 pub returns-clause-found : goal.returns-clause-found
 returns-clause-found c =
     IfOk-weaker c.behind_first.result _ _ (λ found.
-    field_found c.args.symbols.now c.in_ok-symbol.symbol (λ names. statement_tree names found.0) c.in_ok-this.ensures.found c.in-Ok.ensures.found c.in_ok-name.ensures.found
+    field_found c.args.index c.args.symbols.now c.in_ok-symbol.symbol (λ names. statement_tree names found.0) c.in_ok-this.ensures.found c.in-Ok.ensures.found c.in_ok-name.ensures.found
     (omega (arith, c.if-depth-gt-LIMIT.false)) c.in_ok-symbol.ensures.symbol c.in_ok-symbol.ensures.names) c.behind_first.ensures.found
 
 pub returns-clause-shorter : goal.returns-clause-shorter

@@ -11,7 +11,7 @@ returns-then-depth-gt-LIMIT-clause-refused c = variable_deep c.args.depth _ c.de
 pub returns-clause-found : goal.returns-clause-found
 returns-clause-found c =
     IfOk-weaker c.behind_first.result _ _ (λ found.
-    variable_found c.args.symbols.now c.in_ok-symbol.symbol (λ names. statement_tree names found.0) c.in_ok-name.ensures.found (omega (arith, c.if-depth-gt-LIMIT.false))
+    variable_found c.args.index c.args.symbols.now c.in_ok-symbol.symbol (λ names. statement_tree names found.0) c.in_ok-name.ensures.found (omega (arith, c.if-depth-gt-LIMIT.false))
     c.in_ok-symbol.ensures.symbol c.in_ok-symbol.ensures.names) c.behind_first.ensures.found
 
 pub returns-clause-shorter : goal.returns-clause-shorter

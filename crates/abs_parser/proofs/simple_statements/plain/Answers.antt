@@ -25,7 +25,7 @@ returns-in_err-end-clause-refused c =
     rw (p.1, p.2) (refused_inside (plain_begins c.requires.plain c.in_ok-side.ensures.found) _ (c.in_err-end.ensures.refused (c.args.depth + 1)))
 
 pub returns-clause-found : goal.returns-clause-found
-returns-clause-found c = plain_found c.in_ok-side.side c.requires.plain c.place.ensures c.in_ok-side.ensures.found c.in_ok-end.ensures.found (omega arith)
+returns-clause-found c = plain_found c.args.index c.in_ok-side.side c.requires.plain c.place.ensures c.in_ok-side.ensures.found c.in_ok-end.ensures.found (omega arith)
 
 pub returns-clause-shorter : goal.returns-clause-shorter
 returns-clause-shorter c =

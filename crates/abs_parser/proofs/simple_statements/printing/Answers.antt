@@ -46,8 +46,8 @@ returns-clause-found c =
     let found = c.in_ok-text.ensures.found in
     let read = print_valued word c.in_ok-text_at.ensures.found found (omega arith) in
     let closed = over_token {kind = lexeme.Sign punctuator.CloseParen} read c.in_ok-last.ensures.found refl refl (omega arith) in
-    worded_found (λ names. PrintOf c.in_ok-word.word.place (phrase names c.in_ok-text-2.text.value)) closed word c.in_ok-end.ensures.found (omega arith)
-    (λ names more. ap (PrintOf c.in_ok-word.word.place) (ap (phrase names) c.in_ok-text-2.ensures.ok ∙ found.is names more))
+    worded_found c.args.index (λ names. PrintOf c.args.index c.in_ok-word.word.place (phrase names c.in_ok-value.value.value)) closed word c.in_ok-end.ensures.found (omega arith)
+    (λ names more. ap (PrintOf c.args.index c.in_ok-word.word.place) (ap (phrase names) c.in_ok-value.ensures.ok ∙ found.is names more))
 
 pub returns-clause-shorter : goal.returns-clause-shorter
 returns-clause-shorter c =

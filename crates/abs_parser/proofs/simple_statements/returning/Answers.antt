@@ -30,8 +30,8 @@ returns-clause-found c =
     let word = c.in_ok-word.ensures.found in
     let found = c.in_ok-value.ensures.found in
     let read = over_part (word_read c.args.depth c.args.symbols.now (return_opened c.args.depth) word (omega arith)) found in
-    worded_found (λ names. ReturnOf c.in_ok-word.word.place (phrase names c.in_ok-value-2.value.value)) read word c.in_ok-end.ensures.found (omega arith)
-    (λ names more. ap (ReturnOf c.in_ok-word.word.place) (ap (phrase names) c.in_ok-value-2.ensures.ok ∙ found.is names more))
+    worded_found c.args.index (λ names. ReturnOf c.args.index c.in_ok-word.word.place (phrase names c.in_ok-value-2.value.value)) read word c.in_ok-end.ensures.found (omega arith)
+    (λ names more. ap (ReturnOf c.args.index c.in_ok-word.word.place) (ap (phrase names) c.in_ok-value-2.ensures.ok ∙ found.is names more))
 
 pub returns-clause-shorter : goal.returns-clause-shorter
 returns-clause-shorter c =

@@ -22,4 +22,4 @@ pub returns-clause-found : goal.returns-clause-found
 returns-clause-found c =
     let word = c.in_ok-word.ensures.found in
     let read = word_read c.args.depth c.args.symbols.now (skip_opened c.args.depth) word (omega arith) in
-    worded_found (λ names. SkipOf c.in_ok-word.word.place) read word c.in_ok-end.ensures.found (omega arith) (λ names more. refl)
+    worded_found c.args.index (λ names. SkipOf c.args.index c.in_ok-word.word.place) read word c.in_ok-end.ensures.found (omega arith) (λ names more. refl)

@@ -1,8 +1,7 @@
-use Rattle.std.proofs.Common.{◌≡◌, ◌∙◌, ap, refl, sym, arith, rules, subst, ℕ, ◌+◌}
+use Rattle.std.proofs.Common.{◌∙◌, ap, refl, sym, arith, rules, ◌+◌}
 use Rattle.std.proofs.lemmas.Result.{err_from_is_err_and}
-use Rattle.abs_tree.proofs.NumberLemmas.{numbered_more}
-use Rattle.abs_tree.proofs.StatementLemmas.{numbered-block, numbered-if, numbered-while}
-use Rattle.abs_tree.specs.SyntaxNumbers.{IsNumbered, AreNumbered}
+use Rattle.abs_tree.proofs.StatementLemmas.{statement-block, statement-if, statement-while}
+use Rattle.abs_tree.specs.SyntaxSizes.{count_of}
 use Rattle.abs_tree.specs.declared.syntax.declaration.Body.{Body}
 use Rattle.abs_lexer.specs.declared.lexeme.Keyword.TheVariants as keyword
 use Rattle.abs_lexer.specs.declared.lexeme.Punctuator.TheVariants as punctuator
@@ -10,13 +9,14 @@ use Rattle.abs_parser.specs.Kinds.{Word, Sign, fits}
 use Rattle.abs_parser.specs.Productions.{Block}
 use Rattle.abs_parser.specs.Readings.{One}
 use Rattle.abs_parser.specs.Views.{spot}
-use Rattle.abs_parser.proofs.BlockSteps.{first_statement, next_statement, refused_statement, refused_brace, block_found}
+use Rattle.abs_parser.proofs.BlockSteps.{first_statement, next_statement, next_free, refused_statement, refused_brace, block_found}
 use Rattle.abs_parser.proofs.FirstPlaceLemmas.{found_fewer}
 use Rattle.abs_parser.proofs.PatternSteps.{next_taken, sign_is}
 use Rattle.abs_parser.proofs.PrimarySteps.{stands}
 use Rattle.abs_parser.proofs.WordSteps.{word_read, word_deep}
 use Rattle.abs_parser.proofs.StatementSteps.{block_shut, nested_begins, refused_nested_deep, nested_found, test_begins, test_read, while_opened, while_found, if_opened, if_chosen, if_found, else_read, else_found, else_left_out, statement_refused_at_end}
 use Rattle.abs_parser.proofs.StepLemmas.{over_part, refused_inside, refused_other, token_shorter, found_few, found_shorter, fits_next}
+use Rattle.abs_parser.proofs.statements.+statements.Goals.{statement-in-UpperName+in_ok-declaration-in-UpperName, statement-in-LowerName+in_ok-from_variable-in-LowerName, statement-in-Sign+else-eq+in_ok-plain-in-Sign, statement-in-Number+in_ok-stmt-in-Number, worded-in-Skip+in_ok-skip-in-Skip, worded-in-Suspend+in_ok-suspend-in-Suspend, worded-in-Await+in_ok-awaiting-in-Await, worded-in-Return+in_ok-returning-in-Return, worded-in-Println+in_ok-printing-in-Println, worded-in-This+in_ok-from_this-in-This, worded-in_default+in_ok-stmt-in_default}
 use Rattle.abs_parser.proofs.statements.+statements.Goals as goal
 
 pub block-returns-in_err-here-clause-refused : goal.block-returns-in_err-here-clause-refused
@@ -27,8 +27,8 @@ block-returns-in_err-here-clause-refused t c =
 
 pub block-loop-alloc-init : goal.block-loop-alloc-init
 block-loop-alloc-init t c = record {
-  read = first_statement c.args.symbols.now c.new-statements.ensures.items c.in_ok-here.ensures.found c.requires.depth;
-  numbered = rw c.new-statements.ensures.items refl;
+  read = first_statement c.args.index c.args.symbols.now c.new-statements.ensures.items c.in_ok-here.ensures.found c.requires.depth;
+  free = λ names. rw c.new-statements.ensures.items (omega arith);
   few = let brace = token_shorter c.in_ok-here.ensures.found.takes in omega arith;
 }
 
@@ -51,9 +51,8 @@ block-loop-alloc-smaller t c =
 
 pub block-loop-alloc-preserved : goal.block-loop-alloc-preserved
 block-loop-alloc-preserved t c = record {
-  read = next_statement c.in_ok-next.next c.in_ok-push.ensures.items c.loop-alloc.invariant.read (sym c.loop-alloc-test.ensures) c.in_ok-next.ensures.found;
-  numbered = rw c.in_ok-push.ensures.items
-      (numbered_more IsNumbered c.args.number c.loop-alloc.statements.items c.loop-alloc.free c.in_ok-next.next c.in_ok-next.behind c.loop-alloc.invariant.numbered c.in_ok-next.ensures.numbered);
+  read = next_statement c.in_ok-next.next c.in_ok-push.ensures.items c.loop-alloc.invariant.read (sym c.loop-alloc-test.ensures) c.loop-alloc.invariant.free c.in_ok-next.ensures.found;
+  free = next_free c.args.index c.loop-alloc.statements.items c.in_ok-next.next c.in_ok-push.ensures.items c.loop-alloc.invariant.free c.in_ok-next.ensures.free;
   few = omega (arith, c.loop-alloc.invariant.few, c.in_ok-next.ensures.few);
 }
 
@@ -67,8 +66,8 @@ block-returns-clause-found t c =
     let body : Body = record { statements = c.loop-alloc.statements; end = c.in_ok-close.close.place } in
     block_found body refl c.loop-alloc.invariant.read (sym c.loop-alloc-test.ensures) c.in_ok-close.ensures.found c.requires.depth
 
-pub block-returns-clause-numbered : goal.block-returns-clause-numbered
-block-returns-clause-numbered t c = c.loop-alloc.invariant.numbered
+pub block-returns-clause-free : goal.block-returns-clause-free
+block-returns-clause-free t c = c.loop-alloc.invariant.free
 
 pub block-returns-clause-few : goal.block-returns-clause-few
 block-returns-clause-few t c =
@@ -123,29 +122,28 @@ conditional-otherwise-requires t c =
     let closing = token_shorter c.in_ok-first_at.ensures.found.takes in
     (search rules, (omega arith, (omega arith, omega arith)))
 
-pub conditional-returns-in_err-other-clause-refused : goal.conditional-returns-in_err-other-clause-refused
-conditional-returns-in_err-other-clause-refused t c =
-    let p = err_from_is_err_and c.from_residual-in_err-other.result c.from_residual-in_err-other.ensures.1 in
+pub conditional-returns-in_err-second-clause-refused : goal.conditional-returns-in_err-second-clause-refused
+conditional-returns-in_err-second-clause-refused t c =
+    let p = err_from_is_err_and c.from_residual-in_err-second.result c.from_residual-in_err-second.ensures.1 in
     let chosen = if_chosen c.in_ok-word.ensures.found c.in_ok-test_at.ensures.found c.in_ok-test.ensures.found c.in_ok-first_at.ensures.found c.in_ok-first.ensures.found (omega arith) in
-    rw (p.1, p.2) (refused_inside chosen _ c.in_err-other.ensures.refused)
+    rw (p.1, p.2) (refused_inside chosen _ c.in_err-second.ensures.refused)
 
 pub conditional-returns-clause-found : goal.conditional-returns-clause-found
 conditional-returns-clause-found t c =
-    if_found c.args.number c.in_ok-test-2.test c.in_ok-first.first c.in_ok-first-2.first c.in_ok-other.other c.in_ok-test-2.ensures.ok c.in_ok-first-2.ensures.found
-    c.in_ok-word.ensures.found c.in_ok-test_at.ensures.found c.in_ok-test.ensures.found c.in_ok-first_at.ensures.found c.in_ok-first.ensures.found c.in_ok-other.ensures.found (omega arith)
+    if_found c.args.index c.in_ok-first.middle c.in_ok-condition.condition c.in_ok-first.first c.in_ok-first-2.first c.in_ok-second.second c.in_ok-condition.ensures.ok c.in_ok-first-2.ensures.found
+    (λ names. omega (arith, c.in_ok-first.ensures.free names, c.in_ok-first-2.ensures.count names))
+    c.in_ok-word.ensures.found c.in_ok-test_at.ensures.found c.in_ok-test.ensures.found c.in_ok-first_at.ensures.found c.in_ok-first.ensures.found c.in_ok-second.ensures.found (omega arith)
 
-pub conditional-returns-clause-numbered : goal.conditional-returns-clause-numbered
-conditional-returns-clause-numbered t c =
-    let next : c.args.number + 1 ≡ 1 + c.args.number = omega arith in
-    let first = c.in_ok-first-2.ensures.numbered (c.args.number + 1) c.in_ok-first.middle c.in_ok-first.ensures.numbered in
-    numbered-if c.args.number c.in_ok-word.word.place c.in_ok-test-2.test c.in_ok-first-2.first c.in_ok-first.middle c.in_ok-other.other c.in_ok-other.behind
-    (subst (λ (n : ℕ). AreNumbered n c.in_ok-first-2.first.items c.in_ok-first.middle) next first) c.in_ok-other.ensures.numbered
+pub conditional-returns-clause-free : goal.conditional-returns-clause-free
+conditional-returns-clause-free t c names =
+    let tree = statement-if names c.args.index c.in_ok-word.word.place c.in_ok-condition.condition c.in_ok-first-2.first c.in_ok-second.second in
+    rw (ap count_of tree) (omega (arith, c.in_ok-first.ensures.free names, c.in_ok-first-2.ensures.count names, c.in_ok-second.ensures.free names))
 
 pub conditional-returns-clause-few : goal.conditional-returns-clause-few
 conditional-returns-clause-few t c =
     let shorter_test = found_shorter c.in_ok-test.ensures.found in
     let numbers = c.in_ok-first.ensures.few in
-    let numbers_behind = c.in_ok-other.ensures.few in
+    let numbers_behind = c.in_ok-second.ensures.few in
     let word = token_shorter c.in_ok-word.ensures.found.takes in
     let opening = token_shorter c.in_ok-test_at.ensures.found.takes in
     let closing = token_shorter c.in_ok-first_at.ensures.found.takes in
@@ -188,15 +186,13 @@ looping-returns-in_err-body-clause-refused t c =
 
 pub looping-returns-clause-found : goal.looping-returns-clause-found
 looping-returns-clause-found t c =
-    while_found c.args.number c.in_ok-test-2.test c.in_ok-body.body c.in_ok-body-2.body c.in_ok-test-2.ensures.ok c.in_ok-body-2.ensures.found c.in_ok-word.ensures.found
+    while_found c.args.index c.in_ok-condition.condition c.in_ok-body.body c.in_ok-body-2.body c.in_ok-condition.ensures.ok c.in_ok-body-2.ensures.found c.in_ok-word.ensures.found
     c.in_ok-test_at.ensures.found c.in_ok-test.ensures.found c.in_ok-body_at.ensures.found c.in_ok-body.ensures.found (omega arith)
 
-pub looping-returns-clause-numbered : goal.looping-returns-clause-numbered
-looping-returns-clause-numbered t c =
-    let next : c.args.number + 1 ≡ 1 + c.args.number = omega arith in
-    let body = c.in_ok-body-2.ensures.numbered (c.args.number + 1) c.in_ok-body.behind c.in_ok-body.ensures.numbered in
-    numbered-while c.args.number c.in_ok-word.word.place c.in_ok-test-2.test c.in_ok-body-2.body c.in_ok-body.behind
-    (subst (λ (n : ℕ). AreNumbered n c.in_ok-body-2.body.items c.in_ok-body.behind) next body)
+pub looping-returns-clause-free : goal.looping-returns-clause-free
+looping-returns-clause-free t c names =
+    let tree = statement-while names c.args.index c.in_ok-word.word.place c.in_ok-condition.condition c.in_ok-body-2.body in
+    rw (ap count_of tree) (omega (arith, c.in_ok-body.ensures.free names, c.in_ok-body-2.ensures.count names))
 
 pub looping-returns-clause-few : goal.looping-returns-clause-few
 looping-returns-clause-few t c =
@@ -219,13 +215,13 @@ nested-returns-in_err-body-clause-refused t c =
     rw (p.1, p.2) (refused_inside (nested_begins c.args.depth c.args.symbols.now (spot c.args.from) c.requires.begins) _ c.in_err-body.ensures.refused)
 
 pub nested-returns-clause-found : goal.nested-returns-clause-found
-nested-returns-clause-found t c = nested_found c.in_ok-body.body c.place-place.ensures c.requires.begins c.in_ok-body.ensures.found
+nested-returns-clause-found t c = nested_found c.args.index c.in_ok-body.body c.place-place.ensures c.requires.begins c.in_ok-body.ensures.found
 
-pub nested-returns-clause-numbered : goal.nested-returns-clause-numbered
-nested-returns-clause-numbered t c = numbered-block c.args.number c.place-place.result c.in_ok-body.body.statements c.in_ok-body.behind c.in_ok-body.ensures.numbered
+pub nested-returns-clause-free : goal.nested-returns-clause-free
+nested-returns-clause-free t c names = rw (ap count_of (statement-block names c.place-place.result c.in_ok-body.body.statements)) (c.in_ok-body.ensures.free names)
 
 pub otherwise-returns-in_default-clause-found : goal.otherwise-returns-in_default-clause-found
-otherwise-returns-in_default-clause-found t c = else_left_out c.args.depth c.args.symbols.now (spot c.args.from) c.in_default.ensures.other
+otherwise-returns-in_default-clause-found t c = else_left_out c.args.index c.args.depth c.args.symbols.now (spot c.args.from) c.in_default.ensures.other
 
 pub otherwise-statement-requires : goal.otherwise-statement-requires
 otherwise-statement-requires t c =
@@ -238,7 +234,7 @@ otherwise-returns-in_err-other-clause-refused t c =
     rw (p.1, p.2) (refused_inside (else_read c.args.depth c.args.symbols.now c.in-Ok.ensures.found c.requires.depth) _ c.in_err-other.ensures.refused)
 
 pub otherwise-returns-clause-found : goal.otherwise-returns-clause-found
-otherwise-returns-clause-found t c = else_found c.in_ok-other.other c.in_ok-branch.field-0 c.in_ok-branch.ensures.found c.in-Ok.ensures.found c.in_ok-other.ensures.found c.requires.depth
+otherwise-returns-clause-found t c = else_found c.args.index c.in_ok-other.other c.in_ok-branch.field-0 c.in_ok-branch.ensures.found c.in-Ok.ensures.found c.in_ok-other.ensures.found c.requires.depth
 
 pub statement-returns-in_default-clause-refused : goal.statement-returns-in_default-clause-refused
 statement-returns-in_default-clause-refused t c = statement_refused_at_end c.args.depth (spot c.args.from) _ c.wrong.ensures c.in_default.ensures.none
@@ -260,3 +256,24 @@ pub worded-looping-requires : goal.worded-looping-requires
 worded-looping-requires t c =
     let stands_while = c.requires.begins ∙ ap Word c.in-While.is in
     (search rules, (ap (fits (Word keyword.While)) stands_while, (c.requires.names, (c.requires.few, c.requires.depth))))
+
+pub statement-returns-clause-found : goal.statement-returns-clause-found
+statement-returns-clause-found t c =
+    elim c.match-token.branch [
+      | statement-in-UpperName+in_ok-declaration-in-UpperName w ↦ rw (w.symbols-is, w.stmt-is) w.in_ok-declaration-in-UpperName.ensures.found
+      | statement-in-LowerName+in_ok-from_variable-in-LowerName w ↦ rw (w.symbols-is, w.stmt-is) w.in_ok-from_variable-in-LowerName.ensures.found
+      | statement-in-Sign+else-eq+in_ok-plain-in-Sign w ↦ rw (w.symbols-is, w.stmt-is) w.in_ok-plain-in-Sign.ensures.found
+      | statement-in-Number+in_ok-stmt-in-Number w ↦ rw (w.symbols-is, w.stmt-is) w.in_ok-stmt-in-Number.ensures.found
+    ]
+
+pub worded-returns-clause-found : goal.worded-returns-clause-found
+worded-returns-clause-found t c =
+    elim c.match-word.branch [
+      | worded-in-Skip+in_ok-skip-in-Skip w ↦ rw (w.symbols-is, w.stmt-is) w.in_ok-skip-in-Skip.ensures.found
+      | worded-in-Suspend+in_ok-suspend-in-Suspend w ↦ rw (w.symbols-is, w.stmt-is) w.in_ok-suspend-in-Suspend.ensures.found
+      | worded-in-Await+in_ok-awaiting-in-Await w ↦ rw (w.symbols-is, w.stmt-is) w.in_ok-awaiting-in-Await.ensures.found
+      | worded-in-Return+in_ok-returning-in-Return w ↦ rw (w.symbols-is, w.stmt-is) w.in_ok-returning-in-Return.ensures.found
+      | worded-in-Println+in_ok-printing-in-Println w ↦ rw (w.symbols-is, w.stmt-is) w.in_ok-printing-in-Println.ensures.found
+      | worded-in-This+in_ok-from_this-in-This w ↦ rw (w.symbols-is, w.stmt-is) w.in_ok-from_this-in-This.ensures.found
+      | worded-in_default+in_ok-stmt-in_default w ↦ rw (w.symbols-is, w.stmt-is) w.in_ok-stmt-in_default.ensures.found
+    ]

@@ -1,5 +1,7 @@
-use Rattle.std.proofs.Common.{◌≤◌, ◌+◌, ◌*◌, length}
-use Rattle.abs_tree.specs.SyntaxNumbers.{AreNumbered}
+use Rattle.std.proofs.Common.{◌≡◌, ◌≤◌, ◌+◌, ◌*◌, List, length}
+use Rattle.abs_tree.specs.Syntax.{Name}
+use Rattle.abs_tree.specs.SyntaxSizes.{statement_count}
+use Rattle.abs_tree.specs.SyntaxViews.{statements}
 use Rattle.abs_parser.specs.Views.{spot}
 use Rattle.abs_parser.proofs.BlockSteps.{ReadsBlock}
 use Rattle.abs_parser.proofs.statements.+statements.Given as goal
@@ -29,9 +31,9 @@ decreases-block l = 4 * length (spot l.from).rest
 -- what was read so far
 abbrev pub invariant-block-loop-alloc : goal.invariant-block-loop-alloc
 invariant-block-loop-alloc l = record {
-  read : ReadsBlock l.depth l.fn.symbols l.symbols (spot l.from) (spot l.here) l.statements.items;
-  numbered : AreNumbered l.number l.statements.items l.free;
-  few : l.free + length (spot l.here).rest ≤ l.number + length (spot l.from).rest;
+  read : ReadsBlock l.index l.depth l.fn.symbols l.symbols (spot l.from) (spot l.here) l.statements.items;
+  free : (names : List Name) → l.free ≡ l.index + statement_count (statements names l.statements.items);
+  few : l.free + length (spot l.here).rest ≤ l.index + length (spot l.from).rest;
 }
 
 abbrev pub decreases-block-loop-alloc : goal.decreases-block-loop-alloc

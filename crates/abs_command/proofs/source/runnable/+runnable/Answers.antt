@@ -6,26 +6,26 @@ use Rattle.abs_tree.specs.declared.syntax.expression.Expr.{Expr as SyntaxExpr}
 use Rattle.abs_tree.specs.SyntaxViews.{phrase}
 use Rattle.abs_tree.specs.Trees.{expr_tree, operands_of}
 use Rattle.abs_command.specs.Runnable.{runnable_expr}
-use Rattle.abs_command.proofs.RunnableLemmas.{not_yet_for, read_more, read_no_further, read_all, operands_run, operand_runs, operator_not_yet, operand_not_yet, operands_not_yet, chain_runs, chain_not_yet}
+use Rattle.abs_command.proofs.RunnableLemmas.{not_yet_for, read_more, read_no_further, read_all, operands_run, operand_runs, operator_not_yet, operand_not_yet, operands_not_yet, operators_run, operators_not_yet}
 use Rattle.abs_command.proofs.source.runnable.+runnable.Goals as goal
 
-pub expression-returns-in_err-operands-in-Chain-clause-not_yet : goal.expression-returns-in_err-operands-in-Chain-clause-not_yet
-expression-returns-in_err-operands-in-Chain-clause-not_yet t c =
-    let p = err_from_is_err_and c.from_residual-in_err-operands-in-Chain.result c.from_residual-in_err-operands-in-Chain.ensures.1 in
-    rw (p.1, p.2) (not_yet_for c.in_err-operands-in-Chain.field-0.0
-    (chain_not_yet c.args.symbols.now c.args.expr.now c.in-Chain.place c.in-Chain.first c.in-Chain.others c.deref-in-Chain-2.result.now c.in_ok-first-in-Chain.first.value
-    c.in-Chain.is c.deref-in-Chain-2.ensures.value
-    (ap (λ (expr : SyntaxExpr). runnable_expr c.args.symbols.now (phrase c.args.symbols.now expr)) (sym c.deref-in-Chain.ensures)
-    ∙ (c.in_ok-expression-in-Chain.ensures.found ∙ ap (λ (expr : Expr). Ok (expr_tree expr)) (sym c.in_ok-first-in-Chain.ensures.ok))))
-    c.in_err-operands-in-Chain.ensures.not_yet)
+pub expression-returns-in_err-operands-in-Operators-clause-not_yet : goal.expression-returns-in_err-operands-in-Operators-clause-not_yet
+expression-returns-in_err-operands-in-Operators-clause-not_yet t c =
+    let p = err_from_is_err_and c.from_residual-in_err-operands-in-Operators.result c.from_residual-in_err-operands-in-Operators.ensures.1 in
+    rw (p.1, p.2) (not_yet_for c.in_err-operands-in-Operators.field-0.0
+    (operators_not_yet c.args.symbols.now c.args.expr.now c.in-Operators.place c.in-Operators.first c.in-Operators.others c.deref-in-Operators-2.result.now c.in_ok-first-in-Operators.first.value
+    c.in-Operators.is c.deref-in-Operators-2.ensures.value
+    (ap (λ (expr : SyntaxExpr). runnable_expr c.args.symbols.now (phrase c.args.symbols.now expr)) (sym c.deref-in-Operators.ensures)
+    ∙ (c.in_ok-expression-in-Operators.ensures.found ∙ ap (λ (expr : Expr). Ok (expr_tree expr)) (sym c.in_ok-first-in-Operators.ensures.ok))))
+    c.in_err-operands-in-Operators.ensures.not_yet)
 
-pub expression-returns-in_ok-operands-in-Chain-clause-found : goal.expression-returns-in_ok-operands-in-Chain-clause-found
-expression-returns-in_ok-operands-in-Chain-clause-found t c =
-    chain_runs c.args.symbols.now c.args.expr.now c.in-Chain.place c.in-Chain.first c.in-Chain.others c.deref-in-Chain-2.result.now c.in_ok-first-in-Chain.first
-    c.in_ok-operands-in-Chain.operands c.in-Chain.is c.deref-in-Chain-2.ensures.value
-    (ap (λ (expr : SyntaxExpr). runnable_expr c.args.symbols.now (phrase c.args.symbols.now expr)) (sym c.deref-in-Chain.ensures)
-    ∙ (c.in_ok-expression-in-Chain.ensures.found ∙ ap (λ (expr : Expr). Ok (expr_tree expr)) (sym c.in_ok-first-in-Chain.ensures.ok)))
-    c.in_ok-operands-in-Chain.ensures.found
+pub expression-returns-in_ok-operands-in-Operators-clause-found : goal.expression-returns-in_ok-operands-in-Operators-clause-found
+expression-returns-in_ok-operands-in-Operators-clause-found t c =
+    operators_run c.args.symbols.now c.args.expr.now c.in-Operators.place c.in-Operators.first c.in-Operators.others c.deref-in-Operators-2.result.now c.in_ok-first-in-Operators.first
+    c.in_ok-operands-in-Operators.operands c.in-Operators.is c.deref-in-Operators-2.ensures.value
+    (ap (λ (expr : SyntaxExpr). runnable_expr c.args.symbols.now (phrase c.args.symbols.now expr)) (sym c.deref-in-Operators.ensures)
+    ∙ (c.in_ok-expression-in-Operators.ensures.found ∙ ap (λ (expr : Expr). Ok (expr_tree expr)) (sym c.in_ok-first-in-Operators.ensures.ok)))
+    c.in_ok-operands-in-Operators.ensures.found
 
 pub operands-loop-other-init : goal.operands-loop-other-init
 operands-loop-other-init t c = rw c.in_ok-found.ensures.items (record { found = λ rest given. given; not_yet = λ place none. none })
