@@ -48,6 +48,16 @@ written_alike a b alike =
     let found : Some a ≡ Some b = sym (sign_is_among a) ∙ (ap (punctuator_among (long_punctuators ++ short_punctuators)) same ∙ sign_is_among b) in
     cc
 
+-- what fits a keyword is this keyword
+pub word_fits : (word : Keyword) (found : Kind) → fits (Word word) found ≡ true → found ≡ Word word
+word_fits word (Word other) e = ap Word (sym (spelled_alike word other e))
+word_fits word _ e = cc
+
+-- and what fits a punctuator is this punctuator
+pub sign_fits : (sign : Punctuator) (found : Kind) → fits (Sign sign) found ≡ true → found ≡ Sign sign
+sign_fits sign (Sign other) e = ap Sign (sym (written_alike sign other e))
+sign_fits sign _ e = cc
+
 -- the kind of token that a kind of the grammar is of; at the end there is none
 lexeme_of : Kind → Option Lexeme
 lexeme_of LowerName = Some lexeme.LowerName

@@ -12,7 +12,7 @@ use Rattle.abs_lexer.specs.declared.lexeme.Punctuator.TheVariants as punctuator
 use Rattle.abs_parser.specs.Kinds.{kind_of_lexeme}
 use Rattle.abs_parser.specs.Productions.{begins, begins_within, Pattern}
 use Rattle.abs_parser.specs.ReaderAnswers.{asked}
-use Rattle.abs_parser.proofs.FirstTokens.{BeginsBy, begins_as, IsOneOf, one_passes}
+use Rattle.abs_parser.proofs.FirstTokens.{BeginsBy, begins_as}
 
 -- whether a pattern may begin with a token of a kind
 abbrev pub may_begin : Lexeme → Bool
@@ -33,24 +33,7 @@ pub first_kinds : BeginsBy Pattern may_begin
 unfolding begins begins_within
 first_kinds = record { told = may_begin_told; local_too = refl; abs_too = refl; library_too = refl }
 
--- names, numbers and texts begin a pattern
-pub plain_begins : {kind : Lexeme} → IsOneOf (lexeme.LowerName ∷ lexeme.UpperName ∷ lexeme.Number ∷ lexeme.Text ∷ []) kind → (bytes : List ℕ)
-    → true ≡ begins Pattern (kind_of_lexeme kind bytes)
-plain_begins {kind} one = begins_as first_kinds kind refl (one_passes may_begin (lexeme.LowerName ∷ lexeme.UpperName ∷ lexeme.Number ∷ lexeme.Text ∷ []) refl one)
-
--- words do not
+-- words begin none
 pub words_do_not : {kind : Lexeme} → ((word : Keyword) × (kind ≡ lexeme.Word word)) ⊎ (kind ≡ lexeme.Foreign) → (bytes : List ℕ) → false ≡ begins Pattern (kind_of_lexeme kind bytes)
 words_do_not (inl (word, e)) = begins_as first_kinds (lexeme.Word word) e refl
 words_do_not (inr e) = begins_as first_kinds lexeme.Foreign e refl
-
--- the first sign of a pattern begins one
-pub first_sign : {kind : Lexeme} (sign : Punctuator) {first : Bool} → kind ≡ lexeme.Sign sign → first ≡ sameb the_type sign punctuator.Underscore → first ≡ true
-    → (bytes : List ℕ) → first ≡ begins Pattern (kind_of_lexeme kind bytes)
-first_sign sign {first} is tells holds =
-    begins_as first_kinds (lexeme.Sign sign) is (holds ∙ ap (λ (b : Bool). cond b true (sameb the_type sign punctuator.Minus)) (sym holds ∙ tells))
-
--- and where it is not that one, just the other does
-pub other_sign : {kind : Lexeme} (sign : Punctuator) {first other : Bool} → kind ≡ lexeme.Sign sign → first ≡ sameb the_type sign punctuator.Underscore → first ≡ false
-    → other ≡ sameb the_type sign punctuator.Minus → (bytes : List ℕ) → other ≡ begins Pattern (kind_of_lexeme kind bytes)
-other_sign sign {first} is tells fails answers =
-    begins_as first_kinds (lexeme.Sign sign) is (answers ∙ ap (λ (b : Bool). cond b true (sameb the_type sign punctuator.Minus)) (sym fails ∙ tells))

@@ -11,8 +11,8 @@ use Rattle.abs_lexer.specs.declared.lexeme.Punctuator.TheVariants as punctuator
 use Rattle.abs_lexer.specs.Tokens.{Lexed}
 use Rattle.abs_parser.specs.Answers.{GoesOn}
 use Rattle.abs_parser.specs.Firsts.{IsBlock}
-use Rattle.abs_parser.specs.Kinds.{Mark, Token, Sign, place_of_mark, next}
-use Rattle.abs_parser.specs.Productions.{Stmt, Block, begins}
+use Rattle.abs_parser.specs.Kinds.{Mark, Token, Sign, place_of_mark, fits, next}
+use Rattle.abs_parser.specs.Productions.{Stmt, Block, begins, begins_within}
 use Rattle.abs_parser.specs.Readings.{One, Repeated, Terminal, Nonterminal, Forest, Empty, Leaf, Node}
 use Rattle.abs_parser.specs.ReaderAnswers.{left_at, TakesKind, FoundAs, IsRefused}
 use Rattle.abs_parser.specs.Stops.{limit}
@@ -21,11 +21,10 @@ use Rattle.abs_parser.specs.TreesOf.{statement_in, statements_in, block_in, bloc
 use Rattle.abs_tree.specs.declared.source_error.SourceError.{SourceError}
 use Rattle.abs_parser.proofs.FirstPlaceLemmas.{found_fewer}
 use Rattle.abs_parser.proofs.NameLemmas.{goes_on_further}
-use Rattle.abs_parser.proofs.PatternSteps.{nothing_found}
-use Rattle.abs_parser.proofs.RepeatSteps.{in_front, over_one_more}
+use Rattle.abs_parser.proofs.RepeatSteps.{in_front, over_one_more, refused_up_to, none_before}
 use Rattle.abs_parser.proofs.StatementSteps.{IsStatement, block_opened}
 use Rattle.abs_parser.proofs.StepLemmas.{HasRead, opens, over_token, over_part, all_read, refused_inside, fits_next, token_shorter, found_goes_on}
-use Rattle.abs_parser.proofs.SymbolLemmas.{repeated_opened, repeated_ends}
+use Rattle.abs_parser.proofs.SymbolLemmas.{part_begun, repeated_opened}
 
 -- the trees of statements, in front of others
 abbrev pub statements_before : List Name → List CodeStmt → Statements → Statements
@@ -86,11 +85,11 @@ one_more names index listed stmt found inside is =
 
 -- and over one more
 pub next_statement : {index depth free : ℕ} {old now new : List (List ℕ)} {from here to : Spot} {listed longer : List CodeStmt} (stmt : CodeStmt) → longer ≡ listed ++ stmt ∷ []
-    → ReadsBlock index depth old now from here listed → begins Stmt (next (left_at here)) ≡ true → ((names : List Name) → free ≡ index + statement_count (statements names listed))
+    → ReadsBlock index depth old now from here listed → ((names : List Name) → free ≡ index + statement_count (statements names listed))
     → FoundAs (One Stmt) depth now new here to (IsStatement free stmt) → ReadsBlock index depth old new from to longer
-next_statement {index} {depth} {listed = listed} stmt same so begun is_free found = rw same (record {
+next_statement {index} {depth} {listed = listed} stmt same so is_free found = rw same (record {
   make = λ rest. so.make (in_front Stmt found.inside rest);
-  read = over_one_more so.read (repeated_opened Stmt _ depth begun) found;
+  read = over_one_more so.read (repeated_opened Stmt _ depth (part_begun Stmt _ depth found.rule_is)) found;
   shorter = omega (arith, so.shorter, found_fewer found);
   statements_are = λ names more inside mark at.
       one_more names index listed stmt found.inside inside (found.is names more ∙ ap (λ (n : ℕ). statement_in n found.inside) (is_free names))
@@ -103,27 +102,32 @@ pub next_free : {free behind : ℕ} {longer : List CodeStmt} (index : ℕ) (list
     → ((names : List Name) → behind ≡ free + count_of (statement names stmt)) → (names : List Name) → behind ≡ index + statement_count (statements names longer)
 next_free index listed stmt same is_free is_behind names = rw same (omega (arith, is_free names, is_behind names, before_count names listed stmt))
 
--- where a further statement begins, the block is refused where that is
-pub refused_statement : {depth : ℕ} {old now : List (List ℕ)} {index : ℕ} {from here : Spot} {listed : List CodeStmt} (error : SourceError) → ReadsBlock index depth old now from here listed → begins Stmt (next (left_at here)) ≡ true
-    → IsRefused (Nonterminal (One Stmt) depth) here error → IsRefused (Nonterminal (One Block) depth) from error
-refused_statement {depth} {now = now} {here = here} error so begun refused =
-    refused_inside so.read error (refused_inside (opens (Repeated Stmt) depth now here _ (repeated_opened Stmt _ depth begun)) error refused)
+-- where the "}" is not next, the block is refused where the next statement is
+pub refused_statement : {depth : ℕ} {old now : List (List ℕ)} {index : ℕ} {from here : Spot} {listed : List CodeStmt} (error : SourceError) → ReadsBlock index depth old now from here listed
+    → fits (Sign punctuator.CloseBrace) (next (left_at here)) ≡ false → IsRefused (Nonterminal (One Stmt) depth) here error → IsRefused (Nonterminal (One Block) depth) from error
+refused_statement error so other refused = refused_up_to (Sign punctuator.CloseBrace) error so.read other refused
 
--- where no further one begins, there is none
-no_statement : (depth : ℕ) (table : List (List ℕ)) (here : Spot) → begins Stmt (next (left_at here)) ≡ false → FoundAs (Repeated Stmt) depth table table here here (λ names inside. inside ≡ Empty)
-no_statement depth table here ends = nothing_found (Repeated Stmt) depth table here (repeated_ends Stmt _ depth ends)
+-- no statement begins with a "}"
+no_statement_closes : begins Stmt (Sign punctuator.CloseBrace) ≡ false
+unfolding begins begins_within
+no_statement_closes = refl
 
--- and the block is refused where its "}" is
-pub refused_brace : {depth : ℕ} {old now : List (List ℕ)} {index : ℕ} {from here : Spot} {listed : List CodeStmt} (error : SourceError) → ReadsBlock index depth old now from here listed → begins Stmt (next (left_at here)) ≡ false
-    → IsRefused (Terminal (Sign punctuator.CloseBrace) depth) here error → IsRefused (Nonterminal (One Block) depth) from error
-refused_brace {depth} {now = now} {here = here} error so ends refused = refused_inside (over_part so.read (no_statement depth now here ends)) error refused
+-- so where it is next, there is no further statement
+no_statement : (depth : ℕ) (table : List (List ℕ)) (here : Spot) → fits (Sign punctuator.CloseBrace) (next (left_at here)) ≡ true
+    → FoundAs (Repeated Stmt) depth table table here here (λ names inside. inside ≡ Empty)
+no_statement depth table here closes = none_before Stmt punctuator.CloseBrace depth table here no_statement_closes closes
+
+-- and the block is refused where the "}" is
+pub refused_brace : {depth : ℕ} {old now : List (List ℕ)} {index : ℕ} {from here : Spot} {listed : List CodeStmt} (error : SourceError) → ReadsBlock index depth old now from here listed
+    → fits (Sign punctuator.CloseBrace) (next (left_at here)) ≡ true → IsRefused (Terminal (Sign punctuator.CloseBrace) depth) here error → IsRefused (Nonterminal (One Block) depth) from error
+refused_brace {depth} {now = now} {here = here} error so closes refused = refused_inside (over_part so.read (no_statement depth now here closes)) error refused
 
 -- behind its "}" the block is found
 pub block_found : {brace : Lexed} {depth : ℕ} {old now : List (List ℕ)} {index : ℕ} {from here end : Spot} (body : Body) → body.end ≡ brace.place → ReadsBlock index depth old now from here body.statements.items
-    → begins Stmt (next (left_at here)) ≡ false → TakesKind (lexeme.Sign punctuator.CloseBrace) brace here end → depth ≤ limit
+    → TakesKind (lexeme.Sign punctuator.CloseBrace) brace here end → depth ≤ limit
     → FoundAs (One Block) depth old now from end (λ names inside. IsBlock index names body inside)
-block_found {brace} {depth} {now = now} {index} {here = here} body closed so ends takes within =
-    let none = no_statement depth now here ends in
+block_found {brace} {depth} {now = now} {index} {here = here} body closed so takes within =
+    let none = no_statement depth now here (fits_next refl takes) in
     all_read (over_token (over_part so.read none) takes refl refl within) (λ names more. record {
       statements_are = sym (all_statements names body.statements.items)
           ∙ (sym (ap (λ (inside : Forest). statements_before names body.statements.items (statements_in (index + statement_count (statements names body.statements.items)) inside)) (none.is names more)) ∙ so.statements_are names more none.inside (Token brace) depth);

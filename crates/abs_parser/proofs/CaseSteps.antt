@@ -17,7 +17,7 @@ use Rattle.abs_lexer.specs.declared.lexeme.Lexeme.TheVariants as lexeme
 use Rattle.abs_lexer.specs.declared.lexeme.Punctuator.TheVariants as punctuator
 use Rattle.abs_lexer.specs.Tokens.{Lexed}
 use Rattle.abs_parser.specs.Answers.{GoesOn}
-use Rattle.abs_parser.specs.Kinds.{Mark, Token, Kind, Word, Sign, kind_of_lexeme, next}
+use Rattle.abs_parser.specs.Kinds.{Mark, Token, Kind, Word, Sign, kind_of_lexeme, fits, next}
 use Rattle.abs_parser.specs.Productions.{Expr as ExprSymbol, Primary, Branch, Pattern, begins, begins_within, chosen}
 use Rattle.abs_parser.specs.Readings.{One, Repeated, Wanted, Terminal, Nonterminal, opened, Forest, Empty, Leaf, Node}
 use Rattle.abs_parser.specs.ReaderAnswers.{left_at, TakesKind, FoundAs, IsRefused}
@@ -26,11 +26,11 @@ use Rattle.abs_parser.specs.Tokens.{Spot}
 use Rattle.abs_parser.specs.TreesOf.{pattern_in, primary_in, primary_by, branch_in, branches_in}
 use Rattle.abs_tree.specs.declared.source_error.SourceError.{SourceError}
 use Rattle.abs_parser.proofs.NameLemmas.{goes_on_further}
-use Rattle.abs_parser.proofs.StepLemmas.{HasRead, opens, over_token, over_part, all_read, refused_inside, found_goes_on, found_shorter, token_shorter}
-use Rattle.abs_parser.proofs.SymbolLemmas.{begins_with_part, part_shut, part_begun, part_opened, repeated_opened, repeated_ends}
+use Rattle.abs_parser.proofs.StepLemmas.{HasRead, opens, over_token, over_part, all_read, refused_inside, fits_next, found_goes_on, found_shorter, token_shorter}
+use Rattle.abs_parser.proofs.SymbolLemmas.{begins_with_part, part_shut, part_begun, part_opened, repeated_opened}
 use Rattle.abs_parser.proofs.InFrontSteps.{refused_in_front}
-use Rattle.abs_parser.proofs.PatternSteps.{next_taken, nothing_found}
-use Rattle.abs_parser.proofs.RepeatSteps.{in_front, over_one_more, row_shorter}
+use Rattle.abs_parser.proofs.WordSteps.{word_read}
+use Rattle.abs_parser.proofs.RepeatSteps.{in_front, over_one_more, refused_up_to, none_before, row_shorter}
 use Rattle.abs_parser.proofs.ExpressionSteps.{IsExpression}
 
 -- Branches
@@ -53,18 +53,10 @@ branch_opened kind depth may = part_opened Branch kind depth refl refl (branch_b
 branch_shut : (kind : Kind) (depth : ℕ) → begins Pattern kind ≡ false → opened (One Branch) kind depth ≡ None
 branch_shut kind depth none = part_shut Branch kind depth (branch_begins kind ∙ none)
 
--- where a pattern may begin, there is a further branch
-branches_opened : (kind : Kind) (depth : ℕ) → begins Pattern kind ≡ true → opened (Repeated Branch) kind depth ≡ Some (Nonterminal (One Branch) depth ∷ Nonterminal (Repeated Branch) depth ∷ [])
-branches_opened kind depth may = repeated_opened Branch kind depth (branch_begins kind ∙ may)
-
--- where none may, there is no further one
-branches_end : (kind : Kind) (depth : ℕ) → begins Pattern kind ≡ false → opened (Repeated Branch) kind depth ≡ Some []
-branches_end kind depth none = repeated_ends Branch kind depth (branch_begins kind ∙ none)
-
 -- a branch that was found leaves fewer tokens than there were
-pub branch_shorter : {depth : ℕ} {old new : List (List ℕ)} {from to : Spot} {is_read : List (List ℕ) → Forest → Type 0} → begins Pattern (next (left_at from)) ≡ true
+pub branch_shorter : {depth : ℕ} {old new : List (List ℕ)} {from to : Spot} {is_read : List (List ℕ) → Forest → Type 0}
     → FoundAs (One Branch) depth old new from to is_read → length to.rest < length from.rest
-branch_shorter {depth} begun found = row_shorter (branch_opened _ depth begun) found
+branch_shorter {depth} found = row_shorter (branch_opened _ depth (sym (branch_begins _) ∙ part_begun Branch _ depth found.rule_is)) found
 
 -- over the pattern of a branch
 pub pattern_read : {depth : ℕ} {old new : List (List ℕ)} {from to : Spot} {is_read : List (List ℕ) → Forest → Type 0} → (found : FoundAs (One Pattern) depth old new from to is_read)
@@ -116,8 +108,7 @@ case_opened depth = refl
 -- over the word of a `case`
 pub case_begins : {word : Lexed} {from behind : Spot} (depth : ℕ) (table : List (List ℕ)) → TakesKind (lexeme.Word keyword.Case) word from behind → depth ≤ limit
     → HasRead (One Primary) depth table table from (λ rest. Leaf (Token word) depth rest) (behind_case depth) behind
-case_begins {from = from} depth table takes within =
-    over_token (opens (One Primary) depth table from _ (ap (λ (k : Kind). opened (One Primary) k depth) (next_taken takes) ∙ case_opened depth)) takes refl refl within
+case_begins depth table takes within = word_read depth table (case_opened depth) takes within
 
 -- over its expression and "{"
 pub case_asked : {word brace : Lexed} {from subject_at brace_at first_at : Spot} {depth : ℕ} {old now : List (List ℕ)} {is_read : List (List ℕ) → Forest → Type 0}
@@ -153,41 +144,45 @@ first_branch {word} {brace} {depth = depth} {subject = expr} branch same takes s
 
 -- and one more branch
 pub next_branch : {depth : ℕ} {old now new : List (List ℕ)} {from here to : Spot} {place : Place} {subject : Expr} {arms longer : List code_branch.Branch} (branch : code_branch.Branch) → longer ≡ arms ++ branch ∷ []
-    → ReadsCase depth old now from here place subject arms → begins Pattern (next (left_at here)) ≡ true → FoundAs (One Branch) depth now new here to (IsBranch branch)
+    → ReadsCase depth old now from here place subject arms → FoundAs (One Branch) depth now new here to (IsBranch branch)
     → ReadsCase depth old new from to place subject longer
-next_branch {depth} {place = place} {subject} {arms} branch same so begun found = rw same (record {
+next_branch {depth} {place = place} {subject} {arms} branch same so found = rw same (record {
   make = λ rest. so.make (in_front Branch found.inside rest);
-  read = over_one_more so.read (branches_opened _ depth begun) found;
+  read = over_one_more so.read (repeated_opened Branch _ depth (part_begun Branch _ depth found.rule_is)) found;
   shorter = omega (arith, so.shorter, found_shorter found);
   is = λ names more inside mark at.
       so.is names (goes_on_further (found_goes_on found) more) (Node (One Branch) found.inside (Node (Repeated Branch) inside Empty)) mark at
       ∙ ap (CaseOf place (phrase names subject)) (ap (branches_before names arms) (sym (found.is names more (branches_in inside))) ∙ sym (one_branch names arms branch (branches_in inside)));
 })
 
--- where a further branch begins, a `case` is refused where the branch is
+-- where the "}" is not next, a `case` is refused where the next branch is
 pub refused_branch : {depth : ℕ} {old now : List (List ℕ)} {from here : Spot} {place : Place} {subject : Expr} {arms : List code_branch.Branch} (error : SourceError)
-    → ReadsCase depth old now from here place subject arms → begins Pattern (next (left_at here)) ≡ true → IsRefused (Nonterminal (One Branch) depth) here error
+    → ReadsCase depth old now from here place subject arms → fits (Sign punctuator.CloseBrace) (next (left_at here)) ≡ false → IsRefused (Nonterminal (One Branch) depth) here error
     → IsRefused (Nonterminal (One Primary) depth) from error
-refused_branch {depth} {now = now} {here = here} error so begun refused =
-    refused_inside so.read error (refused_inside (opens (Repeated Branch) depth now here _ (branches_opened _ depth begun)) error refused)
+refused_branch error so other refused = refused_up_to (Sign punctuator.CloseBrace) error so.read other refused
 
--- where no further one begins, there is none
-no_branch : (depth : ℕ) (table : List (List ℕ)) (here : Spot) → begins Pattern (next (left_at here)) ≡ false
+-- no branch begins with a "}"
+no_branch_closes : begins Branch (Sign punctuator.CloseBrace) ≡ false
+unfolding begins begins_within
+no_branch_closes = refl
+
+-- so where it is next, there is no further branch
+no_branch : (depth : ℕ) (table : List (List ℕ)) (here : Spot) → fits (Sign punctuator.CloseBrace) (next (left_at here)) ≡ true
     → FoundAs (Repeated Branch) depth table table here here (λ names inside. inside ≡ Empty)
-no_branch depth table here ends = nothing_found (Repeated Branch) depth table here (branches_end _ depth ends)
+no_branch depth table here closes = none_before Branch punctuator.CloseBrace depth table here no_branch_closes closes
 
--- where no further branch begins, a `case` is refused where its "}" is
+-- and a `case` is refused where the "}" is
 pub refused_brace : {depth : ℕ} {old now : List (List ℕ)} {from here : Spot} {place : Place} {subject : Expr} {arms : List code_branch.Branch} (error : SourceError)
-    → ReadsCase depth old now from here place subject arms → begins Pattern (next (left_at here)) ≡ false → IsRefused (Terminal (Sign punctuator.CloseBrace) depth) here error
+    → ReadsCase depth old now from here place subject arms → fits (Sign punctuator.CloseBrace) (next (left_at here)) ≡ true → IsRefused (Terminal (Sign punctuator.CloseBrace) depth) here error
     → IsRefused (Nonterminal (One Primary) depth) from error
-refused_brace {depth} {now = now} {here = here} error so ends refused = refused_inside (over_part so.read (no_branch depth now here ends)) error refused
+refused_brace {depth} {now = now} {here = here} error so closes refused = refused_inside (over_part so.read (no_branch depth now here closes)) error refused
 
 -- behind the last branch and "}" a `case` is found, as it is held in memory
 pub case_found : {brace : Lexed} {depth : ℕ} {old now : List (List ℕ)} {from here end : Spot} {place : Place} {subject : Expr} (held : Box Expr Global) (arms : Vec code_branch.Branch Global) → held.value ≡ subject
-    → ReadsCase depth old now from here place subject arms.items → begins Pattern (next (left_at here)) ≡ false → TakesKind (lexeme.Sign punctuator.CloseBrace) brace here end → depth ≤ limit
+    → ReadsCase depth old now from here place subject arms.items → TakesKind (lexeme.Sign punctuator.CloseBrace) brace here end → depth ≤ limit
     → FoundAs (One Primary) depth old now from end (λ names inside. phrase names (code_expr.Case place held arms) ≡ primary_in inside)
-case_found {brace} {depth} {now = now} {here = here} {place = place} {subject} held arms same so ends takes within =
-    let none = no_branch depth now here ends in
+case_found {brace} {depth} {now = now} {here = here} {place = place} {subject} held arms same so takes within =
+    let none = no_branch depth now here (fits_next refl takes) in
     all_read (over_token (over_part so.read none) takes refl refl within) (λ names more.
     phrase-case names place held arms ∙ (ap (λ (expr : Expr). CaseOf place (phrase names expr) (branches names arms.items)) same
     ∙ (ap (CaseOf place (phrase names subject)) (sym (all_branches names arms.items) ∙ sym (ap (λ (inside : Forest). branches_before names arms.items (branches_in inside)) (none.is names more)))

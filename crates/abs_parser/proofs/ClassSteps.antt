@@ -1,6 +1,6 @@
 -- The steps of the reader of classes: what a class consists of, over its word, its name, its parameters and the interfaces that it implements;
 -- and its members, which repeat up to `}`, with the trees of those that were read so far.
-use Rattle.std.proofs.Common.{◌≡◌, ◌≤◌, ℕ, ◌+◌, List, [], ◌∷◌, ◌++◌, map, Some, refl, ap, ◌∙◌, arith}
+use Rattle.std.proofs.Common.{◌≡◌, ◌≤◌, ℕ, ◌+◌, false, List, [], ◌∷◌, ◌++◌, map, Some, refl, ap, ◌∙◌, arith}
 use Rattle.std.proofs.lemmas.List.{map-append}
 use Rattle.abs_tree.specs.Names.{with_name, number_of_name}
 use Rattle.abs_tree.specs.declared.place.Place.{Place}
@@ -24,17 +24,24 @@ use Rattle.abs_parser.specs.Tokens.{Spot}
 use Rattle.abs_parser.specs.TreesOf.{class_params_maybe, names_maybe, member_in, members_in}
 use Rattle.abs_parser.proofs.NameListSteps.{declared_kept}
 use Rattle.abs_parser.proofs.DeclarationSteps.{Parts, ReadsParts, next_part, heading_read, by_word}
-use Rattle.abs_parser.proofs.MemberSteps.{IsMember, member_begins_named}
+use Rattle.abs_parser.proofs.MemberSteps.{IsMember}
+use Rattle.abs_parser.proofs.RepeatSteps.{ends_at}
 use Rattle.abs_parser.proofs.NameLemmas.{goes_on_further}
-use Rattle.abs_parser.proofs.StepLemmas.{HasRead, over_token, over_part, fits_next, found_goes_on}
+use Rattle.abs_parser.proofs.StepLemmas.{HasRead, over_token, over_part, found_goes_on}
 
--- the members of a class repeat up to "}"
+-- no member begins with "}"
+pub no_member_closes : begins Member (Sign punctuator.CloseBrace) ≡ false
+unfolding begins begins_within
+no_member_closes = refl
+
+-- the members of a class repeat up to it
 abbrev pub members_of : Parts CodeMember MemberTree
 members_of = record {
   symbol = Member;
   closing = lexeme.Sign punctuator.CloseBrace;
   closing_asked = refl;
   closing_unnamed = refl;
+  closing_ends = ends_at Member punctuator.CloseBrace no_member_closes;
   tree = member_tree;
   trees_in = λ index before. members_in (index + member_statements before);
   trees_none = λ index before. refl;
@@ -112,12 +119,12 @@ member_in_turn names index free listed one found others is_free is =
     ∙ ap (λ (n : ℕ). members_in n (Node (One Member) found (Node (Repeated Member) others Empty))) is_free)
 
 -- and up to one more
-pub next_member : {index free : ℕ} {whole : List Name → List MemberTree → DeclTree} {name : Lexed} {from here behind to : Spot} {depth : ℕ} {old now new : List (List ℕ)} {members longer : List CodeMember}
-    (one : CodeMember) → longer ≡ members ++ one ∷ [] → ReadsParts members_of (λ at. at ≡ index) whole depth old now from here members → TakesKind lexeme.UpperName name here behind
+pub next_member : {index free : ℕ} {whole : List Name → List MemberTree → DeclTree} {from here to : Spot} {depth : ℕ} {old now new : List (List ℕ)} {members longer : List CodeMember}
+    (one : CodeMember) → longer ≡ members ++ one ∷ [] → ReadsParts members_of (λ at. at ≡ index) whole depth old now from here members
     → ((names : List Name) → free ≡ index + member_statements (map (member_tree names) members))
     → FoundAs (One Member) depth now new here to (IsMember free one) → ReadsParts members_of (λ at. at ≡ index) whole depth old new from to longer
-next_member {index} {free} {members = members} one same so name is_free found =
-    next_part one same so (member_begins_named _ ∙ fits_next refl name) found (λ first starts names more others.
+next_member {index} {free} {members = members} one same so is_free found =
+    next_part one same so found (λ first starts names more others.
     rw starts (member_in_turn names index free members one found.inside others (is_free names) (found.is names more)))
 
 -- the index that is free behind one more

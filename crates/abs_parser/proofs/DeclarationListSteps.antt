@@ -9,27 +9,29 @@ use Rattle.abs_lexer.specs.declared.lexeme.Keyword.{Keyword}
 use Rattle.abs_lexer.specs.declared.lexeme.Keyword.TheVariants as keyword
 use Rattle.abs_lexer.specs.declared.lexeme.Lexeme.{Lexeme}
 use Rattle.abs_lexer.specs.declared.lexeme.Lexeme.TheVariants as lexeme
+use Rattle.abs_lexer.specs.declared.lexeme.Punctuator.TheVariants as punctuator
 use Rattle.abs_lexer.specs.Tokens.{Lexed}
 use Rattle.abs_tree.specs.Syntax.{DeclTree, DataTree, FunctionTree, InterfaceTree, ClassTree}
 use Rattle.abs_tree.specs.SyntaxViews.{decl_tree}
 use Rattle.abs_tree.specs.SyntaxSizes.{decl_statements}
 use Rattle.abs_tree.specs.declared.syntax.declaration.Decl.{Decl as CodeDecl}
 use Rattle.abs_parser.specs.Answers.{GoesOn}
-use Rattle.abs_parser.specs.Kinds.{Mark, next}
-use Rattle.abs_parser.specs.Productions.{Decl, begins, begins_within}
+use Rattle.abs_parser.specs.Kinds.{Mark, Sign, fits, next}
+use Rattle.abs_parser.specs.Productions.{Decl, Block, begins, begins_within}
 use Rattle.abs_parser.specs.Readings.{One, Repeated, Wanted, Nonterminal, Forest, Empty, Leaf, Node, Reads, Taken}
-use Rattle.abs_parser.specs.ReaderAnswers.{left_at, asked, wrong_at, FoundAs, IsRefused}
+use Rattle.abs_parser.specs.ReaderAnswers.{left_at, asked, wrong_at, FoundAs, IsRefused, IsRefusedWith}
 use Rattle.abs_parser.specs.Tokens.{Spot, TakesToken}
 use Rattle.abs_parser.specs.TreesOf.{decl_in, decls_in}
 use Rattle.abs_tree.specs.declared.source_error.SourceError.{SourceError}
 use Rattle.abs_tree.specs.declared.source_error.SourceError.TheVariants.{Refused}
 use Rattle.abs_parser.proofs.DeclarationSteps.{one_more, no_part}
-use Rattle.abs_parser.proofs.FirstTokens.{BeginsBy, begins_next, IsOneOf, IsNoneOf, one_passes, none_found}
+use Rattle.abs_parser.proofs.FirstTokens.{BeginsBy, begins_next, IsNoneOf, none_found}
 use Rattle.abs_parser.proofs.NameLemmas.{goes_on_itself, goes_on_further}
 use Rattle.abs_parser.proofs.PatternSteps.{next_end}
-use Rattle.abs_parser.proofs.RepeatSteps.{in_front, over_one_more}
-use Rattle.abs_parser.proofs.StepLemmas.{HasRead, inside_alone, left_whole, opens, over_part, all_read, refused_inside, refused_shut, reads_shorter, left_length, found_goes_on}
-use Rattle.abs_parser.proofs.SymbolLemmas.{part_shut, repeated_opened, repeated_ends}
+use Rattle.abs_parser.proofs.RepeatSteps.{in_front, over_one_more, none_before}
+use Rattle.abs_parser.proofs.StatementSteps.{block_shut}
+use Rattle.abs_parser.proofs.StepLemmas.{HasRead, inside_alone, left_whole, opens, over_part, all_read, refused_inside, refused_after, refused_alike, refused_shut, reads_shorter, left_length, found_goes_on}
+use Rattle.abs_parser.proofs.SymbolLemmas.{part_shut, part_begun, repeated_opened, repeated_ends}
 
 -- The first token
 
@@ -52,12 +54,6 @@ declaration_told _ = refl
 declaration_kinds : BeginsBy Decl begins_declaration
 unfolding begins begins_within
 declaration_kinds = record { told = declaration_told; local_too = refl; abs_too = refl; library_too = refl }
-
--- so a declaration begins with one of the words
-pub declaration_word : {token : Lexed} {from behind : Spot} (word : Keyword) → TakesToken token from behind → token.kind ≡ lexeme.Word word → IsOneOf declaration_words word
-    → true ≡ begins Decl (next (left_at from))
-declaration_word word takes is one =
-    begins_next declaration_kinds (lexeme.Word word) takes is (one_passes (λ (w : Keyword). begins_declaration (lexeme.Word w)) declaration_words refl one)
 
 -- with another word none begins
 pub no_declaration_word : {token : Lexed} {from behind : Spot} (word : Keyword) → TakesToken token from behind → token.kind ≡ lexeme.Word word → IsNoneOf declaration_words word
@@ -157,11 +153,11 @@ declaration_in_turn names free behind decl found inside is_behind is =
 
 -- over one more declaration
 pub next_declaration : {old now new : List (List ℕ)} {index free behind : ℕ} {from here to : Spot} {listed longer : List CodeDecl} (decl : CodeDecl) → longer ≡ listed ++ decl ∷ []
-    → DeclsSoFar old now index free from here listed → true ≡ begins Decl (next (left_at here)) → FoundAs (One Decl) 0 now new here to (IsDeclaration free decl)
+    → DeclsSoFar old now index free from here listed → FoundAs (One Decl) 0 now new here to (IsDeclaration free decl)
     → ((names : List (List ℕ)) → behind ≡ free + decl_statements (decl_tree names decl ∷ [])) → behind + length to.rest ≤ free + length here.rest → DeclsSoFar old new index behind from to longer
-next_declaration {index = index} {free} {behind} {listed = listed} decl same so begun found is_behind few = rw same (record {
+next_declaration {index = index} {free} {behind} {listed = listed} decl same so found is_behind few = rw same (record {
   make = λ rest. so.make (in_front Decl found.inside rest);
-  read = over_one_more so.read (repeated_opened Decl _ 0 (sym begun)) found;
+  read = over_one_more so.read (repeated_opened Decl _ 0 (part_begun Decl _ 0 found.rule_is)) found;
   is = λ names more inside.
       so.is names (goes_on_further (found_goes_on found) more) (Node (One Decl) found.inside (Node (Repeated Decl) inside Empty))
       ∙ (ap (λ (trees : List DeclTree). map (decl_tree names) listed ++ trees) (declaration_in_turn names free behind decl found.inside inside (is_behind names) (found.is names more))
@@ -170,17 +166,30 @@ next_declaration {index = index} {free} {behind} {listed = listed} decl same so 
   few = omega (arith, so.few, few);
 })
 
--- where one more begins and is refused, all are refused there
-pub refused_declaration : {old now : List (List ℕ)} {index free : ℕ} {from here : Spot} {listed : List CodeDecl} (error : SourceError)
-    → DeclsSoFar old now index free from here listed
-    → true ≡ begins Decl (next (left_at here)) → IsRefused (Nonterminal (One Decl) 0) here error → IsRefused (Nonterminal (Repeated Decl) 0) from error
-refused_declaration {now = now} {here = here} error so begun refused =
-    refused_inside so.read error (refused_inside (opens (Repeated Decl) 0 now here _ (repeated_opened Decl _ 0 (sym begun))) error refused)
+-- by cases of whether one more may begin
+refused_by : (may : Bool) {old now : List (List ℕ)} {index free : ℕ} {from here : Spot} {listed : List CodeDecl} (error : SourceError) → begins Decl (next (left_at here)) ≡ may
+    → DeclsSoFar old now index free from here listed → fits (Sign punctuator.OpenBrace) (next (left_at here)) ≡ false → IsRefused (Nonterminal (One Decl) 0) here error
+    → IsRefusedWith (Nonterminal (Repeated Decl) 0) (Nonterminal (One Block) 0) from error
+refused_by true {now = now} {here = here} error e so other refused = λ items.
+    refused_inside so.read error (refused_inside (opens (Repeated Decl) 0 now here _ (repeated_opened Decl _ 0 e)) error refused) (Nonterminal (One Block) 0 ∷ items)
+refused_by false {now = now} {here = here} error e so other refused = refused_after (Nonterminal (One Block) 0) so.read (no_part Decl 0 now here e) error
+    (refused_alike (One Decl) 0 (One Block) 0 here error (part_shut Decl _ 0 e) (block_shut _ 0 other) refused)
 
--- where none begins, that is all of them
+-- where the main block is not next, what refuses one more declaration refuses them with the block
+pub refused_declaration : {old now : List (List ℕ)} {index free : ℕ} {from here : Spot} {listed : List CodeDecl} (error : SourceError)
+    → DeclsSoFar old now index free from here listed → fits (Sign punctuator.OpenBrace) (next (left_at here)) ≡ false → IsRefused (Nonterminal (One Decl) 0) here error
+    → IsRefusedWith (Nonterminal (Repeated Decl) 0) (Nonterminal (One Block) 0) from error
+refused_declaration {here = here} error so other refused = refused_by (begins Decl (next (left_at here))) error refl so other refused
+
+-- no declaration begins with "{"
+no_declaration_opens : begins Decl (Sign punctuator.OpenBrace) ≡ false
+unfolding begins begins_within
+no_declaration_opens = refl
+
+-- so where it is next, these are all declarations
 pub declarations_found : {old now : List (List ℕ)} {index free : ℕ} {from here : Spot} {listed : List CodeDecl} → DeclsSoFar old now index free from here listed
-    → false ≡ begins Decl (next (left_at here)) → FoundAs (Repeated Decl) 0 old now from here (λ names inside. map (decl_tree names) listed ≡ decls_in index inside)
-declarations_found {now = now} {index} {free} {here = here} {listed = listed} so ended =
-    let none = no_part Decl 0 now here (sym ended) in
+    → fits (Sign punctuator.OpenBrace) (next (left_at here)) ≡ true → FoundAs (Repeated Decl) 0 old now from here (λ names inside. map (decl_tree names) listed ≡ decls_in index inside)
+declarations_found {now = now} {index} {free} {here = here} {listed = listed} so opens_block =
+    let none = none_before Decl punctuator.OpenBrace 0 now here no_declaration_opens opens_block in
     all_read (over_part so.read none) (λ names more.
     sym (so.is names more none.inside ∙ (ap (λ (inside : Forest). map (decl_tree names) listed ++ decls_in free inside) (none.is names more) ∙ append-nil (map (decl_tree names) listed))))

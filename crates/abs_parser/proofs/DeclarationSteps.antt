@@ -21,16 +21,16 @@ use Rattle.abs_parser.specs.Answers.{GoesOn}
 use Rattle.abs_parser.specs.Kinds.{Mark, Token, Kind, UpperName, Word, Sign, kind_of_lexeme, fits, next}
 use Rattle.abs_parser.specs.Productions.{Symbol, Decl, Constructor, NextConstructor, ConstructorTypes, TypeParameters, begins, begins_within, chosen}
 use Rattle.abs_parser.specs.Readings.{One, Optional, Repeated, Wanted, Terminal, Nonterminal, opened, Forest, Empty, Leaf, Node}
-use Rattle.abs_parser.specs.ReaderAnswers.{left_at, asked, TakesKind, FoundAs, IsRefused}
+use Rattle.abs_parser.specs.ReaderAnswers.{left_at, asked, TakesKind, FoundAs, IsRefused, is_asked}
 use Rattle.abs_parser.specs.Stops.{limit}
 use Rattle.abs_parser.specs.Tokens.{Spot}
 use Rattle.abs_parser.specs.TreesOf.{names_maybe, constructor_types, constructor_in, more_constructors, decl_in, decl_by}
 use Rattle.abs_tree.specs.declared.source_error.SourceError.{SourceError}
 use Rattle.abs_parser.proofs.NameLemmas.{goes_on_further}
-use Rattle.abs_parser.proofs.StepLemmas.{HasRead, is_asked, is_name, opens, over_token, over_name, over_part, all_read, refused_inside, fits_next, found_goes_on, symbol_kept}
-use Rattle.abs_parser.proofs.SymbolLemmas.{begins_with_token, part_shut, part_opened, repeated_opened, repeated_ends}
-use Rattle.abs_parser.proofs.PatternSteps.{nothing_found}
-use Rattle.abs_parser.proofs.RepeatSteps.{in_front, over_one_more}
+use Rattle.abs_parser.proofs.StepLemmas.{HasRead, is_name, opens, over_token, over_name, over_part, all_read, refused_inside, fits_next, found_goes_on, symbol_kept}
+use Rattle.abs_parser.proofs.SymbolLemmas.{begins_with_token, part_shut, part_begun, part_opened, repeated_opened, repeated_ends}
+use Rattle.abs_parser.proofs.PatternSteps.{next_taken, nothing_found}
+use Rattle.abs_parser.proofs.RepeatSteps.{in_front, over_one_more, refused_up_to, ends_at}
 use Rattle.abs_parser.proofs.NameListSteps.{declared_kept}
 use Rattle.abs_parser.proofs.WordSteps.{word_read}
 
@@ -47,6 +47,7 @@ pub record Parts (Listed Tree : Type 0) : Type 0 where
   pub closing : Lexeme
   pub closing_asked : is_asked closing ≡ true
   pub closing_unnamed : is_name closing ≡ false
+  pub closing_ends : (kind : Kind) → fits (asked closing) kind ≡ true → begins symbol kind ≡ false
   pub tree : List Name → Listed → Tree
   pub trees_in : ℕ → List Tree → Forest → List Tree
   pub trees_none : (index : ℕ) (before : List Tree) → trees_in index before Empty ≡ []
@@ -66,15 +67,15 @@ one_more tree listed one behind = ap (λ trees. trees ++ behind) (map-append tre
 
 -- over one more of the parts
 pub next_part : {Listed Tree : Type 0} {parts : Parts Listed Tree} {Starts : ℕ → Type 0} {whole : List Name → List Tree → DeclTree} {depth : ℕ} {old now new : List (List ℕ)} {from here to : Spot} {listed longer : List Listed}
-    {is_read : List (List ℕ) → Forest → Type 0} (one : Listed) → longer ≡ listed ++ one ∷ [] → ReadsParts parts Starts whole depth old now from here listed → begins parts.symbol (next (left_at here)) ≡ true
+    {is_read : List (List ℕ) → Forest → Type 0} (one : Listed) → longer ≡ listed ++ one ∷ [] → ReadsParts parts Starts whole depth old now from here listed
     → (found : FoundAs (One parts.symbol) depth now new here to is_read)
     → ((index : ℕ) → Starts index → (names : List Name) → GoesOn new names → (others : Forest)
     → parts.tree names one ∷ parts.trees_in index (map (parts.tree names) (listed ++ one ∷ [])) others
     ≡ parts.trees_in index (map (parts.tree names) listed) (Node (One parts.symbol) found.inside (Node (Repeated parts.symbol) others Empty)))
     → ReadsParts parts Starts whole depth old new from to longer
-next_part {parts = parts} {whole = whole} {depth} {listed = listed} one same so begun found is = rw same (record {
+next_part {parts = parts} {whole = whole} {depth} {listed = listed} one same so found is = rw same (record {
   make = λ rest. so.make (in_front parts.symbol found.inside rest);
-  read = over_one_more so.read (repeated_opened parts.symbol _ depth begun) found;
+  read = over_one_more so.read (repeated_opened parts.symbol _ depth (part_begun parts.symbol _ depth found.rule_is)) found;
   is = λ index starts names more inside mark at others.
       so.is index starts names (goes_on_further (found_goes_on found) more) (Node (One parts.symbol) found.inside (Node (Repeated parts.symbol) inside Empty)) mark at others
       ∙ ap (λ trees. whole names trees ∷ others)
@@ -82,12 +83,11 @@ next_part {parts = parts} {whole = whole} {depth} {listed = listed} one same so 
       ∙ sym (one_more (parts.tree names) listed one (parts.trees_in index (map (parts.tree names) (listed ++ one ∷ [])) inside)));
 })
 
--- where one more begins, the declaration is refused where that is
+-- where the token that closes is not next, the declaration is refused where one more is
 pub refused_part : {Listed Tree : Type 0} {parts : Parts Listed Tree} {Starts : ℕ → Type 0} {whole : List Name → List Tree → DeclTree} {depth : ℕ} {old now : List (List ℕ)} {from here : Spot} {listed : List Listed} (error : SourceError)
-    → ReadsParts parts Starts whole depth old now from here listed → begins parts.symbol (next (left_at here)) ≡ true → IsRefused (Nonterminal (One parts.symbol) depth) here error
+    → ReadsParts parts Starts whole depth old now from here listed → fits (asked parts.closing) (next (left_at here)) ≡ false → IsRefused (Nonterminal (One parts.symbol) depth) here error
     → IsRefused (Nonterminal (One Decl) depth) from error
-refused_part {parts = parts} {depth = depth} {now = now} {here = here} error so begun refused =
-    refused_inside so.read error (refused_inside (opens (Repeated parts.symbol) depth now here _ (repeated_opened parts.symbol _ depth begun)) error refused)
+refused_part {parts = parts} error so other refused = refused_up_to (asked parts.closing) error so.read other refused
 
 -- where no further one begins, there is none
 pub no_part : (symbol : Symbol) (depth : ℕ) (table : List (List ℕ)) (here : Spot) → begins symbol (next (left_at here)) ≡ false → FoundAs (Repeated symbol) depth table table here here (λ names inside. inside ≡ Empty)
@@ -101,10 +101,10 @@ refused_closing {parts = parts} {depth = depth} {now = now} {here = here} error 
 
 -- behind the token that closes, the declaration is found
 pub all_parts : {Listed Tree : Type 0} {parts : Parts Listed Tree} {Starts : ℕ → Type 0} {whole : List Name → List Tree → DeclTree} {depth : ℕ} {old now : List (List ℕ)} {from here end : Spot} {token : Lexed} {listed : List Listed}
-    → ReadsParts parts Starts whole depth old now from here listed → begins parts.symbol (next (left_at here)) ≡ false → TakesKind parts.closing token here end → depth ≤ limit
+    → ReadsParts parts Starts whole depth old now from here listed → TakesKind parts.closing token here end → depth ≤ limit
     → FoundAs (One Decl) depth old now from end (λ names inside. (index : ℕ) → Starts index → (others : List DeclTree) → whole names (map (parts.tree names) listed) ∷ others ≡ decl_in index inside others)
-all_parts {parts = parts} {whole = whole} {depth} {now = now} {here = here} {token = token} {listed} so ends takes within =
-    let none = no_part parts.symbol depth now here ends in
+all_parts {parts = parts} {whole = whole} {depth} {now = now} {here = here} {token = token} {listed} so takes within =
+    let none = no_part parts.symbol depth now here (parts.closing_ends _ (fits_next parts.closing_asked takes)) in
     all_read (over_token (over_part so.read none) takes parts.closing_asked parts.closing_unnamed within) (λ names more index starts others.
     let before = map (parts.tree names) listed in
     sym (so.is index starts names more none.inside (Token token) depth others ∙ ap (λ trees. whole names trees ∷ others)
@@ -135,6 +135,10 @@ IsConstructor constructor names inside = (others : List ConstructorTree) → con
 constructor_begins : (kind : Kind) → begins Constructor kind ≡ fits UpperName kind
 constructor_begins kind = begins_with_token Constructor kind refl
 
+-- which opens it
+pub constructor_opened : (kind : Kind) (depth : ℕ) → fits UpperName kind ≡ true → opened (One Constructor) kind depth ≡ Some (Terminal UpperName depth ∷ Nonterminal (Optional ConstructorTypes) depth ∷ [])
+constructor_opened kind depth fit = part_opened Constructor kind depth refl refl (constructor_begins kind ∙ fit)
+
 -- nothing else opens one
 pub constructor_shut : (kind : Kind) (depth : ℕ) → fits UpperName kind ≡ false → opened (One Constructor) kind depth ≡ None
 constructor_shut kind depth differs = part_shut Constructor kind depth (constructor_begins kind ∙ differs)
@@ -143,7 +147,7 @@ constructor_shut kind depth differs = part_shut Constructor kind depth (construc
 pub constructor_named : {name : Lexed} {from behind : Spot} {depth : ℕ} {old table : List (List ℕ)} → TakesKind lexeme.UpperName name from behind → table ≡ with_name old name.bytes → depth ≤ limit
     → HasRead (One Constructor) depth old table from (λ rest. Leaf (Token name) depth rest) (Nonterminal (Optional ConstructorTypes) depth ∷ []) behind
 constructor_named {from = from} {depth = depth} {old} name is within =
-    over_name (opens (One Constructor) depth old from _ (part_opened Constructor _ depth refl refl (constructor_begins _ ∙ fits_next refl name))) name refl refl within is
+    over_name (opens (One Constructor) depth old from _ (constructor_opened _ depth (fits_next refl name))) name refl refl within is
 
 -- a constructor with its name and its types is found
 pub constructor_found : {name : Lexed} {from types_at end : Spot} {depth : ℕ} {old table new : List (List ℕ)} (constructor : CodeConstructor) → constructor.name.place ≡ name.place → TakesKind lexeme.UpperName name from types_at
@@ -156,6 +160,11 @@ constructor_found {name} {old = old} constructor same takes number is types with
 
 -- Data
 
+-- no further constructor begins with ";"
+pub no_constructor_closes : begins NextConstructor (Sign punctuator.Semicolon) ≡ false
+unfolding begins begins_within
+no_constructor_closes = refl
+
 -- the constructors of data repeat up to ";"
 abbrev pub constructors_of : Parts CodeConstructor ConstructorTree
 constructors_of = record {
@@ -163,6 +172,7 @@ constructors_of = record {
   closing = lexeme.Sign punctuator.Semicolon;
   closing_asked = refl;
   closing_unnamed = refl;
+  closing_ends = ends_at NextConstructor punctuator.Semicolon no_constructor_closes;
   tree = constructor_tree;
   trees_in = λ index before. more_constructors;
   trees_none = λ index before. refl;
@@ -228,7 +238,7 @@ pub next_constructor : {whole : List Name → List ConstructorTree → DeclTree}
 next_constructor {bar = bar} {depth = depth} {now = now} {new = new} constructor same so takes found within =
     let next : FoundAs (One NextConstructor) depth now new _ _ (λ names inside. inside ≡ Leaf (Token bar) depth (Node (One Constructor) found.inside Empty)) =
     all_read (over_part (bar_read depth now takes within) found) (λ names more. refl) in
-    next_part constructor same so (next_constructor_begins _ ∙ fits_next refl takes) next (λ index starts names more others.
+    next_part constructor same so next (λ index starts names more others.
     found.is names more (more_constructors others)
     ∙ sym (ap (λ inside. more_constructors (Node (One NextConstructor) inside (Node (Repeated NextConstructor) others Empty))) (next.is names more)))
 
@@ -237,4 +247,4 @@ pub refused_constructor : {whole : List Name → List ConstructorTree → DeclTr
     → ReadsParts constructors_of AnyIndex whole depth old now from here constructors → TakesKind (lexeme.Sign punctuator.Bar) bar here constructor_at → depth ≤ limit
     → IsRefused (Nonterminal (One Constructor) depth) constructor_at error → IsRefused (Nonterminal (One Decl) depth) from error
 refused_constructor {depth = depth} {now = now} error so takes within refused =
-    refused_part error so (next_constructor_begins _ ∙ fits_next refl takes) (refused_inside (bar_read depth now takes within) error refused)
+    refused_part error so (ap (fits (Sign punctuator.Semicolon)) (next_taken takes)) (refused_inside (bar_read depth now takes within) error refused)

@@ -26,7 +26,7 @@ use Rattle.abs_parser.proofs.NameLemmas.{goes_on_further, goes_on_all}
 use Rattle.abs_parser.proofs.StepLemmas.{HasRead, opens, over_token, over_name, over_part, all_read, found_goes_on, symbol_kept}
 use Rattle.abs_parser.proofs.SymbolLemmas.{part_begun}
 use Rattle.abs_parser.proofs.InFrontSteps.{refused_in_front}
-use Rattle.abs_parser.proofs.PatternSteps.{next_taken}
+use Rattle.abs_parser.proofs.WordSteps.{word_read}
 
 -- an expression that is neither a `let` nor an `if` is one of operators
 or_opened : (kind : Kind) (depth : ℕ) → fits (Word keyword.Let) kind ≡ false → fits (Word keyword.If) kind ≡ false → begins Or kind ≡ true
@@ -59,15 +59,14 @@ behind_if at =
     Nonterminal (One ExprSymbol) at ∷ Terminal (Word keyword.Then) at ∷ Nonterminal (One ExprSymbol) at ∷ Terminal (Word keyword.Else) at ∷ Nonterminal (One ExprSymbol) at ∷ []
 
 -- `if` opens an expression
-pub if_opened : {word : Lexed} {from behind : Spot} (depth : ℕ) → TakesKind (lexeme.Word keyword.If) word from behind
-    → opened (One ExprSymbol) (next (left_at from)) depth ≡ Some (Terminal (Word keyword.If) (depth + 1) ∷ behind_if (depth + 1))
+pub if_opened : (depth : ℕ) → opened (One ExprSymbol) (Word keyword.If) depth ≡ Some (Terminal (Word keyword.If) (depth + 1) ∷ behind_if (depth + 1))
 unfolding begins chosen begins_within
-if_opened depth takes = ap (λ (k : Kind). opened (One ExprSymbol) k depth) (next_taken takes)
+if_opened depth = refl
 
 -- over the word of an `if`
 pub if_begins : {word : Lexed} {from behind : Spot} (depth : ℕ) (table : List (List ℕ)) → TakesKind (lexeme.Word keyword.If) word from behind → depth + 1 ≤ limit
     → HasRead (One ExprSymbol) depth table table from (λ rest. Leaf (Token word) (depth + 1) rest) (behind_if (depth + 1)) behind
-if_begins {from = from} depth table takes within = over_token (opens (One ExprSymbol) depth table from _ (if_opened depth takes)) takes refl refl within
+if_begins depth table takes within = word_read depth table (if_opened depth) takes within
 
 -- behind the name of a `let` stands this
 abbrev behind_name : ℕ → List Wanted
@@ -79,15 +78,14 @@ abbrev behind_let : ℕ → List Wanted
 behind_let at = Terminal (Sign punctuator.OpenParen) at ∷ Nonterminal (One Type') at ∷ Terminal LowerName at ∷ behind_name at
 
 -- `let` opens an expression
-pub let_opened : {word : Lexed} {from behind : Spot} (depth : ℕ) → TakesKind (lexeme.Word keyword.Let) word from behind
-    → opened (One ExprSymbol) (next (left_at from)) depth ≡ Some (Terminal (Word keyword.Let) (depth + 1) ∷ behind_let (depth + 1))
+pub let_opened : (depth : ℕ) → opened (One ExprSymbol) (Word keyword.Let) depth ≡ Some (Terminal (Word keyword.Let) (depth + 1) ∷ behind_let (depth + 1))
 unfolding begins chosen begins_within
-let_opened depth takes = ap (λ (k : Kind). opened (One ExprSymbol) k depth) (next_taken takes)
+let_opened depth = refl
 
 -- over the word of a `let`
 pub let_begins : {word : Lexed} {from behind : Spot} (depth : ℕ) (table : List (List ℕ)) → TakesKind (lexeme.Word keyword.Let) word from behind → depth + 1 ≤ limit
     → HasRead (One ExprSymbol) depth table table from (λ rest. Leaf (Token word) (depth + 1) rest) (behind_let (depth + 1)) behind
-let_begins {from = from} depth table takes within = over_token (opens (One ExprSymbol) depth table from _ (let_opened depth takes)) takes refl refl within
+let_begins depth table takes within = word_read depth table (let_opened depth) takes within
 
 -- this expression was read
 abbrev pub IsExpression : Expr → List (List ℕ) → Forest → Type 0

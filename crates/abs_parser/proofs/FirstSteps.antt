@@ -11,7 +11,6 @@ use Rattle.abs_tree.specs.Syntax.{Name, AssignOf, DoOf, Statement, ThisOf}
 use Rattle.abs_tree.specs.SyntaxViews.{phrase, side_tree, target_tree}
 use Rattle.abs_tree.specs.Trees.{name_of}
 use Rattle.abs_tree.specs.declared.place.Place.{Place}
-use Rattle.abs_tree.specs.declared.refusal.Code.TheVariants.{S2}
 use Rattle.abs_tree.specs.declared.symbol.Symbol as code_symbol
 use Rattle.abs_tree.specs.declared.syntax.expression.Expr as code_expr
 use Rattle.abs_tree.specs.declared.syntax.statement.RightSide.{RightSide}
@@ -25,19 +24,18 @@ use Rattle.abs_parser.specs.Kinds.{Mark, Token, Kind, LowerName, LocalName, Word
 use Rattle.abs_parser.specs.Firsts.{place_of_first, target_of, phrase_of, after_first}
 use Rattle.abs_parser.specs.Productions.{Stmt, AfterName, AfterThis, Rest, Arguments, Rhs, begins, begins_within, chosen}
 use Rattle.abs_parser.specs.Readings.{Goal, One, Optional, Terminal, Nonterminal, opened, Forest, Empty, Leaf, Node}
-use Rattle.abs_parser.specs.ReaderAnswers.{left_at, maybe_phrases, refusal_at, TakesKind, FoundAs, IsRefused}
+use Rattle.abs_parser.specs.ReaderAnswers.{left_at, maybe_phrases, TakesKind, FoundAs, IsRefused}
 use Rattle.abs_parser.specs.Stops.{limit}
 use Rattle.abs_parser.specs.Tokens.{Spot}
 use Rattle.abs_parser.specs.TreesOf.{written, arguments_maybe, rhs_in, rest_in, after_variable, after_field, after_this, statement_in, statement_by}
 use Rattle.abs_tree.specs.declared.source_error.SourceError.{SourceError}
-use Rattle.abs_tree.specs.declared.source_error.SourceError.TheVariants.{Refused}
 use Rattle.abs_parser.specs.declared.simple_statements.First.{First}
 use Rattle.abs_parser.specs.declared.simple_statements.First.TheVariants as first
 use Rattle.abs_parser.proofs.InFrontSteps.{refused_in_front}
 use Rattle.abs_parser.proofs.NameLemmas.{goes_on_further}
 use Rattle.abs_parser.proofs.PatternSteps.{next_taken}
 use Rattle.abs_parser.proofs.RestSteps.{MayHaveRead, may_open, over_left_out, refused_left_out, refused_either_way, refused_there, has_read}
-use Rattle.abs_parser.proofs.StepLemmas.{HasRead, opens, over_token, over_name, over_part, into_last, all_read, refused_inside, refused_deep, refused_alike, fits_next, found_goes_on, symbol_kept}
+use Rattle.abs_parser.proofs.StepLemmas.{HasRead, opens, over_token, over_name, over_part, into_last, all_read, refused_inside, refused_alike, fits_next, found_goes_on, symbol_kept}
 use Rattle.abs_parser.proofs.SymbolLemmas.{part_begun, part_shut, optional_left_out}
 
 -- The trees
@@ -153,12 +151,10 @@ variable_opened LowerName depth fit = refl
 variable_opened LocalName depth fit = refl
 variable_opened _ depth fit = absurd cc
 
--- where the name stands too deep, the statement is refused
-pub variable_deep : {name : Lexed} {from behind : Spot} (depth : ℕ) (error : SourceError) → error ≡ Refused (refusal_at S2 from) → TakesKind lexeme.LowerName name from behind
-    → limit < depth + 1 + 2 → IsRefused (Nonterminal (One Stmt) depth) from error
-variable_deep {from = from} depth error is name deep =
-    let fit = fits_next {kind = lexeme.LowerName} refl name in
-    rw is (refused_deep (One Stmt) depth from LowerName (depth + 1 + 2) _ (variable_opened _ depth fit) fit deep)
+-- where the name is refused, so is the statement
+pub variable_refused : (depth : ℕ) (from : Spot) (error : SourceError) → fits LowerName (next (left_at from)) ≡ true → IsRefused (Terminal LowerName (depth + 1 + 2)) from error
+    → IsRefused (Nonterminal (One Stmt) depth) from error
+variable_refused depth from error fit refused = refused_inside (opens (One Stmt) depth [] from _ (variable_opened _ depth fit)) error refused
 
 -- over the name, which the table has then
 pub variable_begins : {name : Lexed} {from behind : Spot} {names : List (List ℕ)} (depth : ℕ) (table : List (List ℕ)) → TakesKind lexeme.LowerName name from behind
@@ -194,16 +190,9 @@ variable_found {name} {depth = depth} index old symbol tree takes within number 
 -- Statements that begin with `this`
 
 -- `this` opens a statement
-this_opened : (depth : ℕ) → opened (One Stmt) (Word keyword.This) depth ≡ Some (Terminal (Word keyword.This) (depth + 1 + 2) ∷ Nonterminal (One AfterThis) (depth + 1) ∷ [])
+pub this_opened : (depth : ℕ) → opened (One Stmt) (Word keyword.This) depth ≡ Some (Terminal (Word keyword.This) (depth + 1 + 2) ∷ Nonterminal (One AfterThis) (depth + 1) ∷ [])
 unfolding begins chosen begins_within
 this_opened depth = refl
-
--- where it stands too deep, the statement is refused
-pub this_deep : {this : Lexed} {from behind : Spot} (depth : ℕ) (error : SourceError) → error ≡ Refused (refusal_at S2 from) → TakesKind (lexeme.Word keyword.This) this from behind
-    → limit < depth + 1 + 2 → IsRefused (Nonterminal (One Stmt) depth) from error
-this_deep {from = from} depth error is this deep =
-    rw is (refused_deep (One Stmt) depth from (Word keyword.This) (depth + 1 + 2) _
-    (ap (λ (k : Kind). opened (One Stmt) k depth) (next_taken this) ∙ this_opened depth) (fits_next {kind = lexeme.Word keyword.This} refl this) deep)
 
 -- over `this`
 pub this_begins : {this : Lexed} {from behind : Spot} (depth : ℕ) (table : List (List ℕ)) → TakesKind (lexeme.Word keyword.This) this from behind → depth + 1 + 2 ≤ limit

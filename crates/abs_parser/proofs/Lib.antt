@@ -31,13 +31,11 @@ pub mod OperatorLemmas
 pub mod ClimbingLemmas
 pub mod RepeatSteps
 pub mod FirstPlaceLemmas
-pub mod DeepLemmas
 pub mod PrimarySteps
 pub mod ExpressionSteps
 pub mod CaseSteps
 pub mod GuardSteps
 pub mod RightSideSteps
-pub mod StatementBeginnings
 pub mod PlainSteps
 pub mod NameListSteps
 pub mod ParameterSteps

@@ -182,6 +182,11 @@ pub parentheses_follow : {so : SeparatedList} (within : InParentheses so) (kind 
     → opened (Optional within.symbol) kind depth ≡ Some (Nonterminal (One within.symbol) depth ∷ [])
 parentheses_follow within kind depth fit = optional_opened within.symbol kind depth (parentheses_begin within kind ∙ fit)
 
+-- it opens the part itself
+pub parentheses_opened : {so : SeparatedList} (within : InParentheses so) (kind : Kind) (depth : ℕ) → fits (Sign punctuator.OpenParen) kind ≡ true
+    → opened (One within.symbol) kind depth ≡ Some (Terminal (Sign punctuator.OpenParen) depth ∷ Nonterminal (Optional so.list) depth ∷ Terminal (Sign punctuator.CloseParen) depth ∷ [])
+parentheses_opened within kind depth fit = part_opened within.symbol kind depth within.symbol_is within.symbol_counts (parentheses_begin within kind ∙ fit)
+
 -- and nothing else opens it
 pub parentheses_shut : {so : SeparatedList} (within : InParentheses so) (kind : Kind) (depth : ℕ) → fits (Sign punctuator.OpenParen) kind ≡ false → opened (One within.symbol) kind depth ≡ None
 parentheses_shut within kind depth other = part_shut within.symbol kind depth (parentheses_begin within kind ∙ other)
@@ -190,8 +195,7 @@ parentheses_shut within kind depth other = part_shut within.symbol kind depth (p
 pub parenthesis_read : {so : SeparatedList} (within : InParentheses so) {token : Lexed} {from behind : Spot} (depth : ℕ) (table : List (List ℕ)) → TakesKind (lexeme.Sign punctuator.OpenParen) token from behind → depth ≤ limit
     → HasRead (One within.symbol) depth table table from (λ rest. Leaf (Token token) depth rest) (Nonterminal (Optional so.list) depth ∷ Terminal (Sign punctuator.CloseParen) depth ∷ []) behind
 parenthesis_read within {from = from} depth table takes shallow =
-    over_token (opens (One within.symbol) depth table from _
-    (part_opened within.symbol _ depth within.symbol_is within.symbol_counts (parentheses_begin within _ ∙ fits_next refl takes))) takes refl refl shallow
+    over_token (opens (One within.symbol) depth table from _ (parentheses_opened within _ depth (fits_next refl takes))) takes refl refl shallow
 
 -- the same where it may be left out
 pub parenthesis_read_maybe : {so : SeparatedList} (within : InParentheses so) {token : Lexed} {from behind : Spot} (depth : ℕ) (table : List (List ℕ)) → TakesKind (lexeme.Sign punctuator.OpenParen) token from behind → depth ≤ limit

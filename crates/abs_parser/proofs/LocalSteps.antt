@@ -24,7 +24,7 @@ use Rattle.abs_tree.specs.declared.source_error.SourceError.TheVariants.{Refused
 use Rattle.abs_parser.proofs.ExpressionSteps.{goes_on_name}
 use Rattle.abs_parser.proofs.FirstPlaceLemmas.{first_place_found}
 use Rattle.abs_parser.proofs.NameLemmas.{goes_on_further}
-use Rattle.abs_parser.proofs.StepLemmas.{HasRead, opens, over_token, over_name, over_part, into_last, all_read, refused_inside, refused_deep, fits_next, found_goes_on, symbol_kept}
+use Rattle.abs_parser.proofs.StepLemmas.{HasRead, opens, over_token, over_name, over_part, into_last, all_read, refused_inside, fits_next, found_goes_on, symbol_kept}
 use Rattle.abs_parser.proofs.SymbolLemmas.{begins_with_token, part_opened, optional_opened, optional_left_out}
 use Rattle.abs_parser.proofs.TypeLemmas.{type_opened}
 
@@ -69,13 +69,6 @@ local_opened _ depth fit = absurd cc
 pub local_begins : (depth : ℕ) (table : List (List ℕ)) (from : Spot) → fits UpperName (next (left_at from)) ≡ true
     → HasRead (One Stmt) depth table table from (λ rest. rest) (Nonterminal (One Type') (depth + 1) ∷ Terminal LowerName (depth + 1) ∷ behind_variable (depth + 1)) from
 local_begins depth table from fit = opens (One Stmt) depth table from _ (local_opened _ depth fit)
-
--- at the limit it is refused, since its type stands deeper
-pub local_deep : (depth : ℕ) (from : Spot) → fits UpperName (next (left_at from)) ≡ true → limit < depth + 1 + 1
-    → IsRefused (Nonterminal (One Stmt) depth) from (Refused (refusal_at S2 from))
-local_deep depth from fit deep =
-    refused_inside (local_begins depth [] from fit) (Refused (refusal_at S2 from))
-    (refused_deep (One Type') (depth + 1) from UpperName (depth + 1 + 1) _ (type_opened (depth + 1) _ fit) fit deep)
 
 -- over its type
 pub local_typed : {from name_at : Spot} {depth : ℕ} {old now : List (List ℕ)} {is_read : List (List ℕ) → Forest → Type 0} → fits UpperName (next (left_at from)) ≡ true

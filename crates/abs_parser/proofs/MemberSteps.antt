@@ -1,6 +1,6 @@
 -- The steps of the readers of the members of a class: what stands behind the type and the name of a member, by the token that begins it; what a
 -- member consists of, over its type and its name; and which trees stand for what was read of them.
-use Rattle.std.proofs.Common.{◌≡◌, ◌≤◌, ◌<◌, length, ℕ, true, false, List, [], ◌∷◌, map, Some, None, refl, ap, ◌∙◌}
+use Rattle.std.proofs.Common.{◌≡◌, ◌≤◌, ◌<◌, length, ℕ, true, false, List, [], ◌∷◌, map, Some, None, refl, sym, ap, ◌∙◌}
 use Rattle.std.specs.declared.alloc.Global.{Global}
 use Rattle.std.specs.declared.sync.Arc.{Arc}
 use Rattle.abs_tree.specs.Names.{with_name, number_of_name}
@@ -32,11 +32,12 @@ use Rattle.abs_parser.proofs.NameListSteps.{declared_kept}
 use Rattle.abs_parser.proofs.ExpressionSteps.{goes_on_name}
 use Rattle.abs_parser.proofs.InFrontSteps.{refused_in_front}
 use Rattle.abs_parser.proofs.NameLemmas.{goes_on_further}
+use Rattle.abs_parser.proofs.AskedLemmas.{sign_fits}
 use Rattle.abs_parser.proofs.PatternSteps.{next_taken}
 use Rattle.abs_parser.proofs.RepeatSteps.{row_shorter}
 use Rattle.abs_parser.proofs.SignatureSteps.{parameters_read}
-use Rattle.abs_parser.proofs.StepLemmas.{HasRead, opens, over_token, over_name, over_part, all_read, refused_other, fits_next, found_goes_on}
-use Rattle.abs_parser.proofs.SymbolLemmas.{begins_with_token, begins_with_part, part_shut, part_begun, part_opened}
+use Rattle.abs_parser.proofs.StepLemmas.{HasRead, opens, over_token, over_name, over_part, all_read, refused_first_token, fits_next, found_goes_on}
+use Rattle.abs_parser.proofs.SymbolLemmas.{begins_with_part, part_shut, part_begun, part_opened}
 
 -- What stands behind the type and the name
 
@@ -65,10 +66,10 @@ tail_shut kind depth no_semicolon no_equals no_paren = rw (no_semicolon, no_equa
 
 -- a token that is none of these three is refused
 pub refused_tail : (depth : ℕ) (from : Spot) (error : SourceError) → fits (Sign punctuator.Semicolon) (next (left_at from)) ≡ false
-    → fits (Sign punctuator.Assign) (next (left_at from)) ≡ false → fits (Sign punctuator.OpenParen) (next (left_at from)) ≡ false
-    → ((at : ℕ) → IsRefused (Terminal (Sign punctuator.OpenParen) at) from error) → IsRefused (Nonterminal (One MemberTail) depth) from error
-refused_tail depth from error no_semicolon no_equals no_paren refused =
-    refused_other (Sign punctuator.OpenParen) (One MemberTail) depth from error no_paren (tail_shut _ depth no_semicolon no_equals no_paren) refused
+    → fits (Sign punctuator.Assign) (next (left_at from)) ≡ false → IsRefused (Terminal (Sign punctuator.OpenParen) depth) from error → IsRefused (Nonterminal (One MemberTail) depth) from error
+refused_tail depth from error no_semicolon no_equals refused =
+    refused_first_token (Sign punctuator.OpenParen) depth (One MemberTail) depth from error
+    (λ fit. ap (λ (k : Kind). opened (One MemberTail) k depth) (sign_fits punctuator.OpenParen _ fit) ∙ method_opened depth) (tail_shut _ depth no_semicolon no_equals) refused
 
 -- whichever sign opens it begins it
 tail_begins : {sign : Punctuator} {left : List Wanted} {from : Spot} {token : Lexed} {behind : Spot} (depth : ℕ) (table : List (List ℕ))
@@ -136,10 +137,6 @@ IsMember index one names inside = (others : List MemberTree) → member_tree nam
 member_begins : (kind : Kind) → begins Member kind ≡ begins Type' kind
 member_begins kind = begins_with_part Member kind refl
 
--- which is with a name
-pub member_begins_named : (kind : Kind) → begins Member kind ≡ fits UpperName kind
-member_begins_named kind = member_begins kind ∙ begins_with_token Type' kind refl
-
 -- a member is a type, a name, and what stands behind it
 member_opened : (kind : Kind) (depth : ℕ) → begins Type' kind ≡ true
     → opened (One Member) kind depth ≡ Some (Nonterminal (One Type') depth ∷ Terminal LowerName depth ∷ Nonterminal (One MemberTail) depth ∷ [])
@@ -150,9 +147,9 @@ member_shut : (kind : Kind) (depth : ℕ) → begins Type' kind ≡ false → op
 member_shut kind depth none = part_shut Member kind depth (member_begins kind ∙ none)
 
 -- a member that was found leaves fewer tokens than there were
-pub member_shorter : {name : Lexed} {from behind to : Spot} {depth : ℕ} {old new : List (List ℕ)} {is_read : List (List ℕ) → Forest → Type 0} → TakesKind lexeme.UpperName name from behind
+pub member_shorter : {from to : Spot} {depth : ℕ} {old new : List (List ℕ)} {is_read : List (List ℕ) → Forest → Type 0}
     → FoundAs (One Member) depth old new from to is_read → length to.rest < length from.rest
-member_shorter {depth = depth} name found = row_shorter (member_opened _ depth (begins_with_token Type' _ refl ∙ fits_next refl name)) found
+member_shorter {depth = depth} found = row_shorter (member_opened _ depth (sym (member_begins _) ∙ part_begun Member _ depth found.rule_is)) found
 
 -- a member is refused where its type is
 pub refused_type : (depth : ℕ) (from : Spot) (error : SourceError) → IsRefused (Nonterminal (One Type') depth) from error → IsRefused (Nonterminal (One Member) depth) from error

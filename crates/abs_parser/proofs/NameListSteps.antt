@@ -20,7 +20,7 @@ use Rattle.abs_parser.specs.Headings.{symbol_of}
 use Rattle.abs_parser.specs.Kinds.{Token, Kind, UpperName, Sign, fits, next}
 use Rattle.abs_parser.specs.Productions.{Symbol, Item, Of, Many, CommaUpper, TypeParameters, upper, sign, rule, counts, begins}
 use Rattle.abs_parser.specs.Readings.{One, Optional, Repeated, Terminal, Nonterminal, place, Forest, Empty, Leaf, Node}
-use Rattle.abs_parser.specs.ReaderAnswers.{left_at, asked, TakesKind, FoundAs, IsRefused}
+use Rattle.abs_parser.specs.ReaderAnswers.{left_at, asked, TakesKind, FoundAs, IsRefused, is_asked}
 use Rattle.abs_parser.specs.Stops.{limit}
 use Rattle.abs_parser.specs.Tokens.{Spot}
 use Rattle.abs_parser.specs.TreesOf.{declared, more_names, names_maybe}
@@ -29,7 +29,7 @@ use Rattle.abs_parser.specs.declared.names.Heading.TheVariants as heading
 use Rattle.abs_tree.specs.declared.source_error.SourceError.{SourceError}
 use Rattle.abs_parser.proofs.NameLemmas.{goes_on_further, few_more}
 use Rattle.abs_parser.proofs.PatternSteps.{nothing_found}
-use Rattle.abs_parser.proofs.StepLemmas.{HasRead, is_asked, is_name, opens, over_token, over_name, over_part, into_last, all_read, refused_inside, fits_next, found_weaker, found_goes_on, symbol_kept, token_shorter}
+use Rattle.abs_parser.proofs.StepLemmas.{HasRead, is_name, opens, over_token, over_name, over_part, into_last, all_read, refused_inside, fits_next, found_weaker, found_goes_on, symbol_kept, token_shorter}
 use Rattle.abs_parser.proofs.SymbolLemmas.{begins_with_token, part_opened, optional_opened, optional_left_out, repeated_opened, repeated_ends}
 
 -- the tree of a name that was put into the table of names

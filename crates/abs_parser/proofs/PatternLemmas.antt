@@ -5,15 +5,18 @@ use Rattle.std.specs.Str.Parse.{digits_value}
 use Rattle.std.specs.Str.{bytes_eq}
 use Rattle.abs_lexer.specs.declared.lexeme.Lexeme.{Lexeme}
 use Rattle.abs_lexer.specs.declared.lexeme.Lexeme.TheVariants as lexeme
+use Rattle.abs_lexer.specs.contracts.lexeme.Punctuator.{the_type}
+use Rattle.abs_lexer.specs.declared.lexeme.Punctuator.{Punctuator}
 use Rattle.abs_lexer.specs.declared.lexeme.Punctuator.TheVariants as punctuator
+use denote.Enum.Bare.{sameb}
 use Rattle.abs_lexer.specs.Tokens.{Lexed}
 use Rattle.abs_tree.specs.Syntax.{Unresolved, AnyValue, Binds, SameNumber, SameString, Built}
-use Rattle.abs_parser.specs.Kinds.{Mark, Token, LowerName, LocalName, UpperName, AbsName, StdLibName, Number, End, place_of_mark, kind_of_lexeme}
+use Rattle.abs_parser.specs.Kinds.{Mark, Token, Kind, LowerName, LocalName, UpperName, AbsName, StdLibName, Number, Sign, End, place_of_mark, kind_of_lexeme, fits}
 use Rattle.abs_parser.specs.Productions.{Pattern, PatternArguments, begins, chosen, begins_within}
 use Rattle.abs_parser.specs.Readings.{Goal, One, Optional, Wanted, Terminal, Nonterminal, opened, Forest, Empty, Leaf, Node}
 use Rattle.abs_parser.specs.ReaderAnswers.{asked}
 use Rattle.abs_parser.specs.TreesOf.{written, unescaped, pattern_in, pattern_by, pattern_arguments}
-use Rattle.abs_parser.proofs.StepLemmas.{is_asked}
+use Rattle.abs_parser.proofs.StepLemmas.{asked_fits}
 
 -- behind the token of a kind that begins a pattern stands this
 abbrev pub behind_first : Lexeme → ℕ → List Wanted
@@ -22,41 +25,50 @@ behind_first (lexeme.Sign punctuator.Minus) depth = Terminal Number depth ∷ []
 behind_first _ depth = []
 
 -- a lower-case name opens a pattern, whichever it is
-lower_opened : (is_local : Bool) (depth : ℕ) → opened (One Pattern) (cond is_local LocalName LowerName) depth ≡ Some (Terminal LowerName (depth + 1) ∷ [])
+lower_opened : (kind : Kind) (depth : ℕ) → fits LowerName kind ≡ true → opened (One Pattern) kind depth ≡ Some (Terminal LowerName (depth + 1) ∷ [])
 unfolding begins chosen begins_within
-lower_opened true depth = refl
-lower_opened false depth = refl
+lower_opened LowerName depth fit = refl
+lower_opened LocalName depth fit = refl
+lower_opened _ depth fit = absurd cc
 
 -- and so does an upper-case name
-upper_opened : (is_abs is_std : Bool) (depth : ℕ) → opened (One Pattern) (cond is_abs AbsName (cond is_std StdLibName UpperName)) depth ≡ Some (Terminal UpperName (depth + 1) ∷ Nonterminal (Optional PatternArguments) (depth + 1) ∷ [])
+pub constructor_opened : (kind : Kind) (depth : ℕ) → fits UpperName kind ≡ true → opened (One Pattern) kind depth ≡ Some (Terminal UpperName (depth + 1) ∷ Nonterminal (Optional PatternArguments) (depth + 1) ∷ [])
 unfolding begins chosen begins_within
-upper_opened true is_std depth = refl
-upper_opened false true depth = refl
-upper_opened false false depth = refl
+constructor_opened UpperName depth fit = refl
+constructor_opened AbsName depth fit = refl
+constructor_opened StdLibName depth fit = refl
+constructor_opened _ depth fit = absurd cc
 
 -- a token that begins a pattern opens it
 pub pattern_opened : (kind : Lexeme) (bytes : List ℕ) (depth : ℕ) → begins Pattern (kind_of_lexeme kind bytes) ≡ true
     → opened (One Pattern) (kind_of_lexeme kind bytes) depth ≡ Some (Terminal (asked kind) (depth + 1) ∷ behind_first kind (depth + 1))
 unfolding begins chosen begins_within
-pattern_opened lexeme.LowerName bytes depth is = lower_opened _ depth
-pattern_opened lexeme.UpperName bytes depth is = upper_opened _ _ depth
+pattern_opened lexeme.LowerName bytes depth is = lower_opened _ depth (asked_fits lexeme.LowerName bytes refl)
+pattern_opened lexeme.UpperName bytes depth is = constructor_opened _ depth (asked_fits lexeme.UpperName bytes refl)
 pattern_opened lexeme.Number bytes depth is = refl
 pattern_opened lexeme.Text bytes depth is = refl
 pattern_opened (lexeme.Sign punctuator.Underscore) bytes depth is = refl
 pattern_opened (lexeme.Sign punctuator.Minus) bytes depth is = refl
 pattern_opened _ bytes depth is = absurd cc
 
--- the grammar asks for each kind that begins a pattern
-pub first_asked : (kind : Lexeme) (bytes : List ℕ) → begins Pattern (kind_of_lexeme kind bytes) ≡ true → is_asked kind ≡ true
+-- an underscore opens one
+pub any_opened : (depth : ℕ) → opened (One Pattern) (Sign punctuator.Underscore) depth ≡ Some (Terminal (Sign punctuator.Underscore) (depth + 1) ∷ [])
 unfolding begins chosen begins_within
-first_asked lexeme.Foreign bytes is = absurd cc
-first_asked _ bytes is = refl
+any_opened depth = refl
+
+-- and so does a minus
+pub minus_opened : (depth : ℕ) → opened (One Pattern) (Sign punctuator.Minus) depth ≡ Some (Terminal (Sign punctuator.Minus) (depth + 1) ∷ Terminal Number (depth + 1) ∷ [])
+unfolding begins chosen begins_within
+minus_opened depth = refl
+
+-- no other sign does
+pub sign_shut : (sign : Punctuator) (depth : ℕ) → sameb the_type sign punctuator.Underscore ≡ false → fits (Sign punctuator.Minus) (Sign sign) ≡ false → opened (One Pattern) (Sign sign) depth ≡ None
+unfolding begins chosen begins_within
+sign_shut punctuator.Underscore depth other differs = absurd cc
+sign_shut punctuator.Minus depth other differs = absurd cc
+sign_shut _ depth other differs = refl
 
 -- no pattern begins with the end of the text
-pub end_begins : false ≡ begins Pattern End
-unfolding begins begins_within
-end_begins = refl
-
 pub end_shut : (depth : ℕ) → opened (One Pattern) End depth ≡ None
 unfolding begins chosen begins_within
 end_shut depth = refl

@@ -13,21 +13,20 @@ use Rattle.abs_lexer.specs.declared.lexeme.Lexeme.TheVariants as lexeme
 use Rattle.abs_lexer.specs.declared.lexeme.Punctuator.TheVariants as punctuator
 use Rattle.abs_lexer.specs.Tokens.{Lexed}
 use Rattle.abs_tree.specs.declared.refusal.Code.{Code}
-use Rattle.abs_tree.specs.declared.refusal.Code.TheVariants.{S2}
-use Rattle.abs_parser.specs.Kinds.{Mark, Kind, End, kind_of_lexeme, fits, next}
+use Rattle.abs_parser.specs.Kinds.{Mark, Kind, Sign, End, kind_of_lexeme, fits, next}
 use Rattle.abs_parser.specs.Productions.{Pattern, begins}
 use Rattle.abs_parser.specs.Readings.{Goal, One, Wanted, Terminal, Nonterminal, opened, Empty}
-use Rattle.abs_parser.specs.ReaderAnswers.{left_at, asked, refusal_at, wrong_at, TakesKind, FoundAs, IsRefused}
+use Rattle.abs_parser.specs.ReaderAnswers.{left_at, asked, wrong_at, TakesKind, FoundAs, IsRefused}
 use Rattle.abs_parser.specs.Refusing.{Refuses, Other, Shut, Open, Cut}
-use Rattle.abs_parser.specs.Stops.{limit}
 use Rattle.abs_parser.specs.Tokens.{Spot, TakesToken}
 use Rattle.abs_tree.specs.declared.source_error.SourceError.{SourceError}
 use Rattle.abs_tree.specs.declared.source_error.SourceError.TheVariants.{Refused, Memory}
-use Rattle.abs_parser.proofs.BeginningLemmas.{may_begin, first_kinds, other_sign}
+use Rattle.abs_parser.proofs.BeginningLemmas.{may_begin, first_kinds}
 use Rattle.abs_parser.proofs.DigitLemmas.{narrowed}
 use Rattle.abs_parser.proofs.FirstTokens.{begins_by_kind}
-use Rattle.abs_parser.proofs.StepLemmas.{HasRead, opens, all_read, refused_deep, refused_shut, next_is, asked_fits}
-use Rattle.abs_parser.proofs.PatternLemmas.{behind_first, pattern_opened, first_asked, end_shut}
+use Rattle.abs_parser.proofs.StepLemmas.{HasRead, opens, all_read, refused_inside, refused_first_token, refused_shut, next_is}
+use Rattle.abs_parser.proofs.PatternLemmas.{behind_first, pattern_opened, any_opened, minus_opened, sign_shut, end_shut}
+use Rattle.abs_parser.proofs.AskedLemmas.{sign_fits}
 use Rattle.abs_parser.proofs.SymbolLemmas.{part_shut}
 
 -- the next token has the kind that it is taken for
@@ -45,30 +44,6 @@ pattern_begins {kind} {token} {from} depth table takes is =
     opens (One Pattern) depth table from _
     (ap (λ (k : Kind). opened (One Pattern) k depth) (next_taken takes) ∙ pattern_opened kind token.bytes depth (sym (begins_by_kind first_kinds kind token.bytes) ∙ is))
 
--- a test that is not false is true
-not_false : (is : Bool) → not is ≡ false → is ≡ true
-not_false true e = refl
-not_false false e = cc
-
--- and one that is not true is false
-not_true : (is : Bool) → not is ≡ true → is ≡ false
-not_true true e = cc
-not_true false e = refl
-
--- a sign that compares as equal with another is that one
-pub sign_is : {kind : Lexeme} (sign wanted : Punctuator) {is : Bool} → kind ≡ lexeme.Sign sign → is ≡ sameb the_type sign wanted → is ≡ true → kind ≡ lexeme.Sign wanted
-sign_is sign wanted kind_is tells holds = kind_is ∙ ap lexeme.Sign (same_true the_type tt sign wanted (sym tells ∙ holds))
-
--- and so is one that does not compare as different
-pub sign_is_no_other : {kind : Lexeme} (sign wanted : Punctuator) {differs : Bool} → kind ≡ lexeme.Sign sign → differs ≡ not (sameb the_type sign wanted) → differs ≡ false
-    → kind ≡ lexeme.Sign wanted
-sign_is_no_other sign wanted kind_is tells fails = kind_is ∙ ap lexeme.Sign (same_true the_type tt sign wanted (not_false _ (sym tells ∙ fails)))
-
--- a sign that is neither of those that begin a pattern begins none
-pub sign_begins_none : {kind : Lexeme} (sign : Punctuator) {first differs : Bool} → kind ≡ lexeme.Sign sign → first ≡ sameb the_type sign punctuator.Underscore → first ≡ false
-    → differs ≡ not (sameb the_type sign punctuator.Minus) → differs ≡ true → (bytes : List ℕ) → begins Pattern (kind_of_lexeme kind bytes) ≡ false
-sign_begins_none sign kind_is tells fails tells_other differ bytes = sym (other_sign sign kind_is tells fails (sym (not_true _ (sym tells_other ∙ differ))) bytes)
-
 -- at the end of the text a pattern is refused
 pub refused_at_end : (depth : ℕ) (from : Spot) (error : SourceError) → error ≡ Refused (wrong_at from) → from.rest ≡ [] → IsRefused (Nonterminal (One Pattern) depth) from error
 refused_at_end depth from error is none =
@@ -80,13 +55,25 @@ pub refused_no_pattern : {token : Lexed} {from behind : Spot} (depth : ℕ) (err
 refused_no_pattern {token} {from} depth error is takes none =
     rw is (refused_shut (One Pattern) depth from (part_shut Pattern (next (left_at from)) depth (ap (begins Pattern) (next_is takes) ∙ none)))
 
--- at the limit a token that begins a pattern is refused
-pub refused_pattern_deep : {token : Lexed} {from behind : Spot} (depth : ℕ) (error : SourceError) → error ≡ Refused (refusal_at S2 from) → TakesToken token from behind
-    → begins Pattern (kind_of_lexeme token.kind token.bytes) ≡ true → limit < depth + 1 → IsRefused (Nonterminal (One Pattern) depth) from error
-refused_pattern_deep {token} {from} depth error is takes begun deep =
-    rw is (refused_deep (One Pattern) depth from (asked token.kind) (depth + 1) (behind_first token.kind (depth + 1))
-    (ap (λ (k : Kind). opened (One Pattern) k depth) (next_is takes) ∙ pattern_opened token.kind token.bytes depth begun)
-    (ap (fits (asked token.kind)) (next_is takes) ∙ asked_fits token.kind token.bytes (first_asked token.kind token.bytes begun)) deep)
+-- where the token that begins a pattern is refused, so is the pattern
+pub refused_pattern : {kind : Lexeme} {token : Lexed} {from behind : Spot} (depth : ℕ) (error : SourceError) → TakesKind kind token from behind → may_begin kind ≡ true
+    → IsRefused (Terminal (asked kind) (depth + 1)) from error → IsRefused (Nonterminal (One Pattern) depth) from error
+refused_pattern depth error takes is refused = refused_inside (pattern_begins depth [] takes is) error refused
+
+-- and so it is for an underscore
+pub refused_underscore : (depth : ℕ) (from : Spot) (error : SourceError) (sign : Punctuator) {is : Bool} → next (left_at from) ≡ Sign sign → is ≡ sameb the_type sign punctuator.Underscore → is ≡ true
+    → IsRefused (Terminal (Sign punctuator.Underscore) (depth + 1)) from error → IsRefused (Nonterminal (One Pattern) depth) from error
+refused_underscore depth from error sign stands tells holds refused =
+    refused_inside (opens (One Pattern) depth [] from _
+    (ap (λ (k : Kind). opened (One Pattern) k depth) (stands ∙ ap Sign (same_true the_type tt sign punctuator.Underscore (sym tells ∙ holds))) ∙ any_opened depth)) error refused
+
+-- any other sign is refused where a minus is
+pub refused_minus : (depth : ℕ) (from : Spot) (error : SourceError) (sign : Punctuator) {is : Bool} → next (left_at from) ≡ Sign sign → is ≡ sameb the_type sign punctuator.Underscore → is ≡ false
+    → IsRefused (Terminal (Sign punctuator.Minus) (depth + 1)) from error → IsRefused (Nonterminal (One Pattern) depth) from error
+refused_minus depth from error sign stands tells fails refused =
+    refused_first_token (Sign punctuator.Minus) (depth + 1) (One Pattern) depth from error
+    (λ fit. ap (λ (k : Kind). opened (One Pattern) k depth) (sign_fits punctuator.Minus _ fit) ∙ minus_opened depth)
+    (λ other. ap (λ (k : Kind). opened (One Pattern) k depth) stands ∙ sign_shut sign depth (sym tells ∙ fails) (ap (fits (Sign punctuator.Minus)) (sym stands) ∙ other)) refused
 
 -- a part of nothing is found where the next token leaves it out
 pub nothing_found : (goal : Goal) (depth : ℕ) (table : List (List ℕ)) (from : Spot) → opened goal (next (left_at from)) depth ≡ Some []

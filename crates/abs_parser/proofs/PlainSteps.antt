@@ -7,7 +7,6 @@ use Rattle.abs_lexer.specs.declared.lexeme.Lexeme.TheVariants as lexeme
 use Rattle.abs_lexer.specs.declared.lexeme.Punctuator.TheVariants as punctuator
 use Rattle.abs_lexer.specs.Tokens.{Lexed}
 use Rattle.abs_tree.specs.declared.place.Place.{Place}
-use Rattle.abs_tree.specs.declared.refusal.Code.TheVariants.{S2}
 use Rattle.abs_tree.specs.declared.syntax.statement.RightSide.{RightSide}
 use Rattle.abs_tree.specs.Syntax.{DoOf}
 use Rattle.abs_tree.specs.SyntaxViews.{side_tree}
@@ -15,16 +14,14 @@ use Rattle.abs_parser.specs.Firsts.{begins_another}
 use Rattle.abs_parser.specs.Kinds.{Kind, Word, Sign, next}
 use Rattle.abs_parser.specs.Productions.{begins, begins_within, chosen, Rhs, Stmt}
 use Rattle.abs_parser.specs.Readings.{One, Wanted, Terminal, Nonterminal, opened, Forest, Node}
-use Rattle.abs_parser.specs.ReaderAnswers.{left_at, refusal_at, wrong_at, TakesKind, FoundAs, IsRefused}
+use Rattle.abs_parser.specs.ReaderAnswers.{left_at, TakesKind, FoundAs, IsRefused}
 use Rattle.abs_parser.specs.Stops.{limit}
 use Rattle.abs_parser.specs.Tokens.{Spot, place_of}
 use Rattle.abs_parser.specs.TreesOf.{rhs_in, statement_in}
 use Rattle.abs_tree.specs.declared.source_error.SourceError.{SourceError}
-use Rattle.abs_tree.specs.declared.source_error.SourceError.TheVariants.{Refused}
-use Rattle.abs_parser.proofs.DeepLemmas.{refused_begun}
 use Rattle.abs_parser.proofs.FirstPlaceLemmas.{first_place_found}
 use Rattle.abs_parser.proofs.InFrontSteps.{refused_in_front}
-use Rattle.abs_parser.proofs.StepLemmas.{HasRead, opens, over_token, over_part, all_read, refused_shut}
+use Rattle.abs_parser.proofs.StepLemmas.{HasRead, opens, over_token, over_part, all_read}
 use Rattle.abs_parser.proofs.SymbolLemmas.{part_begun}
 
 -- a right side and a semicolon
@@ -55,16 +52,6 @@ plain_shut kind depth no_other none = plain_told kind depth no_other ∙ cond-fa
 pub plain_refused : (depth : ℕ) (from : Spot) (error : SourceError) → begins_another (next (left_at from)) ≡ false → IsRefused (Nonterminal (One Rhs) (depth + 1)) from error
     → IsRefused (Nonterminal (One Stmt) depth) from error
 plain_refused depth from error no_other refused = refused_in_front Rhs (depth + 1) (One Stmt) depth from error (plain_opened _ depth no_other) (plain_shut _ depth no_other) refused
-
--- at the limit a token that begins a right side is refused
-pub plain_deep : (depth : ℕ) (from : Spot) (error : SourceError) → error ≡ Refused (refusal_at S2 from) → begins_another (next (left_at from)) ≡ false
-    → begins Rhs (next (left_at from)) ≡ true → limit < depth + 1 → IsRefused (Nonterminal (One Stmt) depth) from error
-plain_deep depth from error is no_other may deep = plain_refused depth from error no_other (refused_begun Rhs (depth + 1) from error is may deep)
-
--- and so is one that begins none
-pub refused_no_plain : (depth : ℕ) (from : Spot) (error : SourceError) → error ≡ Refused (wrong_at from) → begins_another (next (left_at from)) ≡ false
-    → begins Rhs (next (left_at from)) ≡ false → IsRefused (Nonterminal (One Stmt) depth) from error
-refused_no_plain depth from error is no_other none = rw is (refused_shut (One Stmt) depth from (plain_shut _ depth no_other none))
 
 -- over the right side
 pub plain_begins : {from behind : Spot} {depth : ℕ} {old now : List (List ℕ)} {is_read : List (List ℕ) → Forest → Type 0} → begins_another (next (left_at from)) ≡ false

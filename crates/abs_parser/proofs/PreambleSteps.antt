@@ -12,7 +12,7 @@ use Rattle.abs_tree.specs.Names.{with_name}
 use Rattle.abs_parser.specs.Kinds.{AbsName, StdLibName, UpperName, Word, Sign, fits, next}
 use Rattle.abs_parser.specs.Productions.{Symbol, Item, Module, Import, Path, DotName, word, rule, counts}
 use Rattle.abs_parser.specs.Readings.{Goal, One, Optional, Repeated, Wanted, Terminal, Nonterminal, place, Forest}
-use Rattle.abs_parser.specs.ReaderAnswers.{left_at, asked, fixed_kind, TakesKind, TakesFixed, FoundAs, IsRefused}
+use Rattle.abs_parser.specs.ReaderAnswers.{left_at, asked, fixed_kind, TakesKind, TakesFixed, FoundAs, IsRefused, is_asked}
 use Rattle.abs_parser.specs.Stops.{limit}
 use Rattle.abs_parser.specs.Tokens.{Spot}
 use Rattle.abs_parser.specs.declared.cursor.FixedName.{FixedName}
@@ -22,7 +22,7 @@ use Rattle.abs_parser.proofs.NameListSteps.{JoinsName, joint_begins, joint_read,
 use Rattle.abs_parser.proofs.PatternSteps.{nothing_found}
 use Rattle.abs_parser.proofs.RepeatSteps.{over_one_more}
 use Rattle.abs_parser.proofs.RightSideSteps.{maybe_read}
-use Rattle.abs_parser.proofs.StepLemmas.{HasRead, is_asked, is_name, opens, over_token, over_name, over_fixed, over_part, all_read, refused_inside, refused_other, fits_next, found_weaker}
+use Rattle.abs_parser.proofs.StepLemmas.{HasRead, is_name, opens, over_token, over_name, over_fixed, over_part, all_read, refused_inside, refused_other, fits_next, found_weaker, refused_first_token}
 use Rattle.abs_parser.proofs.SymbolLemmas.{begins_with_token, part_shut, part_opened, optional_left_out, repeated_opened, repeated_ends}
 
 -- A part of the preamble was read up to here, whatever its tree is, and this is left of it.
@@ -71,9 +71,8 @@ joined_by_dot : JoinsName DotName punctuator.Dot
 joined_by_dot = record { symbol_is = refl; symbol_counts = refl }
 
 -- where no name stands, the path is refused
-pub refused_path : (from : Spot) (error : SourceError) → fits UpperName (next (left_at from)) ≡ false → ((at : ℕ) → IsRefused (Terminal UpperName at) from error)
-    → IsRefused (Nonterminal (One Path) 0) from error
-refused_path from error other refused = refused_other UpperName (One Path) 0 from error other (part_shut Path _ 0 (begins_with_token Path _ refl ∙ other)) refused
+pub refused_path : (from : Spot) (error : SourceError) → IsRefused (Terminal UpperName 0) from error → IsRefused (Nonterminal (One Path) 0) from error
+refused_path from error refused = refused_first_token UpperName 0 (One Path) 0 from error (λ fit. part_opened Path _ 0 refl refl (begins_with_token Path _ refl ∙ fit)) (λ other. part_shut Path _ 0 (begins_with_token Path _ refl ∙ other)) refused
 
 -- over the first name, which the table has then
 pub path_begins : {name : Lexed} {from behind : Spot} {old table : List (List ℕ)} → TakesKind lexeme.UpperName name from behind → table ≡ with_name old name.bytes

@@ -29,10 +29,10 @@ use Rattle.abs_parser.specs.Kinds.{Mark, Token, Kind, kind_of_lexeme, LowerName,
 use Rattle.abs_parser.specs.Levels.{prefix_sign}
 use Rattle.abs_parser.specs.Productions.{begins, begins_within, chosen, Unary, Primary, ThisTail, Arguments, Expr, Branch}
 use Rattle.abs_parser.specs.Readings.{One, Optional, Repeated, Wanted, Terminal, Nonterminal, opened, Forest, Empty, Leaf, Node}
-use Rattle.abs_parser.specs.ReaderAnswers.{asked, maybe_phrases}
+use Rattle.abs_parser.specs.ReaderAnswers.{asked, maybe_phrases, is_asked}
 use Rattle.abs_parser.specs.TreesOf.{written, prefix_of, named, member, built, unary_in, primary_in, primary_by, arguments_maybe, expr_in}
-use Rattle.abs_parser.proofs.FirstTokens.{BeginsBy, begins_as, plain_kinds, IsOneOf, one_passes, none_found}
-use Rattle.abs_parser.proofs.StepLemmas.{is_asked}
+use Rattle.abs_parser.proofs.FirstTokens.{BeginsBy, none_found}
+use Rattle.abs_parser.proofs.StepLemmas.{asked_fits}
 
 -- these words begin a primary
 abbrev first_words : List Keyword
@@ -61,14 +61,6 @@ first_kinds = record { told = may_begin_told; local_too = refl; abs_too = refl; 
 pub other_word : (word : Keyword) → (word ≡ keyword.Null → ⊥) → (word ≡ keyword.Destiny → ⊥) → (word ≡ keyword.This → ⊥) → (word ≡ keyword.Case → ⊥) → false ≡ may_begin (lexeme.Word word)
 other_word word not_null not_destiny not_this not_case = none_found keywords tt first_words word (not_null, (not_destiny, (not_this, (not_case, tt))))
 
--- numbers, texts and names do
-pub plain_begins : {kind : Lexeme} → IsOneOf plain_kinds kind → (bytes : List ℕ) → true ≡ begins Primary (kind_of_lexeme kind bytes)
-plain_begins {kind} one = begins_as first_kinds kind refl (one_passes may_begin plain_kinds refl one)
-
--- so do four of the words
-pub first_word : {kind : Lexeme} (word : Keyword) → kind ≡ lexeme.Word word → IsOneOf first_words word → (bytes : List ℕ) → true ≡ begins Primary (kind_of_lexeme kind bytes)
-first_word word is one = begins_as first_kinds (lexeme.Word word) is (one_passes (λ (w : Keyword). may_begin (lexeme.Word w)) first_words refl one)
-
 -- What they consist of, by the next token
 
 -- behind the token of a kind that begins a primary stands this
@@ -83,26 +75,26 @@ behind_first (lexeme.Sign punctuator.OpenParen) depth = Nonterminal (One Expr) d
 behind_first _ depth = []
 
 -- a lower-case name opens a primary, whichever it is
-lower_opened : (is_local : Bool) (depth : ℕ)
-    → opened (One Primary) (cond is_local LocalName LowerName) depth ≡ Some (Terminal LowerName depth ∷ Nonterminal (Optional Arguments) depth ∷ [])
+pub lower_opened : (kind : Kind) (depth : ℕ) → fits LowerName kind ≡ true → opened (One Primary) kind depth ≡ Some (Terminal LowerName depth ∷ Nonterminal (Optional Arguments) depth ∷ [])
 unfolding begins chosen begins_within
-lower_opened true depth = refl
-lower_opened false depth = refl
+lower_opened LowerName depth fit = refl
+lower_opened LocalName depth fit = refl
+lower_opened _ depth fit = absurd cc
 
 -- and so does an upper-case name
-upper_opened : (is_abs is_library : Bool) (depth : ℕ)
-    → opened (One Primary) (cond is_abs AbsName (cond is_library StdLibName UpperName)) depth ≡ Some (Terminal UpperName depth ∷ Nonterminal (Optional Arguments) depth ∷ [])
+pub upper_opened : (kind : Kind) (depth : ℕ) → fits UpperName kind ≡ true → opened (One Primary) kind depth ≡ Some (Terminal UpperName depth ∷ Nonterminal (Optional Arguments) depth ∷ [])
 unfolding begins chosen begins_within
-upper_opened true is_library depth = refl
-upper_opened false true depth = refl
-upper_opened false false depth = refl
+upper_opened UpperName depth fit = refl
+upper_opened AbsName depth fit = refl
+upper_opened StdLibName depth fit = refl
+upper_opened _ depth fit = absurd cc
 
 -- a token that may begin a primary opens it
 pub primary_opened : (kind : Lexeme) (bytes : List ℕ) (depth : ℕ) → may_begin kind ≡ true
     → opened (One Primary) (kind_of_lexeme kind bytes) depth ≡ Some (Terminal (asked kind) depth ∷ behind_first kind depth)
 unfolding begins chosen begins_within
-primary_opened lexeme.LowerName bytes depth is = lower_opened _ depth
-primary_opened lexeme.UpperName bytes depth is = upper_opened _ _ depth
+primary_opened lexeme.LowerName bytes depth is = lower_opened _ depth (asked_fits lexeme.LowerName bytes refl)
+primary_opened lexeme.UpperName bytes depth is = upper_opened _ depth (asked_fits lexeme.UpperName bytes refl)
 primary_opened lexeme.Number bytes depth is = refl
 primary_opened lexeme.Text bytes depth is = refl
 primary_opened (lexeme.Word keyword.Null) bytes depth is = refl

@@ -1,6 +1,6 @@
 -- The steps of the readers of unaries and primaries: over the token that begins one, and over what stands behind `this`; where they are
 -- refused; and how a unary is the primary that it consists of.
-use Rattle.std.proofs.Common.{◌≡◌, ◌≤◌, ◌<◌, ℕ, ◌+◌, true, false, List, [], ◌∷◌, Option, Some, refl, ap, ◌∙◌}
+use Rattle.std.proofs.Common.{◌≡◌, ◌≤◌, ◌<◌, ℕ, ◌+◌, true, false, List, [], ◌∷◌, Option, Some, refl, sym, ap, subst, ◌∙◌}
 use Rattle.std.specs.declared.alloc.Global.{Global}
 use Rattle.std.specs.declared.vec.Vec.{Vec}
 use Rattle.abs_lexer.specs.declared.lexeme.Lexeme.{Lexeme}
@@ -8,18 +8,17 @@ use Rattle.abs_lexer.specs.declared.lexeme.Lexeme.TheVariants as lexeme
 use Rattle.abs_lexer.specs.declared.lexeme.Keyword.TheVariants as keyword
 use Rattle.abs_lexer.specs.declared.lexeme.Punctuator.TheVariants as punctuator
 use Rattle.abs_lexer.specs.Tokens.{Lexed}
-use Rattle.abs_tree.specs.declared.refusal.Code.TheVariants.{S2}
 use Rattle.abs_tree.specs.declared.symbol.Symbol.{Symbol}
 use Rattle.abs_tree.specs.declared.syntax.expression.Expr.{Expr}
 use Rattle.abs_tree.specs.declared.syntax.expression.Prefix.{Prefix}
 use Rattle.abs_tree.specs.Names.{with_name, number_of_name}
 use Rattle.abs_tree.specs.SyntaxViews.{phrase}
 use Rattle.abs_tree.specs.Trees.{name_of}
-use Rattle.abs_parser.specs.Kinds.{Token, Kind, kind_of_lexeme, LowerName, Sign, fits, next}
+use Rattle.abs_parser.specs.Kinds.{Token, Kind, kind_of_lexeme, LowerName, UpperName, Word, Sign, fits, next}
 use Rattle.abs_parser.specs.Levels.{prefix_sign}
 use Rattle.abs_parser.specs.Productions.{begins, Unary, Primary, ThisTail, Arguments}
 use Rattle.abs_parser.specs.Readings.{One, Optional, Terminal, Nonterminal, opened, Forest, Empty, Leaf, Node}
-use Rattle.abs_parser.specs.ReaderAnswers.{left_at, asked, maybe_phrases, refusal_at, wrong_at, TakesKind, FoundAs, IsRefused}
+use Rattle.abs_parser.specs.ReaderAnswers.{left_at, asked, maybe_phrases, wrong_at, TakesKind, FoundAs, IsRefused}
 use Rattle.abs_parser.specs.Stops.{limit}
 use Rattle.abs_parser.specs.Tokens.{Spot, TakesToken}
 use Rattle.abs_parser.specs.TreesOf.{unary_in, primary_in, arguments_maybe}
@@ -27,9 +26,15 @@ use Rattle.abs_tree.specs.declared.source_error.SourceError.{SourceError}
 use Rattle.abs_tree.specs.declared.source_error.SourceError.TheVariants.{Refused}
 use Rattle.abs_parser.proofs.FirstTokens.{begins_by_kind}
 use Rattle.abs_parser.proofs.NameLemmas.{goes_on_further}
-use Rattle.abs_parser.proofs.StepLemmas.{HasRead, opens, over_token, over_name, over_part, into_last, all_read, refused_inside, refused_deep, refused_shut, fits_next, next_is, asked_fits, is_name, found_goes_on, symbol_kept}
+use Rattle.abs_parser.proofs.StepLemmas.{HasRead, opens, over_token, over_name, over_part, into_last, all_read, refused_inside, refused_first_token, refused_shut, next_is, is_name, found_goes_on, symbol_kept, fits_next}
+use Rattle.abs_lexer.specs.declared.lexeme.Keyword.{Keyword}
+use Rattle.abs_lexer.specs.declared.lexeme.Punctuator.{Punctuator}
+use Rattle.abs_parser.proofs.AskedLemmas.{sign_fits}
+use Rattle.abs_parser.proofs.InFrontSteps.{refused_in_front}
+use Rattle.abs_parser.proofs.SymbolLemmas.{part_begun}
+use Rattle.abs_parser.proofs.WordSteps.{word_refused}
 use Rattle.abs_parser.proofs.PatternSteps.{next_taken, next_end}
-use Rattle.abs_parser.proofs.PrimaryLemmas.{may_begin, first_kinds, behind_first, primary_opened, first_asked, primary_shut, primary_end, operand_opened, prefix_opened, unary_shut, unary_end, tail_follows, tail_opened}
+use Rattle.abs_parser.proofs.PrimaryLemmas.{may_begin, first_kinds, behind_first, primary_opened, lower_opened, upper_opened, first_asked, primary_shut, primary_end, group_shut, operand_opened, prefix_opened, unary_shut, unary_end, tail_follows, tail_opened}
 
 -- the next token is one of a kind, where its kind is known
 pub stands : {kind : Lexeme} {token : Lexed} {from behind : Spot} → TakesToken token from behind → token.kind ≡ kind → TakesKind kind token from behind
@@ -82,38 +87,53 @@ prefix_read {from = from} operation depth table takes within =
     over_token {kind = lexeme.Sign (prefix_sign operation)}
     (opens (One Unary) depth table from _ (ap (λ (k : Kind). opened (One Unary) k depth) (next_taken takes) ∙ prefix_opened operation depth)) takes refl refl within
 
--- at the limit an operator before an operand is refused
-pub prefix_deep : {token : Lexed} {from behind : Spot} (operation : Prefix) (depth : ℕ) (error : SourceError) → error ≡ Refused (refusal_at S2 from)
-    → TakesKind (lexeme.Sign (prefix_sign operation)) token from behind → limit < depth + 1 → IsRefused (Nonterminal (One Unary) depth) from error
-prefix_deep {from = from} operation depth error is takes deep =
-    rw is (refused_deep (One Unary) depth from (Sign (prefix_sign operation)) (depth + 1) _
-    (ap (λ (k : Kind). opened (One Unary) k depth) (next_taken takes) ∙ prefix_opened operation depth) (fits_next refl takes) deep)
-
--- where a primary may begin, a unary is opened as one
-operand_begins : {token : Lexed} {from behind : Spot} (depth : ℕ) (table : List (List ℕ)) → TakesToken token from behind → begins Primary (kind_of_lexeme token.kind token.bytes) ≡ true
-    → HasRead (One Unary) depth table table from (λ rest. rest) (Nonterminal (One Primary) (depth + 1) ∷ []) from
-operand_begins {from = from} depth table takes is = opens (One Unary) depth table from _ (operand_opened _ depth (ap (begins Primary) (next_is takes) ∙ is))
-
--- at the limit a token that begins a primary is refused where a unary is to stand
-pub operand_deep : {token : Lexed} {from behind : Spot} (depth : ℕ) (error : SourceError) → error ≡ Refused (refusal_at S2 from) → TakesToken token from behind
-    → begins Primary (kind_of_lexeme token.kind token.bytes) ≡ true → limit < depth + 1 → IsRefused (Nonterminal (One Unary) depth) from error
-operand_deep {token} {from} depth error is takes begun deep =
-    let first = begins_by_kind first_kinds token.kind token.bytes ∙ begun in
-    refused_inside (operand_begins depth [] takes begun) error
-    (rw is (refused_deep (One Primary) (depth + 1) from (asked token.kind) (depth + 1) _
-    (ap (λ (k : Kind). opened (One Primary) k (depth + 1)) (next_is takes) ∙ primary_opened token.kind token.bytes (depth + 1) first)
-    (ap (fits (asked token.kind)) (next_is takes) ∙ asked_fits token.kind token.bytes (first_asked token.kind first)) deep))
+-- where the operator before an operand is refused, so is the unary
+pub prefix_refused : {token : Lexed} {from behind : Spot} (operation : Prefix) (depth : ℕ) (error : SourceError) → TakesToken token from behind → token.kind ≡ lexeme.Sign (prefix_sign operation)
+    → IsRefused (Terminal (asked token.kind) (depth + 1)) from error → IsRefused (Nonterminal (One Unary) depth) from error
+prefix_refused {from = from} operation depth error takes is refused =
+    refused_inside (opens (One Unary) depth [] from _ (ap (λ (k : Kind). opened (One Unary) k depth) (next_taken (stands takes is)) ∙ prefix_opened operation depth)) error
+    (subst (λ (kind : Lexeme). IsRefused (Terminal (asked kind) (depth + 1)) from error) is refused)
 
 -- a unary is the primary that was found
-pub operand_found : {token : Lexed} {from behind to : Spot} {old new : List (List ℕ)} (depth : ℕ) (expr : Expr) → TakesToken token from behind → begins Primary (kind_of_lexeme token.kind token.bytes) ≡ true
-    → FoundAs (One Primary) (depth + 1) old new from to (λ names inside. phrase names expr ≡ primary_in inside)
+pub operand_found : {from to : Spot} {old new : List (List ℕ)} (depth : ℕ) (expr : Expr) → FoundAs (One Primary) (depth + 1) old new from to (λ names inside. phrase names expr ≡ primary_in inside)
     → FoundAs (One Unary) depth old new from to (λ names inside. phrase names expr ≡ unary_in inside)
-operand_found {old = old} depth expr takes begun found = all_read (over_part (operand_begins depth old takes begun) found) found.is
+operand_found {from} {old = old} depth expr found = all_read (over_part (opens (One Unary) depth old from _ (operand_opened _ depth (part_begun Primary _ (depth + 1) found.rule_is))) found) found.is
 
 -- and where that is refused, so is the unary
-pub operand_refused : {token : Lexed} {from behind : Spot} (depth : ℕ) (error : SourceError) → TakesToken token from behind → begins Primary (kind_of_lexeme token.kind token.bytes) ≡ true
+pub operand_refused : {token : Lexed} {from behind : Spot} (depth : ℕ) (error : SourceError) → TakesToken token from behind → ((operation : Prefix) → token.kind ≡ lexeme.Sign (prefix_sign operation) → ⊥)
     → IsRefused (Nonterminal (One Primary) (depth + 1)) from error → IsRefused (Nonterminal (One Unary) depth) from error
-operand_refused depth error takes begun refused = refused_inside (operand_begins depth [] takes begun) error refused
+operand_refused {token} {from} depth error takes no_prefix refused =
+    refused_in_front Primary (depth + 1) (One Unary) depth from error (operand_opened _ depth)
+    (λ none. ap (λ (k : Kind). opened (One Unary) k depth) (next_is takes)
+    ∙ unary_shut token.kind token.bytes depth (begins_by_kind first_kinds token.kind token.bytes ∙ (ap (begins Primary) (sym (next_is takes)) ∙ none)) no_prefix) refused
+
+-- where the token that begins a primary is refused, so is the primary
+pub refused_primary : {kind : Lexeme} {token : Lexed} {from behind : Spot} (depth : ℕ) (error : SourceError) → TakesKind kind token from behind → may_begin kind ≡ true
+    → IsRefused (Terminal (asked kind) depth) from error → IsRefused (Nonterminal (One Primary) depth) from error
+refused_primary {from = from} depth error takes is refused = refused_inside (opens (One Primary) depth [] from _ (primary_begins depth takes is)) error refused
+
+-- and so it is for a lower-case name
+pub refused_lower : (depth : ℕ) (from : Spot) (error : SourceError) → fits LowerName (next (left_at from)) ≡ true → IsRefused (Terminal LowerName depth) from error
+    → IsRefused (Nonterminal (One Primary) depth) from error
+refused_lower depth from error fit refused = refused_inside (opens (One Primary) depth [] from _ (lower_opened _ depth fit)) error refused
+
+-- for an upper-case name
+pub refused_upper : (depth : ℕ) (from : Spot) (error : SourceError) → fits UpperName (next (left_at from)) ≡ true → IsRefused (Terminal UpperName depth) from error
+    → IsRefused (Nonterminal (One Primary) depth) from error
+refused_upper depth from error fit refused = refused_inside (opens (One Primary) depth [] from _ (upper_opened _ depth fit)) error refused
+
+-- and for a sign, where "(" is asked for
+pub refused_group : (depth : ℕ) (from : Spot) (error : SourceError) (sign : Punctuator) → next (left_at from) ≡ Sign sign → IsRefused (Terminal (Sign punctuator.OpenParen) depth) from error
+    → IsRefused (Nonterminal (One Primary) depth) from error
+refused_group depth from error sign is refused =
+    refused_first_token (Sign punctuator.OpenParen) depth (One Primary) depth from error
+    (λ fit. ap (λ (k : Kind). opened (One Primary) k depth) (sign_fits punctuator.OpenParen _ fit) ∙ primary_opened (lexeme.Sign punctuator.OpenParen) [] depth refl)
+    (λ differs. ap (λ (k : Kind). opened (One Primary) k depth) is ∙ group_shut sign depth (ap (fits (Sign punctuator.OpenParen)) (sym is) ∙ differs)) refused
+
+-- a word that begins a primary is refused where it is asked for
+pub refused_word : (word : Keyword) (depth : ℕ) (from : Spot) (error : SourceError) → may_begin (lexeme.Word word) ≡ true → fits (Word word) (next (left_at from)) ≡ true
+    → IsRefused (Terminal (Word word) depth) from error → IsRefused (Nonterminal (One Primary) depth) from error
+refused_word word depth from error is fit refused = word_refused (One Primary) depth from error (primary_opened (lexeme.Word word) [] depth is) fit refused
 
 -- at the end of the text a unary is refused
 pub unary_refused_at_end : (depth : ℕ) (from : Spot) (error : SourceError) → error ≡ Refused (wrong_at from) → from.rest ≡ [] → IsRefused (Nonterminal (One Unary) depth) from error
@@ -122,14 +142,6 @@ unary_refused_at_end depth from error is none = rw is (refused_shut (One Unary) 
 -- and so is a primary
 pub primary_refused_at_end : (depth : ℕ) (from : Spot) (error : SourceError) → error ≡ Refused (wrong_at from) → from.rest ≡ [] → IsRefused (Nonterminal (One Primary) depth) from error
 primary_refused_at_end depth from error is none = rw is (refused_shut (One Primary) depth from (ap (λ (k : Kind). opened (One Primary) k depth) (next_end from none) ∙ primary_end depth))
-
--- a token that is no operator before an operand and begins no primary is refused where a unary is to stand
-pub refused_no_unary : {token : Lexed} {from behind : Spot} (depth : ℕ) (error : SourceError) → error ≡ Refused (wrong_at from) → TakesToken token from behind
-    → begins Primary (kind_of_lexeme token.kind token.bytes) ≡ false → ((operation : Prefix) → token.kind ≡ lexeme.Sign (prefix_sign operation) → ⊥)
-    → IsRefused (Nonterminal (One Unary) depth) from error
-refused_no_unary {token} {from} depth error is takes none no_prefix =
-    rw is (refused_shut (One Unary) depth from
-    (ap (λ (k : Kind). opened (One Unary) k depth) (next_is takes) ∙ unary_shut token.kind token.bytes depth (begins_by_kind first_kinds token.kind token.bytes ∙ none) no_prefix))
 
 -- a token of a kind that may begin no primary is refused where one is to stand
 pub refused_no_primary : (kind : Lexeme) (bytes : List ℕ) (depth : ℕ) (from : Spot) (error : SourceError) → error ≡ Refused (wrong_at from) → next (left_at from) ≡ kind_of_lexeme kind bytes

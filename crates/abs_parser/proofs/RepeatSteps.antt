@@ -1,17 +1,22 @@
 -- The step of a reader over one more of the parts that may stand any number of times, where something stands behind them: what was read of
 -- the part comes in front of what is read as the further ones. And a part that has a token behind its first part leaves fewer tokens.
-use Rattle.std.proofs.Common.{◌≡◌, ◌≤◌, ◌<◌, ℕ, ◌+◌, List, [], ◌∷◌, ◌++◌, length, Option, Some, refl, sym, ap, subst, ◌∙◌, fold, arith}
+use Rattle.std.proofs.Common.{◌≡◌, ◌≤◌, ◌<◌, ℕ, ◌+◌, Bool, true, false, List, [], ◌∷◌, ◌++◌, length, Option, Some, refl, sym, ap, subst, ◌∙◌, fold, arith}
 use Rattle.std.specs.Prelude.{unwrap_or}
 use Rattle.abs_tree.specs.Names.{with_name}
-use Rattle.abs_parser.specs.Kinds.{Mark, Kind, next}
-use Rattle.abs_parser.specs.Productions.{Symbol}
+use Rattle.abs_parser.specs.Kinds.{Mark, Kind, Sign, fits, next}
+use Rattle.abs_parser.specs.Productions.{Symbol, begins}
 use Rattle.abs_parser.specs.Readings.{Goal, One, Repeated, Wanted, Terminal, Nonterminal, opened, Forest, Empty, Leaf, Node, Reads, Nothing, Taken, Opened, depths}
-use Rattle.abs_parser.specs.ReaderAnswers.{left_at, names_before, FoundAs}
+use Rattle.abs_parser.specs.ReaderAnswers.{left_at, names_before, FoundAs, IsRefused}
 use Rattle.abs_parser.specs.Refusing.{AllWithin, Open}
 use Rattle.abs_parser.specs.Tokens.{Spot}
+use Rattle.abs_tree.specs.declared.source_error.SourceError.{SourceError}
+use Rattle.abs_lexer.specs.declared.lexeme.Punctuator.{Punctuator}
+use Rattle.abs_parser.proofs.AskedLemmas.{sign_fits}
+use Rattle.abs_parser.proofs.PatternSteps.{nothing_found, refused_unfit}
+use Rattle.abs_parser.proofs.SymbolLemmas.{part_shut, repeated_opened, repeated_ends}
 use Rattle.abs_parser.proofs.MoveLemmas.{refuses_behind, within_first, within_second}
 use Rattle.abs_parser.proofs.NameLemmas.{goes_on_further}
-use Rattle.abs_parser.proofs.StepLemmas.{HasRead, within_both, table_of_both, found_goes_on, found_few, found_shorter, reads_shorter, left_length}
+use Rattle.abs_parser.proofs.StepLemmas.{HasRead, opens, over_part, refused_inside, within_both, table_of_both, found_goes_on, found_few, found_shorter, reads_shorter, left_length}
 
 -- one part in front of what was read as further ones, with what stands behind them
 abbrev pub in_front : Symbol → Forest → Forest → Forest
@@ -60,6 +65,32 @@ over_one_more {symbol = symbol} {now = now} so more found = record {
   few = omega (arith, so.few, found_few found);
   shorter = omega (arith, so.shorter, found_shorter found);
 }
+
+-- by cases of whether one more may begin
+up_to_by : (may : Bool) {goal : Goal} {symbol : Symbol} {depth at last_at : ℕ} {old now : List (List ℕ)} {from here : Spot} {make : Forest → Forest} {left : List Wanted} (kind : Kind) (error : SourceError)
+    → begins symbol (next (left_at here)) ≡ may → HasRead goal depth old now from make (Nonterminal (Repeated symbol) at ∷ Terminal kind last_at ∷ left) here
+    → fits kind (next (left_at here)) ≡ false → IsRefused (Nonterminal (One symbol) at) here error → IsRefused (Nonterminal goal depth) from error
+up_to_by true {symbol = symbol} {at = at} {now = now} {here = here} kind error e so other refused =
+    refused_inside so error (refused_inside (opens (Repeated symbol) at now here _ (repeated_opened symbol _ at e)) error refused)
+up_to_by false {symbol = symbol} {at = at} {last_at = last_at} {now = now} {here = here} kind error e so other refused =
+    refused_inside (over_part so (nothing_found (Repeated symbol) at now here (repeated_ends symbol _ at e))) error
+    (refused_unfit (One symbol) at kind last_at here error (part_shut symbol _ at e) other refused)
+
+-- where the token that closes the parts is not next, what refuses one more of them refuses the whole
+pub refused_up_to : {goal : Goal} {symbol : Symbol} {depth at last_at : ℕ} {old now : List (List ℕ)} {from here : Spot} {make : Forest → Forest} {left : List Wanted} (kind : Kind) (error : SourceError)
+    → HasRead goal depth old now from make (Nonterminal (Repeated symbol) at ∷ Terminal kind last_at ∷ left) here
+    → fits kind (next (left_at here)) ≡ false → IsRefused (Nonterminal (One symbol) at) here error → IsRefused (Nonterminal goal depth) from error
+refused_up_to {symbol = symbol} {here = here} kind error so other refused = up_to_by (begins symbol (next (left_at here))) kind error refl so other refused
+
+-- no part begins with what fits a punctuator with which none begins
+pub ends_at : (symbol : Symbol) (sign : Punctuator) → begins symbol (Sign sign) ≡ false → (kind : Kind) → fits (Sign sign) kind ≡ true → begins symbol kind ≡ false
+ends_at symbol sign none kind fit = ap (begins symbol) (sign_fits sign kind fit) ∙ none
+
+-- so where such a punctuator is next, there is no part
+pub none_before : (symbol : Symbol) (sign : Punctuator) (depth : ℕ) (table : List (List ℕ)) (here : Spot) → begins symbol (Sign sign) ≡ false → fits (Sign sign) (next (left_at here)) ≡ true
+    → FoundAs (Repeated symbol) depth table table here here (λ names inside. inside ≡ Empty)
+none_before symbol sign depth table here none fit =
+    nothing_found (Repeated symbol) depth table here (repeated_ends symbol _ depth (ends_at symbol sign none _ fit))
 
 -- what is read as a part, a token and others has a token
 token_read : {goal : Goal} {at depth : ℕ} {kind : Kind} {items : List Wanted} {ts to : List Mark} {forest : Forest} → Reads (Nonterminal goal at ∷ Terminal kind depth ∷ items) ts forest to → length to + 1 ≤ length ts

@@ -17,7 +17,7 @@ use Rattle.abs_parser.specs.Levels.{rest_of, operands_in}
 use Rattle.abs_parser.specs.Productions.{Rest, MulTail, SumTail, CompareTail, EqualTail, AndTail, OrTail, RhsTail, begins}
 use Rattle.abs_parser.specs.Readings.{Goal, One, Optional, Wanted, Terminal, Nonterminal, opened, Forest, Leaf, Node, Reads, Nothing, Taken, Opened}
 use Rattle.abs_parser.specs.Refusing.{Refuses, Shut, Open, Cut}
-use Rattle.abs_parser.specs.ReaderAnswers.{left_at, TakesKind, FoundAs, RefusedAs, IsRefused}
+use Rattle.abs_parser.specs.ReaderAnswers.{left_at, TakesKind, FoundAs, RefusedAs, IsRefused, IsRefusedWith}
 use Rattle.abs_parser.specs.Stops.{limit}
 use Rattle.abs_parser.specs.Tokens.{Spot}
 use Rattle.abs_parser.specs.TreesOf.{with_operators, tail_in, rest_in}
@@ -26,7 +26,7 @@ use Rattle.abs_parser.specs.declared.operators.Level.TheVariants as level
 use Rattle.abs_tree.specs.declared.source_error.SourceError.{SourceError}
 use Rattle.abs_tree.specs.declared.source_error.SourceError.TheVariants.{Refused, Memory}
 use Rattle.abs_parser.proofs.NameLemmas.{goes_on_further}
-use Rattle.abs_parser.proofs.StepLemmas.{HasRead, opens, over_token, over_part, all_read, refused_inside, refused_other, fits_next, found_goes_on}
+use Rattle.abs_parser.proofs.StepLemmas.{HasRead, opens, over_token, over_part, all_read, refused_inside, refused_both, refused_other, fits_next, found_goes_on}
 use Rattle.abs_parser.proofs.SymbolLemmas.{begins_by, part_opened, part_shut, optional_left_out}
 
 -- What was left out
@@ -57,6 +57,14 @@ refused_behind part at item spot (Refused refusal) none refused = λ items.
     let found = refused (item ∷ items) in
     record { mark = found.mark; behind = found.behind; code = found.code; refuses = behind_by none found.refuses; refusal_is = found.refusal_is }
 refused_behind part at item spot Memory none refused = λ items. tt
+
+-- and what refuses the two refuses the second one
+refused_second : (part : Goal) (at : ℕ) (item : Wanted) (spot : Spot) (error : SourceError) → opened part (next (left_at spot)) at ≡ Some []
+    → IsRefusedWith (Nonterminal part at) item spot error → IsRefused item spot error
+refused_second part at item spot (Refused refusal) none refused = λ items.
+    let found = refused items in
+    record { mark = found.mark; behind = found.behind; code = found.code; refuses = behind_by none found.refuses; refusal_is = found.refusal_is }
+refused_second part at item spot Memory none refused = λ items. tt
 
 -- what is refused at a spot is refused at each one with the same tokens
 pub refused_there : (item : Wanted) (here there : Spot) (error : SourceError) → left_at here ≡ left_at there → IsRefused item here error → IsRefused item there error
@@ -99,6 +107,20 @@ pub refused_either_way : {may : Bool} {goal : Goal} {depth : ℕ} {old now : Lis
     → (may ≡ false → left_at here ≡ left_at from → IsRefused (Nonterminal goal depth) from error) → IsRefused (Nonterminal goal depth) from error
 refused_either_way {may} so error refused otherwise = refused_by may refl so error refused otherwise
 
+-- so it is where the next two items are, by cases
+both_by : (is : Bool) {may : Bool} {goal part : Goal} {depth at : ℕ} {old now : List (List ℕ)} {from here : Spot} {make : Forest → Forest} {second : Wanted} {left : List Wanted} → may ≡ is
+    → MayHaveRead may goal depth old now from make (Nonterminal part at ∷ second ∷ left) here → (may ≡ false → opened part (next (left_at from)) at ≡ Some []) → (error : SourceError)
+    → IsRefusedWith (Nonterminal part at) second here error → (may ≡ false → IsRefused second from error → IsRefused (Nonterminal goal depth) from error) → IsRefused (Nonterminal goal depth) from error
+both_by true e so left_out error refused otherwise = refused_both (so.read e) error refused
+both_by false {part = part} {at = at} {from = from} {second = second} e so left_out error refused otherwise =
+    otherwise e (refused_second part at second from error (left_out e) (λ items. subst (λ (ts : List Mark). RefusedAs (Nonterminal part at ∷ second ∷ items) ts error) (so.still e) (refused items)))
+
+-- and with a part that is left out where no token opens the whole
+pub refused_both_either_way : {may : Bool} {goal part : Goal} {depth at : ℕ} {old now : List (List ℕ)} {from here : Spot} {make : Forest → Forest} {second : Wanted} {left : List Wanted}
+    → MayHaveRead may goal depth old now from make (Nonterminal part at ∷ second ∷ left) here → (may ≡ false → opened part (next (left_at from)) at ≡ Some []) → (error : SourceError)
+    → IsRefusedWith (Nonterminal part at) second here error → (may ≡ false → IsRefused second from error → IsRefused (Nonterminal goal depth) from error) → IsRefused (Nonterminal goal depth) from error
+refused_both_either_way {may} so left_out error refused otherwise = both_by may refl so left_out error refused otherwise
+
 -- so it is where the next item is a part that is left out then
 pub refused_left_out : {may : Bool} {goal part : Goal} {depth at : ℕ} {old now : List (List ℕ)} {from here : Spot} {make : Forest → Forest} {left : List Wanted}
     → MayHaveRead may goal depth old now from make (Nonterminal part at ∷ left) here → (may ≡ false → opened part (next (left_at from)) at ≡ Some []) → (error : SourceError)
@@ -110,11 +132,10 @@ refused_left_out {goal = goal} {part} {depth} {at} {from = from} so left_out err
 -- and where it is a token that does not fit then
 pub refused_unfit_either_way : {may : Bool} {kind : Kind} {goal : Goal} {depth at : ℕ} {old now : List (List ℕ)} {from here : Spot} {make : Forest → Forest} {left : List Wanted}
     → MayHaveRead may goal depth old now from make (Terminal kind at ∷ left) here → (may ≡ false → fits kind (next (left_at from)) ≡ false)
-    → (may ≡ false → opened goal (next (left_at from)) depth ≡ None) → (error : SourceError) → ((in_many : ℕ) → IsRefused (Terminal kind in_many) here error)
+    → (may ≡ false → opened goal (next (left_at from)) depth ≡ None) → (error : SourceError) → IsRefused (Terminal kind at) here error
     → IsRefused (Nonterminal goal depth) from error
 refused_unfit_either_way {kind = kind} {goal} {depth} {at} {from = from} so differs shut error refused =
-    refused_either_way so error (refused at) (λ none same.
-    refused_other kind goal depth from error (differs none) (shut none) (λ in_many. refused_there (Terminal kind in_many) _ from error same (refused in_many)))
+    refused_either_way so error refused (λ none same. refused_other kind at goal depth from error (differs none) (shut none) (refused_there (Terminal kind at) _ from error same refused))
 
 -- where the next token must open the part it was read so far, by cases of whether it may
 has_read_by : (is : Bool) {may : Bool} {goal : Goal} {depth : ℕ} {old now : List (List ℕ)} {from here : Spot} {make : Forest → Forest} {left : List Wanted} → may ≡ is
@@ -207,7 +228,7 @@ tail_refused {depth} error so refused = refused_left_out so (tail_left_out _ dep
 
 -- and where the `;` is
 pub semicolon_refused : {depth : ℕ} {old now : List (List ℕ)} {from here : Spot} {make : Forest → Forest} (error : SourceError)
-    → RestRead depth old now from make (Terminal (Sign punctuator.Semicolon) depth ∷ []) here → ((at : ℕ) → IsRefused (Terminal (Sign punctuator.Semicolon) at) here error)
+    → RestRead depth old now from make (Terminal (Sign punctuator.Semicolon) depth ∷ []) here → IsRefused (Terminal (Sign punctuator.Semicolon) depth) here error
     → IsRefused (Nonterminal (One Rest) depth) from error
 semicolon_refused {depth} error so refused =
     refused_unfit_either_way so (λ none. (begins_none _ none).semicolon) (part_shut Rest _ depth) error refused

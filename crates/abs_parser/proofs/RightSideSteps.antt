@@ -30,7 +30,7 @@ use Rattle.abs_parser.proofs.FirstPlaceLemmas.{first_place_found}
 use Rattle.abs_parser.proofs.InFrontSteps.{refused_in_front}
 use Rattle.abs_parser.proofs.NameLemmas.{goes_on_itself, goes_on_further}
 use Rattle.abs_parser.proofs.PatternSteps.{next_taken}
-use Rattle.abs_parser.proofs.StepLemmas.{HasRead, opens, over_token, over_name, over_fixed, over_part, into_last, all_read, refused_other, fits_next, next_fixed, found_goes_on, found_weaker, symbol_kept}
+use Rattle.abs_parser.proofs.StepLemmas.{HasRead, opens, over_token, over_name, over_fixed, over_part, into_last, all_read, refused_first_token, fits_next, next_fixed, found_goes_on, found_weaker, symbol_kept}
 use Rattle.abs_parser.proofs.SymbolLemmas.{part_begun, optional_opened, optional_left_out}
 
 -- what was read of a symbol is what was read of one that may be left out
@@ -79,10 +79,10 @@ pub get_found : {get : Lexed} {from end : Spot} (depth : ℕ) (table : List (Lis
 get_found {from = from} depth table place first get within =
     all_read (over_token (opens (One Selected) depth table from _ (ap (λ (k : Kind). opened (One Selected) k depth) (next_taken get) ∙ get_opened depth)) get refl refl within) (λ names more. refl)
 
--- what is neither `get` nor a name is refused
-pub refused_selected : (depth : ℕ) (from : Spot) (error : SourceError) → fits (Word keyword.Get) (next (left_at from)) ≡ false → fits LowerName (next (left_at from)) ≡ false
-    → ((at : ℕ) → IsRefused (Terminal LowerName at) from error) → IsRefused (Nonterminal (One Selected) depth) from error
-refused_selected depth from error no_get no_name refused = refused_other LowerName (One Selected) depth from error no_name (selected_shut _ depth no_get no_name) refused
+-- what is not `get` is refused where a name is
+pub refused_selected : (depth : ℕ) (from : Spot) (error : SourceError) → fits (Word keyword.Get) (next (left_at from)) ≡ false → IsRefused (Terminal LowerName depth) from error
+    → IsRefused (Nonterminal (One Selected) depth) from error
+refused_selected depth from error no_get refused = refused_first_token LowerName depth (One Selected) depth from error (named_opened _ depth) (selected_shut _ depth no_get) refused
 
 -- over a name behind a dot, which the table has then
 pub selected_named : {name : Lexed} {from args_at : Spot} {names : List (List ℕ)} (depth : ℕ) (table : List (List ℕ)) → TakesKind lexeme.LowerName name from args_at → depth ≤ limit → names ≡ with_name table name.bytes
@@ -175,7 +175,7 @@ pub plain_found : (depth : ℕ) (table : List (List ℕ)) (from : Spot) → fits
 plain_found depth table from no_cog no_local = all_read (opens (Optional Where) depth table from [] (optional_left_out Where _ depth (nowhere _ no_cog no_local))) (λ names more. refl)
 
 -- `new` opens a right side
-new_opened : (depth : ℕ) → opened (One Rhs) (Word keyword.New) depth
+pub new_opened : (depth : ℕ) → opened (One Rhs) (Word keyword.New) depth
     ≡ Some (Terminal (Word keyword.New) depth ∷ Nonterminal (Optional Where) depth ∷ Terminal UpperName depth ∷ Nonterminal (One Arguments) depth ∷ [])
 unfolding begins chosen begins_within
 new_opened depth = refl

@@ -19,7 +19,7 @@ use Rattle.abs_lexer.specs.declared.lexeme.Keyword.TheVariants as keyword
 use Rattle.abs_lexer.specs.declared.lexeme.Lexeme.TheVariants as lexeme
 use Rattle.abs_lexer.specs.declared.lexeme.Punctuator.TheVariants as punctuator
 use Rattle.abs_lexer.specs.Tokens.{Lexed}
-use Rattle.abs_parser.specs.Kinds.{Token, Kind, LowerName, UpperName, Word, Sign, fits}
+use Rattle.abs_parser.specs.Kinds.{Token, Kind, LowerName, UpperName, Word, Sign}
 use Rattle.abs_parser.specs.Productions.{Decl, TypeParameters, Params, Extends, Signature, Type', Expr, begins, begins_within, chosen}
 use Rattle.abs_parser.specs.Readings.{Goal, One, Optional, Repeated, Wanted, Terminal, Nonterminal, opened, Forest, Leaf, Node}
 use Rattle.abs_parser.specs.ReaderAnswers.{TakesKind, FoundAs, IsRefused}
@@ -33,9 +33,9 @@ use Rattle.abs_parser.proofs.WordSteps.{word_read}
 use Rattle.abs_parser.proofs.ExpressionSteps.{goes_on_name}
 use Rattle.abs_parser.proofs.InFrontSteps.{refused_in_front}
 use Rattle.abs_parser.proofs.NameLemmas.{goes_on_further}
-use Rattle.abs_parser.proofs.RepeatSteps.{row_shorter}
-use Rattle.abs_parser.proofs.StepLemmas.{HasRead, opens, over_token, over_name, over_part, all_read, fits_next, found_goes_on, symbol_kept}
-use Rattle.abs_parser.proofs.SymbolLemmas.{begins_with_token, begins_with_part, part_shut, part_begun, part_opened}
+use Rattle.abs_parser.proofs.RepeatSteps.{ends_at, row_shorter}
+use Rattle.abs_parser.proofs.StepLemmas.{HasRead, opens, over_token, over_name, over_part, all_read, found_goes_on, symbol_kept}
+use Rattle.abs_parser.proofs.SymbolLemmas.{begins_with_part, part_shut, part_begun, part_opened}
 
 -- Methods of an interface
 
@@ -46,10 +46,6 @@ IsSignature signature names inside = (others : List SignatureTree) → signature
 -- a method begins where a type does
 signature_begins : (kind : Kind) → begins Signature kind ≡ begins Type' kind
 signature_begins kind = begins_with_part Signature kind refl
-
--- which is with a name
-pub signature_begins_named : (kind : Kind) → begins Signature kind ≡ fits UpperName kind
-signature_begins_named kind = signature_begins kind ∙ begins_with_token Type' kind refl
 
 -- behind the name of a method stands this
 abbrev pub behind_signature : ℕ → List Wanted
@@ -64,9 +60,9 @@ signature_shut : (kind : Kind) (depth : ℕ) → begins Type' kind ≡ false →
 signature_shut kind depth none = part_shut Signature kind depth (signature_begins kind ∙ none)
 
 -- a method that was found leaves fewer tokens than there were
-pub signature_shorter : {name : Lexed} {from behind to : Spot} {depth : ℕ} {old new : List (List ℕ)} {is_read : List (List ℕ) → Forest → Type 0} → TakesKind lexeme.UpperName name from behind
+pub signature_shorter : {from to : Spot} {depth : ℕ} {old new : List (List ℕ)} {is_read : List (List ℕ) → Forest → Type 0}
     → FoundAs (One Signature) depth old new from to is_read → length to.rest < length from.rest
-signature_shorter {depth = depth} name found = row_shorter (signature_opened _ depth (begins_with_token Type' _ refl ∙ fits_next refl name)) found
+signature_shorter {depth = depth} found = row_shorter (signature_opened _ depth (sym (signature_begins _) ∙ part_begun Signature _ depth found.rule_is)) found
 
 -- a method is refused where its type is
 pub refused_result : (depth : ℕ) (from : Spot) (error : SourceError) → IsRefused (Nonterminal (One Type') depth) from error → IsRefused (Nonterminal (One Signature) depth) from error
@@ -106,13 +102,19 @@ signature_found {now = now} signature same result name number is opening params 
 
 -- Interfaces
 
--- the methods of an interface repeat up to "}"
+-- no method begins with "}"
+pub no_signature_closes : begins Signature (Sign punctuator.CloseBrace) ≡ false
+unfolding begins begins_within
+no_signature_closes = refl
+
+-- the methods of an interface repeat up to it
 abbrev pub signatures_of : Parts CodeSignature SignatureTree
 signatures_of = record {
   symbol = Signature;
   closing = lexeme.Sign punctuator.CloseBrace;
   closing_asked = refl;
   closing_unnamed = refl;
+  closing_ends = ends_at Signature punctuator.CloseBrace no_signature_closes;
   tree = signature_tree;
   trees_in = λ index before. signatures_in;
   trees_none = λ index before. refl;
@@ -151,11 +153,11 @@ first_signature {word} {name} {brace} {depth = depth} {old} symbol listed same t
 })
 
 -- and up to one more
-pub next_signature : {whole : List Name → List SignatureTree → DeclTree} {name : Lexed} {from here behind to : Spot} {depth : ℕ} {old now new : List (List ℕ)} {signatures longer : List CodeSignature}
-    (signature : CodeSignature) → longer ≡ signatures ++ signature ∷ [] → ReadsParts signatures_of AnyIndex whole depth old now from here signatures → TakesKind lexeme.UpperName name here behind
+pub next_signature : {whole : List Name → List SignatureTree → DeclTree} {from here to : Spot} {depth : ℕ} {old now new : List (List ℕ)} {signatures longer : List CodeSignature}
+    (signature : CodeSignature) → longer ≡ signatures ++ signature ∷ [] → ReadsParts signatures_of AnyIndex whole depth old now from here signatures
     → FoundAs (One Signature) depth now new here to (IsSignature signature) → ReadsParts signatures_of AnyIndex whole depth old new from to longer
-next_signature signature same so name found =
-    next_part signature same so (signature_begins_named _ ∙ fits_next refl name) found (λ index starts names more others. found.is names more (signatures_in others))
+next_signature signature same so found =
+    next_part signature same so found (λ index starts names more others. found.is names more (signatures_in others))
 
 -- Functions
 

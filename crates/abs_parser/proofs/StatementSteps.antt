@@ -35,7 +35,7 @@ use Rattle.abs_parser.proofs.NameLemmas.{goes_on_further}
 use Rattle.abs_parser.proofs.PatternSteps.{next_end, nothing_found}
 use Rattle.abs_parser.proofs.WordSteps.{word_read}
 use Rattle.abs_parser.proofs.WordStatementSteps.{statement_by_word}
-use Rattle.abs_parser.proofs.StepLemmas.{HasRead, opens, over_token, over_part, into_last, all_read, refused_inside, refused_deep, refused_shut, fits_next, found_goes_on, found_weaker}
+use Rattle.abs_parser.proofs.StepLemmas.{HasRead, opens, over_token, over_part, into_last, all_read, refused_inside, refused_shut, fits_next, found_goes_on, found_weaker}
 use Rattle.abs_parser.proofs.SymbolLemmas.{begins_with_token, part_shut, part_opened, optional_opened, optional_left_out}
 
 -- this statement was read, from its first index
@@ -66,12 +66,6 @@ nested_opened kind depth fit = rw (block_begins kind ∙ fit) refl
 pub nested_begins : (depth : ℕ) (table : List (List ℕ)) (from : Spot) → fits (Sign punctuator.OpenBrace) (next (left_at from)) ≡ true
     → HasRead (One Stmt) depth table table from (λ rest. rest) (Nonterminal (One Block) (depth + 1) ∷ []) from
 nested_begins depth table from fit = opens (One Stmt) depth table from _ (nested_opened _ depth fit)
-
--- at the limit a block is refused where a statement is to stand
-pub refused_nested_deep : (depth : ℕ) (from : Spot) → fits (Sign punctuator.OpenBrace) (next (left_at from)) ≡ true → limit < depth + 1
-    → IsRefused (Nonterminal (One Stmt) depth) from (Refused (refusal_at S2 from))
-refused_nested_deep depth from fit deep =
-    refused_inside (nested_begins depth [] from fit) (Refused (refusal_at S2 from)) (refused_deep (One Block) (depth + 1) from (Sign punctuator.OpenBrace) (depth + 1) _ (block_opened _ (depth + 1) fit) fit deep)
 
 -- the block that was found is the statement
 pub nested_found : {depth : ℕ} {old new : List (List ℕ)} {from to : Spot} {place : Place} (index : ℕ) (body : Body) → place ≡ place_of from → fits (Sign punctuator.OpenBrace) (next (left_at from)) ≡ true

@@ -3,7 +3,7 @@
 -- what is left there refuses the part. It begins where the part is opened; it goes on over a token, over a name and over a part that
 -- was found; and it ends with the part found, or refused by what refuses the next item.
 use Rattle.std.proofs.Common.{◌≡◌, ◌≤◌, ◌<◌, ℕ, suc, Bool, true, false, ◌||◌, not, cond, List, [], ◌∷◌, ◌++◌, ◌+◌, length, Option, Some, None, refl, sym, ap, subst, ◌∙◌, fold, map, arith, length-append}
-use Rattle.std.specs.Prelude.{slice_get, unwrap_or}
+use Rattle.std.specs.Prelude.{slice_get, unwrap_or, Result, Ok, Err, IsErrAnd, IfErr}
 use Rattle.std.specs.List.{list_any}
 use Rattle.std.specs.Str.{bytes_eq}
 use Rattle.std.proofs.lemmas.List.{length-map}
@@ -29,7 +29,7 @@ use Rattle.abs_parser.specs.Refusing.{Refuses, Other, Below, Past, Shut, Open, C
 use Rattle.abs_parser.specs.Stops.{limit, wrong_code}
 use Rattle.abs_parser.specs.Tokens.{Spot, place_of, TakesToken}
 use Rattle.abs_parser.specs.TreesOf.{written}
-use Rattle.abs_parser.specs.ReaderAnswers.{left_at, name_first, names_before, asked, fixed_kind, refusal_at, wrong_at, TakesKind, TakesFixed, FoundAs, RefusedAt, IsRefused}
+use Rattle.abs_parser.specs.ReaderAnswers.{left_at, name_first, names_before, asked, fixed_kind, refusal_at, wrong_at, TakesKind, TakesFixed, FoundAs, RefusedAt, IsRefused, IsRefusedWith, is_asked}
 use Rattle.abs_parser.specs.declared.cursor.FixedName.{FixedName}
 use Rattle.abs_parser.specs.declared.cursor.FixedName.TheVariants as fixed
 use Rattle.abs_tree.specs.declared.source_error.SourceError.{SourceError}
@@ -53,11 +53,6 @@ left_length spot = length-append (map Token spot.rest) (TextEnd spot.end ∷ [])
 -- a token takes one off what is left
 pub token_shorter : {token : Lexed} {from to : Spot} → TakesToken token from to → length from.rest ≡ suc (length to.rest)
 token_shorter takes = ap length takes.rest
-
--- whether the grammar asks for tokens of a kind: it does for all but words outside the profile
-abbrev pub is_asked : Lexeme → Bool
-is_asked lexeme.Foreign = false
-is_asked _ = true
 
 -- whether tokens of a kind are names
 abbrev pub is_name : Lexeme → Bool
@@ -429,6 +424,29 @@ refused_inside {left = left} so (Refused refusal) refused = λ items.
     record { mark = at.mark; behind = at.behind; code = at.code; refuses = so.refuses items (at.mark ∷ at.behind) at.code at.refuses; refusal_is = at.refusal_is }
 refused_inside so Memory refused = λ items. tt
 
+-- where all of the part is read but what leaves nothing behind, what refuses the item that is to follow the part refuses the part with it
+pub refused_after : {goal part : Goal} {depth at : ℕ} {old now new : List (List ℕ)} {from here behind : Spot} {make : Forest → Forest} {is_read : List (List ℕ) → Forest → Type 0} (second : Wanted)
+    → HasRead goal depth old now from make (Nonterminal part at ∷ []) here → FoundAs part at now new here behind is_read → (error : SourceError) → IsRefused second behind error
+    → IsRefusedWith (Nonterminal goal depth) second from error
+refused_after second so found (Refused refusal) refused = λ items.
+    let over = over_part so found in
+    let at = refused items in
+    record { mark = at.mark; behind = at.behind; code = at.code; refuses = over.refuses (second ∷ items) (at.mark ∷ at.behind) at.code at.refuses; refusal_is = at.refusal_is }
+refused_after second so found Memory refused = λ items. tt
+
+-- and so does what refuses the next two items
+pub refused_both : {goal : Goal} {depth : ℕ} {old now : List (List ℕ)} {from here : Spot} {make : Forest → Forest} {item second : Wanted} {left : List Wanted}
+    → HasRead goal depth old now from make (item ∷ second ∷ left) here → (error : SourceError) → IsRefusedWith item second here error → IsRefused (Nonterminal goal depth) from error
+refused_both {left = left} so (Refused refusal) refused = λ items.
+    let at = refused (left ++ items) in
+    record { mark = at.mark; behind = at.behind; code = at.code; refuses = so.refuses items (at.mark ∷ at.behind) at.code at.refuses; refusal_is = at.refusal_is }
+refused_both so Memory refused = λ items. tt
+
+-- what holds of an error holds where a `?` passes it on
+pub passed_on : {X : Type 0} {error : SourceError} (P : SourceError → Type 0) (result : Result X SourceError) → IsErrAnd result (λ passed. passed ≡ error) → P error → IfErr result P
+passed_on P (Ok x) passed holds = absurd passed
+passed_on P (Err e) passed holds = subst P (sym passed) holds
+
 -- the token that stands at a spot, and its place; the end of the text counts as one
 record NextMark (spot : Spot) : Type 0 where
   mark : Mark
@@ -465,12 +483,10 @@ refused_shut goal depth spot shut = λ items.
     refused_here spot (wrong_code (next (left_at spot))) (λ mark behind is same.
     Shut (ap (λ (kind : Kind). opened goal kind depth) same ∙ shut) (ap wrong_code (sym same)))
 
--- a part that the next token opens is refused there, if it consists of that token first, and the token stands too deep
-pub refused_deep : (goal : Goal) (depth : ℕ) (spot : Spot) (kind : Kind) (at : ℕ) (inner : List Wanted) → opened goal (next (left_at spot)) depth ≡ Some (Terminal kind at ∷ inner)
-    → fits kind (next (left_at spot)) ≡ true → limit < at → IsRefused (Nonterminal goal depth) spot (Refused (refusal_at S2 spot))
-refused_deep goal depth spot kind at inner is fit deep = λ items.
-    refused_here spot S2 (λ mark behind is_left same.
-    Open (ap (λ (k : Kind). opened goal k depth) same ∙ is) (Below (ap (fits kind) same ∙ fit) deep))
+-- a token that fits and is too deeply nested is refused
+pub deep_refused : (kind : Kind) (depth : ℕ) (spot : Spot) (error : SourceError) → error ≡ Refused (refusal_at S2 spot) → fits kind (next (left_at spot)) ≡ true → limit < depth
+    → IsRefused (Terminal kind depth) spot error
+deep_refused kind depth spot error is fit deep = rw is (λ items. refused_here spot S2 (λ mark behind is_left same. Below (ap (fits kind) same ∙ fit) deep))
 
 -- a refusal of a token that does not fit is one of a part that it does not open, behind which others stand
 other_by : {kind : Kind} {at : ℕ} {items others : List Wanted} {goal : Goal} {depth : ℕ} {ts rest : List Mark} {code : Code} → fits kind (next ts) ≡ false
@@ -481,12 +497,28 @@ other_by differs shut (Past e within refused) = absurd cc
 other_by differs shut (Cut is) = Cut is
 
 -- what refuses a token that does not fit refuses a part that it does not open
-pub refused_other : (kind : Kind) (goal : Goal) (depth : ℕ) (spot : Spot) (error : SourceError) → fits kind (next (left_at spot)) ≡ false
-    → opened goal (next (left_at spot)) depth ≡ None → ((at : ℕ) → IsRefused (Terminal kind at) spot error) → IsRefused (Nonterminal goal depth) spot error
-refused_other kind goal depth spot (Refused refusal) differs shut refused = λ items.
-    let at = refused depth items in
-    record { mark = at.mark; behind = at.behind; code = at.code; refuses = other_by differs shut at.refuses; refusal_is = at.refusal_is }
-refused_other kind goal depth spot Memory differs shut refused = λ items. tt
+pub refused_other : (kind : Kind) (at : ℕ) (goal : Goal) (depth : ℕ) (spot : Spot) (error : SourceError) → fits kind (next (left_at spot)) ≡ false
+    → opened goal (next (left_at spot)) depth ≡ None → IsRefused (Terminal kind at) spot error → IsRefused (Nonterminal goal depth) spot error
+refused_other kind at goal depth spot (Refused refusal) differs shut refused = λ items.
+    let found = refused items in
+    record { mark = found.mark; behind = found.behind; code = found.code; refuses = other_by differs shut found.refuses; refusal_is = found.refusal_is }
+refused_other kind at goal depth spot Memory differs shut refused = λ items. tt
+
+-- by cases of whether the next token fits
+by_fit : (fit : Bool) (kind : Kind) (at : ℕ) (goal : Goal) (depth : ℕ) {inner : List Wanted} (spot : Spot) (error : SourceError) → fits kind (next (left_at spot)) ≡ fit
+    → (fits kind (next (left_at spot)) ≡ true → opened goal (next (left_at spot)) depth ≡ Some (Terminal kind at ∷ inner))
+    → (fits kind (next (left_at spot)) ≡ false → opened goal (next (left_at spot)) depth ≡ None)
+    → IsRefused (Terminal kind at) spot error → IsRefused (Nonterminal goal depth) spot error
+by_fit true kind at goal depth spot error e is_opened is_shut refused = refused_inside (opens goal depth [] spot _ (is_opened e)) error refused
+by_fit false kind at goal depth spot error e is_opened is_shut refused = refused_other kind at goal depth spot error e (is_shut e) refused
+
+-- a part that begins with a token of a kind, and with nothing else, is refused where that token is
+pub refused_first_token : (kind : Kind) (at : ℕ) (goal : Goal) (depth : ℕ) {inner : List Wanted} (spot : Spot) (error : SourceError)
+    → (fits kind (next (left_at spot)) ≡ true → opened goal (next (left_at spot)) depth ≡ Some (Terminal kind at ∷ inner))
+    → (fits kind (next (left_at spot)) ≡ false → opened goal (next (left_at spot)) depth ≡ None)
+    → IsRefused (Terminal kind at) spot error → IsRefused (Nonterminal goal depth) spot error
+refused_first_token kind at goal depth spot error is_opened is_shut refused =
+    by_fit (fits kind (next (left_at spot))) kind at goal depth spot error refl is_opened is_shut refused
 
 -- a refusal of a part that is not opened is one of another that is not, behind which others stand
 shut_by : {part : Goal} {at : ℕ} {items others : List Wanted} {goal : Goal} {depth : ℕ} {ts rest : List Mark} {code : Code} → opened part (next ts) at ≡ None

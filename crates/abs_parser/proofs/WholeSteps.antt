@@ -21,7 +21,7 @@ use Rattle.abs_parser.specs.Kinds.{Mark, TextEnd, marks, Kind, End, place_of_mar
 use Rattle.abs_parser.specs.Productions.{Symbol, Program, Module, Import, Decl, Block, begins}
 use Rattle.abs_parser.specs.Readings.{One, Optional, Repeated, Wanted, Terminal, Nonterminal, opened, Forest, Empty, Leaf, Node, Reads, Nothing, Taken, Opened, depths}
 use Rattle.abs_parser.specs.Refusing.{AllWithin}
-use Rattle.abs_parser.specs.ReaderAnswers.{left_at, names_before, FoundAs, RefusedAt, IsRefused}
+use Rattle.abs_parser.specs.ReaderAnswers.{left_at, names_before, FoundAs, RefusedAt, IsRefused, IsRefusedWith}
 use Rattle.abs_parser.specs.Texts.{IsTextOf, StopsWith, RefusesText}
 use Rattle.abs_parser.specs.Tokens.{Spot, whole}
 use Rattle.abs_parser.specs.TreesOf.{block_in, decls_in, tree_of}
@@ -34,7 +34,7 @@ use Rattle.abs_parser.proofs.EndLemmas.{text_refused}
 use Rattle.abs_parser.proofs.LeafLemmas.{leaves, leaves_taken}
 use Rattle.abs_parser.proofs.NameLemmas.{goes_on_itself}
 use Rattle.abs_parser.proofs.ReadingLemmas.{a_program}
-use Rattle.abs_parser.proofs.RestSteps.{MayHaveRead, may_open, over_left_out, has_read, refused_left_out, refused_either_way, refused_there}
+use Rattle.abs_parser.proofs.RestSteps.{MayHaveRead, may_open, over_left_out, has_read, refused_left_out, refused_either_way, refused_there, refused_both_either_way}
 use Rattle.abs_parser.proofs.StepLemmas.{HasRead, left_length, within_both, over_part, found_shorter, found_goes_on, refused_alike}
 use Rattle.abs_parser.proofs.StopLemmas.{accepted, stopped}
 use Rattle.abs_parser.proofs.SymbolLemmas.{begins_by, part_begun, part_opened, part_shut, optional_left_out, repeated_ends}
@@ -121,20 +121,22 @@ pub import_refused : {old now : List (List ℕ)} {from here : Spot} {make : Fore
     → IsRefused (Nonterminal (One Program) 0) from error
 import_refused error so refused = refused_left_out so (import_left_out _) error refused
 
--- and where the declarations are
+-- where no token opens the program, it is refused where the main block is
+block_alike : (from : Spot) (error : SourceError) → begins Program (next (left_at from)) ≡ false → IsRefused (Nonterminal (One Block) 0) from error → IsRefused (Nonterminal (One Program) 0) from error
+block_alike from error none refused = refused_alike (One Block) 0 (One Program) 0 from error (part_shut Block _ 0 (begins_none _ none).block) (part_shut Program _ 0 none) refused
+
+-- it is refused where the declarations with the main block are
 pub declarations_refused : {old now : List (List ℕ)} {from here : Spot} {make : Forest → Forest} {left : List Wanted} (error : SourceError)
-    → ProgramRead old now from make (Nonterminal (Repeated Decl) 0 ∷ left) here → IsRefused (Nonterminal (Repeated Decl) 0) here error
+    → ProgramRead old now from make (Nonterminal (Repeated Decl) 0 ∷ Nonterminal (One Block) 0 ∷ left) here → IsRefusedWith (Nonterminal (Repeated Decl) 0) (Nonterminal (One Block) 0) here error
     → IsRefused (Nonterminal (One Program) 0) from error
-declarations_refused error so refused = refused_left_out so (decls_left_out _) error refused
+declarations_refused {from = from} error so refused = refused_both_either_way so (decls_left_out _) error refused (block_alike from error)
 
 -- and where the main block is
 pub block_refused : {old now : List (List ℕ)} {from here : Spot} {make : Forest → Forest} {left : List Wanted} (error : SourceError)
     → ProgramRead old now from make (Nonterminal (One Block) 0 ∷ left) here → IsRefused (Nonterminal (One Block) 0) here error
     → IsRefused (Nonterminal (One Program) 0) from error
 block_refused {from = from} error so refused =
-    refused_either_way so error refused (λ none same.
-    refused_alike (One Block) 0 (One Program) 0 from error (part_shut Block _ 0 (begins_none _ none).block) (part_shut Program _ 0 none)
-    (refused_there (Nonterminal (One Block) 0) _ from error same refused))
+    refused_either_way so error refused (λ none same. block_alike from error none (refused_there (Nonterminal (One Block) 0) _ from error same refused))
 
 -- a refusal with a code and a place is that of the token at which the text stops
 stops_with : (list : TokenList) (refusal : Refusal) → RefusedAt a_program (marks list) refusal → StopsWith list refusal

@@ -1,13 +1,13 @@
 -- What a reader of a part of the grammar answers: what it found, or where the part is refused, whatever is to follow it.
 --
 --   `left_at`, `names_before`                          the tokens that are left, and the names in what was read
---   `asked`, `TakesKind`, `Passes`                     the next token, where its kind is asked for
+--   `asked`, `is_asked`, `TakesKind`, `Passes`         the next token, where its kind is asked for
 --   `fixed_kind`, `TakesFixed`                         the next token, where a name with a text of its own is asked for
 --   `maybe_phrases`                                    the trees of arguments that may be left out
 --   `refusal_at`, `wrong_at`                           the refusal of the next token
 --   `FoundAs`                                          what a reader found
---   `IsRefused`                                        where it refuses, whatever is to follow
-use Rattle.std.specs.Prelude.{◌≡◌, ℕ, List, [], ◌∷◌, ◌++◌, fold, map, Option, Some, None}
+--   `IsRefused`, `IsRefusedWith`                       where it refuses, whatever is to follow
+use Rattle.std.specs.Prelude.{◌≡◌, ℕ, Bool, true, false, List, [], ◌∷◌, ◌++◌, fold, map, Option, Some, None}
 use Rattle.std.specs.declared.alloc.Global.{Global}
 use Rattle.std.specs.declared.vec.Vec.{Vec}
 use Rattle.abs_tree.specs.Syntax.{Name, Phrases}
@@ -60,6 +60,11 @@ asked lexeme.Text = Text
 asked (lexeme.Word keyword) = Word keyword
 asked lexeme.Foreign = Foreign
 asked (lexeme.Sign punctuator) = Sign punctuator
+
+-- whether the grammar asks for tokens of this kind: words outside the profile stand nowhere
+abbrev pub is_asked : Lexeme → Bool
+is_asked lexeme.Foreign = false
+is_asked _ = true
 
 -- the kind of a name with a text of its own
 abbrev pub fixed_kind : FixedName → Kind
@@ -120,3 +125,7 @@ RefusedAs items ts error = HasCause (RefusedAt items ts) error
 -- one that is wanted is refused, whatever is to follow it
 abbrev pub IsRefused : Wanted → Spot → SourceError → Type 0
 IsRefused item from error = (items : List Wanted) → RefusedAs (item ∷ items) (left_at from) error
+
+-- two that are wanted one after the other are refused, whatever is to follow them
+abbrev pub IsRefusedWith : Wanted → Wanted → Spot → SourceError → Type 0
+IsRefusedWith item second from error = (items : List Wanted) → RefusedAs (item ∷ second ∷ items) (left_at from) error

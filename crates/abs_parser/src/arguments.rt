@@ -35,9 +35,9 @@ pub(crate) fn arguments_maybe<'a, 'b>(
     ensures refused { IfErr result (λ error. IsRefused (Nonterminal (Optional Arguments) depth)
         (spot from.entry) error) }
 {
-    let Ok(_) = from.expect(Lexeme::Sign(Punctuator::OpenParen)) else {
+    if !from.is(Lexeme::Sign(Punctuator::OpenParen)) {
         return Ok((None, from));
-    };
+    }
     let (expressions, end) = arguments(alloc, symbols, depth, from)?;
     Ok((Some(expressions), end))
 }
@@ -60,12 +60,12 @@ pub(crate) fn arguments<'a, 'b>(
         (λ names inside. phrases names found.0.items ≡ arguments_in inside)) }
     ensures refused { IfErr result (λ error. IsRefused (Nonterminal (One Arguments) depth) (spot from.entry) error) }
 {
-    let (_, behind) = from.expect(Lexeme::Sign(Punctuator::OpenParen))?;
-    if let Ok((_, end)) = behind.expect(Lexeme::Sign(Punctuator::CloseParen)) {
+    let (_, behind) = from.take(Lexeme::Sign(Punctuator::OpenParen), depth)?;
+    if let Some((_, end)) = behind.accept(Lexeme::Sign(Punctuator::CloseParen)) {
         return Ok((Vec::new(alloc), end));
     }
     let (expressions, close) = expressions(alloc, symbols, depth, behind)?;
-    let (_, end) = close.expect(Lexeme::Sign(Punctuator::CloseParen))?;
+    let (_, end) = close.take(Lexeme::Sign(Punctuator::CloseParen), depth)?;
     Ok((expressions, end))
 }
 
@@ -84,10 +84,9 @@ fn expressions<'a, 'b>(
         (λ names inside. phrases names found.0.items ≡ args_in inside)) }
     ensures refused { IfErr result (λ error. IsRefused (Nonterminal (One Args) depth) (spot from.entry) error) }
 {
-    let mut expressions = Vec::new(alloc);
     let (first, mut here) = expression(alloc, symbols, depth, from)?;
-    expressions.push(first)?;
-    while let Ok((_, behind)) = here.expect(Lexeme::Sign(Punctuator::Comma)) {
+    let mut expressions = vec![in alloc; first]?;
+    while let Some((_, behind)) = here.accept(Lexeme::Sign(Punctuator::Comma)) {
         let (next, end) = expression(alloc, symbols, depth, behind)?;
         expressions.push(next)?;
         here = end;

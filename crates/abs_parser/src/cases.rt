@@ -14,7 +14,7 @@ ghost use Rattle.abs_parser.specs.Views.{spot};
 use crate::ParseError;
 use crate::cursor::Cursor;
 use crate::expressions::expression;
-use crate::patterns::{pattern, pattern_begins};
+use crate::patterns::pattern;
 use abs_lexer::{Keyword, Lexeme, Punctuator};
 use abs_tree::Symbols;
 use abs_tree::syntax::{Branch, Expr};
@@ -33,23 +33,23 @@ pub(crate) fn case_of<'a, 'b>(
 ) -> Result<(Expr, Cursor<'a, 'b>), ParseError>
     requires begins { fits (Word keyword.Case) (next (left_at (spot from))) ≡ true }
     requires names { length symbols.old + length (spot from).rest < 2 ^ 31 }
-    requires depth { depth ≤ limit }
+    requires depth { depth ≤ limit + 3 }
     ensures found { IfOk result (λ found. FoundAs (One Primary) depth symbols.old symbols.new (spot from.entry)
         (spot found.1)
         (λ names inside. phrase names found.0 ≡ primary_in inside)) }
     ensures refused { IfErr result (λ error. IsRefused (Nonterminal (One Primary) depth) (spot from.entry) error) }
 {
-    let (word, subject_at) = from.expect(Lexeme::Word(Keyword::Case))?;
+    let (word, subject_at) = from.take(Lexeme::Word(Keyword::Case), depth)?;
     let (subject, open) = expression(alloc, symbols, depth, subject_at)?;
-    let (_, first_at) = open.expect(Lexeme::Sign(Punctuator::OpenBrace))?;
+    let (_, first_at) = open.take(Lexeme::Sign(Punctuator::OpenBrace), depth)?;
     let (first, mut here) = branch(alloc, symbols, depth, first_at)?;
     let mut branches = vec![in alloc; first]?;
-    while pattern_begins(here) {
+    while !here.is(Lexeme::Sign(Punctuator::CloseBrace)) {
         let (next, end) = branch(alloc, symbols, depth, here)?;
         branches.push(next)?;
         here = end;
     }
-    let (_, end) = here.expect(Lexeme::Sign(Punctuator::CloseBrace))?;
+    let (_, end) = here.take(Lexeme::Sign(Punctuator::CloseBrace), depth)?;
     let subject = Box::new(alloc, subject)?;
     let expr = Expr::Case {
         place: word.place,
@@ -76,8 +76,8 @@ fn branch<'a, 'b>(
     ensures refused { IfErr result (λ error. IsRefused (Nonterminal (One BranchSymbol) depth) (spot from.entry) error) }
 {
     let (pattern, arrow) = pattern(alloc, symbols, depth, from)?;
-    let (_, value_at) = arrow.expect(Lexeme::Sign(Punctuator::Arrow))?;
+    let (_, value_at) = arrow.take(Lexeme::Sign(Punctuator::Arrow), depth)?;
     let (value, close) = expression(alloc, symbols, depth, value_at)?;
-    let (_, end) = close.expect(Lexeme::Sign(Punctuator::Semicolon))?;
+    let (_, end) = close.take(Lexeme::Sign(Punctuator::Semicolon), depth)?;
     Ok((Branch { pattern, value }, end))
 }

@@ -9,7 +9,6 @@ ghost use Rattle.abs_parser.specs.Productions.{Decl as DeclSymbol, Member as Mem
 ghost use Rattle.abs_parser.specs.Readings.{One, Nonterminal};
 ghost use Rattle.abs_parser.specs.ReaderAnswers.{FoundAs, IsRefused, left_at};
 ghost use Rattle.abs_parser.specs.TreesOf.{decl_in, member_in, member_by};
-ghost use Rattle.abs_parser.specs.Stops.{limit};
 ghost use Rattle.abs_parser.specs.Views.{spot};
 
 use crate::ParseError;
@@ -34,39 +33,37 @@ pub(crate) fn class<'a, 'b>(
     alloc: Global,
     symbols: &mut Symbols<'a>,
     index: u32,
-    depth: u32,
     from: Cursor<'a, 'b>,
 ) -> Result<(Decl, u32, Cursor<'a, 'b>), ParseError>
     requires begins { fits (Word keyword.Class) (next (left_at (spot from))) ≡ true }
     requires names { length symbols.old + length (spot from).rest < 2 ^ 31 }
     requires few { index + length (spot from).rest < 2 ^ 31 }
-    requires depth { depth ≤ limit }
-    ensures found { IfOk result (λ found. FoundAs (One DeclSymbol) depth symbols.old symbols.new (spot from.entry)
+    ensures found { IfOk result (λ found. FoundAs (One DeclSymbol) 0 symbols.old symbols.new (spot from.entry)
         (spot found.2)
         (λ names inside. (others : List DeclTree) → decl_tree names found.0 ∷ others ≡ decl_in index inside others)) }
     ensures free { IfOk result (λ found. (names : List Name)
         → found.1 ≡ index + decl_statements (decl_tree names found.0 ∷ [])) }
     ensures few { IfOk result (λ found. found.1 + length (spot found.2).rest ≤ index + length (spot from.entry).rest) }
-    ensures refused { IfErr result (λ error. IsRefused (Nonterminal (One DeclSymbol) depth) (spot from.entry) error) }
+    ensures refused { IfErr result (λ error. IsRefused (Nonterminal (One DeclSymbol) 0) (spot from.entry) error) }
 {
-    let (word, name_at) = from.expect(Lexeme::Word(Keyword::Class))?;
-    let (name, behind) = name_at.expect(Lexeme::UpperName)?;
+    let (word, name_at) = from.take(Lexeme::Word(Keyword::Class), 0)?;
+    let (name, behind) = name_at.take(Lexeme::UpperName, 0)?;
     let declared = Declared {
         place: name.place,
         name: symbols.intern(name.slice)?,
     };
-    let (params, heading) = class_parameters(alloc, symbols, depth, behind)?;
+    let (params, heading) = class_parameters(alloc, symbols, behind)?;
     let (implemented, open) = names_behind(alloc, symbols, Heading::Implements, heading)?;
-    let (_, mut here) = open.expect(Lexeme::Sign(Punctuator::OpenBrace))?;
+    let (_, mut here) = open.take(Lexeme::Sign(Punctuator::OpenBrace), 0)?;
     let mut members = Vec::new(alloc);
     let mut free = index;
-    while let Ok(_) = here.expect(Lexeme::UpperName) {
-        let (next, behind, end) = member(alloc, symbols, free, depth, here)?;
+    while !here.is(Lexeme::Sign(Punctuator::CloseBrace)) {
+        let (next, behind, end) = member(alloc, symbols, free, here)?;
         members.push(next)?;
         free = behind;
         here = end;
     }
-    let (_, end) = here.expect(Lexeme::Sign(Punctuator::CloseBrace))?;
+    let (_, end) = here.take(Lexeme::Sign(Punctuator::CloseBrace), 0)?;
     let decl = Decl::Class {
         place: word.place,
         name: declared,
@@ -83,28 +80,26 @@ fn member<'a, 'b>(
     alloc: Global,
     symbols: &mut Symbols<'a>,
     index: u32,
-    depth: u32,
     from: Cursor<'a, 'b>,
 ) -> Result<(Member, u32, Cursor<'a, 'b>), ParseError>
     requires names { length symbols.old + length (spot from).rest < 2 ^ 31 }
     requires few { index + length (spot from).rest < 2 ^ 31 }
-    requires depth { depth ≤ limit }
-    ensures found { IfOk result (λ found. FoundAs (One MemberSymbol) depth symbols.old symbols.new (spot from.entry)
+    ensures found { IfOk result (λ found. FoundAs (One MemberSymbol) 0 symbols.old symbols.new (spot from.entry)
         (spot found.2)
         (λ names inside. (others : List MemberTree)
         → member_tree names found.0 ∷ others ≡ member_in index inside others)) }
     ensures free { IfOk result (λ found. (names : List Name)
         → found.1 ≡ index + member_statements (member_tree names found.0 ∷ [])) }
     ensures few { IfOk result (λ found. found.1 + length (spot found.2).rest ≤ index + length (spot from.entry).rest) }
-    ensures refused { IfErr result (λ error. IsRefused (Nonterminal (One MemberSymbol) depth) (spot from.entry) error) }
+    ensures refused { IfErr result (λ error. IsRefused (Nonterminal (One MemberSymbol) 0) (spot from.entry) error) }
 {
-    let (type_of, name_at) = type_term(alloc, symbols, depth, from)?;
-    let (name, behind) = name_at.expect(Lexeme::LowerName)?;
+    let (type_of, name_at) = type_term(alloc, symbols, 0, from)?;
+    let (name, behind) = name_at.take(Lexeme::LowerName, 0)?;
     let declared = Declared {
         place: name.place,
         name: symbols.intern(name.slice)?,
     };
-    member_behind(alloc, symbols, index, depth, type_of, declared, behind)
+    member_behind(alloc, symbols, index, type_of, declared, behind)
 }
 
 /// What stands behind the type and the name of a member: `;`, a value, or parameters and a block.
@@ -112,24 +107,22 @@ fn member_behind<'a, 'b>(
     alloc: Global,
     symbols: &mut Symbols<'a>,
     index: u32,
-    depth: u32,
     type_of: TypeTerm,
     name: Declared,
     from: Cursor<'a, 'b>,
 ) -> Result<(Member, u32, Cursor<'a, 'b>), ParseError>
     requires names { length symbols.old + length (spot from).rest < 2 ^ 31 }
     requires few { index + length (spot from).rest < 2 ^ 31 }
-    requires depth { depth ≤ limit }
-    ensures found { IfOk result (λ found. FoundAs (One MemberTail) depth symbols.old symbols.new (spot from.entry)
+    ensures found { IfOk result (λ found. FoundAs (One MemberTail) 0 symbols.old symbols.new (spot from.entry)
         (spot found.2)
         (λ names inside. member_tree names found.0 ≡ member_by index (type_tree names type_of)
         (declared_tree names name) inside)) }
     ensures free { IfOk result (λ found. (names : List Name)
         → found.1 ≡ index + member_statements (member_tree names found.0 ∷ [])) }
     ensures few { IfOk result (λ found. found.1 + length (spot found.2).rest ≤ index + length (spot from.entry).rest) }
-    ensures refused { IfErr result (λ error. IsRefused (Nonterminal (One MemberTail) depth) (spot from.entry) error) }
+    ensures refused { IfErr result (λ error. IsRefused (Nonterminal (One MemberTail) 0) (spot from.entry) error) }
 {
-    if let Ok((_, end)) = from.expect(Lexeme::Sign(Punctuator::Semicolon)) {
+    if let Some((_, end)) = from.accept(Lexeme::Sign(Punctuator::Semicolon)) {
         let field = Member::Field {
             type_of,
             name,
@@ -137,9 +130,9 @@ fn member_behind<'a, 'b>(
         };
         return Ok((field, index, end));
     }
-    if let Ok((_, value_at)) = from.expect(Lexeme::Sign(Punctuator::Assign)) {
-        let (value, last) = expression(alloc, symbols, depth, value_at)?;
-        let (_, end) = last.expect(Lexeme::Sign(Punctuator::Semicolon))?;
+    if let Some((_, value_at)) = from.accept(Lexeme::Sign(Punctuator::Assign)) {
+        let (value, last) = expression(alloc, symbols, 0, value_at)?;
+        let (_, end) = last.take(Lexeme::Sign(Punctuator::Semicolon), 0)?;
         let initial = Some(Arc::new(alloc, value)?);
         let field = Member::Field {
             type_of,
@@ -148,10 +141,10 @@ fn member_behind<'a, 'b>(
         };
         return Ok((field, index, end));
     }
-    let (_, inside) = from.expect(Lexeme::Sign(Punctuator::OpenParen))?;
-    let (params, close) = params_maybe(alloc, symbols, depth, inside)?;
-    let (_, block_at) = close.expect(Lexeme::Sign(Punctuator::CloseParen))?;
-    let (body, behind, end) = block(alloc, symbols, index, depth, block_at)?;
+    let (_, inside) = from.take(Lexeme::Sign(Punctuator::OpenParen), 0)?;
+    let (params, close) = params_maybe(alloc, symbols, inside)?;
+    let (_, block_at) = close.take(Lexeme::Sign(Punctuator::CloseParen), 0)?;
+    let (body, behind, end) = block(alloc, symbols, index, 0, block_at)?;
     let signature = Signature {
         result: type_of,
         name,

@@ -1,5 +1,5 @@
 //! A cursor over the tokens of a text: which of them are left, and what the next one is.
-ghost use Rattle.std.specs.Prelude.{◌≡◌, ℕ, false, ◌^◌, ◌<◌, ◌≤◌, [], length, IfOk, OnOk, IfErr, IfSome, IfNone, pos, List};
+ghost use Rattle.std.specs.Prelude.{◌≡◌, true, false, ◌^◌, ◌<◌, ◌≤◌, [], length, IfOk, OnOk, IfErr, IfSome, IfNone, pos, List};
 ghost use Rattle.abs_tree.specs.Limits.{source_limit};
 
 use crate::ParseError;
@@ -8,8 +8,8 @@ use abs_lexer::{Lexeme, Token};
 use abs_tree::limits::{NESTING_LIMIT, SOURCE_LIMIT};
 use abs_tree::{Code, Offence, Place, Refusal};
 
-/// How many counted symbols may be open at once.
-pub(crate) const LIMIT: u32 = NESTING_LIMIT;
+/// How many of the nonterminals that count may be open at once.
+const LIMIT: u32 = NESTING_LIMIT;
 
 /// A name with a text of its own, for which the grammar asks in one place.
 #[derive(Clone, Copy, Debug, PartialEq, Eq)]
@@ -38,7 +38,8 @@ impl<'a, 'b> Cursor<'a, 'b> {
     ghost use Rattle.abs_parser.specs.Views.{spot};
     ghost use Rattle.abs_parser.specs.Kinds.{End, fits, next};
     ghost use Rattle.abs_parser.specs.Readings.{Terminal};
-    ghost use Rattle.abs_parser.specs.ReaderAnswers.{asked, fixed_kind, left_at, refusal_at, wrong_at, TakesKind, TakesFixed, IsRefused};
+    ghost use Rattle.abs_parser.specs.Stops.{limit};
+    ghost use Rattle.abs_parser.specs.ReaderAnswers.{asked, is_asked, fixed_kind, left_at, refusal_at, wrong_at, TakesKind, TakesFixed, IsRefused};
     ghost use Rattle.abs_tree.specs.declared.source_error.SourceError.TheVariants.{Refused};
     ghost use Rattle.abs_tree.specs.declared.refusal.Code.TheVariants.{S2};
 
@@ -79,8 +80,7 @@ impl<'a, 'b> Cursor<'a, 'b> {
         }
     }
 
-    /// The refusal of the token that stands here, where nothing that is read has it there: a word outside the profile
-    /// has a code of its own.
+    /// The refusal of the next token as a syntax error: a word outside the profile has a code of its own.
     pub fn wrong(self) -> ParseError
         ensures { result ≡ Refused (wrong_at (spot self.entry)) }
     {
@@ -91,14 +91,14 @@ impl<'a, 'b> Cursor<'a, 'b> {
         self.refused(code)
     }
 
-    /// The refusal of the token that stands here, where it would stand in more than 100 counted symbols.
-    pub fn deep(self) -> ParseError
+    /// The refusal of the next token as too deeply nested.
+    fn deep(self) -> ParseError
         ensures { result ≡ Refused (refusal_at S2 (spot self.entry)) }
     {
         self.refused(Code::S2)
     }
 
-    /// The refusal of the token that stands here, by this code.
+    /// The refusal of the next token with this code.
     fn refused(self, code: Code) -> ParseError
         ensures { result ≡ Refused (refusal_at code (spot self.entry)) }
     {
@@ -109,33 +109,51 @@ impl<'a, 'b> Cursor<'a, 'b> {
         ParseError::Refused(offence.refusal())
     }
 
-    /// The token of this kind that is to stand here, and the cursor behind it.
-    ///
-    /// # Errors
-    /// The refusal of the token that stands here, where it is of another kind.
-    pub fn expect(self, kind: Lexeme) -> Result<(Token<'a>, Cursor<'a, 'b>), ParseError>
-        ensures found { IfOk result (λ found. TakesKind kind (lexed found.0) (spot self.entry) (spot found.1)) }
-        ensures well_formed { IfOk result (λ found. IsWellFormed (lexed found.0)) }
-        ensures other { IfErr result (λ error. fits (asked kind) (next (left_at (spot self.entry))) ≡ false) }
-        ensures refusal { IfErr result (λ error. error ≡ Refused (wrong_at (spot self.entry))) }
-        ensures refused { IfErr result (λ error. (depth : ℕ)
-            → IsRefused (Terminal (asked kind) depth) (spot self.entry) error) }
+    /// The next token and the cursor after it, if the token is of this kind.
+    pub fn accept(self, kind: Lexeme) -> Option<(Token<'a>, Cursor<'a, 'b>)>
+        ensures found { IfSome result (λ found. TakesKind kind (lexed found.0) (spot self.entry) (spot found.1)) }
+        ensures well_formed { IfSome result (λ found. IsWellFormed (lexed found.0)) }
+        ensures other { IfNone result (fits (asked kind) (next (left_at (spot self.entry))) ≡ false) }
     {
         match self.next() {
-            Some((token, behind)) if token.kind == kind => Ok((token, behind)),
-            _ => Err(self.wrong()),
+            Some((token, after)) if token.kind == kind => Some((token, after)),
+            _ => None,
         }
     }
 
-    /// The name with this text that is to stand here, and the cursor behind it.
+    /// Whether the next token is of this kind.
+    pub fn is(self, kind: Lexeme) -> bool
+        requires asked { is_asked kind ≡ true }
+        ensures { result ≡ fits (asked kind) (next (left_at (spot self.entry))) }
+    {
+        self.accept(kind).is_some()
+    }
+
+    /// The next token, which has to be of this kind and within the nesting limit, and the cursor after it. It is
+    /// nested in `depth` of the nonterminals that count.
     ///
     /// # Errors
-    /// The refusal of the token that stands here, where it is another one.
-    pub fn expect_name(self, name: FixedName) -> Result<(Token<'a>, Cursor<'a, 'b>), ParseError>
-        ensures found { IfOk result (λ found. TakesFixed name (lexed found.0) (spot self.entry) (spot found.1)) }
-        ensures other { IfErr result (λ error. fits (fixed_kind name) (next (left_at (spot self.entry))) ≡ false) }
-        ensures refused { IfErr result (λ error. (depth : ℕ)
-            → IsRefused (Terminal (fixed_kind name) depth) (spot self.entry) error) }
+    /// The refusal of the next token, if it is of another kind or too deeply nested.
+    pub fn take(self, kind: Lexeme, depth: u32) -> Result<(Token<'a>, Cursor<'a, 'b>), ParseError>
+        requires asked { is_asked kind ≡ true }
+        ensures found { IfOk result (λ found. TakesKind kind (lexed found.0) (spot self.entry) (spot found.1)) }
+        ensures well_formed { IfOk result (λ found. IsWellFormed (lexed found.0)) }
+        ensures within { OnOk result (depth ≤ limit) }
+        ensures refused { IfErr result (λ error. IsRefused (Terminal (asked kind) depth) (spot self.entry) error) }
+    {
+        let Some(found) = self.accept(kind) else {
+            return Err(self.wrong());
+        };
+        if depth > LIMIT {
+            return Err(self.deep());
+        }
+        Ok(found)
+    }
+
+    /// The next token and the cursor after it, if the token is the name with this spelling.
+    pub fn accept_name(self, name: FixedName) -> Option<(Token<'a>, Cursor<'a, 'b>)>
+        ensures found { IfSome result (λ found. TakesFixed name (lexed found.0) (spot self.entry) (spot found.1)) }
+        ensures other { IfNone result (fits (fixed_kind name) (next (left_at (spot self.entry))) ≡ false) }
     {
         let text: &[u8] = match name {
             FixedName::Local => b"local",
@@ -147,20 +165,34 @@ impl<'a, 'b> Cursor<'a, 'b> {
             FixedName::Abs | FixedName::StdLib => Lexeme::UpperName,
         };
         match self.next() {
-            Some((token, behind)) if token.kind == kind && token.slice == text => Ok((
-                token, behind,
-            )),
-            _ => Err(self.wrong()),
+            Some((token, after)) if token.kind == kind && token.slice == text => {
+                Some((token, after))
+            }
+            _ => None,
         }
     }
 
-    /// That the text ends here.
+    /// The next token, which has to be the name with this spelling, and the cursor after it.
     ///
     /// # Errors
-    /// The refusal of the token that stands here, where there is one.
+    /// The refusal of the next token, if it is another one.
+    pub fn take_name(self, name: FixedName) -> Result<(Token<'a>, Cursor<'a, 'b>), ParseError>
+        ensures found { IfOk result (λ found. TakesFixed name (lexed found.0) (spot self.entry) (spot found.1)) }
+        ensures refused { IfErr result (λ error. IsRefused (Terminal (fixed_kind name) 0) (spot self.entry) error) }
+    {
+        match self.accept_name(name) {
+            Some(found) => Ok(found),
+            None => Err(self.wrong()),
+        }
+    }
+
+    /// That no token is left.
+    ///
+    /// # Errors
+    /// The refusal of the next token, if there is one.
     pub fn finish(self) -> Result<(), ParseError>
         ensures found { OnOk result ((spot self.entry).rest ≡ []) }
-        ensures refused { IfErr result (λ error. (depth : ℕ) → IsRefused (Terminal End depth) (spot self.entry) error) }
+        ensures refused { IfErr result (λ error. IsRefused (Terminal End 0) (spot self.entry) error) }
     {
         match self.next() {
             Some(_) => Err(self.wrong()),

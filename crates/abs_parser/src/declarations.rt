@@ -9,7 +9,6 @@ ghost use Rattle.abs_parser.specs.Productions.{Decl as DeclSymbol, Constructor a
 ghost use Rattle.abs_parser.specs.Readings.{One, Nonterminal};
 ghost use Rattle.abs_parser.specs.ReaderAnswers.{FoundAs, IsRefused, left_at};
 ghost use Rattle.abs_parser.specs.TreesOf.{decl_in, constructor_in, signature_in};
-ghost use Rattle.abs_parser.specs.Stops.{limit};
 ghost use Rattle.abs_parser.specs.Views.{spot};
 
 use crate::ParseError;
@@ -28,22 +27,20 @@ use std::sync::Arc;
 fn constructor<'a, 'b>(
     alloc: Global,
     symbols: &mut Symbols<'a>,
-    depth: u32,
     from: Cursor<'a, 'b>,
 ) -> Result<(Constructor, Cursor<'a, 'b>), ParseError>
     requires names { length symbols.old + length (spot from).rest < 2 ^ 31 }
-    requires depth { depth ≤ limit }
-    ensures found { IfOk result (λ found. FoundAs (One ConstructorSymbol) depth symbols.old symbols.new
+    ensures found { IfOk result (λ found. FoundAs (One ConstructorSymbol) 0 symbols.old symbols.new
         (spot from.entry) (spot found.1)
         (λ names inside. (others : List ConstructorTree)
         → constructor_tree names found.0 ∷ others ≡ constructor_in inside others)) }
-    ensures refused { IfErr result (λ error. IsRefused (Nonterminal (One ConstructorSymbol) depth)
+    ensures refused { IfErr result (λ error. IsRefused (Nonterminal (One ConstructorSymbol) 0)
         (spot from.entry) error) }
 {
-    let (name, open) = from.expect(Lexeme::UpperName)?;
+    let (name, open) = from.take(Lexeme::UpperName, 0)?;
     let place = name.place;
     let name = symbols.intern(name.slice)?;
-    let (types, end) = constructor_types(alloc, symbols, depth, open)?;
+    let (types, end) = constructor_types(alloc, symbols, open)?;
     let name = Declared { place, name };
     Ok((Constructor { name, types }, end))
 }
@@ -55,35 +52,33 @@ fn constructor<'a, 'b>(
 pub(crate) fn data<'a, 'b>(
     alloc: Global,
     symbols: &mut Symbols<'a>,
-    depth: u32,
     from: Cursor<'a, 'b>,
 ) -> Result<(Decl, Cursor<'a, 'b>), ParseError>
     requires begins { fits (Word keyword.Data) (next (left_at (spot from))) ≡ true }
     requires names { length symbols.old + length (spot from).rest < 2 ^ 31 }
-    requires depth { depth ≤ limit }
-    ensures found { IfOk result (λ found. FoundAs (One DeclSymbol) depth symbols.old symbols.new (spot from.entry)
+    ensures found { IfOk result (λ found. FoundAs (One DeclSymbol) 0 symbols.old symbols.new (spot from.entry)
         (spot found.1)
         (λ names inside. (index : ℕ) (others : List DeclTree)
         → decl_tree names found.0 ∷ others ≡ decl_in index inside others)) }
     ensures none { IfOk result (λ found. (names : List Name) → decl_statements (decl_tree names found.0 ∷ []) ≡ 0) }
-    ensures refused { IfErr result (λ error. IsRefused (Nonterminal (One DeclSymbol) depth) (spot from.entry) error) }
+    ensures refused { IfErr result (λ error. IsRefused (Nonterminal (One DeclSymbol) 0) (spot from.entry) error) }
 {
-    let (word, name_at) = from.expect(Lexeme::Word(Keyword::Data))?;
-    let (name, behind) = name_at.expect(Lexeme::UpperName)?;
+    let (word, name_at) = from.take(Lexeme::Word(Keyword::Data), 0)?;
+    let (name, behind) = name_at.take(Lexeme::UpperName, 0)?;
     let declared = Declared {
         place: name.place,
         name: symbols.intern(name.slice)?,
     };
     let (parameters, equals) = type_parameters(alloc, symbols, behind)?;
-    let (_, first_at) = equals.expect(Lexeme::Sign(Punctuator::Assign))?;
-    let (first, mut here) = constructor(alloc, symbols, depth, first_at)?;
+    let (_, first_at) = equals.take(Lexeme::Sign(Punctuator::Assign), 0)?;
+    let (first, mut here) = constructor(alloc, symbols, first_at)?;
     let mut constructors = vec![in alloc; first]?;
-    while let Ok((_, next_at)) = here.expect(Lexeme::Sign(Punctuator::Bar)) {
-        let (next, behind) = constructor(alloc, symbols, depth, next_at)?;
+    while let Some((_, next_at)) = here.accept(Lexeme::Sign(Punctuator::Bar)) {
+        let (next, behind) = constructor(alloc, symbols, next_at)?;
         constructors.push(next)?;
         here = behind;
     }
-    let (_, end) = here.expect(Lexeme::Sign(Punctuator::Semicolon))?;
+    let (_, end) = here.take(Lexeme::Sign(Punctuator::Semicolon), 0)?;
     let decl = Decl::Data {
         place: word.place,
         name: declared,
@@ -100,33 +95,31 @@ pub(crate) fn data<'a, 'b>(
 pub(crate) fn function<'a, 'b>(
     alloc: Global,
     symbols: &mut Symbols<'a>,
-    depth: u32,
     from: Cursor<'a, 'b>,
 ) -> Result<(Decl, Cursor<'a, 'b>), ParseError>
     requires begins { fits (Word keyword.Def) (next (left_at (spot from))) ≡ true }
     requires names { length symbols.old + length (spot from).rest < 2 ^ 31 }
-    requires depth { depth ≤ limit }
-    ensures found { IfOk result (λ found. FoundAs (One DeclSymbol) depth symbols.old symbols.new (spot from.entry)
+    ensures found { IfOk result (λ found. FoundAs (One DeclSymbol) 0 symbols.old symbols.new (spot from.entry)
         (spot found.1)
         (λ names inside. (index : ℕ) (others : List DeclTree)
         → decl_tree names found.0 ∷ others ≡ decl_in index inside others)) }
     ensures none { IfOk result (λ found. (names : List Name) → decl_statements (decl_tree names found.0 ∷ []) ≡ 0) }
-    ensures refused { IfErr result (λ error. IsRefused (Nonterminal (One DeclSymbol) depth) (spot from.entry) error) }
+    ensures refused { IfErr result (λ error. IsRefused (Nonterminal (One DeclSymbol) 0) (spot from.entry) error) }
 {
-    let (word, type_at) = from.expect(Lexeme::Word(Keyword::Def))?;
-    let (result, name_at) = type_term(alloc, symbols, depth, type_at)?;
-    let (name, behind) = name_at.expect(Lexeme::LowerName)?;
+    let (word, type_at) = from.take(Lexeme::Word(Keyword::Def), 0)?;
+    let (result, name_at) = type_term(alloc, symbols, 0, type_at)?;
+    let (name, behind) = name_at.take(Lexeme::LowerName, 0)?;
     let declared = Declared {
         place: name.place,
         name: symbols.intern(name.slice)?,
     };
     let (parameters, open) = type_parameters(alloc, symbols, behind)?;
-    let (_, inside) = open.expect(Lexeme::Sign(Punctuator::OpenParen))?;
-    let (params, close) = params_maybe(alloc, symbols, depth, inside)?;
-    let (_, equals) = close.expect(Lexeme::Sign(Punctuator::CloseParen))?;
-    let (_, value_at) = equals.expect(Lexeme::Sign(Punctuator::Assign))?;
-    let (value, last) = expression(alloc, symbols, depth, value_at)?;
-    let (_, end) = last.expect(Lexeme::Sign(Punctuator::Semicolon))?;
+    let (_, inside) = open.take(Lexeme::Sign(Punctuator::OpenParen), 0)?;
+    let (params, close) = params_maybe(alloc, symbols, inside)?;
+    let (_, equals) = close.take(Lexeme::Sign(Punctuator::CloseParen), 0)?;
+    let (_, value_at) = equals.take(Lexeme::Sign(Punctuator::Assign), 0)?;
+    let (value, last) = expression(alloc, symbols, 0, value_at)?;
+    let (_, end) = last.take(Lexeme::Sign(Punctuator::Semicolon), 0)?;
     let value = Arc::new(alloc, value)?;
     let decl = Decl::Function {
         place: word.place,
@@ -146,34 +139,32 @@ pub(crate) fn function<'a, 'b>(
 pub(crate) fn interface<'a, 'b>(
     alloc: Global,
     symbols: &mut Symbols<'a>,
-    depth: u32,
     from: Cursor<'a, 'b>,
 ) -> Result<(Decl, Cursor<'a, 'b>), ParseError>
     requires begins { fits (Word keyword.Interface) (next (left_at (spot from))) ≡ true }
     requires names { length symbols.old + length (spot from).rest < 2 ^ 31 }
-    requires depth { depth ≤ limit }
-    ensures found { IfOk result (λ found. FoundAs (One DeclSymbol) depth symbols.old symbols.new (spot from.entry)
+    ensures found { IfOk result (λ found. FoundAs (One DeclSymbol) 0 symbols.old symbols.new (spot from.entry)
         (spot found.1)
         (λ names inside. (index : ℕ) (others : List DeclTree)
         → decl_tree names found.0 ∷ others ≡ decl_in index inside others)) }
     ensures none { IfOk result (λ found. (names : List Name) → decl_statements (decl_tree names found.0 ∷ []) ≡ 0) }
-    ensures refused { IfErr result (λ error. IsRefused (Nonterminal (One DeclSymbol) depth) (spot from.entry) error) }
+    ensures refused { IfErr result (λ error. IsRefused (Nonterminal (One DeclSymbol) 0) (spot from.entry) error) }
 {
-    let (word, name_at) = from.expect(Lexeme::Word(Keyword::Interface))?;
-    let (name, behind) = name_at.expect(Lexeme::UpperName)?;
+    let (word, name_at) = from.take(Lexeme::Word(Keyword::Interface), 0)?;
+    let (name, behind) = name_at.take(Lexeme::UpperName, 0)?;
     let declared = Declared {
         place: name.place,
         name: symbols.intern(name.slice)?,
     };
     let (extended, open) = names_behind(alloc, symbols, Heading::Extends, behind)?;
-    let (_, mut here) = open.expect(Lexeme::Sign(Punctuator::OpenBrace))?;
+    let (_, mut here) = open.take(Lexeme::Sign(Punctuator::OpenBrace), 0)?;
     let mut signatures = Vec::new(alloc);
-    while let Ok(_) = here.expect(Lexeme::UpperName) {
-        let (next, behind) = signature(alloc, symbols, depth, here)?;
+    while !here.is(Lexeme::Sign(Punctuator::CloseBrace)) {
+        let (next, behind) = signature(alloc, symbols, here)?;
         signatures.push(next)?;
         here = behind;
     }
-    let (_, end) = here.expect(Lexeme::Sign(Punctuator::CloseBrace))?;
+    let (_, end) = here.take(Lexeme::Sign(Punctuator::CloseBrace), 0)?;
     let decl = Decl::Interface {
         place: word.place,
         name: declared,
@@ -187,26 +178,24 @@ pub(crate) fn interface<'a, 'b>(
 fn signature<'a, 'b>(
     alloc: Global,
     symbols: &mut Symbols<'a>,
-    depth: u32,
     from: Cursor<'a, 'b>,
 ) -> Result<(Signature, Cursor<'a, 'b>), ParseError>
     requires names { length symbols.old + length (spot from).rest < 2 ^ 31 }
-    requires depth { depth ≤ limit }
-    ensures found { IfOk result (λ found. FoundAs (One SignatureSymbol) depth symbols.old symbols.new
+    ensures found { IfOk result (λ found. FoundAs (One SignatureSymbol) 0 symbols.old symbols.new
         (spot from.entry) (spot found.1)
         (λ names inside. (others : List SignatureTree)
         → signature_tree names found.0 ∷ others ≡ signature_in inside others)) }
-    ensures refused { IfErr result (λ error. IsRefused (Nonterminal (One SignatureSymbol) depth)
+    ensures refused { IfErr result (λ error. IsRefused (Nonterminal (One SignatureSymbol) 0)
         (spot from.entry) error) }
 {
-    let (result, name_at) = type_term(alloc, symbols, depth, from)?;
-    let (name, open) = name_at.expect(Lexeme::LowerName)?;
+    let (result, name_at) = type_term(alloc, symbols, 0, from)?;
+    let (name, open) = name_at.take(Lexeme::LowerName, 0)?;
     let place = name.place;
     let name = symbols.intern(name.slice)?;
-    let (_, inside) = open.expect(Lexeme::Sign(Punctuator::OpenParen))?;
-    let (params, close) = params_maybe(alloc, symbols, depth, inside)?;
-    let (_, last) = close.expect(Lexeme::Sign(Punctuator::CloseParen))?;
-    let (_, end) = last.expect(Lexeme::Sign(Punctuator::Semicolon))?;
+    let (_, inside) = open.take(Lexeme::Sign(Punctuator::OpenParen), 0)?;
+    let (params, close) = params_maybe(alloc, symbols, inside)?;
+    let (_, last) = close.take(Lexeme::Sign(Punctuator::CloseParen), 0)?;
+    let (_, end) = last.take(Lexeme::Sign(Punctuator::Semicolon), 0)?;
     let name = Declared { place, name };
     let signature = Signature {
         result,

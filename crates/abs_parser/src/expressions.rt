@@ -11,7 +11,7 @@ ghost use Rattle.abs_parser.specs.TreesOf.{expr_in};
 ghost use Rattle.abs_parser.specs.Views.{spot};
 
 use crate::ParseError;
-use crate::cursor::{Cursor, LIMIT};
+use crate::cursor::Cursor;
 use crate::operators::{Level, operators};
 use crate::types::type_term;
 use abs_lexer::{Keyword, Lexeme, Punctuator};
@@ -31,16 +31,16 @@ pub(crate) fn expression<'a, 'b>(
     from: Cursor<'a, 'b>,
 ) -> Result<(Expr, Cursor<'a, 'b>), ParseError>
     requires names { length symbols.old + length (spot from).rest < 2 ^ 31 }
-    requires depth { depth ≤ limit }
+    requires depth { depth ≤ limit + 1 }
     ensures found { IfOk result (λ found. FoundAs (One ExprSymbol) depth symbols.old symbols.new (spot from.entry)
         (spot found.1)
         (λ names inside. phrase names found.0 ≡ expr_in inside)) }
     ensures refused { IfErr result (λ error. IsRefused (Nonterminal (One ExprSymbol) depth) (spot from.entry) error) }
 {
-    if let Ok(_) = from.expect(Lexeme::Word(Keyword::Let)) {
+    if from.is(Lexeme::Word(Keyword::Let)) {
         return let_in(alloc, symbols, depth, from);
     }
-    if let Ok(_) = from.expect(Lexeme::Word(Keyword::If)) {
+    if from.is(Lexeme::Word(Keyword::If)) {
         return if_else(alloc, symbols, depth, from);
     }
     operators(alloc, symbols, Level::Or, depth + 1, from)
@@ -56,24 +56,21 @@ fn let_in<'a, 'b>(
 ) -> Result<(Expr, Cursor<'a, 'b>), ParseError>
     requires begins { fits (Word keyword.Let) (next (left_at (spot from))) ≡ true }
     requires names { length symbols.old + length (spot from).rest < 2 ^ 31 }
-    requires depth { depth ≤ limit }
+    requires depth { depth ≤ limit + 1 }
     ensures found { IfOk result (λ found. FoundAs (One ExprSymbol) depth symbols.old symbols.new (spot from.entry)
         (spot found.1)
         (λ names inside. phrase names found.0 ≡ expr_in inside)) }
     ensures refused { IfErr result (λ error. IsRefused (Nonterminal (One ExprSymbol) depth) (spot from.entry) error) }
 {
-    let (word, open) = from.expect(Lexeme::Word(Keyword::Let))?;
-    if depth == LIMIT {
-        return Err(from.deep());
-    }
-    let (_, type_at) = open.expect(Lexeme::Sign(Punctuator::OpenParen))?;
+    let (word, open) = from.take(Lexeme::Word(Keyword::Let), depth + 1)?;
+    let (_, type_at) = open.take(Lexeme::Sign(Punctuator::OpenParen), depth + 1)?;
     let (type_of, name_at) = type_term(alloc, symbols, depth + 1, type_at)?;
-    let (name, close) = name_at.expect(Lexeme::LowerName)?;
+    let (name, close) = name_at.take(Lexeme::LowerName, depth + 1)?;
     let variable = Variable::Unresolved(symbols.intern(name.slice)?);
-    let (_, equals) = close.expect(Lexeme::Sign(Punctuator::CloseParen))?;
-    let (_, value_at) = equals.expect(Lexeme::Sign(Punctuator::Assign))?;
+    let (_, equals) = close.take(Lexeme::Sign(Punctuator::CloseParen), depth + 1)?;
+    let (_, value_at) = equals.take(Lexeme::Sign(Punctuator::Assign), depth + 1)?;
     let (value, in_at) = expression(alloc, symbols, depth + 1, value_at)?;
-    let (_, body_at) = in_at.expect(Lexeme::Word(Keyword::In))?;
+    let (_, body_at) = in_at.take(Lexeme::Word(Keyword::In), depth + 1)?;
     let (body, end) = expression(alloc, symbols, depth + 1, body_at)?;
     let value = Box::new(alloc, value)?;
     let body = Box::new(alloc, body)?;
@@ -98,20 +95,17 @@ fn if_else<'a, 'b>(
 ) -> Result<(Expr, Cursor<'a, 'b>), ParseError>
     requires begins { fits (Word keyword.If) (next (left_at (spot from))) ≡ true }
     requires names { length symbols.old + length (spot from).rest < 2 ^ 31 }
-    requires depth { depth ≤ limit }
+    requires depth { depth ≤ limit + 1 }
     ensures found { IfOk result (λ found. FoundAs (One ExprSymbol) depth symbols.old symbols.new (spot from.entry)
         (spot found.1)
         (λ names inside. phrase names found.0 ≡ expr_in inside)) }
     ensures refused { IfErr result (λ error. IsRefused (Nonterminal (One ExprSymbol) depth) (spot from.entry) error) }
 {
-    let (word, test_at) = from.expect(Lexeme::Word(Keyword::If))?;
-    if depth == LIMIT {
-        return Err(from.deep());
-    }
+    let (word, test_at) = from.take(Lexeme::Word(Keyword::If), depth + 1)?;
     let (test, then_at) = expression(alloc, symbols, depth + 1, test_at)?;
-    let (_, first_at) = then_at.expect(Lexeme::Word(Keyword::Then))?;
+    let (_, first_at) = then_at.take(Lexeme::Word(Keyword::Then), depth + 1)?;
     let (first, else_at) = expression(alloc, symbols, depth + 1, first_at)?;
-    let (_, second_at) = else_at.expect(Lexeme::Word(Keyword::Else))?;
+    let (_, second_at) = else_at.take(Lexeme::Word(Keyword::Else), depth + 1)?;
     let (second, end) = expression(alloc, symbols, depth + 1, second_at)?;
     let condition = Box::new(alloc, test)?;
     let first = Box::new(alloc, first)?;

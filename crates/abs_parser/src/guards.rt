@@ -35,10 +35,9 @@ pub(crate) fn guard<'a, 'b>(
         (λ names inside. test_trees names found.0.items ≡ guard_in inside)) }
     ensures refused { IfErr result (λ error. IsRefused (Nonterminal (One Guard) depth) (spot from.entry) error) }
 {
-    let mut tests = Vec::new(alloc);
     let (first, mut here) = test(alloc, symbols, depth, from)?;
-    tests.push(first)?;
-    while let Ok((_, behind)) = here.expect(Lexeme::Sign(Punctuator::And)) {
+    let mut tests = vec![in alloc; first]?;
+    while let Some((_, behind)) = here.accept(Lexeme::Sign(Punctuator::And)) {
         let (next, end) = test(alloc, symbols, depth, behind)?;
         tests.push(next)?;
         here = end;
@@ -64,22 +63,14 @@ fn test<'a, 'b>(
     let place = from.place();
     let (value, behind) = operators(alloc, symbols, Level::Equal, depth, from)?;
     let value = Arc::new(alloc, value)?;
-    match behind.expect(Lexeme::Sign(Punctuator::Question)) {
-        Ok((_, end)) => Ok((
-            Test {
-                place,
-                value,
-                asks: true,
-            },
-            end,
-        )),
-        Err(_) => Ok((
-            Test {
-                place,
-                value,
-                asks: false,
-            },
-            behind,
-        )),
-    }
+    let mut test = Test {
+        place,
+        value,
+        asks: false,
+    };
+    let Some((_, end)) = behind.accept(Lexeme::Sign(Punctuator::Question)) else {
+        return Ok((test, behind));
+    };
+    test.asks = true;
+    Ok((test, end))
 }

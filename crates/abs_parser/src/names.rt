@@ -1,13 +1,12 @@
 //! Reads lists of upper-case names: the parameters of a type, and the interfaces that an interface extends or a class
 //! implements.
-ghost use Rattle.std.specs.Prelude.{◌≡◌, ℕ, ◌+◌, ◌<◌, ◌≤◌, ◌^◌, ◌∷◌, length, map, IfOk, IfErr};
+ghost use Rattle.std.specs.Prelude.{◌≡◌, ◌+◌, ◌<◌, ◌^◌, ◌∷◌, length, map, IfOk, IfErr};
 ghost use Rattle.abs_tree.specs.SyntaxViews.{declared as declared_tree};
 ghost use Rattle.abs_parser.specs.Headings.{symbol_of};
 ghost use Rattle.abs_parser.specs.Productions.{CommaUpper, TypeParameters};
 ghost use Rattle.abs_parser.specs.Readings.{Optional, Repeated, Nonterminal};
 ghost use Rattle.abs_parser.specs.ReaderAnswers.{FoundAs, IsRefused};
 ghost use Rattle.abs_parser.specs.TreesOf.{names_maybe, more_names as more_names_in};
-ghost use Rattle.abs_parser.specs.Stops.{limit};
 ghost use Rattle.abs_parser.specs.Views.{spot};
 
 use crate::ParseError;
@@ -37,20 +36,20 @@ pub(crate) fn names_behind<'a, 'b>(
     from: Cursor<'a, 'b>,
 ) -> Result<(Vec<Declared>, Cursor<'a, 'b>), ParseError>
     requires names { length symbols.old + length (spot from).rest < 2 ^ 31 }
-    ensures found { IfOk result (λ found. (depth : ℕ) → depth ≤ limit
-        → FoundAs (Optional (symbol_of heading)) depth symbols.old symbols.new (spot from.entry) (spot found.1)
+    ensures found { IfOk result (λ found. FoundAs (Optional (symbol_of heading)) 0 symbols.old symbols.new
+        (spot from.entry) (spot found.1)
         (λ names inside. map (declared_tree names) found.0.items ≡ names_maybe inside)) }
-    ensures refused { IfErr result (λ error. (depth : ℕ) → depth ≤ limit
-        → IsRefused (Nonterminal (Optional (symbol_of heading)) depth) (spot from.entry) error) }
+    ensures refused { IfErr result (λ error. IsRefused (Nonterminal (Optional (symbol_of heading)) 0)
+        (spot from.entry) error) }
 {
     let word = match heading {
         Heading::Extends => Keyword::Extends,
         Heading::Implements => Keyword::Implements,
     };
-    let Ok((_, name_at)) = from.expect(Lexeme::Word(word)) else {
+    let Some((_, name_at)) = from.accept(Lexeme::Word(word)) else {
         return Ok((Vec::new(alloc), from));
     };
-    let (name, behind) = name_at.expect(Lexeme::UpperName)?;
+    let (name, behind) = name_at.take(Lexeme::UpperName, 0)?;
     let first = Declared {
         place: name.place,
         name: symbols.intern(name.slice)?,
@@ -68,22 +67,22 @@ pub(crate) fn type_parameters<'a, 'b>(
     from: Cursor<'a, 'b>,
 ) -> Result<(Vec<Declared>, Cursor<'a, 'b>), ParseError>
     requires names { length symbols.old + length (spot from).rest < 2 ^ 31 }
-    ensures found { IfOk result (λ found. (depth : ℕ) → depth ≤ limit
-        → FoundAs (Optional TypeParameters) depth symbols.old symbols.new (spot from.entry) (spot found.1)
+    ensures found { IfOk result (λ found. FoundAs (Optional TypeParameters) 0 symbols.old symbols.new
+        (spot from.entry) (spot found.1)
         (λ names inside. map (declared_tree names) found.0.items ≡ names_maybe inside)) }
-    ensures refused { IfErr result (λ error. (depth : ℕ) → depth ≤ limit
-        → IsRefused (Nonterminal (Optional TypeParameters) depth) (spot from.entry) error) }
+    ensures refused { IfErr result (λ error. IsRefused (Nonterminal (Optional TypeParameters) 0)
+        (spot from.entry) error) }
 {
-    let Ok((_, name_at)) = from.expect(Lexeme::Sign(Punctuator::Less)) else {
+    let Some((_, name_at)) = from.accept(Lexeme::Sign(Punctuator::Less)) else {
         return Ok((Vec::new(alloc), from));
     };
-    let (name, behind) = name_at.expect(Lexeme::UpperName)?;
+    let (name, behind) = name_at.take(Lexeme::UpperName, 0)?;
     let first = Declared {
         place: name.place,
         name: symbols.intern(name.slice)?,
     };
     let (parameters, close) = more_names(alloc, symbols, first, behind)?;
-    let (_, end) = close.expect(Lexeme::Sign(Punctuator::Greater))?;
+    let (_, end) = close.take(Lexeme::Sign(Punctuator::Greater), 0)?;
     Ok((parameters, end))
 }
 
@@ -95,16 +94,16 @@ fn more_names<'a, 'b>(
     from: Cursor<'a, 'b>,
 ) -> Result<(Vec<Declared>, Cursor<'a, 'b>), ParseError>
     requires names { length symbols.old + length (spot from).rest < 2 ^ 31 }
-    ensures found { IfOk result (λ found. (depth : ℕ) → depth ≤ limit
-        → FoundAs (Repeated CommaUpper) depth symbols.old symbols.new (spot from.entry) (spot found.1)
+    ensures found { IfOk result (λ found. FoundAs (Repeated CommaUpper) 0 symbols.old symbols.new
+        (spot from.entry) (spot found.1)
         (λ names inside. map (declared_tree names) found.0.items ≡ declared_tree names first ∷ more_names_in inside)) }
-    ensures refused { IfErr result (λ error. (depth : ℕ) → depth ≤ limit
-        → IsRefused (Nonterminal (Repeated CommaUpper) depth) (spot from.entry) error) }
+    ensures refused { IfErr result (λ error. IsRefused (Nonterminal (Repeated CommaUpper) 0)
+        (spot from.entry) error) }
 {
     let mut listed = vec![in alloc; first]?;
     let mut here = from;
-    while let Ok((_, name_at)) = here.expect(Lexeme::Sign(Punctuator::Comma)) {
-        let (name, behind) = name_at.expect(Lexeme::UpperName)?;
+    while let Some((_, name_at)) = here.accept(Lexeme::Sign(Punctuator::Comma)) {
+        let (name, behind) = name_at.take(Lexeme::UpperName, 0)?;
         let place = name.place;
         let name = symbols.intern(name.slice)?;
         listed.push(Declared { place, name })?;

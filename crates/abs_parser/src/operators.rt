@@ -148,7 +148,7 @@ pub(crate) fn operators<'a, 'b>(
     from: Cursor<'a, 'b>,
 ) -> Result<(Expr, Cursor<'a, 'b>), ParseError>
     requires names { length symbols.old + length (spot from).rest < 2 ^ 31 }
-    requires depth { depth ≤ limit + 1 }
+    requires depth { depth ≤ limit + 2 }
     ensures found { IfOk result (λ found. FoundAs (One (symbol_of level)) depth symbols.old symbols.new
         (spot from.entry) (spot found.1)
         (λ names inside. phrase names found.0 ≡ level_in level inside)) }
@@ -243,7 +243,7 @@ fn operand<'a, 'b>(
     from: Cursor<'a, 'b>,
 ) -> Result<(Expr, Cursor<'a, 'b>), ParseError>
     requires names { length symbols.old + length (spot from).rest < 2 ^ 31 }
-    requires depth { depth ≤ limit + 1 }
+    requires depth { depth ≤ limit + 2 }
     ensures found { IfOk result (λ found. FoundAs (One (operand_symbol level)) depth symbols.old symbols.new
         (spot from.entry) (spot found.1)
         (λ names inside. phrase names found.0 ≡ operand_in level inside)) }

@@ -6,7 +6,6 @@ ghost use Rattle.abs_parser.specs.Productions.{Param as ParamSymbol, Params, Cla
 ghost use Rattle.abs_parser.specs.Readings.{One, Optional, Nonterminal};
 ghost use Rattle.abs_parser.specs.ReaderAnswers.{FoundAs, IsRefused};
 ghost use Rattle.abs_parser.specs.TreesOf.{param_in, params_in, params_maybe as maybe_params_in, class_params_maybe, constructor_types as types_of_constructor};
-ghost use Rattle.abs_parser.specs.Stops.{limit};
 ghost use Rattle.abs_parser.specs.Views.{spot};
 
 use crate::ParseError;
@@ -21,18 +20,16 @@ use std::alloc::Global;
 fn param<'a, 'b>(
     alloc: Global,
     symbols: &mut Symbols<'a>,
-    depth: u32,
     from: Cursor<'a, 'b>,
 ) -> Result<(Param, Cursor<'a, 'b>), ParseError>
     requires names { length symbols.old + length (spot from).rest < 2 ^ 31 }
-    requires depth { depth ≤ limit }
-    ensures found { IfOk result (λ found. FoundAs (One ParamSymbol) depth symbols.old symbols.new (spot from.entry)
+    ensures found { IfOk result (λ found. FoundAs (One ParamSymbol) 0 symbols.old symbols.new (spot from.entry)
         (spot found.1)
         (λ names inside. (others : List ParamTree) → param_tree names found.0 ∷ others ≡ param_in inside others)) }
-    ensures refused { IfErr result (λ error. IsRefused (Nonterminal (One ParamSymbol) depth) (spot from.entry) error) }
+    ensures refused { IfErr result (λ error. IsRefused (Nonterminal (One ParamSymbol) 0) (spot from.entry) error) }
 {
-    let (type_of, name_at) = type_term(alloc, symbols, depth, from)?;
-    let (name, end) = name_at.expect(Lexeme::LowerName)?;
+    let (type_of, name_at) = type_term(alloc, symbols, 0, from)?;
+    let (name, end) = name_at.take(Lexeme::LowerName, 0)?;
     let variable = Variable::Unresolved(symbols.intern(name.slice)?);
     let param = Param {
         type_of,
@@ -46,21 +43,18 @@ fn param<'a, 'b>(
 fn params<'a, 'b>(
     alloc: Global,
     symbols: &mut Symbols<'a>,
-    depth: u32,
     from: Cursor<'a, 'b>,
 ) -> Result<(Vec<Param>, Cursor<'a, 'b>), ParseError>
     requires names { length symbols.old + length (spot from).rest < 2 ^ 31 }
-    requires depth { depth ≤ limit }
-    ensures found { IfOk result (λ found. FoundAs (One Params) depth symbols.old symbols.new (spot from.entry)
+    ensures found { IfOk result (λ found. FoundAs (One Params) 0 symbols.old symbols.new (spot from.entry)
         (spot found.1)
         (λ names inside. map (param_tree names) found.0.items ≡ params_in inside)) }
-    ensures refused { IfErr result (λ error. IsRefused (Nonterminal (One Params) depth) (spot from.entry) error) }
+    ensures refused { IfErr result (λ error. IsRefused (Nonterminal (One Params) 0) (spot from.entry) error) }
 {
-    let mut params = Vec::new(alloc);
-    let (first, mut here) = param(alloc, symbols, depth, from)?;
-    params.push(first)?;
-    while let Ok((_, behind)) = here.expect(Lexeme::Sign(Punctuator::Comma)) {
-        let (next, end) = param(alloc, symbols, depth, behind)?;
+    let (first, mut here) = param(alloc, symbols, from)?;
+    let mut params = vec![in alloc; first]?;
+    while let Some((_, behind)) = here.accept(Lexeme::Sign(Punctuator::Comma)) {
+        let (next, end) = param(alloc, symbols, behind)?;
         params.push(next)?;
         here = end;
     }
@@ -74,20 +68,18 @@ fn params<'a, 'b>(
 pub(crate) fn params_maybe<'a, 'b>(
     alloc: Global,
     symbols: &mut Symbols<'a>,
-    depth: u32,
     from: Cursor<'a, 'b>,
 ) -> Result<(Vec<Param>, Cursor<'a, 'b>), ParseError>
     requires names { length symbols.old + length (spot from).rest < 2 ^ 31 }
-    requires depth { depth ≤ limit }
-    ensures found { IfOk result (λ found. FoundAs (Optional Params) depth symbols.old symbols.new (spot from.entry)
+    ensures found { IfOk result (λ found. FoundAs (Optional Params) 0 symbols.old symbols.new (spot from.entry)
         (spot found.1)
         (λ names inside. map (param_tree names) found.0.items ≡ maybe_params_in inside)) }
-    ensures refused { IfErr result (λ error. IsRefused (Nonterminal (Optional Params) depth) (spot from.entry) error) }
+    ensures refused { IfErr result (λ error. IsRefused (Nonterminal (Optional Params) 0) (spot from.entry) error) }
 {
-    let Ok(_) = from.expect(Lexeme::UpperName) else {
+    if !from.is(Lexeme::UpperName) {
         return Ok((Vec::new(alloc), from));
-    };
-    params(alloc, symbols, depth, from)
+    }
+    params(alloc, symbols, from)
 }
 
 /// The parameters of a class between parentheses, where these stand here, and the cursor behind them.
@@ -97,22 +89,20 @@ pub(crate) fn params_maybe<'a, 'b>(
 pub(crate) fn class_parameters<'a, 'b>(
     alloc: Global,
     symbols: &mut Symbols<'a>,
-    depth: u32,
     from: Cursor<'a, 'b>,
 ) -> Result<(Vec<Param>, Cursor<'a, 'b>), ParseError>
     requires names { length symbols.old + length (spot from).rest < 2 ^ 31 }
-    requires depth { depth ≤ limit }
-    ensures found { IfOk result (λ found. FoundAs (Optional ClassParameters) depth symbols.old symbols.new
+    ensures found { IfOk result (λ found. FoundAs (Optional ClassParameters) 0 symbols.old symbols.new
         (spot from.entry) (spot found.1)
         (λ names inside. map (param_tree names) found.0.items ≡ class_params_maybe inside)) }
-    ensures refused { IfErr result (λ error. IsRefused (Nonterminal (Optional ClassParameters) depth)
+    ensures refused { IfErr result (λ error. IsRefused (Nonterminal (Optional ClassParameters) 0)
         (spot from.entry) error) }
 {
-    let Ok((_, behind)) = from.expect(Lexeme::Sign(Punctuator::OpenParen)) else {
+    let Some((_, behind)) = from.accept(Lexeme::Sign(Punctuator::OpenParen)) else {
         return Ok((Vec::new(alloc), from));
     };
-    let (params, close) = params_maybe(alloc, symbols, depth, behind)?;
-    let (_, end) = close.expect(Lexeme::Sign(Punctuator::CloseParen))?;
+    let (params, close) = params_maybe(alloc, symbols, behind)?;
+    let (_, end) = close.take(Lexeme::Sign(Punctuator::CloseParen), 0)?;
     Ok((params, end))
 }
 
@@ -123,24 +113,22 @@ pub(crate) fn class_parameters<'a, 'b>(
 pub(crate) fn constructor_types<'a, 'b>(
     alloc: Global,
     symbols: &mut Symbols<'a>,
-    depth: u32,
     from: Cursor<'a, 'b>,
 ) -> Result<(Vec<TypeTerm>, Cursor<'a, 'b>), ParseError>
     requires names { length symbols.old + length (spot from).rest < 2 ^ 31 }
-    requires depth { depth ≤ limit }
-    ensures found { IfOk result (λ found. FoundAs (Optional ConstructorTypes) depth symbols.old symbols.new
+    ensures found { IfOk result (λ found. FoundAs (Optional ConstructorTypes) 0 symbols.old symbols.new
         (spot from.entry) (spot found.1)
         (λ names inside. type_trees names found.0.items ≡ types_of_constructor inside)) }
-    ensures refused { IfErr result (λ error. IsRefused (Nonterminal (Optional ConstructorTypes) depth)
+    ensures refused { IfErr result (λ error. IsRefused (Nonterminal (Optional ConstructorTypes) 0)
         (spot from.entry) error) }
 {
-    let Ok((_, behind)) = from.expect(Lexeme::Sign(Punctuator::OpenParen)) else {
+    let Some((_, behind)) = from.accept(Lexeme::Sign(Punctuator::OpenParen)) else {
         return Ok((Vec::new(alloc), from));
     };
-    if let Ok((_, end)) = behind.expect(Lexeme::Sign(Punctuator::CloseParen)) {
+    if let Some((_, end)) = behind.accept(Lexeme::Sign(Punctuator::CloseParen)) {
         return Ok((Vec::new(alloc), end));
     }
-    let (types, close) = types(alloc, symbols, depth, behind)?;
-    let (_, end) = close.expect(Lexeme::Sign(Punctuator::CloseParen))?;
+    let (types, close) = types(alloc, symbols, 0, behind)?;
+    let (_, end) = close.take(Lexeme::Sign(Punctuator::CloseParen), 0)?;
     Ok((types, end))
 }

@@ -23,11 +23,11 @@ pub(crate) fn module_line<'a, 'b>(
         (λ names inside. ⊤)) }
     ensures refused { IfErr result (λ error. IsRefused (Nonterminal (Optional Module) 0) (spot from.entry) error) }
 {
-    let Ok((_, path_at)) = from.expect(Lexeme::Word(Keyword::Module)) else {
+    let Some((_, path_at)) = from.accept(Lexeme::Word(Keyword::Module)) else {
         return Ok(from);
     };
     let last = path(symbols, path_at)?;
-    let (_, end) = last.expect(Lexeme::Sign(Punctuator::Semicolon))?;
+    let (_, end) = last.take(Lexeme::Sign(Punctuator::Semicolon), 0)?;
     Ok(end)
 }
 
@@ -41,10 +41,10 @@ fn path<'a, 'b>(
         (λ names inside. ⊤)) }
     ensures refused { IfErr result (λ error. IsRefused (Nonterminal (One Path) 0) (spot from.entry) error) }
 {
-    let (first, mut here) = from.expect(Lexeme::UpperName)?;
+    let (first, mut here) = from.take(Lexeme::UpperName, 0)?;
     symbols.intern(first.slice)?;
-    while let Ok((_, name_at)) = here.expect(Lexeme::Sign(Punctuator::Dot)) {
-        let (name, behind) = name_at.expect(Lexeme::UpperName)?;
+    while let Some((_, name_at)) = here.accept(Lexeme::Sign(Punctuator::Dot)) {
+        let (name, behind) = name_at.take(Lexeme::UpperName, 0)?;
         symbols.intern(name.slice)?;
         here = behind;
     }
@@ -64,16 +64,16 @@ pub(crate) fn import_line<'a, 'b>(
         (λ names inside. ⊤)) }
     ensures refused { IfErr result (λ error. IsRefused (Nonterminal (Optional Import) 0) (spot from.entry) error) }
 {
-    let Ok((_, star)) = from.expect(Lexeme::Word(Keyword::Import)) else {
+    let Some((_, star)) = from.accept(Lexeme::Word(Keyword::Import)) else {
         return Ok(from);
     };
-    let (_, word) = star.expect(Lexeme::Sign(Punctuator::Star))?;
-    let (_, abs_at) = word.expect(Lexeme::Word(Keyword::From))?;
-    let (abs, dot) = abs_at.expect_name(FixedName::Abs)?;
+    let (_, word) = star.take(Lexeme::Sign(Punctuator::Star), 0)?;
+    let (_, abs_at) = word.take(Lexeme::Word(Keyword::From), 0)?;
+    let (abs, dot) = abs_at.take_name(FixedName::Abs)?;
     symbols.intern(abs.slice)?;
-    let (_, library_at) = dot.expect(Lexeme::Sign(Punctuator::Dot))?;
-    let (library, last) = library_at.expect_name(FixedName::StdLib)?;
+    let (_, library_at) = dot.take(Lexeme::Sign(Punctuator::Dot), 0)?;
+    let (library, last) = library_at.take_name(FixedName::StdLib)?;
     symbols.intern(library.slice)?;
-    let (_, end) = last.expect(Lexeme::Sign(Punctuator::Semicolon))?;
+    let (_, end) = last.take(Lexeme::Sign(Punctuator::Semicolon), 0)?;
     Ok(end)
 }

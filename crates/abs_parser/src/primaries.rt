@@ -19,7 +19,7 @@ ghost use Rattle.abs_parser.specs.Views.{spot};
 use crate::ParseError;
 use crate::arguments::arguments_maybe;
 use crate::cases::case_of;
-use crate::cursor::{Cursor, LIMIT};
+use crate::cursor::Cursor;
 use crate::expressions::expression;
 use crate::literals::{numeral, text};
 use abs_lexer::{Keyword, Lexeme, Punctuator};
@@ -44,21 +44,6 @@ fn prefix_of(kind: Lexeme) -> Option<Prefix>
     }
 }
 
-/// Whether a primary may begin with a token of this kind, however it is written.
-fn begins_primary(kind: Lexeme) -> bool
-    ensures { (bytes : List ℕ) → result ≡ begins Primary (kind_of_lexeme kind bytes) }
-{
-    match kind {
-        Lexeme::Number | Lexeme::Text | Lexeme::LowerName | Lexeme::UpperName => true,
-        Lexeme::Word(word) => match word {
-            Keyword::Null | Keyword::Destiny | Keyword::This | Keyword::Case => true,
-            _ => false,
-        },
-        Lexeme::Sign(sign) => sign == Punctuator::OpenParen,
-        Lexeme::Foreign => false,
-    }
-}
-
 /// A unary that stands in so many counted symbols, and the cursor behind it.
 ///
 /// # Errors
@@ -71,31 +56,23 @@ pub(crate) fn unary<'a, 'b>(
     from: Cursor<'a, 'b>,
 ) -> Result<(Expr, Cursor<'a, 'b>), ParseError>
     requires names { length symbols.old + length (spot from).rest < 2 ^ 31 }
-    requires depth { depth ≤ limit + 1 }
+    requires depth { depth ≤ limit + 2 }
     ensures found { IfOk result (λ found. FoundAs (One Unary) depth symbols.old symbols.new (spot from.entry)
         (spot found.1)
         (λ names inside. phrase names found.0 ≡ unary_in inside)) }
     ensures refused { IfErr result (λ error. IsRefused (Nonterminal (One Unary) depth) (spot from.entry) error) }
 {
-    let Some((token, behind)) = from.next() else {
+    let Some((first, _)) = from.next() else {
         return Err(from.wrong());
     };
-    let Some(prefix) = prefix_of(token.kind) else {
-        if !begins_primary(token.kind) {
-            return Err(from.wrong());
-        }
-        if depth >= LIMIT {
-            return Err(from.deep());
-        }
+    let Some(prefix) = prefix_of(first.kind) else {
         return primary(alloc, symbols, depth + 1, from);
     };
-    if depth >= LIMIT {
-        return Err(from.deep());
-    }
+    let (sign, behind) = from.take(first.kind, depth + 1)?;
     let (operand, end) = unary(alloc, symbols, depth + 1, behind)?;
     let operand = Box::new(alloc, operand)?;
     let prefixed = Expr::Prefixed {
-        place: token.place,
+        place: sign.place,
         prefix,
         operand,
     };
@@ -111,18 +88,24 @@ fn primary<'a, 'b>(
     from: Cursor<'a, 'b>,
 ) -> Result<(Expr, Cursor<'a, 'b>), ParseError>
     requires names { length symbols.old + length (spot from).rest < 2 ^ 31 }
-    requires depth { depth ≤ limit }
+    requires depth { depth ≤ limit + 3 }
     ensures found { IfOk result (λ found. FoundAs (One Primary) depth symbols.old symbols.new (spot from.entry)
         (spot found.1)
         (λ names inside. phrase names found.0 ≡ primary_in inside)) }
     ensures refused { IfErr result (λ error. IsRefused (Nonterminal (One Primary) depth) (spot from.entry) error) }
 {
-    let Some((token, behind)) = from.next() else {
+    let Some((first, _)) = from.next() else {
         return Err(from.wrong());
     };
-    match token.kind {
-        Lexeme::Number => Ok((Expr::Number(token.place, numeral(token.slice)), behind)),
-        Lexeme::Text => Ok((Expr::Text(token.place, text(alloc, token.slice)?), behind)),
+    match first.kind {
+        Lexeme::Number => {
+            let (token, end) = from.take(Lexeme::Number, depth)?;
+            Ok((Expr::Number(token.place, numeral(token.slice)), end))
+        }
+        Lexeme::Text => {
+            let (token, end) = from.take(Lexeme::Text, depth)?;
+            Ok((Expr::Text(token.place, text(alloc, token.slice)?), end))
+        }
         Lexeme::LowerName => lower_primary(alloc, symbols, depth, from),
         Lexeme::UpperName => built(alloc, symbols, depth, from),
         Lexeme::Word(word) => worded(alloc, symbols, depth, word, from),
@@ -141,13 +124,13 @@ fn lower_primary<'a, 'b>(
 ) -> Result<(Expr, Cursor<'a, 'b>), ParseError>
     requires begins { fits LowerName (next (left_at (spot from))) ≡ true }
     requires names { length symbols.old + length (spot from).rest < 2 ^ 31 }
-    requires depth { depth ≤ limit }
+    requires depth { depth ≤ limit + 3 }
     ensures found { IfOk result (λ found. FoundAs (One Primary) depth symbols.old symbols.new (spot from.entry)
         (spot found.1)
         (λ names inside. phrase names found.0 ≡ primary_in inside)) }
     ensures refused { IfErr result (λ error. IsRefused (Nonterminal (One Primary) depth) (spot from.entry) error) }
 {
-    let (name, behind) = from.expect(Lexeme::LowerName)?;
+    let (name, behind) = from.take(Lexeme::LowerName, depth)?;
     let symbol = symbols.intern(name.slice)?;
     let (arguments, end) = arguments_maybe(alloc, symbols, depth, behind)?;
     Ok((named(name.place, symbol, arguments), end))
@@ -178,13 +161,13 @@ fn built<'a, 'b>(
 ) -> Result<(Expr, Cursor<'a, 'b>), ParseError>
     requires begins { fits UpperName (next (left_at (spot from))) ≡ true }
     requires names { length symbols.old + length (spot from).rest < 2 ^ 31 }
-    requires depth { depth ≤ limit }
+    requires depth { depth ≤ limit + 3 }
     ensures found { IfOk result (λ found. FoundAs (One Primary) depth symbols.old symbols.new (spot from.entry)
         (spot found.1)
         (λ names inside. phrase names found.0 ≡ primary_in inside)) }
     ensures refused { IfErr result (λ error. IsRefused (Nonterminal (One Primary) depth) (spot from.entry) error) }
 {
-    let (name, behind) = from.expect(Lexeme::UpperName)?;
+    let (name, behind) = from.take(Lexeme::UpperName, depth)?;
     let symbol = symbols.intern(name.slice)?;
     let (arguments, end) = arguments_maybe(alloc, symbols, depth, behind)?;
     let arguments = match arguments {
@@ -210,16 +193,21 @@ fn worded<'a, 'b>(
 ) -> Result<(Expr, Cursor<'a, 'b>), ParseError>
     requires begins { next (left_at (spot from)) ≡ Word word }
     requires names { length symbols.old + length (spot from).rest < 2 ^ 31 }
-    requires depth { depth ≤ limit }
+    requires depth { depth ≤ limit + 3 }
     ensures found { IfOk result (λ found. FoundAs (One Primary) depth symbols.old symbols.new (spot from.entry)
         (spot found.1)
         (λ names inside. phrase names found.0 ≡ primary_in inside)) }
     ensures refused { IfErr result (λ error. IsRefused (Nonterminal (One Primary) depth) (spot from.entry) error) }
 {
-    let (token, behind) = from.expect(Lexeme::Word(word))?;
     match word {
-        Keyword::Null => Ok((Expr::Null(token.place), behind)),
-        Keyword::Destiny => Ok((Expr::Destiny(token.place), behind)),
+        Keyword::Null => {
+            let (token, end) = from.take(Lexeme::Word(Keyword::Null), depth)?;
+            Ok((Expr::Null(token.place), end))
+        }
+        Keyword::Destiny => {
+            let (token, end) = from.take(Lexeme::Word(Keyword::Destiny), depth)?;
+            Ok((Expr::Destiny(token.place), end))
+        }
         Keyword::This => this_of(alloc, symbols, depth, from),
         Keyword::Case => case_of(alloc, symbols, depth, from),
         _ => Err(from.wrong()),
@@ -236,17 +224,17 @@ fn this_of<'a, 'b>(
 ) -> Result<(Expr, Cursor<'a, 'b>), ParseError>
     requires begins { fits (Word keyword.This) (next (left_at (spot from))) ≡ true }
     requires names { length symbols.old + length (spot from).rest < 2 ^ 31 }
-    requires depth { depth ≤ limit }
+    requires depth { depth ≤ limit + 3 }
     ensures found { IfOk result (λ found. FoundAs (One Primary) depth symbols.old symbols.new (spot from.entry)
         (spot found.1)
         (λ names inside. phrase names found.0 ≡ primary_in inside)) }
     ensures refused { IfErr result (λ error. IsRefused (Nonterminal (One Primary) depth) (spot from.entry) error) }
 {
-    let (this, behind) = from.expect(Lexeme::Word(Keyword::This))?;
-    let Ok((_, name_at)) = behind.expect(Lexeme::Sign(Punctuator::Dot)) else {
+    let (this, behind) = from.take(Lexeme::Word(Keyword::This), depth)?;
+    let Some((_, name_at)) = behind.accept(Lexeme::Sign(Punctuator::Dot)) else {
         return Ok((Expr::This(this.place), behind));
     };
-    let (name, open) = name_at.expect(Lexeme::LowerName)?;
+    let (name, open) = name_at.take(Lexeme::LowerName, depth)?;
     let symbol = symbols.intern(name.slice)?;
     let (arguments, end) = arguments_maybe(alloc, symbols, depth, open)?;
     let expr = member(alloc, this.place, name.place, symbol, arguments)?;
@@ -289,14 +277,14 @@ fn group<'a, 'b>(
 ) -> Result<(Expr, Cursor<'a, 'b>), ParseError>
     requires begins { next (left_at (spot from)) ≡ Sign sign }
     requires names { length symbols.old + length (spot from).rest < 2 ^ 31 }
-    requires depth { depth ≤ limit }
+    requires depth { depth ≤ limit + 3 }
     ensures found { IfOk result (λ found. FoundAs (One Primary) depth symbols.old symbols.new (spot from.entry)
         (spot found.1)
         (λ names inside. phrase names found.0 ≡ primary_in inside)) }
     ensures refused { IfErr result (λ error. IsRefused (Nonterminal (One Primary) depth) (spot from.entry) error) }
 {
-    let (_, inside) = from.expect(Lexeme::Sign(Punctuator::OpenParen))?;
+    let (_, inside) = from.take(Lexeme::Sign(Punctuator::OpenParen), depth)?;
     let (expr, close) = expression(alloc, symbols, depth, inside)?;
-    let (_, end) = close.expect(Lexeme::Sign(Punctuator::CloseParen))?;
+    let (_, end) = close.take(Lexeme::Sign(Punctuator::CloseParen), depth)?;
     Ok((expr, end))
 }

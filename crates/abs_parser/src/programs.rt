@@ -3,10 +3,9 @@ ghost use Rattle.std.specs.Prelude.{◌≡◌, List, [], ◌∷◌, ◌+◌, ◌
 ghost use Rattle.abs_tree.specs.Syntax.{Name, DeclTree};
 ghost use Rattle.abs_tree.specs.SyntaxViews.{decl_tree};
 ghost use Rattle.abs_tree.specs.SyntaxSizes.{decl_statements};
-ghost use Rattle.abs_parser.specs.Kinds.{next};
-ghost use Rattle.abs_parser.specs.Productions.{begins, Decl as DeclSymbol};
+ghost use Rattle.abs_parser.specs.Productions.{Block, Decl as DeclSymbol};
 ghost use Rattle.abs_parser.specs.Readings.{One, Repeated, Nonterminal};
-ghost use Rattle.abs_parser.specs.ReaderAnswers.{FoundAs, IsRefused, left_at};
+ghost use Rattle.abs_parser.specs.ReaderAnswers.{FoundAs, IsRefused, IsRefusedWith};
 ghost use Rattle.abs_parser.specs.TreesOf.{decl_in, decls_in};
 ghost use Rattle.abs_parser.specs.Views.{spot};
 
@@ -14,16 +13,17 @@ use crate::ParseError;
 use crate::classes::class;
 use crate::cursor::Cursor;
 use crate::declarations::{data, function, interface};
-use abs_lexer::{Keyword, Lexeme};
+use abs_lexer::{Keyword, Lexeme, Punctuator};
 use abs_tree::Symbols;
 use abs_tree::syntax::Decl;
 use std::alloc::Global;
 
-/// Declarations, as many as stand here, whose first statement has the free index; the index that is free
-/// after them; and the cursor behind them.
+/// The declarations up to the main block, the first of whose statements gets `index`; the index that is free after
+/// them; and the cursor after them.
 ///
 /// # Errors
-/// The refusal of the first token that no declaration has there, or that stands too deep.
+/// The refusal of the first token that neither a declaration nor the main block has there, or that is too deeply
+/// nested.
 pub(crate) fn declarations<'a, 'b>(
     alloc: Global,
     symbols: &mut Symbols<'a>,
@@ -38,34 +38,19 @@ pub(crate) fn declarations<'a, 'b>(
     ensures free { IfOk result (λ found. (names : List Name)
         → found.1 ≡ index + decl_statements (map (decl_tree names) found.0.items)) }
     ensures few { IfOk result (λ found. found.1 + length (spot found.2).rest ≤ index + length (spot from.entry).rest) }
-    ensures refused { IfErr result (λ error. IsRefused (Nonterminal (Repeated DeclSymbol) 0) (spot from.entry) error) }
+    ensures refused { IfErr result (λ error. IsRefusedWith (Nonterminal (Repeated DeclSymbol) 0)
+        (Nonterminal (One Block) 0) (spot from.entry) error) }
 {
     let mut declarations = Vec::new(alloc);
     let mut free = index;
     let mut here = from;
-    while declaration_begins(here) {
+    while !here.is(Lexeme::Sign(Punctuator::OpenBrace)) {
         let (next, behind, end) = declaration(alloc, symbols, free, here)?;
         declarations.push(next)?;
         free = behind;
         here = end;
     }
     Ok((declarations, free, here))
-}
-
-/// Whether a declaration may begin with the token that stands here.
-fn declaration_begins(from: Cursor<'_, '_>) -> bool
-    ensures { result ≡ begins DeclSymbol (next (left_at (spot from.entry))) }
-{
-    let Some((token, _)) = from.next() else {
-        return false;
-    };
-    match token.kind {
-        Lexeme::Word(word) => match word {
-            Keyword::Data | Keyword::Def | Keyword::Interface | Keyword::Class => true,
-            _ => false,
-        },
-        _ => false,
-    }
 }
 
 /// A declaration, whose first statement has the free index; the index that is free after it; and the cursor
@@ -93,10 +78,10 @@ fn declaration<'a, 'b>(
         return Err(from.wrong());
     };
     let (decl, end) = match word {
-        Keyword::Data => data(alloc, symbols, 0, from)?,
-        Keyword::Def => function(alloc, symbols, 0, from)?,
-        Keyword::Interface => interface(alloc, symbols, 0, from)?,
-        Keyword::Class => return class(alloc, symbols, index, 0, from),
+        Keyword::Data => data(alloc, symbols, from)?,
+        Keyword::Def => function(alloc, symbols, from)?,
+        Keyword::Interface => interface(alloc, symbols, from)?,
+        Keyword::Class => return class(alloc, symbols, index, from),
         _ => return Err(from.wrong()),
     };
     Ok((decl, index, end))

@@ -32,13 +32,13 @@ pub(crate) fn right_side<'a, 'b>(
     from: Cursor<'a, 'b>,
 ) -> Result<(RightSide, Cursor<'a, 'b>), ParseError>
     requires names { length symbols.old + length (spot from).rest < 2 ^ 31 }
-    requires depth { depth ≤ limit }
+    requires depth { depth ≤ limit + 1 }
     ensures found { IfOk result (λ found. FoundAs (One Rhs) depth symbols.old symbols.new (spot from.entry)
         (spot found.1)
         (λ names inside. side_tree names found.0 ≡ rhs_in inside)) }
     ensures refused { IfErr result (λ error. IsRefused (Nonterminal (One Rhs) depth) (spot from.entry) error) }
 {
-    if let Ok(_) = from.expect(Lexeme::Word(Keyword::New)) {
+    if from.is(Lexeme::Word(Keyword::New)) {
         return new_object(alloc, symbols, depth, from);
     }
     let (first, behind) = expression(alloc, symbols, depth, from)?;
@@ -54,15 +54,15 @@ fn new_object<'a, 'b>(
 ) -> Result<(RightSide, Cursor<'a, 'b>), ParseError>
     requires begins { fits (Word keyword.New) (next (left_at (spot from))) ≡ true }
     requires names { length symbols.old + length (spot from).rest < 2 ^ 31 }
-    requires depth { depth ≤ limit }
+    requires depth { depth ≤ limit + 1 }
     ensures found { IfOk result (λ found. FoundAs (One Rhs) depth symbols.old symbols.new (spot from.entry)
         (spot found.1)
         (λ names inside. side_tree names found.0 ≡ rhs_in inside)) }
     ensures refused { IfErr result (λ error. IsRefused (Nonterminal (One Rhs) depth) (spot from.entry) error) }
 {
-    let (word, here) = from.expect(Lexeme::Word(Keyword::New))?;
+    let (word, here) = from.take(Lexeme::Word(Keyword::New), depth)?;
     let (mode, name_at) = mode(symbols, here)?;
-    let (name, open) = name_at.expect(Lexeme::UpperName)?;
+    let (name, open) = name_at.take(Lexeme::UpperName, depth)?;
     let class = symbols.intern(name.slice)?;
     let (arguments, end) = arguments(alloc, symbols, depth, open)?;
     let side = RightSide::New {
@@ -86,10 +86,10 @@ fn mode<'a, 'b>(
         → FoundAs (Optional Where) depth symbols.old symbols.new (spot from.entry) (spot found.1)
         (λ names inside. found.0 ≡ mode_in inside)) }
 {
-    if let Ok((_, behind)) = from.expect(Lexeme::Word(Keyword::Cog)) {
+    if let Some((_, behind)) = from.accept(Lexeme::Word(Keyword::Cog)) {
         return Ok((Mode::Cog, behind));
     }
-    if let Ok((name, behind)) = from.expect_name(FixedName::Local) {
+    if let Some((name, behind)) = from.accept_name(FixedName::Local) {
         symbols.intern(name.slice)?;
         return Ok((Mode::Local(name.place), behind));
     }
@@ -116,14 +116,14 @@ pub(crate) fn side_behind<'a, 'b>(
         (λ names inside. side_tree names found.0 ≡ tail_in place (phrase names first) inside)) }
     ensures refused { IfErr result (λ error. IsRefused (Nonterminal (Optional RhsTail) depth) (spot from.entry) error) }
 {
-    if let Ok((_, behind)) = from.expect(Lexeme::Sign(Punctuator::Not)) {
-        let (name, open) = behind.expect(Lexeme::LowerName)?;
+    if let Some((_, behind)) = from.accept(Lexeme::Sign(Punctuator::Not)) {
+        let (name, open) = behind.take(Lexeme::LowerName, depth)?;
         let method = symbols.intern(name.slice)?;
         let (arguments, end) = arguments(alloc, symbols, depth, open)?;
         let row = row_of(alloc, first, arguments)?;
         return Ok((RightSide::Send { place, method, row }, end));
     }
-    let Ok((_, behind)) = from.expect(Lexeme::Sign(Punctuator::Dot)) else {
+    let Some((_, behind)) = from.accept(Lexeme::Sign(Punctuator::Dot)) else {
         return Ok((RightSide::Value(place, Arc::new(alloc, first)?), from));
     };
     selected(alloc, symbols, depth, place, first, behind)
@@ -145,7 +145,7 @@ fn selected<'a, 'b>(
         (λ names inside. side_tree names found.0 ≡ selected_in place (phrase names first) inside)) }
     ensures refused { IfErr result (λ error. IsRefused (Nonterminal (One Selected) depth) (spot from.entry) error) }
 {
-    if let Ok((word, end)) = from.expect(Lexeme::Word(Keyword::Get)) {
+    if let Some((word, end)) = from.accept(Lexeme::Word(Keyword::Get)) {
         let side = RightSide::Get {
             place,
             get_place: word.place,
@@ -153,7 +153,7 @@ fn selected<'a, 'b>(
         };
         return Ok((side, end));
     }
-    let (name, open) = from.expect(Lexeme::LowerName)?;
+    let (name, open) = from.take(Lexeme::LowerName, depth)?;
     let method = symbols.intern(name.slice)?;
     let (arguments, end) = arguments(alloc, symbols, depth, open)?;
     let side = RightSide::Call {

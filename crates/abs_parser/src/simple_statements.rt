@@ -15,7 +15,7 @@ ghost use Rattle.abs_parser.specs.Views.{spot};
 
 use crate::ParseError;
 use crate::arguments::arguments_maybe;
-use crate::cursor::{Cursor, LIMIT};
+use crate::cursor::Cursor;
 use crate::expressions::expression;
 use crate::guards::guard;
 use crate::operators::{Level, operators_behind};
@@ -96,11 +96,8 @@ pub(crate) fn skip<'a, 'b>(
     ensures shorter { IfOk result (λ found. length (spot found.1).rest < length (spot from.entry).rest) }
     ensures refused { IfErr result (λ error. IsRefused (Nonterminal (One StmtSymbol) depth) (spot from.entry) error) }
 {
-    let (word, last) = from.expect(Lexeme::Word(Keyword::Skip))?;
-    if depth == LIMIT {
-        return Err(from.deep());
-    }
-    let (_, end) = last.expect(Lexeme::Sign(Punctuator::Semicolon))?;
+    let (word, last) = from.take(Lexeme::Word(Keyword::Skip), depth + 1)?;
+    let (_, end) = last.take(Lexeme::Sign(Punctuator::Semicolon), depth + 1)?;
     Ok((
         Stmt::Skip {
             index,
@@ -128,11 +125,8 @@ pub(crate) fn suspend<'a, 'b>(
     ensures shorter { IfOk result (λ found. length (spot found.1).rest < length (spot from.entry).rest) }
     ensures refused { IfErr result (λ error. IsRefused (Nonterminal (One StmtSymbol) depth) (spot from.entry) error) }
 {
-    let (word, last) = from.expect(Lexeme::Word(Keyword::Suspend))?;
-    if depth == LIMIT {
-        return Err(from.deep());
-    }
-    let (_, end) = last.expect(Lexeme::Sign(Punctuator::Semicolon))?;
+    let (word, last) = from.take(Lexeme::Word(Keyword::Suspend), depth + 1)?;
+    let (_, end) = last.take(Lexeme::Sign(Punctuator::Semicolon), depth + 1)?;
     Ok((
         Stmt::Suspend {
             index,
@@ -160,12 +154,9 @@ pub(crate) fn awaiting<'a, 'b>(
     ensures shorter { IfOk result (λ found. length (spot found.1).rest < length (spot from.entry).rest) }
     ensures refused { IfErr result (λ error. IsRefused (Nonterminal (One StmtSymbol) depth) (spot from.entry) error) }
 {
-    let (word, guard_at) = from.expect(Lexeme::Word(Keyword::Await))?;
-    if depth == LIMIT {
-        return Err(from.deep());
-    }
+    let (word, guard_at) = from.take(Lexeme::Word(Keyword::Await), depth + 1)?;
     let (guard, last) = guard(alloc, symbols, depth + 1, guard_at)?;
-    let (_, end) = last.expect(Lexeme::Sign(Punctuator::Semicolon))?;
+    let (_, end) = last.take(Lexeme::Sign(Punctuator::Semicolon), depth + 1)?;
     let stmt = Stmt::Await {
         index,
         place: word.place,
@@ -192,12 +183,9 @@ pub(crate) fn returning<'a, 'b>(
     ensures shorter { IfOk result (λ found. length (spot found.1).rest < length (spot from.entry).rest) }
     ensures refused { IfErr result (λ error. IsRefused (Nonterminal (One StmtSymbol) depth) (spot from.entry) error) }
 {
-    let (word, value_at) = from.expect(Lexeme::Word(Keyword::Return))?;
-    if depth == LIMIT {
-        return Err(from.deep());
-    }
+    let (word, value_at) = from.take(Lexeme::Word(Keyword::Return), depth + 1)?;
     let (value, last) = expression(alloc, symbols, depth + 1, value_at)?;
-    let (_, end) = last.expect(Lexeme::Sign(Punctuator::Semicolon))?;
+    let (_, end) = last.take(Lexeme::Sign(Punctuator::Semicolon), depth + 1)?;
     let value = Arc::new(alloc, value)?;
     let stmt = Stmt::Return {
         index,
@@ -225,14 +213,11 @@ pub(crate) fn printing<'a, 'b>(
     ensures shorter { IfOk result (λ found. length (spot found.1).rest < length (spot from.entry).rest) }
     ensures refused { IfErr result (λ error. IsRefused (Nonterminal (One StmtSymbol) depth) (spot from.entry) error) }
 {
-    let (word, open) = from.expect(Lexeme::Word(Keyword::Println))?;
-    if depth == LIMIT {
-        return Err(from.deep());
-    }
-    let (_, text_at) = open.expect(Lexeme::Sign(Punctuator::OpenParen))?;
+    let (word, open) = from.take(Lexeme::Word(Keyword::Println), depth + 1)?;
+    let (_, text_at) = open.take(Lexeme::Sign(Punctuator::OpenParen), depth + 1)?;
     let (text, close) = expression(alloc, symbols, depth + 1, text_at)?;
-    let (_, last) = close.expect(Lexeme::Sign(Punctuator::CloseParen))?;
-    let (_, end) = last.expect(Lexeme::Sign(Punctuator::Semicolon))?;
+    let (_, last) = close.take(Lexeme::Sign(Punctuator::CloseParen), depth + 1)?;
+    let (_, end) = last.take(Lexeme::Sign(Punctuator::Semicolon), depth + 1)?;
     let value = Arc::new(alloc, text)?;
     let stmt = Stmt::Print {
         index,
@@ -260,14 +245,11 @@ pub(crate) fn declaration<'a, 'b>(
     ensures shorter { IfOk result (λ found. length (spot found.1).rest < length (spot from.entry).rest) }
     ensures refused { IfErr result (λ error. IsRefused (Nonterminal (One StmtSymbol) depth) (spot from.entry) error) }
 {
-    if depth == LIMIT {
-        return Err(from.deep());
-    }
     let (type_of, name_at) = type_term(alloc, symbols, depth + 1, from)?;
-    let (name, behind) = name_at.expect(Lexeme::LowerName)?;
+    let (name, behind) = name_at.take(Lexeme::LowerName, depth + 1)?;
     let variable = Variable::Unresolved(symbols.intern(name.slice)?);
     let (initial, last) = initial(alloc, symbols, depth + 1, behind)?;
-    let (_, end) = last.expect(Lexeme::Sign(Punctuator::Semicolon))?;
+    let (_, end) = last.take(Lexeme::Sign(Punctuator::Semicolon), depth + 1)?;
     let stmt = Stmt::Declare {
         index,
         place: from.place(),
@@ -293,7 +275,7 @@ fn initial<'a, 'b>(
         (λ names inside. maybe_side names found.0 ≡ initial_in inside)) }
     ensures refused { IfErr result (λ error. IsRefused (Nonterminal (Optional Initial) depth) (spot from.entry) error) }
 {
-    let Ok((_, behind)) = from.expect(Lexeme::Sign(Punctuator::Assign)) else {
+    let Some((_, behind)) = from.accept(Lexeme::Sign(Punctuator::Assign)) else {
         return Ok((None, from));
     };
     let (side, end) = right_side(alloc, symbols, depth, behind)?;
@@ -318,13 +300,12 @@ pub(crate) fn from_variable<'a, 'b>(
     ensures shorter { IfOk result (λ found. length (spot found.1).rest < length (spot from.entry).rest) }
     ensures refused { IfErr result (λ error. IsRefused (Nonterminal (One StmtSymbol) depth) (spot from.entry) error) }
 {
-    let (name, behind) = from.expect(Lexeme::LowerName)?;
-    if depth + 3 > LIMIT {
-        return Err(from.deep());
-    }
+    // the name is part of a right side, and so nested in an expression and a unary too
+    let side = depth + 1;
+    let (name, behind) = from.take(Lexeme::LowerName, side + 2)?;
     let symbol = symbols.intern(name.slice)?;
     let first = First::Variable(name.place, symbol);
-    behind_first(alloc, symbols, index, depth + 1, first, behind)
+    behind_first(alloc, symbols, index, side, first, behind)
 }
 
 /// A statement that begins with `this`: `this.x = r;`, or a right side; and the cursor behind it.
@@ -345,19 +326,12 @@ pub(crate) fn from_this<'a, 'b>(
     ensures shorter { IfOk result (λ found. length (spot found.1).rest < length (spot from.entry).rest) }
     ensures refused { IfErr result (λ error. IsRefused (Nonterminal (One StmtSymbol) depth) (spot from.entry) error) }
 {
-    let (this, behind) = from.expect(Lexeme::Word(Keyword::This))?;
-    if depth + 3 > LIMIT {
-        return Err(from.deep());
-    }
-    let Ok((_, name_at)) = behind.expect(Lexeme::Sign(Punctuator::Dot)) else {
-        let (side, end) = rest(
-            alloc,
-            symbols,
-            depth + 1,
-            this.place,
-            Expr::This(this.place),
-            behind,
-        )?;
+    // `this` is part of a right side, and so nested in an expression and a unary too
+    let side = depth + 1;
+    let (this, behind) = from.take(Lexeme::Word(Keyword::This), side + 2)?;
+    let Some((_, name_at)) = behind.accept(Lexeme::Sign(Punctuator::Dot)) else {
+        let expr = Expr::This(this.place);
+        let (side, end) = rest(alloc, symbols, side, this.place, expr, behind)?;
         let stmt = Stmt::Do {
             index,
             place: this.place,
@@ -365,10 +339,10 @@ pub(crate) fn from_this<'a, 'b>(
         };
         return Ok((stmt, end));
     };
-    let (name, last) = name_at.expect(Lexeme::LowerName)?;
+    let (name, last) = name_at.take(Lexeme::LowerName, side + 2)?;
     let symbol = symbols.intern(name.slice)?;
     let first = First::Field(this.place, name.place, symbol);
-    behind_first(alloc, symbols, index, depth + 1, first, last)
+    behind_first(alloc, symbols, index, side, first, last)
 }
 
 /// What stands behind the variable or the field with which a statement begins: `= r;`, or the rest of a right side;
@@ -390,9 +364,9 @@ fn behind_first<'a, 'b>(
     ensures refused { IfErr result (λ error. IsRefused (Nonterminal (One AfterName) depth) (spot from.entry) error) }
 {
     let place = first.place();
-    if let Ok((_, side_at)) = from.expect(Lexeme::Sign(Punctuator::Assign)) {
+    if let Some((_, side_at)) = from.accept(Lexeme::Sign(Punctuator::Assign)) {
         let (side, last) = right_side(alloc, symbols, depth, side_at)?;
-        let (_, end) = last.expect(Lexeme::Sign(Punctuator::Semicolon))?;
+        let (_, end) = last.take(Lexeme::Sign(Punctuator::Semicolon), depth)?;
         let stmt = Stmt::Assign {
             index,
             place,
@@ -463,60 +437,8 @@ fn rest<'a, 'b>(
         here,
     )?;
     let (side, last) = side_behind(alloc, symbols, depth, place, disjunction, here)?;
-    let (_, end) = last.expect(Lexeme::Sign(Punctuator::Semicolon))?;
+    let (_, end) = last.take(Lexeme::Sign(Punctuator::Semicolon), depth)?;
     Ok((side, end))
-}
-
-/// Whether a right side may begin with the token that stands here.
-fn right_side_begins(from: Cursor<'_, '_>) -> bool
-    ensures { result ≡ begins Rhs (next (left_at (spot from.entry))) }
-{
-    let Some((token, _)) = from.next() else {
-        return false;
-    };
-    match token.kind {
-        Lexeme::Number | Lexeme::Text | Lexeme::LowerName | Lexeme::UpperName => true,
-        Lexeme::Word(word) => match word {
-            Keyword::New
-            | Keyword::Let
-            | Keyword::If
-            | Keyword::Case
-            | Keyword::Null
-            | Keyword::Destiny
-            | Keyword::This => true,
-            _ => false,
-        },
-        Lexeme::Sign(sign) => match sign {
-            Punctuator::OpenParen | Punctuator::Not | Punctuator::Tilde | Punctuator::Minus => true,
-            _ => false,
-        },
-        Lexeme::Foreign => false,
-    }
-}
-
-/// Whether a statement may begin with the token that stands here.
-pub(crate) fn statement_begins(from: Cursor<'_, '_>) -> bool
-    ensures { result ≡ begins StmtSymbol (next (left_at (spot from.entry))) }
-{
-    if right_side_begins(from) {
-        return true;
-    }
-    let Some((token, _)) = from.next() else {
-        return false;
-    };
-    match token.kind {
-        Lexeme::Word(word) => match word {
-            Keyword::Skip
-            | Keyword::Suspend
-            | Keyword::Await
-            | Keyword::Return
-            | Keyword::Println
-            | Keyword::While => true,
-            _ => false,
-        },
-        Lexeme::Sign(sign) => sign == Punctuator::OpenBrace,
-        _ => false,
-    }
 }
 
 /// A right side as a statement, `r;`, where the next token begins no other statement; and the cursor behind it.
@@ -537,15 +459,8 @@ pub(crate) fn plain<'a, 'b>(
     ensures shorter { IfOk result (λ found. length (spot found.1).rest < length (spot from.entry).rest) }
     ensures refused { IfErr result (λ error. IsRefused (Nonterminal (One StmtSymbol) depth) (spot from.entry) error) }
 {
-    if depth == LIMIT {
-        return Err(if right_side_begins(from) {
-            from.deep()
-        } else {
-            from.wrong()
-        });
-    }
     let (side, last) = right_side(alloc, symbols, depth + 1, from)?;
-    let (_, end) = last.expect(Lexeme::Sign(Punctuator::Semicolon))?;
+    let (_, end) = last.take(Lexeme::Sign(Punctuator::Semicolon), depth + 1)?;
     let stmt = Stmt::Do {
         index,
         place: from.place(),

@@ -15,11 +15,10 @@ ghost use Rattle.abs_parser.specs.TreesOf.{statement_in, branch_of, else_in};
 ghost use Rattle.abs_parser.specs.Views.{spot};
 
 use crate::ParseError;
-use crate::cursor::{Cursor, LIMIT};
+use crate::cursor::Cursor;
 use crate::expressions::expression;
 use crate::simple_statements::{
-    awaiting, declaration, from_this, from_variable, plain, printing, returning, skip,
-    statement_begins, suspend,
+    awaiting, declaration, from_this, from_variable, plain, printing, returning, skip, suspend,
 };
 use abs_lexer::{Keyword, Lexeme, Punctuator};
 use abs_tree::Symbols;
@@ -128,9 +127,6 @@ fn nested<'a, 'b>(
     ensures few { IfOk result (λ found. found.1 + length (spot found.2).rest ≤ index + length (spot from.entry).rest) }
     ensures refused { IfErr result (λ error. IsRefused (Nonterminal (One StmtSymbol) depth) (spot from.entry) error) }
 {
-    if depth == LIMIT {
-        return Err(from.deep());
-    }
     let place = from.place();
     let (body, behind, end) = block(alloc, symbols, index, depth + 1, from)?;
     Ok((Stmt::Block(place, body.statements), behind, end))
@@ -157,13 +153,10 @@ fn conditional<'a, 'b>(
     ensures few { IfOk result (λ found. found.1 + length (spot found.2).rest ≤ index + length (spot from.entry).rest) }
     ensures refused { IfErr result (λ error. IsRefused (Nonterminal (One StmtSymbol) depth) (spot from.entry) error) }
 {
-    let (word, open) = from.expect(Lexeme::Word(Keyword::If))?;
-    if depth == LIMIT {
-        return Err(from.deep());
-    }
-    let (_, test_at) = open.expect(Lexeme::Sign(Punctuator::OpenParen))?;
+    let (word, open) = from.take(Lexeme::Word(Keyword::If), depth + 1)?;
+    let (_, test_at) = open.take(Lexeme::Sign(Punctuator::OpenParen), depth + 1)?;
     let (test, close) = expression(alloc, symbols, depth + 1, test_at)?;
-    let (_, first_at) = close.expect(Lexeme::Sign(Punctuator::CloseParen))?;
+    let (_, first_at) = close.take(Lexeme::Sign(Punctuator::CloseParen), depth + 1)?;
     let (first, middle, here) = statement(alloc, symbols, index + 1, depth + 1, first_at)?;
     let condition = Arc::new(alloc, test)?;
     let first = branch(alloc, first)?;
@@ -198,7 +191,7 @@ fn otherwise<'a, 'b>(
     ensures few { IfOk result (λ found. found.1 + length (spot found.2).rest ≤ index + length (spot from.entry).rest) }
     ensures refused { IfErr result (λ error. IsRefused (Nonterminal (Optional Else) depth) (spot from.entry) error) }
 {
-    let Ok((_, other_at)) = from.expect(Lexeme::Word(Keyword::Else)) else {
+    let Some((_, other_at)) = from.accept(Lexeme::Word(Keyword::Else)) else {
         return Ok((None, index, from));
     };
     let (other, behind, end) = statement(alloc, symbols, index, depth, other_at)?;
@@ -226,13 +219,10 @@ fn looping<'a, 'b>(
     ensures few { IfOk result (λ found. found.1 + length (spot found.2).rest ≤ index + length (spot from.entry).rest) }
     ensures refused { IfErr result (λ error. IsRefused (Nonterminal (One StmtSymbol) depth) (spot from.entry) error) }
 {
-    let (word, open) = from.expect(Lexeme::Word(Keyword::While))?;
-    if depth == LIMIT {
-        return Err(from.deep());
-    }
-    let (_, test_at) = open.expect(Lexeme::Sign(Punctuator::OpenParen))?;
+    let (word, open) = from.take(Lexeme::Word(Keyword::While), depth + 1)?;
+    let (_, test_at) = open.take(Lexeme::Sign(Punctuator::OpenParen), depth + 1)?;
     let (test, close) = expression(alloc, symbols, depth + 1, test_at)?;
-    let (_, body_at) = close.expect(Lexeme::Sign(Punctuator::CloseParen))?;
+    let (_, body_at) = close.take(Lexeme::Sign(Punctuator::CloseParen), depth + 1)?;
     let (body, behind, end) = statement(alloc, symbols, index + 1, depth + 1, body_at)?;
     let condition = Arc::new(alloc, test)?;
     let body = branch(alloc, body)?;
@@ -260,7 +250,7 @@ pub(crate) fn block<'a, 'b>(
 ) -> Result<(Body, u32, Cursor<'a, 'b>), ParseError>
     requires names { length symbols.old + length (spot from).rest < 2 ^ 31 }
     requires few { index + length (spot from).rest < 2 ^ 31 }
-    requires depth { depth ≤ limit }
+    requires depth { depth ≤ limit + 1 }
     ensures found { IfOk result (λ found. FoundAs (One BlockSymbol) depth symbols.old symbols.new (spot from.entry)
         (spot found.2)
         (λ names inside. IsBlock index names found.0 inside)) }
@@ -269,16 +259,16 @@ pub(crate) fn block<'a, 'b>(
     ensures few { IfOk result (λ found. found.1 + length (spot found.2).rest ≤ index + length (spot from.entry).rest) }
     ensures refused { IfErr result (λ error. IsRefused (Nonterminal (One BlockSymbol) depth) (spot from.entry) error) }
 {
-    let (_, mut here) = from.expect(Lexeme::Sign(Punctuator::OpenBrace))?;
+    let (_, mut here) = from.take(Lexeme::Sign(Punctuator::OpenBrace), depth)?;
     let mut statements = Vec::new(alloc);
     let mut free = index;
-    while statement_begins(here) {
+    while !here.is(Lexeme::Sign(Punctuator::CloseBrace)) {
         let (next, behind, end) = statement(alloc, symbols, free, depth, here)?;
         statements.push(next)?;
         free = behind;
         here = end;
     }
-    let (close, end) = here.expect(Lexeme::Sign(Punctuator::CloseBrace))?;
+    let (close, end) = here.take(Lexeme::Sign(Punctuator::CloseBrace), depth)?;
     let body = Body {
         statements,
         end: close.place,

@@ -9,7 +9,7 @@ ghost use Rattle.abs_parser.specs.TreesOf.{type_in, type_arguments as arguments_
 ghost use Rattle.abs_parser.specs.Views.{spot};
 
 use crate::ParseError;
-use crate::cursor::{Cursor, LIMIT};
+use crate::cursor::Cursor;
 use abs_lexer::{Lexeme, Punctuator};
 use abs_tree::Symbols;
 use abs_tree::syntax::TypeTerm;
@@ -28,16 +28,13 @@ pub(crate) fn type_term<'a, 'b>(
     from: Cursor<'a, 'b>,
 ) -> Result<(TypeTerm, Cursor<'a, 'b>), ParseError>
     requires names { length symbols.old + length (spot from).rest < 2 ^ 31 }
-    requires depth { depth ≤ limit }
+    requires depth { depth ≤ limit + 1 }
     ensures found { IfOk result (λ found. FoundAs (One Type') depth symbols.old symbols.new (spot from.entry)
         (spot found.1)
         (λ names inside. type_tree names found.0 ≡ type_in inside)) }
     ensures refused { IfErr result (λ error. IsRefused (Nonterminal (One Type') depth) (spot from.entry) error) }
 {
-    let (name, behind) = from.expect(Lexeme::UpperName)?;
-    if depth == LIMIT {
-        return Err(from.deep());
-    }
+    let (name, behind) = from.take(Lexeme::UpperName, depth + 1)?;
     let symbol = symbols.intern(name.slice)?;
     let (arguments, end) = type_arguments(alloc, symbols, depth + 1, behind)?;
     let term = TypeTerm::Unresolved {
@@ -64,11 +61,11 @@ fn type_arguments<'a, 'b>(
     ensures refused { IfErr result (λ error. IsRefused (Nonterminal (Optional ArgumentsOfType) depth)
         (spot from.entry) error) }
 {
-    let Ok((_, behind)) = from.expect(Lexeme::Sign(Punctuator::Less)) else {
+    let Some((_, behind)) = from.accept(Lexeme::Sign(Punctuator::Less)) else {
         return Ok((Vec::new(alloc), from));
     };
     let (types, close) = types(alloc, symbols, depth, behind)?;
-    let (_, end) = close.expect(Lexeme::Sign(Punctuator::Greater))?;
+    let (_, end) = close.take(Lexeme::Sign(Punctuator::Greater), depth)?;
     Ok((types, end))
 }
 
@@ -87,10 +84,9 @@ pub(crate) fn types<'a, 'b>(
         (λ names inside. type_trees names found.0.items ≡ types_in inside)) }
     ensures refused { IfErr result (λ error. IsRefused (Nonterminal (One Types) depth) (spot from.entry) error) }
 {
-    let mut types = Vec::new(alloc);
     let (first, mut here) = type_term(alloc, symbols, depth, from)?;
-    types.push(first)?;
-    while let Ok((_, behind)) = here.expect(Lexeme::Sign(Punctuator::Comma)) {
+    let mut types = vec![in alloc; first]?;
+    while let Some((_, behind)) = here.accept(Lexeme::Sign(Punctuator::Comma)) {
         let (next, end) = type_term(alloc, symbols, depth, behind)?;
         types.push(next)?;
         here = end;

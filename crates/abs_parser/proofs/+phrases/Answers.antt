@@ -5,16 +5,17 @@ use Rattle.abs_parser.proofs.DigitLemmas.{number_digits, number_fits, narrowed}
 use Rattle.abs_parser.proofs.ExpressionSteps.{or_found, or_refused, if_opened, if_begins, if_tested, if_chosen, if_found, let_opened, let_begins, let_named, let_assigned, let_valued, let_found}
 use Rattle.abs_parser.proofs.FirstPlaceLemmas.{found_within}
 use Rattle.abs_parser.proofs.ListLemmas.{list_of_expressions, trees_of_expressions, arguments}
-use Rattle.abs_parser.proofs.ListSteps.{first_so_far, next_so_far, all_so_far, refused_first, refused_next, maybe_found, refused_between, parentheses_left_out, parentheses_follow, parentheses_shut, parenthesis_read, nothing_between}
+use Rattle.abs_parser.proofs.ListSteps.{first_so_far, next_so_far, all_so_far, refused_first, refused_next, maybe_found, refused_between, parentheses_left_out, parentheses_follow, parentheses_opened, parentheses_shut, parenthesis_read, nothing_between}
 use Rattle.abs_parser.proofs.OperatorLemmas.{no_operand_read, next_operand_refused, next_operand_read, last_operand_found, operators_end, first_operand_read, level_found}
 use Rattle.abs_parser.proofs.ClimbingLemmas.{unary_refused, level_refused, nothing_follows, same_level, other_level, last_level, next_order, next_operand}
 use Rattle.abs_parser.proofs.PatternSteps.{next_taken}
-use Rattle.abs_parser.proofs.PrimaryLemmas.{other_word, group_shut, no_tail, tree_by, named_tree, built_tree, member_tree, this_tree, group_tree, prefixed_tree, build_phrase, constant_phrase}
-use Rattle.abs_parser.proofs.PrimarySteps.{stands, first_read, name_read, member_begins, call_found, prefix_read, prefix_deep, operand_deep, operand_found, operand_refused, unary_refused_at_end, primary_refused_at_end, refused_no_unary, refused_no_primary}
-use Rattle.abs_parser.proofs.StepLemmas.{token_shorter, found_shorter, opens, over_token, over_name, over_part, into_last, all_read, refused_inside, refused_other, refused_deep, fits_next, found_few}
+use Rattle.abs_parser.proofs.PrimaryLemmas.{other_word, no_tail, tree_by, named_tree, built_tree, member_tree, this_tree, group_tree, prefixed_tree, build_phrase, constant_phrase}
+use Rattle.abs_parser.proofs.PrimarySteps.{stands, first_read, name_read, member_begins, call_found, prefix_read, prefix_refused, operand_found, operand_refused, refused_primary, refused_lower, refused_upper, refused_group, refused_word, unary_refused_at_end, primary_refused_at_end, refused_no_primary}
+use Rattle.abs_parser.proofs.WordSteps.{word_refused}
+use Rattle.abs_parser.proofs.StepLemmas.{token_shorter, found_shorter, opens, over_token, over_name, over_part, into_last, all_read, refused_inside, refused_first_token, fits_next, found_few, passed_on}
 use Rattle.abs_parser.specs.Kinds.{Kind, Sign, fits, Word}
 use Rattle.abs_parser.specs.Productions.{Primary, ThisTail, Expr, Arguments}
-use Rattle.abs_parser.specs.ReaderAnswers.{TakesKind, maybe_phrases}
+use Rattle.abs_parser.specs.ReaderAnswers.{is_asked, maybe_phrases}
 use Rattle.abs_parser.specs.Readings.{One, Optional, Empty, opened}
 use Rattle.abs_parser.specs.TreesOf.{args_maybe, named, member}
 use Rattle.abs_parser.specs.Views.{spot}
@@ -23,7 +24,7 @@ use Rattle.abs_tree.specs.SyntaxViews.{phrase, phrases}
 use Rattle.abs_tree.specs.declared.syntax.expression.Branch.{Branch}
 use Rattle.abs_tree.specs.declared.syntax.expression.Operand.{Operand}
 use Rattle.std.proofs.Common.{◌∙◌, ℕ, ap, sym, arith, rules, ◌+◌, Some, [], refl, ◌∷◌, ◌++◌, List}
-use Rattle.std.proofs.lemmas.Result.{err_from_is_err_and, IfOk-weaker, IfErr-weaker}
+use Rattle.std.proofs.lemmas.Result.{IfOk-weaker, IfErr-weaker}
 use Rattle.std.specs.declared.alloc.Global.{Global}
 use Rattle.std.specs.declared.vec.Vec.{Vec}
 use Rattle.abs_parser.proofs.+phrases.Goals as goal
@@ -34,26 +35,23 @@ use Rattle.abs_tree.specs.declared.syntax.expression.Expr as code_expr
 
 pub expressions::expression-returns-clause-found : goal.expressions::expression-returns-clause-found
 expressions::expression-returns-clause-found t c =
-    IfOk-weaker c.operators.result _ _ (λ found. or_found found.0 c.in_default.ensures.other c.in_default-expect.ensures.other) c.operators.ensures.found
+    IfOk-weaker c.operators.result _ _ (λ found. or_found found.0 (sym c.is.ensures ∙ c.if-is.false) (sym c.is-2.ensures ∙ c.if-is-2.false)) c.operators.ensures.found
 
 pub expressions::expression-returns-clause-refused : goal.expressions::expression-returns-clause-refused
 expressions::expression-returns-clause-refused t c =
-    IfErr-weaker c.operators.result _ _ (λ error. or_refused c.args.depth (spot c.args.from) error c.in_default.ensures.other c.in_default-expect.ensures.other) c.operators.ensures.refused
+    IfErr-weaker c.operators.result _ _ (λ error. or_refused c.args.depth (spot c.args.from) error (sym c.is.ensures ∙ c.if-is.false) (sym c.is-2.ensures ∙ c.if-is-2.false)) c.operators.ensures.refused
 
-pub expressions::if_else-returns-then-depth-eq-LIMIT-clause-refused : goal.expressions::if_else-returns-then-depth-eq-LIMIT-clause-refused
-expressions::if_else-returns-then-depth-eq-LIMIT-clause-refused t c =
-    let word = c.in_ok-word.ensures.found in
-    rw c.deep.ensures (refused_deep (One Expr) c.args.depth (spot c.args.from) (Word keyword.If) (c.args.depth + 1) _ (if_opened c.args.depth word) (fits_next refl word) (omega arith))
+pub expressions::if_else-returns-in_err-word-clause-refused : goal.expressions::if_else-returns-in_err-word-clause-refused
+expressions::if_else-returns-in_err-word-clause-refused t c =
+    passed_on _ c.from_residual.result c.from_residual.ensures.1 (word_refused (One Expr) c.args.depth (spot c.args.from) _ (if_opened c.args.depth) c.requires.begins c.in_err-word.ensures.refused)
 
 pub expressions::if_else-returns-in_err-test-clause-refused : goal.expressions::if_else-returns-in_err-test-clause-refused
 expressions::if_else-returns-in_err-test-clause-refused t c =
-    let p = err_from_is_err_and c.from_residual-in_err-test.result c.from_residual-in_err-test.ensures.1 in
-    rw (p.1, p.2) (refused_inside (if_begins c.args.depth c.args.symbols.now c.in_ok-word.ensures.found (omega arith)) _ c.in_err-test.ensures.refused)
+    passed_on _ c.from_residual-in_err-test.result c.from_residual-in_err-test.ensures.1 (refused_inside (if_begins c.args.depth c.args.symbols.now c.in_ok-word.ensures.found c.in_ok-word.ensures.within) _ c.in_err-test.ensures.refused)
 
 pub expressions::if_else-returns-in_err-first_at-clause-refused : goal.expressions::if_else-returns-in_err-first_at-clause-refused
 expressions::if_else-returns-in_err-first_at-clause-refused t c =
-    let p = err_from_is_err_and c.from_residual-in_err-first_at.result c.from_residual-in_err-first_at.ensures.1 in
-    rw (p.1, p.2) (refused_inside (over_part (if_begins c.args.depth c.args.symbols.now c.in_ok-word.ensures.found (omega arith)) c.in_ok-test.ensures.found) _ (c.in_err-first_at.ensures.refused (c.args.depth + 1)))
+    passed_on _ c.from_residual-in_err-first_at.result c.from_residual-in_err-first_at.ensures.1 (refused_inside (over_part (if_begins c.args.depth c.args.symbols.now c.in_ok-word.ensures.found c.in_ok-word.ensures.within) c.in_ok-test.ensures.found) _ c.in_err-first_at.ensures.refused)
 
 pub expressions::if_else-expression-requires-2 : goal.expressions::if_else-expression-requires-2
 expressions::if_else-expression-requires-2 t c =
@@ -61,58 +59,51 @@ expressions::if_else-expression-requires-2 t c =
     let shorter = found_shorter c.in_ok-test.ensures.found in
     let word = token_shorter c.in_ok-word.ensures.found.takes in
     let then_word = token_shorter c.in_ok-first_at.ensures.found.takes in
-    (search rules, (omega arith, omega arith))
+    (search rules, (omega arith, omega (arith, c.in_ok-word.ensures.within)))
 
 pub expressions::if_else-returns-in_err-first-clause-refused : goal.expressions::if_else-returns-in_err-first-clause-refused
 expressions::if_else-returns-in_err-first-clause-refused t c =
-    let p = err_from_is_err_and c.from_residual-in_err-first.result c.from_residual-in_err-first.ensures.1 in
-    rw (p.1, p.2) (refused_inside (if_tested c.in_ok-word.ensures.found c.in_ok-test.ensures.found c.in_ok-first_at.ensures.found (omega arith)) _ c.in_err-first.ensures.refused)
+    passed_on _ c.from_residual-in_err-first.result c.from_residual-in_err-first.ensures.1 (refused_inside (if_tested c.in_ok-word.ensures.found c.in_ok-test.ensures.found c.in_ok-first_at.ensures.found c.in_ok-word.ensures.within) _ c.in_err-first.ensures.refused)
 
 pub expressions::if_else-returns-in_err-second_at-clause-refused : goal.expressions::if_else-returns-in_err-second_at-clause-refused
 expressions::if_else-returns-in_err-second_at-clause-refused t c =
-    let p = err_from_is_err_and c.from_residual-in_err-second_at.result c.from_residual-in_err-second_at.ensures.1 in
-    rw (p.1, p.2) (refused_inside (over_part (if_tested c.in_ok-word.ensures.found c.in_ok-test.ensures.found c.in_ok-first_at.ensures.found (omega arith)) c.in_ok-first.ensures.found) _ (c.in_err-second_at.ensures.refused (c.args.depth + 1)))
+    passed_on _ c.from_residual-in_err-second_at.result c.from_residual-in_err-second_at.ensures.1 (refused_inside (over_part (if_tested c.in_ok-word.ensures.found c.in_ok-test.ensures.found c.in_ok-first_at.ensures.found c.in_ok-word.ensures.within) c.in_ok-first.ensures.found) _ c.in_err-second_at.ensures.refused)
 
 pub expressions::if_else-expression-requires-3 : goal.expressions::if_else-expression-requires-3
 expressions::if_else-expression-requires-3 t c =
-    let read = over_part (if_tested c.in_ok-word.ensures.found c.in_ok-test.ensures.found c.in_ok-first_at.ensures.found (omega arith)) c.in_ok-first.ensures.found in
+    let read = over_part (if_tested c.in_ok-word.ensures.found c.in_ok-test.ensures.found c.in_ok-first_at.ensures.found c.in_ok-word.ensures.within) c.in_ok-first.ensures.found in
     let few = read.few in
     let shorter = read.shorter in
     let else_word = token_shorter c.in_ok-second_at.ensures.found.takes in
-    (search rules, (omega arith, omega arith))
+    (search rules, (omega arith, omega (arith, c.in_ok-word.ensures.within)))
 
 pub expressions::if_else-returns-in_err-second-clause-refused : goal.expressions::if_else-returns-in_err-second-clause-refused
 expressions::if_else-returns-in_err-second-clause-refused t c =
-    let p = err_from_is_err_and c.from_residual-in_err-second.result c.from_residual-in_err-second.ensures.1 in
-    let tested = if_tested c.in_ok-word.ensures.found c.in_ok-test.ensures.found c.in_ok-first_at.ensures.found (omega arith) in
-    rw (p.1, p.2) (refused_inside (if_chosen tested c.in_ok-first.ensures.found c.in_ok-second_at.ensures.found (omega arith)) _ c.in_err-second.ensures.refused)
+    let tested = if_tested c.in_ok-word.ensures.found c.in_ok-test.ensures.found c.in_ok-first_at.ensures.found c.in_ok-word.ensures.within in
+    passed_on _ c.from_residual-in_err-second.result c.from_residual-in_err-second.ensures.1 (refused_inside (if_chosen tested c.in_ok-first.ensures.found c.in_ok-second_at.ensures.found c.in_ok-word.ensures.within) _ c.in_err-second.ensures.refused)
 
 pub expressions::if_else-returns-clause-found : goal.expressions::if_else-returns-clause-found
 expressions::if_else-returns-clause-found t c =
     if_found c.in_ok-condition.condition.value c.in_ok-first-2.first.value c.in_ok-second-2.second.value c.in_ok-condition.ensures.ok c.in_ok-first-2.ensures.ok c.in_ok-second-2.ensures.ok
-    c.in_ok-word.ensures.found c.in_ok-test.ensures.found c.in_ok-first_at.ensures.found c.in_ok-first.ensures.found c.in_ok-second_at.ensures.found c.in_ok-second.ensures.found (omega arith)
+    c.in_ok-word.ensures.found c.in_ok-test.ensures.found c.in_ok-first_at.ensures.found c.in_ok-first.ensures.found c.in_ok-second_at.ensures.found c.in_ok-second.ensures.found c.in_ok-word.ensures.within
 
-pub expressions::let_in-returns-then-depth-eq-LIMIT-clause-refused : goal.expressions::let_in-returns-then-depth-eq-LIMIT-clause-refused
-expressions::let_in-returns-then-depth-eq-LIMIT-clause-refused t c =
-    let word = c.in_ok-word.ensures.found in
-    rw c.deep.ensures (refused_deep (One Expr) c.args.depth (spot c.args.from) (Word keyword.Let) (c.args.depth + 1) _ (let_opened c.args.depth word) (fits_next refl word) (omega arith))
+pub expressions::let_in-returns-in_err-word-clause-refused : goal.expressions::let_in-returns-in_err-word-clause-refused
+expressions::let_in-returns-in_err-word-clause-refused t c =
+    passed_on _ c.from_residual.result c.from_residual.ensures.1 (word_refused (One Expr) c.args.depth (spot c.args.from) _ (let_opened c.args.depth) c.requires.begins c.in_err-word.ensures.refused)
 
 pub expressions::let_in-returns-in_err-type_at-clause-refused : goal.expressions::let_in-returns-in_err-type_at-clause-refused
 expressions::let_in-returns-in_err-type_at-clause-refused t c =
-    let p = err_from_is_err_and c.from_residual-in_err-type_at.result c.from_residual-in_err-type_at.ensures.1 in
-    rw (p.1, p.2) (refused_inside (let_begins c.args.depth c.args.symbols.now c.in_ok-word.ensures.found (omega arith)) _ (c.in_err-type_at.ensures.refused (c.args.depth + 1)))
+    passed_on _ c.from_residual-in_err-type_at.result c.from_residual-in_err-type_at.ensures.1 (refused_inside (let_begins c.args.depth c.args.symbols.now c.in_ok-word.ensures.found c.in_ok-word.ensures.within) _ c.in_err-type_at.ensures.refused)
 
 pub expressions::let_in-returns-in_err-type_of-clause-refused : goal.expressions::let_in-returns-in_err-type_of-clause-refused
 expressions::let_in-returns-in_err-type_of-clause-refused t c =
-    let p = err_from_is_err_and c.from_residual-in_err-type_of.result c.from_residual-in_err-type_of.ensures.1 in
-    let paren = over_token {kind = lexeme.Sign punctuator.OpenParen} (let_begins c.args.depth c.args.symbols.now c.in_ok-word.ensures.found (omega arith)) c.in_ok-type_at.ensures.found refl refl (omega arith) in
-    rw (p.1, p.2) (refused_inside paren _ c.in_err-type_of.ensures.refused)
+    let paren = over_token {kind = lexeme.Sign punctuator.OpenParen} (let_begins c.args.depth c.args.symbols.now c.in_ok-word.ensures.found c.in_ok-word.ensures.within) c.in_ok-type_at.ensures.found refl refl c.in_ok-word.ensures.within in
+    passed_on _ c.from_residual-in_err-type_of.result c.from_residual-in_err-type_of.ensures.1 (refused_inside paren _ c.in_err-type_of.ensures.refused)
 
 pub expressions::let_in-returns-in_err-name-clause-refused : goal.expressions::let_in-returns-in_err-name-clause-refused
 expressions::let_in-returns-in_err-name-clause-refused t c =
-    let p = err_from_is_err_and c.from_residual-in_err-name.result c.from_residual-in_err-name.ensures.1 in
-    let paren = over_token {kind = lexeme.Sign punctuator.OpenParen} (let_begins c.args.depth c.args.symbols.now c.in_ok-word.ensures.found (omega arith)) c.in_ok-type_at.ensures.found refl refl (omega arith) in
-    rw (p.1, p.2) (refused_inside (over_part paren c.in_ok-type_of.ensures.found) _ (c.in_err-name.ensures.refused (c.args.depth + 1)))
+    let paren = over_token {kind = lexeme.Sign punctuator.OpenParen} (let_begins c.args.depth c.args.symbols.now c.in_ok-word.ensures.found c.in_ok-word.ensures.within) c.in_ok-type_at.ensures.found refl refl c.in_ok-word.ensures.within in
+    passed_on _ c.from_residual-in_err-name.result c.from_residual-in_err-name.ensures.1 (refused_inside (over_part paren c.in_ok-type_of.ensures.found) _ c.in_err-name.ensures.refused)
 
 pub expressions::let_in-intern-requires : goal.expressions::let_in-intern-requires
 expressions::let_in-intern-requires t c =
@@ -123,66 +114,60 @@ expressions::let_in-intern-requires t c =
 
 pub expressions::let_in-returns-in_err-equals-clause-refused : goal.expressions::let_in-returns-in_err-equals-clause-refused
 expressions::let_in-returns-in_err-equals-clause-refused t c =
-    let p = err_from_is_err_and c.from_residual-in_err-equals.result c.from_residual-in_err-equals.ensures.1 in
-    let named = let_named c.in_ok-word.ensures.found c.in_ok-type_at.ensures.found c.in_ok-type_of.ensures.found c.in_ok-name.ensures.found c.in_ok-intern.ensures.names (omega arith) in
-    rw (p.1, p.2) (refused_inside named _ (c.in_err-equals.ensures.refused (c.args.depth + 1)))
+    let named = let_named c.in_ok-word.ensures.found c.in_ok-type_at.ensures.found c.in_ok-type_of.ensures.found c.in_ok-name.ensures.found c.in_ok-intern.ensures.names c.in_ok-word.ensures.within in
+    passed_on _ c.from_residual-in_err-equals.result c.from_residual-in_err-equals.ensures.1 (refused_inside named _ c.in_err-equals.ensures.refused)
 
 pub expressions::let_in-returns-in_err-value_at-clause-refused : goal.expressions::let_in-returns-in_err-value_at-clause-refused
 expressions::let_in-returns-in_err-value_at-clause-refused t c =
-    let p = err_from_is_err_and c.from_residual-in_err-value_at.result c.from_residual-in_err-value_at.ensures.1 in
-    let named = let_named c.in_ok-word.ensures.found c.in_ok-type_at.ensures.found c.in_ok-type_of.ensures.found c.in_ok-name.ensures.found c.in_ok-intern.ensures.names (omega arith) in
-    let close = over_token {kind = lexeme.Sign punctuator.CloseParen} named c.in_ok-equals.ensures.found refl refl (omega arith) in
-    rw (p.1, p.2) (refused_inside close _ (c.in_err-value_at.ensures.refused (c.args.depth + 1)))
+    let named = let_named c.in_ok-word.ensures.found c.in_ok-type_at.ensures.found c.in_ok-type_of.ensures.found c.in_ok-name.ensures.found c.in_ok-intern.ensures.names c.in_ok-word.ensures.within in
+    let close = over_token {kind = lexeme.Sign punctuator.CloseParen} named c.in_ok-equals.ensures.found refl refl c.in_ok-word.ensures.within in
+    passed_on _ c.from_residual-in_err-value_at.result c.from_residual-in_err-value_at.ensures.1 (refused_inside close _ c.in_err-value_at.ensures.refused)
 
 pub expressions::let_in-expression-requires : goal.expressions::let_in-expression-requires
 expressions::let_in-expression-requires t c =
-    let named = let_named c.in_ok-word.ensures.found c.in_ok-type_at.ensures.found c.in_ok-type_of.ensures.found c.in_ok-name.ensures.found c.in_ok-intern.ensures.names (omega arith) in
+    let named = let_named c.in_ok-word.ensures.found c.in_ok-type_at.ensures.found c.in_ok-type_of.ensures.found c.in_ok-name.ensures.found c.in_ok-intern.ensures.names c.in_ok-word.ensures.within in
     let few = named.few in
     let shorter = named.shorter in
     let close = token_shorter c.in_ok-equals.ensures.found.takes in
     let equals = token_shorter c.in_ok-value_at.ensures.found.takes in
-    (search rules, (omega arith, omega arith))
+    (search rules, (omega arith, omega (arith, c.in_ok-word.ensures.within)))
 
 pub expressions::let_in-returns-in_err-value-clause-refused : goal.expressions::let_in-returns-in_err-value-clause-refused
 expressions::let_in-returns-in_err-value-clause-refused t c =
-    let p = err_from_is_err_and c.from_residual-in_err-value.result c.from_residual-in_err-value.ensures.1 in
-    let named = let_named c.in_ok-word.ensures.found c.in_ok-type_at.ensures.found c.in_ok-type_of.ensures.found c.in_ok-name.ensures.found c.in_ok-intern.ensures.names (omega arith) in
-    rw (p.1, p.2) (refused_inside (let_assigned named c.in_ok-equals.ensures.found c.in_ok-value_at.ensures.found (omega arith)) _ c.in_err-value.ensures.refused)
+    let named = let_named c.in_ok-word.ensures.found c.in_ok-type_at.ensures.found c.in_ok-type_of.ensures.found c.in_ok-name.ensures.found c.in_ok-intern.ensures.names c.in_ok-word.ensures.within in
+    passed_on _ c.from_residual-in_err-value.result c.from_residual-in_err-value.ensures.1 (refused_inside (let_assigned named c.in_ok-equals.ensures.found c.in_ok-value_at.ensures.found c.in_ok-word.ensures.within) _ c.in_err-value.ensures.refused)
 
 pub expressions::let_in-returns-in_err-body_at-clause-refused : goal.expressions::let_in-returns-in_err-body_at-clause-refused
 expressions::let_in-returns-in_err-body_at-clause-refused t c =
-    let p = err_from_is_err_and c.from_residual-in_err-body_at.result c.from_residual-in_err-body_at.ensures.1 in
-    let named = let_named c.in_ok-word.ensures.found c.in_ok-type_at.ensures.found c.in_ok-type_of.ensures.found c.in_ok-name.ensures.found c.in_ok-intern.ensures.names (omega arith) in
-    let assigned = let_assigned named c.in_ok-equals.ensures.found c.in_ok-value_at.ensures.found (omega arith) in
-    rw (p.1, p.2) (refused_inside (over_part assigned c.in_ok-value.ensures.found) _ (c.in_err-body_at.ensures.refused (c.args.depth + 1)))
+    let named = let_named c.in_ok-word.ensures.found c.in_ok-type_at.ensures.found c.in_ok-type_of.ensures.found c.in_ok-name.ensures.found c.in_ok-intern.ensures.names c.in_ok-word.ensures.within in
+    let assigned = let_assigned named c.in_ok-equals.ensures.found c.in_ok-value_at.ensures.found c.in_ok-word.ensures.within in
+    passed_on _ c.from_residual-in_err-body_at.result c.from_residual-in_err-body_at.ensures.1 (refused_inside (over_part assigned c.in_ok-value.ensures.found) _ c.in_err-body_at.ensures.refused)
 
 pub expressions::let_in-expression-requires-2 : goal.expressions::let_in-expression-requires-2
 expressions::let_in-expression-requires-2 t c =
-    let named = let_named c.in_ok-word.ensures.found c.in_ok-type_at.ensures.found c.in_ok-type_of.ensures.found c.in_ok-name.ensures.found c.in_ok-intern.ensures.names (omega arith) in
-    let read = over_part (let_assigned named c.in_ok-equals.ensures.found c.in_ok-value_at.ensures.found (omega arith)) c.in_ok-value.ensures.found in
+    let named = let_named c.in_ok-word.ensures.found c.in_ok-type_at.ensures.found c.in_ok-type_of.ensures.found c.in_ok-name.ensures.found c.in_ok-intern.ensures.names c.in_ok-word.ensures.within in
+    let read = over_part (let_assigned named c.in_ok-equals.ensures.found c.in_ok-value_at.ensures.found c.in_ok-word.ensures.within) c.in_ok-value.ensures.found in
     let few = read.few in
     let shorter = read.shorter in
     let in_word = token_shorter c.in_ok-body_at.ensures.found.takes in
-    (search rules, (omega arith, omega arith))
+    (search rules, (omega arith, omega (arith, c.in_ok-word.ensures.within)))
 
 pub expressions::let_in-returns-in_err-body-clause-refused : goal.expressions::let_in-returns-in_err-body-clause-refused
 expressions::let_in-returns-in_err-body-clause-refused t c =
-    let p = err_from_is_err_and c.from_residual-in_err-body.result c.from_residual-in_err-body.ensures.1 in
-    let named = let_named c.in_ok-word.ensures.found c.in_ok-type_at.ensures.found c.in_ok-type_of.ensures.found c.in_ok-name.ensures.found c.in_ok-intern.ensures.names (omega arith) in
-    let valued = let_valued (let_assigned named c.in_ok-equals.ensures.found c.in_ok-value_at.ensures.found (omega arith)) c.in_ok-value.ensures.found c.in_ok-body_at.ensures.found (omega arith) in
-    rw (p.1, p.2) (refused_inside valued _ c.in_err-body.ensures.refused)
+    let named = let_named c.in_ok-word.ensures.found c.in_ok-type_at.ensures.found c.in_ok-type_of.ensures.found c.in_ok-name.ensures.found c.in_ok-intern.ensures.names c.in_ok-word.ensures.within in
+    let valued = let_valued (let_assigned named c.in_ok-equals.ensures.found c.in_ok-value_at.ensures.found c.in_ok-word.ensures.within) c.in_ok-value.ensures.found c.in_ok-body_at.ensures.found c.in_ok-word.ensures.within in
+    passed_on _ c.from_residual-in_err-body.result c.from_residual-in_err-body.ensures.1 (refused_inside valued _ c.in_err-body.ensures.refused)
 
 pub expressions::let_in-returns-clause-found : goal.expressions::let_in-returns-clause-found
 expressions::let_in-returns-clause-found t c =
     let named = c.in_ok-intern.ensures in
     let_found c.in_ok-type_of.type_of c.in_ok-intern.field-0 c.in_ok-value-2.value.value c.in_ok-body-2.body.value c.in_ok-value-2.ensures.ok c.in_ok-body-2.ensures.ok c.in_ok-word.ensures.found c.in_ok-type_at.ensures.found
     c.in_ok-type_of.ensures.found c.in_ok-name.ensures.found named.symbol named.names c.in_ok-equals.ensures.found c.in_ok-value_at.ensures.found c.in_ok-value.ensures.found
-    c.in_ok-body_at.ensures.found c.in_ok-body.ensures.found (omega arith)
+    c.in_ok-body_at.ensures.found c.in_ok-body.ensures.found c.in_ok-word.ensures.within
 
 pub operators::operators-returns-in_err-first-clause-refused : goal.operators::operators-returns-in_err-first-clause-refused
 operators::operators-returns-in_err-first-clause-refused t c =
-    let p = err_from_is_err_and c.from_residual.result c.from_residual.ensures.1 in
-    rw (p.1, p.2) (unary_refused c.args.level c.args.depth (spot c.args.from) _ c.in_err-first.ensures.refused)
+    passed_on _ c.from_residual.result c.from_residual.ensures.1 (unary_refused c.args.level c.args.depth (spot c.args.from) _ c.in_err-first.ensures.refused)
 
 pub operators::operators-climb-requires : goal.operators::operators-climb-requires
 operators::operators-climb-requires t c =
@@ -204,8 +189,7 @@ operators::climb-returns-then-not-operator_follows-clause-found t c = λ older b
 
 pub operators::climb-returns-in_err-left-clause-refused : goal.operators::climb-returns-in_err-left-clause-refused
 operators::climb-returns-in_err-left-clause-refused t c =
-    let p = err_from_is_err_and c.from_residual.result c.from_residual.ensures.1 in
-    rw (p.1, p.2) (λ older begin is found. level_refused c.args.at c.args.to c.args.depth begin _ c.requires.order (refused_inside (first_operand_read c.args.at found) _ c.in_err-left.ensures.refused))
+    passed_on _ c.from_residual.result c.from_residual.ensures.1 (λ older begin is found. level_refused c.args.at c.args.to c.args.depth begin _ c.requires.order (refused_inside (first_operand_read c.args.at found) _ c.in_err-left.ensures.refused))
 
 pub operators::climb-returns-then-eq-clause-found : goal.operators::climb-returns-then-eq-clause-found
 operators::climb-returns-then-eq-clause-found t c = λ older begin is found.
@@ -246,8 +230,7 @@ operators::operators_behind-operand-requires t c =
 
 pub operators::operators_behind-returns-in_err-right-clause-refused : goal.operators::operators_behind-returns-in_err-right-clause-refused
 operators::operators_behind-returns-in_err-right-clause-refused t c =
-    let p = err_from_is_err_and c.from_residual.result c.from_residual.ensures.1 in
-    rw (p.1, p.2) (next_operand_refused c.in-Some.operator _ c.loop-operator.invariant.read c.in-Some.ensures.level c.in-Some.ensures.some.takes c.requires.depth c.in_err-right.ensures.refused)
+    passed_on _ c.from_residual.result c.from_residual.ensures.1 (next_operand_refused c.in-Some.operator _ c.loop-operator.invariant.read c.in-Some.ensures.level c.in-Some.ensures.some.takes c.requires.depth c.in_err-right.ensures.refused)
 
 pub operators::operators_behind-loop-operator-smaller : goal.operators::operators_behind-loop-operator-smaller
 operators::operators_behind-loop-operator-smaller t c =
@@ -273,15 +256,18 @@ operators::operators_behind-returns-clause-found t c =
           rw (w.symbols-is, w.here-is, ← c.loop-operator.invariant.first_is) (ended (ap (λ (operands : Vec Operand Global). operands.items) w.operands-is) c.in_ok-node.ensures)
     ]
 
+pub primaries::built-returns-in_err-name-clause-refused : goal.primaries::built-returns-in_err-name-clause-refused
+primaries::built-returns-in_err-name-clause-refused t c =
+    passed_on _ c.from_residual.result c.from_residual.ensures.1 (refused_upper c.args.depth (spot c.args.from) _ c.requires.begins c.in_err-name.ensures.refused)
+
 pub primaries::built-returns-in_err-arguments-clause-refused : goal.primaries::built-returns-in_err-arguments-clause-refused
 primaries::built-returns-in_err-arguments-clause-refused t c =
-    let p = err_from_is_err_and c.from_residual-in_err-arguments.result c.from_residual-in_err-arguments.ensures.1 in
-    rw (p.1, p.2) (refused_inside (name_read c.args.depth c.args.symbols.now c.in_ok-name.ensures.found refl refl c.requires.depth c.in_ok-symbol.ensures.names) _ c.in_err-arguments.ensures.refused)
+    passed_on _ c.from_residual-in_err-arguments.result c.from_residual-in_err-arguments.ensures.1 (refused_inside (name_read c.args.depth c.args.symbols.now c.in_ok-name.ensures.found refl refl c.in_ok-name.ensures.within c.in_ok-symbol.ensures.names) _ c.in_err-arguments.ensures.refused)
 
 pub primaries::built-returns-clause-found : goal.primaries::built-returns-clause-found
 primaries::built-returns-clause-found t c =
     call_found c.args.symbols.now c.in_ok-symbol.symbol c.in_ok-arguments.arguments (code_expr.Build c.in_ok-name.name.place c.in_ok-symbol.symbol c.match-arguments.arguments)
-    (name_read c.args.depth c.args.symbols.now c.in_ok-name.ensures.found refl refl c.requires.depth c.in_ok-symbol.ensures.names) c.in_ok-symbol.ensures.symbol c.in_ok-symbol.ensures.names c.in_ok-arguments.ensures.found (λ names kept trees.
+    (name_read c.args.depth c.args.symbols.now c.in_ok-name.ensures.found refl refl c.in_ok-name.ensures.within c.in_ok-symbol.ensures.names) c.in_ok-symbol.ensures.symbol c.in_ok-symbol.ensures.names c.in_ok-arguments.ensures.found (λ names kept trees.
     elim c.match-arguments.branch [
       | primaries::built-in-Some w ↦ build_phrase names _ _ c.match-arguments.arguments (w.in-Some.is ∙ ap Some (sym w.arguments-is)) kept
       | primaries::built-in-None w ↦ constant_phrase names _ _ c.match-arguments.arguments w.in-None.is (ap (λ (v : Vec code_expr.Expr Global). v.items) w.arguments-is ∙ w.new-arguments.ensures.items) kept
@@ -289,39 +275,37 @@ primaries::built-returns-clause-found t c =
 
 pub primaries::group-returns-in_err-inside-clause-refused : goal.primaries::group-returns-in_err-inside-clause-refused
 primaries::group-returns-in_err-inside-clause-refused t c =
-    let p = err_from_is_err_and c.from_residual.result c.from_residual.ensures.1 in
-    let differs = c.in_err-inside.ensures.other in
-    let shut = ap (λ (k : Kind). opened (One Primary) k c.args.depth) c.requires.begins ∙ group_shut c.args.sign c.args.depth (sym (ap (fits (Sign punctuator.OpenParen)) c.requires.begins) ∙ differs) in
-    rw (p.1, p.2) (refused_other (Sign punctuator.OpenParen) (One Primary) c.args.depth (spot c.args.from) _ differs shut c.in_err-inside.ensures.refused)
+    passed_on _ c.from_residual.result c.from_residual.ensures.1 (refused_group c.args.depth (spot c.args.from) _ c.args.sign c.requires.begins c.in_err-inside.ensures.refused)
 
 pub primaries::group-returns-in_err-expr-clause-refused : goal.primaries::group-returns-in_err-expr-clause-refused
 primaries::group-returns-in_err-expr-clause-refused t c =
-    let p = err_from_is_err_and c.from_residual-in_err-expr.result c.from_residual-in_err-expr.ensures.1 in
-    rw (p.1, p.2) (refused_inside (first_read c.args.depth c.args.symbols.now c.in_ok-inside.ensures.found refl refl c.requires.depth) _ c.in_err-expr.ensures.refused)
+    passed_on _ c.from_residual-in_err-expr.result c.from_residual-in_err-expr.ensures.1 (refused_inside (first_read c.args.depth c.args.symbols.now c.in_ok-inside.ensures.found refl refl c.in_ok-inside.ensures.within) _ c.in_err-expr.ensures.refused)
 
 pub primaries::group-returns-in_err-end-clause-refused : goal.primaries::group-returns-in_err-end-clause-refused
 primaries::group-returns-in_err-end-clause-refused t c =
-    let p = err_from_is_err_and c.from_residual-in_err-end.result c.from_residual-in_err-end.ensures.1 in
-    let so = over_part (first_read c.args.depth c.args.symbols.now c.in_ok-inside.ensures.found refl refl c.requires.depth) c.in_ok-expr.ensures.found in
-    rw (p.1, p.2) (refused_inside so _ (c.in_err-end.ensures.refused c.args.depth))
+    let so = over_part (first_read c.args.depth c.args.symbols.now c.in_ok-inside.ensures.found refl refl c.in_ok-inside.ensures.within) c.in_ok-expr.ensures.found in
+    passed_on _ c.from_residual-in_err-end.result c.from_residual-in_err-end.ensures.1 (refused_inside so _ c.in_err-end.ensures.refused)
 
 pub primaries::group-returns-clause-found : goal.primaries::group-returns-clause-found
 primaries::group-returns-clause-found t c =
     let opening = c.in_ok-inside.ensures.found in
     let expr = c.in_ok-expr.ensures.found in
-    let so = over_part (first_read c.args.depth c.args.symbols.now opening refl refl c.requires.depth) expr in
-    all_read (over_token {kind = lexeme.Sign punctuator.CloseParen} so c.in_ok-end.ensures.found refl refl c.requires.depth)
+    let so = over_part (first_read c.args.depth c.args.symbols.now opening refl refl c.in_ok-inside.ensures.within) expr in
+    all_read (over_token {kind = lexeme.Sign punctuator.CloseParen} so c.in_ok-end.ensures.found refl refl c.in_ok-inside.ensures.within)
     (λ names more. group_tree (lexed c.in_ok-inside.field-0-0) (lexed c.in_ok-end.field-0-0) c.args.depth expr.inside opening.kind_is (expr.is names more))
+
+pub primaries::lower_primary-returns-in_err-name-clause-refused : goal.primaries::lower_primary-returns-in_err-name-clause-refused
+primaries::lower_primary-returns-in_err-name-clause-refused t c =
+    passed_on _ c.from_residual.result c.from_residual.ensures.1 (refused_lower c.args.depth (spot c.args.from) _ c.requires.begins c.in_err-name.ensures.refused)
 
 pub primaries::lower_primary-returns-in_err-arguments-clause-refused : goal.primaries::lower_primary-returns-in_err-arguments-clause-refused
 primaries::lower_primary-returns-in_err-arguments-clause-refused t c =
-    let p = err_from_is_err_and c.from_residual-in_err-arguments.result c.from_residual-in_err-arguments.ensures.1 in
-    rw (p.1, p.2) (refused_inside (name_read c.args.depth c.args.symbols.now c.in_ok-name.ensures.found refl refl c.requires.depth c.in_ok-symbol.ensures.names) _ c.in_err-arguments.ensures.refused)
+    passed_on _ c.from_residual-in_err-arguments.result c.from_residual-in_err-arguments.ensures.1 (refused_inside (name_read c.args.depth c.args.symbols.now c.in_ok-name.ensures.found refl refl c.in_ok-name.ensures.within c.in_ok-symbol.ensures.names) _ c.in_err-arguments.ensures.refused)
 
 pub primaries::lower_primary-returns-clause-found : goal.primaries::lower_primary-returns-clause-found
 primaries::lower_primary-returns-clause-found t c =
     call_found c.args.symbols.now c.in_ok-symbol.symbol c.in_ok-arguments.arguments _
-    (name_read c.args.depth c.args.symbols.now c.in_ok-name.ensures.found refl refl c.requires.depth c.in_ok-symbol.ensures.names) c.in_ok-symbol.ensures.symbol c.in_ok-symbol.ensures.names c.in_ok-arguments.ensures.found (λ names kept trees.
+    (name_read c.args.depth c.args.symbols.now c.in_ok-name.ensures.found refl refl c.in_ok-name.ensures.within c.in_ok-symbol.ensures.names) c.in_ok-symbol.ensures.symbol c.in_ok-symbol.ensures.names c.in_ok-arguments.ensures.found (λ names kept trees.
     c.named.ensures names ∙ ap (λ (name : List ℕ). named c.in_ok-name.name.place name (maybe_phrases names c.in_ok-arguments.arguments)) kept
     ∙ named_tree (lexed c.in_ok-name.name) c.args.depth c.in_ok-arguments.ensures.found.inside c.in_ok-name.ensures.found.kind_is trees)
 
@@ -329,103 +313,113 @@ pub primaries::primary-returns-in_default-clause-refused : goal.primaries::prima
 primaries::primary-returns-in_default-clause-refused t c = primary_refused_at_end c.args.depth (spot c.args.from) _ c.wrong.ensures c.in_default.ensures.none
 
 pub primaries::primary-numeral-requires-clause-number : goal.primaries::primary-numeral-requires-clause-number
-primaries::primary-numeral-requires-clause-number t c = number_digits c.in-Number.is c.in-Some.ensures.well_formed
+primaries::primary-numeral-requires-clause-number t c = number_digits c.in_ok-token-in-Number.ensures.found.kind_is c.in_ok-token-in-Number.ensures.well_formed
 
-pub primaries::primary-returns-in-Number-clause-found : goal.primaries::primary-returns-in-Number-clause-found
-primaries::primary-returns-in-Number-clause-found t c =
-    all_read (first_read c.args.depth c.args.symbols.now (stands c.in-Some.ensures.some c.in-Number.is) refl refl c.requires.depth) (λ names more.
-    ap (NumberOf c.in-Some.token.place) (narrowed c.numeral.result _ c.numeral.ensures (number_fits c.in-Number.is c.in-Some.ensures.well_formed))
-    ∙ sym (tree_by (lexed c.in-Some.token) c.args.depth Empty c.in-Number.is))
+pub primaries::primary-returns-in_err-token-in-Number-clause-refused : goal.primaries::primary-returns-in_err-token-in-Number-clause-refused
+primaries::primary-returns-in_err-token-in-Number-clause-refused t c =
+    passed_on _ c.from_residual.result c.from_residual.ensures.1 (refused_primary c.args.depth _ (stands c.in-Some.ensures.some c.in-Number.is) refl c.in_err-token-in-Number.ensures.refused)
+
+pub primaries::primary-returns-in_ok-token-in-Number-clause-found : goal.primaries::primary-returns-in_ok-token-in-Number-clause-found
+primaries::primary-returns-in_ok-token-in-Number-clause-found t c =
+    let number = c.in_ok-token-in-Number.ensures in
+    all_read (first_read c.args.depth c.args.symbols.now number.found refl refl number.within) (λ names more.
+    ap (NumberOf c.in_ok-token-in-Number.token.place) (narrowed c.numeral.result _ c.numeral.ensures (number_fits number.found.kind_is number.well_formed))
+    ∙ sym (tree_by (lexed c.in_ok-token-in-Number.token) c.args.depth Empty number.found.kind_is))
+
+pub primaries::primary-returns-in_err-token-in-Text-clause-refused : goal.primaries::primary-returns-in_err-token-in-Text-clause-refused
+primaries::primary-returns-in_err-token-in-Text-clause-refused t c =
+    passed_on _ c.from_residual-in_err-token-in-Text.result c.from_residual-in_err-token-in-Text.ensures.1 (refused_primary c.args.depth _ (stands c.in-Some.ensures.some c.in-Text.is) refl c.in_err-token-in-Text.ensures.refused)
 
 pub primaries::primary-returns-in_ok-text-in-Text-clause-found : goal.primaries::primary-returns-in_ok-text-in-Text-clause-found
 primaries::primary-returns-in_ok-text-in-Text-clause-found t c =
-    all_read (first_read c.args.depth c.args.symbols.now (stands c.in-Some.ensures.some c.in-Text.is) refl refl c.requires.depth)
-    (λ names more. ap (StringOf c.in-Some.token.place) c.in_ok-text-in-Text.ensures ∙ sym (tree_by (lexed c.in-Some.token) c.args.depth Empty c.in-Text.is))
+    let literal = c.in_ok-token-in-Text.ensures in
+    all_read (first_read c.args.depth c.args.symbols.now literal.found refl refl literal.within)
+    (λ names more. ap (StringOf c.in_ok-token-in-Text.token.place) c.in_ok-text-in-Text.ensures ∙ sym (tree_by (lexed c.in_ok-token-in-Text.token) c.args.depth Empty literal.found.kind_is))
 
 pub primaries::primary-returns-in-Foreign-clause-refused : goal.primaries::primary-returns-in-Foreign-clause-refused
 primaries::primary-returns-in-Foreign-clause-refused t c =
-    refused_no_primary lexeme.Foreign c.in-Some.token.slice.now c.args.depth (spot c.args.from) _ c.wrong-in-Foreign.ensures (next_taken (stands c.in-Some.ensures.some c.in-Foreign.is)) refl
+    refused_no_primary lexeme.Foreign c.in-Some.first.slice.now c.args.depth (spot c.args.from) _ c.wrong-in-Foreign.ensures (next_taken (stands c.in-Some.ensures.some c.in-Foreign.is)) refl
+
+pub primaries::this_of-returns-in_err-this-clause-refused : goal.primaries::this_of-returns-in_err-this-clause-refused
+primaries::this_of-returns-in_err-this-clause-refused t c =
+    passed_on _ c.from_residual.result c.from_residual.ensures.1 (refused_word keyword.This c.args.depth (spot c.args.from) _ refl c.requires.begins c.in_err-this.ensures.refused)
 
 pub primaries::this_of-returns-in_default-clause-found : goal.primaries::this_of-returns-in_default-clause-found
 primaries::this_of-returns-in_default-clause-found t c =
     let this = c.in_ok-this.ensures.found in
     let none = opens (Optional ThisTail) c.args.depth c.args.symbols.now (spot c.in_ok-this.behind) _ (no_tail c.args.depth _ c.in_default.ensures.other) in
-    all_read (into_last (first_read c.args.depth c.args.symbols.now this refl refl c.requires.depth) none) (λ names more. this_tree (lexed c.in_ok-this.this) c.args.depth this.kind_is)
+    all_read (into_last (first_read c.args.depth c.args.symbols.now this refl refl c.in_ok-this.ensures.within) none) (λ names more. this_tree (lexed c.in_ok-this.this) c.args.depth this.kind_is)
 
 pub primaries::this_of-returns-in_err-name-clause-refused : goal.primaries::this_of-returns-in_err-name-clause-refused
 primaries::this_of-returns-in_err-name-clause-refused t c =
-    let p = err_from_is_err_and c.from_residual-in_err-name.result c.from_residual-in_err-name.ensures.1 in
-    rw (p.1, p.2) (refused_inside (member_begins c.args.depth c.args.symbols.now c.in_ok-this.ensures.found c.in-Ok.ensures.found c.requires.depth) _ (c.in_err-name.ensures.refused c.args.depth))
+    passed_on _ c.from_residual-in_err-name.result c.from_residual-in_err-name.ensures.1 (refused_inside (member_begins c.args.depth c.args.symbols.now c.in_ok-this.ensures.found c.in-Some.ensures.found c.in_ok-this.ensures.within) _ c.in_err-name.ensures.refused)
 
 pub primaries::this_of-arguments_maybe-requires : goal.primaries::this_of-arguments_maybe-requires
 primaries::this_of-arguments_maybe-requires t c =
-    let so = member_begins c.args.depth c.args.symbols.now c.in_ok-this.ensures.found c.in-Ok.ensures.found c.requires.depth in
-    let named = over_name {kind = lexeme.LowerName} so c.in_ok-name.ensures.found refl refl c.requires.depth c.in_ok-symbol.ensures.names in
+    let so = member_begins c.args.depth c.args.symbols.now c.in_ok-this.ensures.found c.in-Some.ensures.found c.in_ok-this.ensures.within in
+    let named = over_name {kind = lexeme.LowerName} so c.in_ok-name.ensures.found refl refl c.in_ok-this.ensures.within c.in_ok-symbol.ensures.names in
     let shorter = token_shorter c.in_ok-name.ensures.found.takes in
     let before = so.shorter in
-    (search rules, (omega (arith, named.few), c.requires.depth))
+    (search rules, (omega (arith, named.few), c.in_ok-this.ensures.within))
 
 pub primaries::this_of-returns-in_err-arguments-clause-refused : goal.primaries::this_of-returns-in_err-arguments-clause-refused
 primaries::this_of-returns-in_err-arguments-clause-refused t c =
-    let p = err_from_is_err_and c.from_residual-in_err-arguments.result c.from_residual-in_err-arguments.ensures.1 in
-    let so = member_begins c.args.depth c.args.symbols.now c.in_ok-this.ensures.found c.in-Ok.ensures.found c.requires.depth in
-    rw (p.1, p.2) (refused_inside (over_name {kind = lexeme.LowerName} so c.in_ok-name.ensures.found refl refl c.requires.depth c.in_ok-symbol.ensures.names) _ c.in_err-arguments.ensures.refused)
+    let so = member_begins c.args.depth c.args.symbols.now c.in_ok-this.ensures.found c.in-Some.ensures.found c.in_ok-this.ensures.within in
+    passed_on _ c.from_residual-in_err-arguments.result c.from_residual-in_err-arguments.ensures.1 (refused_inside (over_name {kind = lexeme.LowerName} so c.in_ok-name.ensures.found refl refl c.in_ok-this.ensures.within c.in_ok-symbol.ensures.names) _ c.in_err-arguments.ensures.refused)
 
 pub primaries::this_of-returns-clause-found : goal.primaries::this_of-returns-clause-found
 primaries::this_of-returns-clause-found t c =
-    let so = member_begins c.args.depth c.args.symbols.now c.in_ok-this.ensures.found c.in-Ok.ensures.found c.requires.depth in
+    let so = member_begins c.args.depth c.args.symbols.now c.in_ok-this.ensures.found c.in-Some.ensures.found c.in_ok-this.ensures.within in
     call_found c.args.symbols.now c.in_ok-symbol.symbol c.in_ok-arguments.arguments _
-    (over_name {kind = lexeme.LowerName} so c.in_ok-name.ensures.found refl refl c.requires.depth c.in_ok-symbol.ensures.names) c.in_ok-symbol.ensures.symbol c.in_ok-symbol.ensures.names c.in_ok-arguments.ensures.found (λ names kept trees.
+    (over_name {kind = lexeme.LowerName} so c.in_ok-name.ensures.found refl refl c.in_ok-this.ensures.within c.in_ok-symbol.ensures.names) c.in_ok-symbol.ensures.symbol c.in_ok-symbol.ensures.names c.in_ok-arguments.ensures.found (λ names kept trees.
     c.in_ok-expr.ensures names ∙ ap (λ (name : List ℕ). member c.in_ok-this.this.place c.in_ok-name.name.place name (maybe_phrases names c.in_ok-arguments.arguments)) kept
-    ∙ member_tree (lexed c.in_ok-this.this) (lexed c.in-Ok.field-0-0) (lexed c.in_ok-name.name) c.args.depth c.in_ok-arguments.ensures.found.inside c.in_ok-this.ensures.found.kind_is trees)
+    ∙ member_tree (lexed c.in_ok-this.this) (lexed c.in-Some.field-0-0) (lexed c.in_ok-name.name) c.args.depth c.in_ok-arguments.ensures.found.inside c.in_ok-this.ensures.found.kind_is trees)
 
 pub primaries::unary-returns-in_default-clause-refused : goal.primaries::unary-returns-in_default-clause-refused
 primaries::unary-returns-in_default-clause-refused t c = unary_refused_at_end c.args.depth (spot c.args.from) _ c.wrong.ensures c.in_default.ensures.none
 
-pub primaries::unary-returns-then-not-begins_primary-clause-refused : goal.primaries::unary-returns-then-not-begins_primary-clause-refused
-primaries::unary-returns-then-not-begins_primary-clause-refused t c =
-    refused_no_unary c.args.depth _ c.wrong-then-not-begins_primary.ensures c.in-Some.ensures.some (sym (c.begins_primary.ensures c.in-Some.token.slice.now) ∙ c.if-not-begins_primary.true) c.in_default-prefix_of.ensures.none
-
-pub primaries::unary-returns-then-depth-ge-LIMIT-clause-refused : goal.primaries::unary-returns-then-depth-ge-LIMIT-clause-refused
-primaries::unary-returns-then-depth-ge-LIMIT-clause-refused t c =
-    operand_deep c.args.depth _ c.deep.ensures c.in-Some.ensures.some (sym (c.begins_primary.ensures c.in-Some.token.slice.now) ∙ c.if-not-begins_primary.false) (omega arith)
-
 pub primaries::unary-returns-in_default-prefix_of-clause-found : goal.primaries::unary-returns-in_default-prefix_of-clause-found
-primaries::unary-returns-in_default-prefix_of-clause-found t c =
-    IfOk-weaker c.primary.result _ _ (λ found. operand_found c.args.depth found.0 c.in-Some.ensures.some (sym (c.begins_primary.ensures c.in-Some.token.slice.now) ∙ c.if-not-begins_primary.false)) c.primary.ensures.found
+primaries::unary-returns-in_default-prefix_of-clause-found t c = IfOk-weaker c.primary.result _ _ (λ found. operand_found c.args.depth found.0) c.primary.ensures.found
 
 pub primaries::unary-returns-in_default-prefix_of-clause-refused : goal.primaries::unary-returns-in_default-prefix_of-clause-refused
 primaries::unary-returns-in_default-prefix_of-clause-refused t c =
-    IfErr-weaker c.primary.result _ _ (λ error. operand_refused c.args.depth error c.in-Some.ensures.some (sym (c.begins_primary.ensures c.in-Some.token.slice.now) ∙ c.if-not-begins_primary.false)) c.primary.ensures.refused
+    IfErr-weaker c.primary.result _ _ (λ error. operand_refused c.args.depth error c.in-Some.ensures.some c.in_default-prefix_of.ensures.none) c.primary.ensures.refused
 
-pub primaries::unary-returns-then-depth-ge-LIMIT-2-clause-refused : goal.primaries::unary-returns-then-depth-ge-LIMIT-2-clause-refused
-primaries::unary-returns-then-depth-ge-LIMIT-2-clause-refused t c =
-    prefix_deep c.in-Some-prefix_of.prefix c.args.depth _ c.deep-then-depth-ge-LIMIT-2.ensures (stands c.in-Some.ensures.some c.in-Some-prefix_of.ensures.some) (omega arith)
+pub primaries::unary-take-requires : goal.primaries::unary-take-requires
+primaries::unary-take-requires t c = record { asked = ap is_asked c.in-Some-prefix_of.ensures.some }
+
+pub primaries::unary-returns-in_err-sign-clause-refused : goal.primaries::unary-returns-in_err-sign-clause-refused
+primaries::unary-returns-in_err-sign-clause-refused t c =
+    passed_on _ c.from_residual.result c.from_residual.ensures.1 (prefix_refused c.in-Some-prefix_of.prefix c.args.depth _ c.in-Some.ensures.some c.in-Some-prefix_of.ensures.some c.in_err-sign.ensures.refused)
 
 pub primaries::unary-returns-in_err-operand-clause-refused : goal.primaries::unary-returns-in_err-operand-clause-refused
 primaries::unary-returns-in_err-operand-clause-refused t c =
-    let p = err_from_is_err_and c.from_residual.result c.from_residual.ensures.1 in
-    let takes = stands c.in-Some.ensures.some c.in-Some-prefix_of.ensures.some in
-    rw (p.1, p.2) (refused_inside (prefix_read c.in-Some-prefix_of.prefix c.args.depth c.args.symbols.now takes (omega arith)) _ c.in_err-operand.ensures.refused)
+    passed_on _ c.from_residual-in_err-operand.result c.from_residual-in_err-operand.ensures.1 (refused_inside (prefix_read c.in-Some-prefix_of.prefix c.args.depth c.args.symbols.now (stands c.in_ok-sign.ensures.found.takes (c.in_ok-sign.ensures.found.kind_is ∙ c.in-Some-prefix_of.ensures.some)) c.in_ok-sign.ensures.within) _ c.in_err-operand.ensures.refused)
 
 pub primaries::unary-returns-clause-found : goal.primaries::unary-returns-clause-found
 primaries::unary-returns-clause-found t c =
-    let takes = stands c.in-Some.ensures.some c.in-Some-prefix_of.ensures.some in
+    let takes = stands c.in_ok-sign.ensures.found.takes (c.in_ok-sign.ensures.found.kind_is ∙ c.in-Some-prefix_of.ensures.some) in
     let found = c.in_ok-operand.ensures.found in
-    all_read (over_part (prefix_read c.in-Some-prefix_of.prefix c.args.depth c.args.symbols.now takes (omega arith)) found) (λ names more.
-    prefixed_tree c.in-Some-prefix_of.prefix (lexed c.in-Some.token) (c.args.depth + 1) found.inside takes.kind_is (ap (phrase names) c.in_ok-operand-2.ensures.ok ∙ found.is names more))
+    all_read (over_part (prefix_read c.in-Some-prefix_of.prefix c.args.depth c.args.symbols.now takes c.in_ok-sign.ensures.within) found) (λ names more.
+    prefixed_tree c.in-Some-prefix_of.prefix (lexed c.in_ok-sign.sign) (c.args.depth + 1) found.inside takes.kind_is (ap (phrase names) c.in_ok-operand-2.ensures.ok ∙ found.is names more))
 
-pub primaries::worded-returns-in-Null-clause-found : goal.primaries::worded-returns-in-Null-clause-found
-primaries::worded-returns-in-Null-clause-found t c =
-    let takes : TakesKind (lexeme.Word keyword.Null) (lexed c.in_ok-token.token) (spot c.args.from) (spot c.in_ok-token.behind) =
-    stands c.in_ok-token.ensures.found.takes (c.in_ok-token.ensures.found.kind_is ∙ ap lexeme.Word c.in-Null.is) in
-    all_read (first_read c.args.depth c.args.symbols.now takes refl refl c.requires.depth) (λ names more. sym (tree_by (lexed c.in_ok-token.token) c.args.depth Empty takes.kind_is))
+pub primaries::worded-returns-in_err-token-in-Null-clause-refused : goal.primaries::worded-returns-in_err-token-in-Null-clause-refused
+primaries::worded-returns-in_err-token-in-Null-clause-refused t c =
+    passed_on _ c.from_residual.result c.from_residual.ensures.1 (refused_word keyword.Null c.args.depth (spot c.args.from) _ refl (ap (fits (Word keyword.Null)) (c.requires.begins ∙ ap Word c.in-Null.is)) c.in_err-token-in-Null.ensures.refused)
 
-pub primaries::worded-returns-in-Destiny-clause-found : goal.primaries::worded-returns-in-Destiny-clause-found
-primaries::worded-returns-in-Destiny-clause-found t c =
-    let takes : TakesKind (lexeme.Word keyword.Destiny) (lexed c.in_ok-token.token) (spot c.args.from) (spot c.in_ok-token.behind) =
-    stands c.in_ok-token.ensures.found.takes (c.in_ok-token.ensures.found.kind_is ∙ ap lexeme.Word c.in-Destiny.is) in
-    all_read (first_read c.args.depth c.args.symbols.now takes refl refl c.requires.depth) (λ names more. sym (tree_by (lexed c.in_ok-token.token) c.args.depth Empty takes.kind_is))
+pub primaries::worded-returns-in_ok-token-in-Null-clause-found : goal.primaries::worded-returns-in_ok-token-in-Null-clause-found
+primaries::worded-returns-in_ok-token-in-Null-clause-found t c =
+    let takes = c.in_ok-token-in-Null.ensures.found in
+    all_read (first_read c.args.depth c.args.symbols.now takes refl refl c.in_ok-token-in-Null.ensures.within) (λ names more. sym (tree_by (lexed c.in_ok-token-in-Null.token) c.args.depth Empty takes.kind_is))
+
+pub primaries::worded-returns-in_err-token-in-Destiny-clause-refused : goal.primaries::worded-returns-in_err-token-in-Destiny-clause-refused
+primaries::worded-returns-in_err-token-in-Destiny-clause-refused t c =
+    passed_on _ c.from_residual-in_err-token-in-Destiny.result c.from_residual-in_err-token-in-Destiny.ensures.1 (refused_word keyword.Destiny c.args.depth (spot c.args.from) _ refl (ap (fits (Word keyword.Destiny)) (c.requires.begins ∙ ap Word c.in-Destiny.is)) c.in_err-token-in-Destiny.ensures.refused)
+
+pub primaries::worded-returns-in_ok-token-in-Destiny-clause-found : goal.primaries::worded-returns-in_ok-token-in-Destiny-clause-found
+primaries::worded-returns-in_ok-token-in-Destiny-clause-found t c =
+    let takes = c.in_ok-token-in-Destiny.ensures.found in
+    all_read (first_read c.args.depth c.args.symbols.now takes refl refl c.in_ok-token-in-Destiny.ensures.within) (λ names more. sym (tree_by (lexed c.in_ok-token-in-Destiny.token) c.args.depth Empty takes.kind_is))
 
 pub primaries::worded-returns-in_default : goal.primaries::worded-returns-in_default
 primaries::worded-returns-in_default t c = record {
@@ -436,48 +430,46 @@ primaries::worded-returns-in_default t c = record {
 
 pub cases::branch-returns-in_err-pattern-clause-refused : goal.cases::branch-returns-in_err-pattern-clause-refused
 cases::branch-returns-in_err-pattern-clause-refused t c =
-    let p = err_from_is_err_and c.from_residual.result c.from_residual.ensures.1 in
-    rw (p.1, p.2) (refused_pattern c.args.depth (spot c.args.from) _ c.in_err-pattern.ensures.refused)
+    passed_on _ c.from_residual.result c.from_residual.ensures.1 (refused_pattern c.args.depth (spot c.args.from) _ c.in_err-pattern.ensures.refused)
 
 pub cases::branch-returns-in_err-value_at-clause-refused : goal.cases::branch-returns-in_err-value_at-clause-refused
 cases::branch-returns-in_err-value_at-clause-refused t c =
-    let p = err_from_is_err_and c.from_residual-in_err-value_at.result c.from_residual-in_err-value_at.ensures.1 in
-    rw (p.1, p.2) (refused_inside (pattern_read c.in_ok-pattern.ensures.found) _ (c.in_err-value_at.ensures.refused c.args.depth))
+    passed_on _ c.from_residual-in_err-value_at.result c.from_residual-in_err-value_at.ensures.1 (refused_inside (pattern_read c.in_ok-pattern.ensures.found) _ c.in_err-value_at.ensures.refused)
 
 pub cases::branch-expression-requires : goal.cases::branch-expression-requires
 cases::branch-expression-requires t c =
     let few = found_few c.in_ok-pattern.ensures.found in
     let shorter = found_shorter c.in_ok-pattern.ensures.found in
     let arrow = token_shorter c.in_ok-value_at.ensures.found.takes in
-    (search rules, (omega arith, c.requires.depth))
+    (search rules, (omega arith, omega arith))
 
 pub cases::branch-returns-in_err-value-clause-refused : goal.cases::branch-returns-in_err-value-clause-refused
 cases::branch-returns-in_err-value-clause-refused t c =
-    let p = err_from_is_err_and c.from_residual-in_err-value.result c.from_residual-in_err-value.ensures.1 in
     let arrow = over_token {kind = lexeme.Sign punctuator.Arrow} (pattern_read c.in_ok-pattern.ensures.found) c.in_ok-value_at.ensures.found refl refl c.requires.depth in
-    rw (p.1, p.2) (refused_inside arrow _ c.in_err-value.ensures.refused)
+    passed_on _ c.from_residual-in_err-value.result c.from_residual-in_err-value.ensures.1 (refused_inside arrow _ c.in_err-value.ensures.refused)
 
 pub cases::branch-returns-in_err-end-clause-refused : goal.cases::branch-returns-in_err-end-clause-refused
 cases::branch-returns-in_err-end-clause-refused t c =
-    let p = err_from_is_err_and c.from_residual-in_err-end.result c.from_residual-in_err-end.ensures.1 in
     let arrow = over_token {kind = lexeme.Sign punctuator.Arrow} (pattern_read c.in_ok-pattern.ensures.found) c.in_ok-value_at.ensures.found refl refl c.requires.depth in
-    rw (p.1, p.2) (refused_inside (over_part arrow c.in_ok-value.ensures.found) _ (c.in_err-end.ensures.refused c.args.depth))
+    passed_on _ c.from_residual-in_err-end.result c.from_residual-in_err-end.ensures.1 (refused_inside (over_part arrow c.in_ok-value.ensures.found) _ c.in_err-end.ensures.refused)
 
 pub cases::branch-returns-clause-found : goal.cases::branch-returns-clause-found
 cases::branch-returns-clause-found t c =
     let branch : Branch = record { pattern = c.in_ok-pattern.pattern; value = c.in_ok-value.value } in
     branch_found branch c.in_ok-pattern.ensures.found c.in_ok-value_at.ensures.found c.in_ok-value.ensures.found c.in_ok-end.ensures.found c.requires.depth
 
+pub cases::case_of-returns-in_err-word-clause-refused : goal.cases::case_of-returns-in_err-word-clause-refused
+cases::case_of-returns-in_err-word-clause-refused t c =
+    passed_on _ c.from_residual.result c.from_residual.ensures.1 (refused_word keyword.Case c.args.depth (spot c.args.from) _ refl c.requires.begins c.in_err-word.ensures.refused)
+
 pub cases::case_of-returns-in_err-subject-clause-refused : goal.cases::case_of-returns-in_err-subject-clause-refused
 cases::case_of-returns-in_err-subject-clause-refused t c =
-    let p = err_from_is_err_and c.from_residual-in_err-subject.result c.from_residual-in_err-subject.ensures.1 in
-    rw (p.1, p.2) (refused_inside (case_begins c.args.depth c.args.symbols.now c.in_ok-word.ensures.found c.requires.depth) _ c.in_err-subject.ensures.refused)
+    passed_on _ c.from_residual-in_err-subject.result c.from_residual-in_err-subject.ensures.1 (refused_inside (case_begins c.args.depth c.args.symbols.now c.in_ok-word.ensures.found c.in_ok-word.ensures.within) _ c.in_err-subject.ensures.refused)
 
 pub cases::case_of-returns-in_err-first_at-clause-refused : goal.cases::case_of-returns-in_err-first_at-clause-refused
 cases::case_of-returns-in_err-first_at-clause-refused t c =
-    let p = err_from_is_err_and c.from_residual-in_err-first_at.result c.from_residual-in_err-first_at.ensures.1 in
-    let subject = over_part (case_begins c.args.depth c.args.symbols.now c.in_ok-word.ensures.found c.requires.depth) c.in_ok-subject.ensures.found in
-    rw (p.1, p.2) (refused_inside subject _ (c.in_err-first_at.ensures.refused c.args.depth))
+    let subject = over_part (case_begins c.args.depth c.args.symbols.now c.in_ok-word.ensures.found c.in_ok-word.ensures.within) c.in_ok-subject.ensures.found in
+    passed_on _ c.from_residual-in_err-first_at.result c.from_residual-in_err-first_at.ensures.1 (refused_inside subject _ c.in_err-first_at.ensures.refused)
 
 pub cases::case_of-branch-alloc-requires : goal.cases::case_of-branch-alloc-requires
 cases::case_of-branch-alloc-requires t c =
@@ -485,117 +477,108 @@ cases::case_of-branch-alloc-requires t c =
     let shorter = found_shorter c.in_ok-subject.ensures.found in
     let word = token_shorter c.in_ok-word.ensures.found.takes in
     let brace = token_shorter c.in_ok-first_at.ensures.found.takes in
-    (search rules, (omega arith, c.requires.depth))
+    (search rules, (omega arith, c.in_ok-word.ensures.within))
 
 pub cases::case_of-returns-in_err-first-clause-refused : goal.cases::case_of-returns-in_err-first-clause-refused
 cases::case_of-returns-in_err-first-clause-refused t c =
-    let p = err_from_is_err_and c.from_residual-in_err-first.result c.from_residual-in_err-first.ensures.1 in
-    rw (p.1, p.2) (refused_inside (case_asked c.in_ok-word.ensures.found c.in_ok-subject.ensures.found c.in_ok-first_at.ensures.found c.requires.depth) _ c.in_err-first.ensures.refused)
+    passed_on _ c.from_residual-in_err-first.result c.from_residual-in_err-first.ensures.1 (refused_inside (case_asked c.in_ok-word.ensures.found c.in_ok-subject.ensures.found c.in_ok-first_at.ensures.found c.in_ok-word.ensures.within) _ c.in_err-first.ensures.refused)
 
 pub cases::case_of-loop-symbols-init : goal.cases::case_of-loop-symbols-init
 cases::case_of-loop-symbols-init t c = record {
-  read = first_branch c.in_ok-first.first c.in_ok-branches.ensures.items c.in_ok-word.ensures.found c.in_ok-subject.ensures.found c.in_ok-first_at.ensures.found c.in_ok-first.ensures.found c.requires.depth;
+  read = first_branch c.in_ok-first.first c.in_ok-branches.ensures.items c.in_ok-word.ensures.found c.in_ok-subject.ensures.found c.in_ok-first_at.ensures.found c.in_ok-first.ensures.found c.in_ok-word.ensures.within;
 }
 
 pub cases::case_of-loop-symbols-preserved : goal.cases::case_of-loop-symbols-preserved
-cases::case_of-loop-symbols-preserved t c = record { read = next_branch c.in_ok-next.next c.in_ok-push.ensures.items c.loop-symbols.invariant.read (sym c.pattern_begins.ensures ∙ c.loop-symbols-test.true) c.in_ok-next.ensures.found }
+cases::case_of-loop-symbols-preserved t c = record { read = next_branch c.in_ok-next.next c.in_ok-push.ensures.items c.loop-symbols.invariant.read c.in_ok-next.ensures.found }
 
 pub cases::case_of-branch-alloc-requires-in-loop-symbols : goal.cases::case_of-branch-alloc-requires-in-loop-symbols
 cases::case_of-branch-alloc-requires-in-loop-symbols t c =
     let few = c.loop-symbols.invariant.read.read.few in
     let shorter = c.loop-symbols.invariant.read.shorter in
-    (search rules, (omega arith, c.requires.depth))
+    (search rules, (omega arith, c.in_ok-word.ensures.within))
 
 pub cases::case_of-returns-in_err-next-clause-refused : goal.cases::case_of-returns-in_err-next-clause-refused
 cases::case_of-returns-in_err-next-clause-refused t c =
-    let p = err_from_is_err_and c.from_residual-in_err-next.result c.from_residual-in_err-next.ensures.1 in
-    rw (p.1, p.2) (refused_branch _ c.loop-symbols.invariant.read (sym c.pattern_begins.ensures ∙ c.loop-symbols-test.true) c.in_err-next.ensures.refused)
+    passed_on _ c.from_residual-in_err-next.result c.from_residual-in_err-next.ensures.1 (refused_branch _ c.loop-symbols.invariant.read (sym c.is.ensures ∙ c.loop-symbols-test.true) c.in_err-next.ensures.refused)
 
 pub cases::case_of-loop-symbols-smaller : goal.cases::case_of-loop-symbols-smaller
 cases::case_of-loop-symbols-smaller t c =
-    let shorter = branch_shorter (sym c.pattern_begins.ensures ∙ c.loop-symbols-test.true) c.in_ok-next.ensures.found in
+    let shorter = branch_shorter c.in_ok-next.ensures.found in
     omega arith
 
 pub cases::case_of-returns-in_err-end-clause-refused : goal.cases::case_of-returns-in_err-end-clause-refused
 cases::case_of-returns-in_err-end-clause-refused t c =
-    let p = err_from_is_err_and c.from_residual-in_err-end.result c.from_residual-in_err-end.ensures.1 in
-    rw (p.1, p.2) (refused_brace _ c.loop-symbols.invariant.read (sym c.pattern_begins.ensures ∙ c.loop-symbols-test.false) (c.in_err-end.ensures.refused c.args.depth))
+    passed_on _ c.from_residual-in_err-end.result c.from_residual-in_err-end.ensures.1 (refused_brace _ c.loop-symbols.invariant.read (sym c.is.ensures ∙ c.loop-symbols-test.false) c.in_err-end.ensures.refused)
 
 pub cases::case_of-returns-clause-found : goal.cases::case_of-returns-clause-found
 cases::case_of-returns-clause-found t c =
-    case_found c.in_ok-subject-2.subject c.loop-symbols.branches c.in_ok-subject-2.ensures.ok c.loop-symbols.invariant.read (sym c.pattern_begins.ensures ∙ c.loop-symbols-test.false) c.in_ok-end.ensures.found c.requires.depth
+    case_found c.in_ok-subject-2.subject c.loop-symbols.branches c.in_ok-subject-2.ensures.ok c.loop-symbols.invariant.read c.in_ok-end.ensures.found c.in_ok-word.ensures.within
 
 pub arguments::arguments-returns-in_err-behind-clause-refused : goal.arguments::arguments-returns-in_err-behind-clause-refused
 arguments::arguments-returns-in_err-behind-clause-refused t c =
-    let p = err_from_is_err_and c.from_residual.result c.from_residual.ensures.1 in
-    rw (p.1, p.2) (refused_other (Sign punctuator.OpenParen) (One Arguments) c.args.depth (spot c.args.from) _ c.in_err-behind.ensures.other
-    (parentheses_shut arguments _ c.args.depth c.in_err-behind.ensures.other) c.in_err-behind.ensures.refused)
+    passed_on _ c.from_residual.result c.from_residual.ensures.1 (refused_first_token (Sign punctuator.OpenParen) c.args.depth (One Arguments) c.args.depth (spot c.args.from) _
+    (parentheses_opened arguments _ c.args.depth) (parentheses_shut arguments _ c.args.depth) c.in_err-behind.ensures.refused)
 
-pub arguments::arguments-returns-in-Ok-clause-found : goal.arguments::arguments-returns-in-Ok-clause-found
-arguments::arguments-returns-in-Ok-clause-found t c =
-    let close = c.in-Ok.ensures.found in
+pub arguments::arguments-returns-in-Some-clause-found : goal.arguments::arguments-returns-in-Some-clause-found
+arguments::arguments-returns-in-Some-clause-found t c =
+    let close = c.in-Some.ensures.found in
     let none = nothing_between arguments c.args.depth c.args.symbols.now close in
-    let so = over_part (parenthesis_read arguments c.args.depth c.args.symbols.now c.in_ok-behind.ensures.found c.requires.depth) none in
-    all_read (over_token {kind = lexeme.Sign punctuator.CloseParen} so close refl refl c.requires.depth) (λ names more. ap (phrases names) c.new.ensures.items ∙ sym (ap args_maybe (none.is names more)))
+    let so = over_part (parenthesis_read arguments c.args.depth c.args.symbols.now c.in_ok-behind.ensures.found c.in_ok-behind.ensures.within) none in
+    all_read (over_token {kind = lexeme.Sign punctuator.CloseParen} so close refl refl c.in_ok-behind.ensures.within) (λ names more. ap (phrases names) c.new.ensures.items ∙ sym (ap args_maybe (none.is names more)))
 
 pub arguments::arguments-returns-in_err-expressions-clause-refused : goal.arguments::arguments-returns-in_err-expressions-clause-refused
 arguments::arguments-returns-in_err-expressions-clause-refused t c =
-    let p = err_from_is_err_and c.from_residual-in_err-expressions.result c.from_residual-in_err-expressions.ensures.1 in
-    rw (p.1, p.2) (refused_between list_of_expressions _ (parenthesis_read arguments c.args.depth c.args.symbols.now c.in_ok-behind.ensures.found c.requires.depth) c.in_default.ensures.other
+    passed_on _ c.from_residual-in_err-expressions.result c.from_residual-in_err-expressions.ensures.1 (refused_between list_of_expressions _ (parenthesis_read arguments c.args.depth c.args.symbols.now c.in_ok-behind.ensures.found c.in_ok-behind.ensures.within) c.in_default.ensures.other
     c.in_err-expressions.ensures.refused)
 
 pub arguments::arguments-returns-in_err-end-clause-refused : goal.arguments::arguments-returns-in_err-end-clause-refused
 arguments::arguments-returns-in_err-end-clause-refused t c =
-    let p = err_from_is_err_and c.from_residual-in_err-end.result c.from_residual-in_err-end.ensures.1 in
-    rw (p.1, p.2) (refused_inside
-    (over_part (parenthesis_read arguments c.args.depth c.args.symbols.now c.in_ok-behind.ensures.found c.requires.depth) (maybe_found list_of_expressions c.in_ok-expressions.ensures.found)) _
-    (c.in_err-end.ensures.refused c.args.depth))
+    passed_on _ c.from_residual-in_err-end.result c.from_residual-in_err-end.ensures.1 (refused_inside
+    (over_part (parenthesis_read arguments c.args.depth c.args.symbols.now c.in_ok-behind.ensures.found c.in_ok-behind.ensures.within) (maybe_found list_of_expressions c.in_ok-expressions.ensures.found)) _
+    c.in_err-end.ensures.refused)
 
 pub arguments::arguments-returns-clause-found : goal.arguments::arguments-returns-clause-found
 arguments::arguments-returns-clause-found t c =
     let found = c.in_ok-expressions.ensures.found in
     let maybe = maybe_found list_of_expressions found in
-    let so = over_part (parenthesis_read arguments c.args.depth c.args.symbols.now c.in_ok-behind.ensures.found c.requires.depth) maybe in
-    all_read (over_token {kind = lexeme.Sign punctuator.CloseParen} so c.in_ok-end.ensures.found refl refl c.requires.depth) (λ names more. found.is names more ∙ sym (ap args_maybe (maybe.is names more)))
+    let so = over_part (parenthesis_read arguments c.args.depth c.args.symbols.now c.in_ok-behind.ensures.found c.in_ok-behind.ensures.within) maybe in
+    all_read (over_token {kind = lexeme.Sign punctuator.CloseParen} so c.in_ok-end.ensures.found refl refl c.in_ok-behind.ensures.within) (λ names more. found.is names more ∙ sym (ap args_maybe (maybe.is names more)))
 
-pub arguments::arguments_maybe-returns-in_default-clause-found : goal.arguments::arguments_maybe-returns-in_default-clause-found
-arguments::arguments_maybe-returns-in_default-clause-found t c =
-    all_read (opens (Optional Arguments) c.args.depth c.args.symbols.now (spot c.args.from) _ (parentheses_left_out arguments _ c.args.depth c.in_default.ensures.other)) (λ names more. refl)
+pub arguments::arguments_maybe-returns-then-not-is-clause-found : goal.arguments::arguments_maybe-returns-then-not-is-clause-found
+arguments::arguments_maybe-returns-then-not-is-clause-found t c =
+    all_read (opens (Optional Arguments) c.args.depth c.args.symbols.now (spot c.args.from) _ (parentheses_left_out arguments _ c.args.depth (sym c.is.ensures ∙ c.if-not-is.true))) (λ names more. refl)
 
 pub arguments::arguments_maybe-returns-in_err-expressions-clause-refused : goal.arguments::arguments_maybe-returns-in_err-expressions-clause-refused
 arguments::arguments_maybe-returns-in_err-expressions-clause-refused t c =
-    let p = err_from_is_err_and c.from_residual.result c.from_residual.ensures.1 in
-    rw (p.1, p.2) (refused_inside
-    (opens (Optional Arguments) c.args.depth c.args.symbols.now (spot c.args.from) _ (parentheses_follow arguments _ c.args.depth (fits_next refl c.in-Ok.ensures.found))) _
+    passed_on _ c.from_residual.result c.from_residual.ensures.1 (refused_inside
+    (opens (Optional Arguments) c.args.depth c.args.symbols.now (spot c.args.from) _ (parentheses_follow arguments _ c.args.depth (sym c.is.ensures ∙ c.if-not-is.false))) _
     c.in_err-expressions.ensures.refused)
 
 pub arguments::arguments_maybe-returns-clause-found : goal.arguments::arguments_maybe-returns-clause-found
 arguments::arguments_maybe-returns-clause-found t c =
     let found = c.in_ok-expressions.ensures.found in
-    all_read (over_part (opens (Optional Arguments) c.args.depth c.args.symbols.now (spot c.args.from) _ (parentheses_follow arguments _ c.args.depth (fits_next refl c.in-Ok.ensures.found))) found)
+    all_read (over_part (opens (Optional Arguments) c.args.depth c.args.symbols.now (spot c.args.from) _ (parentheses_follow arguments _ c.args.depth (sym c.is.ensures ∙ c.if-not-is.false))) found)
     (λ names more. ap Some (found.is names more))
 
 pub arguments::expressions-returns-in_err-first-clause-refused : goal.arguments::expressions-returns-in_err-first-clause-refused
 arguments::expressions-returns-in_err-first-clause-refused t c =
-    let p = err_from_is_err_and c.from_residual.result c.from_residual.ensures.1 in
-    rw (p.1, p.2) (refused_first list_of_expressions c.args.depth (spot c.args.from) _ c.in_err-first.ensures.refused)
+    passed_on _ c.from_residual.result c.from_residual.ensures.1 (refused_first list_of_expressions c.args.depth (spot c.args.from) _ c.in_err-first.ensures.refused)
 
-pub arguments::expressions-expression-requires-in-Ok : goal.arguments::expressions-expression-requires-in-Ok
-arguments::expressions-expression-requires-in-Ok t c =
+pub arguments::expressions-expression-requires-in-Some : goal.arguments::expressions-expression-requires-in-Some
+arguments::expressions-expression-requires-in-Some t c =
     let so = c.loop-behind.invariant.read.read in
     let few = so.few in
     let shorter = so.shorter in
-    let comma = token_shorter c.in-Ok.ensures.found.takes in
-    (search rules, (omega arith, c.requires.depth))
+    let comma = token_shorter c.in-Some.ensures.found.takes in
+    (search rules, (omega arith, omega arith))
 
 pub arguments::expressions-returns-in_err-next-clause-refused : goal.arguments::expressions-returns-in_err-next-clause-refused
 arguments::expressions-returns-in_err-next-clause-refused t c =
-    let p = err_from_is_err_and c.from_residual-in_err-next.result c.from_residual-in_err-next.ensures.1 in
-    rw (p.1, p.2) (refused_next c.loop-behind.invariant.read c.in-Ok.ensures.found c.requires.depth _ c.in_err-next.ensures.refused)
+    passed_on _ c.from_residual-in_err-next.result c.from_residual-in_err-next.ensures.1 (refused_next c.loop-behind.invariant.read c.in-Some.ensures.found c.requires.depth _ c.in_err-next.ensures.refused)
 
 pub arguments::expressions-loop-behind-smaller : goal.arguments::expressions-loop-behind-smaller
 arguments::expressions-loop-behind-smaller t c =
-    let comma = token_shorter c.in-Ok.ensures.found.takes in
+    let comma = token_shorter c.in-Some.ensures.found.takes in
     let next = found_shorter c.in_ok-next.ensures.found in
     omega arith
 
@@ -604,8 +587,8 @@ arguments::expressions-returns-clause-found t c = all_so_far c.loop-behind.invar
 
 pub arguments::expressions-loop-behind-init : goal.arguments::expressions-loop-behind-init
 arguments::expressions-loop-behind-init t c = record {
-  read = first_so_far list_of_expressions trees_of_expressions (c.in_ok-push.ensures.items ∙ ap (λ (l : List code_expr.Expr). l ++ c.in_ok-first.first ∷ []) c.new-expressions.ensures.items) c.in_ok-first.ensures.found;
+  read = first_so_far list_of_expressions trees_of_expressions c.in_ok-expressions.ensures.items c.in_ok-first.ensures.found;
 }
 
 pub arguments::expressions-loop-behind-preserved : goal.arguments::expressions-loop-behind-preserved
-arguments::expressions-loop-behind-preserved t c = record { read = next_so_far c.loop-behind.invariant.read c.in_ok-push-2.ensures.items c.in-Ok.ensures.found c.requires.depth c.in_ok-next.ensures.found }
+arguments::expressions-loop-behind-preserved t c = record { read = next_so_far c.loop-behind.invariant.read c.in_ok-push.ensures.items c.in-Some.ensures.found c.requires.depth c.in_ok-next.ensures.found }

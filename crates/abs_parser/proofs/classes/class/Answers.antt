@@ -1,46 +1,48 @@
-use Rattle.std.proofs.Common.{◌∙◌, arith, refl}
-use Rattle.std.proofs.lemmas.Result.{err_from_is_err_and}
-use Rattle.abs_parser.proofs.ClassSteps.{class_opened, class_begun, first_member, next_member, next_member_free}
-use Rattle.abs_parser.proofs.WordSteps.{word_read}
+use Rattle.std.proofs.Common.{◌∙◌, arith, refl, sym}
+use Rattle.abs_parser.specs.Productions.{Decl}
+use Rattle.abs_parser.specs.Readings.{One}
+use Rattle.abs_parser.specs.Views.{spot}
+use Rattle.abs_parser.proofs.ClassSteps.{members_of, class_opened, class_begun, first_member, next_member, next_member_free}
+use Rattle.abs_parser.proofs.WordSteps.{word_read, word_refused}
 use Rattle.abs_parser.proofs.DeclarationSteps.{heading_read, refused_part, refused_closing, all_parts}
-use Rattle.abs_parser.proofs.MemberSteps.{member_begins_named, member_shorter}
-use Rattle.abs_parser.proofs.StepLemmas.{found_weaker, over_part, refused_inside, fits_next}
+use Rattle.abs_parser.proofs.MemberSteps.{member_shorter}
+use Rattle.abs_parser.proofs.StepLemmas.{found_weaker, over_part, refused_inside, passed_on}
 use Rattle.abs_parser.proofs.classes.class.Goals as goal
+
+pub returns-in_err-word-clause-refused : goal.returns-in_err-word-clause-refused
+returns-in_err-word-clause-refused c =
+    passed_on _ c.from_residual.result c.from_residual.ensures.1 (word_refused (One Decl) 0 (spot c.args.from) _ (class_opened 0) c.requires.begins c.in_err-word.ensures.refused)
 
 pub returns-in_err-name-clause-refused : goal.returns-in_err-name-clause-refused
 returns-in_err-name-clause-refused c =
-    let p = err_from_is_err_and c.from_residual-in_err-name.result c.from_residual-in_err-name.ensures.1 in
-    let word = word_read c.args.depth c.args.symbols.now (class_opened c.args.depth) c.in_ok-word.ensures.found c.requires.depth in
-    rw (p.1, p.2) (refused_inside word _ (c.in_err-name.ensures.refused c.args.depth))
+    let word = word_read 0 c.args.symbols.now (class_opened 0) c.in_ok-word.ensures.found (omega arith) in
+    passed_on _ c.from_residual-in_err-name.result c.from_residual-in_err-name.ensures.1 (refused_inside word _ c.in_err-name.ensures.refused)
 
 pub returns-in_err-params-clause-refused : goal.returns-in_err-params-clause-refused
 returns-in_err-params-clause-refused c =
-    let p = err_from_is_err_and c.from_residual-in_err-params.result c.from_residual-in_err-params.ensures.1 in
-    let named = heading_read (class_opened c.args.depth) c.in_ok-word.ensures.found c.in_ok-name.ensures.found c.in_ok-intern.ensures.names c.requires.depth in
-    rw (p.1, p.2) (refused_inside named _ c.in_err-params.ensures.refused)
+    let named = heading_read (class_opened 0) c.in_ok-word.ensures.found c.in_ok-name.ensures.found c.in_ok-intern.ensures.names (omega arith) in
+    passed_on _ c.from_residual-in_err-params.result c.from_residual-in_err-params.ensures.1 (refused_inside named _ c.in_err-params.ensures.refused)
 
 pub names_behind-requires : goal.names_behind-requires
 names_behind-requires c =
-    let few = (class_begun c.in_ok-word.ensures.found c.in_ok-name.ensures.found c.in_ok-intern.ensures.names c.in_ok-params.ensures.found c.requires.depth).few in
+    let few = (class_begun c.in_ok-word.ensures.found c.in_ok-name.ensures.found c.in_ok-intern.ensures.names c.in_ok-params.ensures.found (omega arith)).few in
     record { names = omega arith }
 
 pub returns-in_err-implemented-clause-refused : goal.returns-in_err-implemented-clause-refused
 returns-in_err-implemented-clause-refused c =
-    let p = err_from_is_err_and c.from_residual-in_err-implemented.result c.from_residual-in_err-implemented.ensures.1 in
-    let begun = class_begun c.in_ok-word.ensures.found c.in_ok-name.ensures.found c.in_ok-intern.ensures.names c.in_ok-params.ensures.found c.requires.depth in
-    rw (p.1, p.2) (refused_inside begun _ (c.in_err-implemented.ensures.refused c.args.depth c.requires.depth))
+    let begun = class_begun c.in_ok-word.ensures.found c.in_ok-name.ensures.found c.in_ok-intern.ensures.names c.in_ok-params.ensures.found (omega arith) in
+    passed_on _ c.from_residual-in_err-implemented.result c.from_residual-in_err-implemented.ensures.1 (refused_inside begun _ c.in_err-implemented.ensures.refused)
 
 pub returns-in_err-here-clause-refused : goal.returns-in_err-here-clause-refused
 returns-in_err-here-clause-refused c =
-    let p = err_from_is_err_and c.from_residual-in_err-here.result c.from_residual-in_err-here.ensures.1 in
-    let begun = class_begun c.in_ok-word.ensures.found c.in_ok-name.ensures.found c.in_ok-intern.ensures.names c.in_ok-params.ensures.found c.requires.depth in
-    rw (p.1, p.2) (refused_inside (over_part begun (c.in_ok-implemented.ensures.found c.args.depth c.requires.depth)) _ (c.in_err-here.ensures.refused c.args.depth))
+    let begun = class_begun c.in_ok-word.ensures.found c.in_ok-name.ensures.found c.in_ok-intern.ensures.names c.in_ok-params.ensures.found (omega arith) in
+    passed_on _ c.from_residual-in_err-here.result c.from_residual-in_err-here.ensures.1 (refused_inside (over_part begun c.in_ok-implemented.ensures.found) _ c.in_err-here.ensures.refused)
 
 pub loop-alloc-init : goal.loop-alloc-init
 loop-alloc-init c =
     let read = first_member c.args.index c.in_ok-intern.field-0 c.in_ok-params.params.items c.in_ok-implemented.implemented.items c.new-members.ensures.items c.in_ok-word.ensures.found
     c.in_ok-name.ensures.found c.in_ok-intern.ensures.symbol c.in_ok-intern.ensures.names c.in_ok-params.ensures.found
-    (c.in_ok-implemented.ensures.found c.args.depth c.requires.depth) c.in_ok-here.ensures.found c.requires.depth in
+    c.in_ok-implemented.ensures.found c.in_ok-here.ensures.found (omega arith) in
     let shorter = read.read.shorter in
     record {
       read = read;
@@ -55,12 +57,11 @@ member-requires-clause-names c =
 
 pub returns-in_err-next-clause-refused : goal.returns-in_err-next-clause-refused
 returns-in_err-next-clause-refused c =
-    let p = err_from_is_err_and c.from_residual-in_err-next.result c.from_residual-in_err-next.ensures.1 in
-    rw (p.1, p.2) (refused_part _ c.loop-alloc.invariant.read (member_begins_named _ ∙ fits_next refl c.in-Ok.ensures.found) c.in_err-next.ensures.refused)
+    passed_on _ c.from_residual-in_err-next.result c.from_residual-in_err-next.ensures.1 (refused_part _ c.loop-alloc.invariant.read (sym c.is.ensures ∙ c.loop-alloc-test.true) c.in_err-next.ensures.refused)
 
 pub loop-alloc-smaller : goal.loop-alloc-smaller
 loop-alloc-smaller c =
-    let shorter = member_shorter c.in-Ok.ensures.found c.in_ok-next.ensures.found in
+    let shorter = member_shorter c.in_ok-next.ensures.found in
     omega arith
 
 pub loop-alloc-preserved : goal.loop-alloc-preserved
@@ -68,19 +69,18 @@ loop-alloc-preserved c =
     let few = c.in_ok-next.ensures.few in
     let before = c.loop-alloc.invariant.few in
     record {
-      read = next_member c.in_ok-next.next c.in_ok-push.ensures.items c.loop-alloc.invariant.read c.in-Ok.ensures.found c.loop-alloc.invariant.free c.in_ok-next.ensures.found;
+      read = next_member c.in_ok-next.next c.in_ok-push.ensures.items c.loop-alloc.invariant.read c.loop-alloc.invariant.free c.in_ok-next.ensures.found;
       free = next_member_free c.args.index c.loop-alloc.members.items c.in_ok-next.next c.in_ok-push.ensures.items c.loop-alloc.invariant.free c.in_ok-next.ensures.free;
       few = omega arith;
     }
 
 pub returns-in_err-end-clause-refused : goal.returns-in_err-end-clause-refused
 returns-in_err-end-clause-refused c =
-    let p = err_from_is_err_and c.from_residual-in_err-end.result c.from_residual-in_err-end.ensures.1 in
-    rw (p.1, p.2) (refused_closing _ c.loop-alloc.invariant.read (member_begins_named _ ∙ c.in_default.ensures.other) (c.in_err-end.ensures.refused c.args.depth))
+    passed_on _ c.from_residual-in_err-end.result c.from_residual-in_err-end.ensures.1 (refused_closing _ c.loop-alloc.invariant.read (members_of.closing_ends _ (sym c.is.ensures ∙ c.loop-alloc-test.false)) c.in_err-end.ensures.refused)
 
 pub returns-clause-found : goal.returns-clause-found
 returns-clause-found c =
-    found_weaker (all_parts c.loop-alloc.invariant.read (member_begins_named _ ∙ c.in_default.ensures.other) c.in_ok-end.ensures.found c.requires.depth) (λ names more read. read c.args.index refl)
+    found_weaker (all_parts c.loop-alloc.invariant.read c.in_ok-end.ensures.found (omega arith)) (λ names more read. read c.args.index refl)
 
 pub returns-clause-free : goal.returns-clause-free
 returns-clause-free c names = omega (arith, c.loop-alloc.invariant.free names)

@@ -1,19 +1,17 @@
 use Rattle.std.proofs.Common.{arith}
-use Rattle.std.proofs.lemmas.Result.{err_from_is_err_and, IfOk-weaker, IfErr-weaker}
+use Rattle.std.proofs.lemmas.Result.{IfOk-weaker, IfErr-weaker}
 use Rattle.abs_parser.specs.Views.{spot}
 use Rattle.abs_parser.proofs.MemberSteps.{refused_type, member_typed, member_named, member_found}
-use Rattle.abs_parser.proofs.StepLemmas.{refused_inside, found_few}
+use Rattle.abs_parser.proofs.StepLemmas.{refused_inside, found_few, passed_on}
 use Rattle.abs_parser.proofs.classes.member.Goals as goal
 
 pub returns-in_err-type_of-clause-refused : goal.returns-in_err-type_of-clause-refused
 returns-in_err-type_of-clause-refused c =
-    let p = err_from_is_err_and c.from_residual.result c.from_residual.ensures.1 in
-    rw (p.1, p.2) (refused_type c.args.depth (spot c.args.from) _ c.in_err-type_of.ensures.refused)
+    passed_on _ c.from_residual.result c.from_residual.ensures.1 (refused_type 0 (spot c.args.from) _ c.in_err-type_of.ensures.refused)
 
 pub returns-in_err-name-clause-refused : goal.returns-in_err-name-clause-refused
 returns-in_err-name-clause-refused c =
-    let p = err_from_is_err_and c.from_residual-in_err-name.result c.from_residual-in_err-name.ensures.1 in
-    rw (p.1, p.2) (refused_inside (member_typed c.in_ok-type_of.ensures.found) _ (c.in_err-name.ensures.refused c.args.depth))
+    passed_on _ c.from_residual-in_err-name.result c.from_residual-in_err-name.ensures.1 (refused_inside (member_typed c.in_ok-type_of.ensures.found) _ c.in_err-name.ensures.refused)
 
 pub intern-requires : goal.intern-requires
 intern-requires c =
@@ -22,27 +20,27 @@ intern-requires c =
 
 pub member_behind-requires-clause-names : goal.member_behind-requires-clause-names
 member_behind-requires-clause-names c =
-    let few = (member_named c.in_ok-type_of.ensures.found c.in_ok-name.ensures.found c.in_ok-intern.ensures.names c.requires.depth).few in
+    let few = (member_named c.in_ok-type_of.ensures.found c.in_ok-name.ensures.found c.in_ok-intern.ensures.names (omega arith)).few in
     omega arith
 
 pub member_behind-requires-clause-few : goal.member_behind-requires-clause-few
 member_behind-requires-clause-few c =
-    let shorter = (member_named c.in_ok-type_of.ensures.found c.in_ok-name.ensures.found c.in_ok-intern.ensures.names c.requires.depth).shorter in
+    let shorter = (member_named c.in_ok-type_of.ensures.found c.in_ok-name.ensures.found c.in_ok-intern.ensures.names (omega arith)).shorter in
     omega arith
 
 pub returns-clause-found : goal.returns-clause-found
 returns-clause-found c =
     let name = c.in_ok-intern.ensures in
     IfOk-weaker c.member_behind.result _ _
-    (λ found. member_found c.args.index c.in_ok-type_of.type_of c.in_ok-intern.field-0 found.0 c.in_ok-type_of.ensures.found c.in_ok-name.ensures.found name.symbol name.names c.requires.depth)
+    (λ found. member_found c.args.index c.in_ok-type_of.type_of c.in_ok-intern.field-0 found.0 c.in_ok-type_of.ensures.found c.in_ok-name.ensures.found name.symbol name.names (omega arith))
     c.member_behind.ensures.found
 
 pub returns-clause-few : goal.returns-clause-few
 returns-clause-few c =
-    let shorter = (member_named c.in_ok-type_of.ensures.found c.in_ok-name.ensures.found c.in_ok-intern.ensures.names c.requires.depth).shorter in
+    let shorter = (member_named c.in_ok-type_of.ensures.found c.in_ok-name.ensures.found c.in_ok-intern.ensures.names (omega arith)).shorter in
     IfOk-weaker c.member_behind.result _ _ (λ found few. omega arith) c.member_behind.ensures.few
 
 pub returns-clause-refused : goal.returns-clause-refused
 returns-clause-refused c =
-    let named = member_named c.in_ok-type_of.ensures.found c.in_ok-name.ensures.found c.in_ok-intern.ensures.names c.requires.depth in
+    let named = member_named c.in_ok-type_of.ensures.found c.in_ok-name.ensures.found c.in_ok-intern.ensures.names (omega arith) in
     IfErr-weaker c.member_behind.result _ _ (λ error. refused_inside named error) c.member_behind.ensures.refused

@@ -1,22 +1,19 @@
 use Rattle.std.proofs.Common.{arith, refl}
-use Rattle.std.proofs.lemmas.Result.{err_from_is_err_and}
 use Rattle.abs_tree.specs.declared.syntax.declaration.Signature.{Signature}
 use Rattle.abs_lexer.specs.declared.lexeme.Lexeme.TheVariants as lexeme
 use Rattle.abs_lexer.specs.declared.lexeme.Punctuator.TheVariants as punctuator
 use Rattle.abs_parser.specs.Views.{spot}
 use Rattle.abs_parser.proofs.SignatureSteps.{refused_result, result_read, signature_named, parameters_read, signature_found}
-use Rattle.abs_parser.proofs.StepLemmas.{over_token, over_part, refused_inside, found_few, token_shorter}
+use Rattle.abs_parser.proofs.StepLemmas.{over_token, over_part, refused_inside, found_few, token_shorter, passed_on}
 use Rattle.abs_parser.proofs.declarations.signature.Goals as goal
 
 pub returns-in_err-result-clause-refused : goal.returns-in_err-result-clause-refused
 returns-in_err-result-clause-refused c =
-    let p = err_from_is_err_and c.from_residual.result c.from_residual.ensures.1 in
-    rw (p.1, p.2) (refused_result c.args.depth (spot c.args.from) _ c.in_err-result.ensures.refused)
+    passed_on _ c.from_residual.result c.from_residual.ensures.1 (refused_result 0 (spot c.args.from) _ c.in_err-result.ensures.refused)
 
 pub returns-in_err-name-clause-refused : goal.returns-in_err-name-clause-refused
 returns-in_err-name-clause-refused c =
-    let p = err_from_is_err_and c.from_residual-in_err-name.result c.from_residual-in_err-name.ensures.1 in
-    rw (p.1, p.2) (refused_inside (result_read c.in_ok-result.ensures.found) _ (c.in_err-name.ensures.refused c.args.depth))
+    passed_on _ c.from_residual-in_err-name.result c.from_residual-in_err-name.ensures.1 (refused_inside (result_read c.in_ok-result.ensures.found) _ c.in_err-name.ensures.refused)
 
 pub intern-requires : goal.intern-requires
 intern-requires c =
@@ -25,40 +22,36 @@ intern-requires c =
 
 pub returns-in_err-inside-clause-refused : goal.returns-in_err-inside-clause-refused
 returns-in_err-inside-clause-refused c =
-    let p = err_from_is_err_and c.from_residual-in_err-inside.result c.from_residual-in_err-inside.ensures.1 in
-    let named = signature_named c.in_ok-result.ensures.found c.in_ok-name.ensures.found c.in_ok-name-2.ensures.names c.requires.depth in
-    rw (p.1, p.2) (refused_inside named _ (c.in_err-inside.ensures.refused c.args.depth))
+    let named = signature_named c.in_ok-result.ensures.found c.in_ok-name.ensures.found c.in_ok-name-2.ensures.names (omega arith) in
+    passed_on _ c.from_residual-in_err-inside.result c.from_residual-in_err-inside.ensures.1 (refused_inside named _ c.in_err-inside.ensures.refused)
 
-pub params_maybe-requires-clause-names : goal.params_maybe-requires-clause-names
-params_maybe-requires-clause-names c =
-    let named = signature_named c.in_ok-result.ensures.found c.in_ok-name.ensures.found c.in_ok-name-2.ensures.names c.requires.depth in
+pub params_maybe-requires : goal.params_maybe-requires
+params_maybe-requires c =
+    let named = signature_named c.in_ok-result.ensures.found c.in_ok-name.ensures.found c.in_ok-name-2.ensures.names (omega arith) in
     let few = named.few in
     let paren = token_shorter c.in_ok-inside.ensures.found.takes in
     omega arith
 
 pub returns-in_err-params-clause-refused : goal.returns-in_err-params-clause-refused
 returns-in_err-params-clause-refused c =
-    let p = err_from_is_err_and c.from_residual-in_err-params.result c.from_residual-in_err-params.ensures.1 in
-    let named = signature_named c.in_ok-result.ensures.found c.in_ok-name.ensures.found c.in_ok-name-2.ensures.names c.requires.depth in
-    let inside = over_token {kind = lexeme.Sign punctuator.OpenParen} named c.in_ok-inside.ensures.found refl refl c.requires.depth in
-    rw (p.1, p.2) (refused_inside inside _ c.in_err-params.ensures.refused)
+    let named = signature_named c.in_ok-result.ensures.found c.in_ok-name.ensures.found c.in_ok-name-2.ensures.names (omega arith) in
+    let inside = over_token {kind = lexeme.Sign punctuator.OpenParen} named c.in_ok-inside.ensures.found refl refl (omega arith) in
+    passed_on _ c.from_residual-in_err-params.result c.from_residual-in_err-params.ensures.1 (refused_inside inside _ c.in_err-params.ensures.refused)
 
 pub returns-in_err-last-clause-refused : goal.returns-in_err-last-clause-refused
 returns-in_err-last-clause-refused c =
-    let p = err_from_is_err_and c.from_residual-in_err-last.result c.from_residual-in_err-last.ensures.1 in
-    let named = signature_named c.in_ok-result.ensures.found c.in_ok-name.ensures.found c.in_ok-name-2.ensures.names c.requires.depth in
-    let inside = over_token {kind = lexeme.Sign punctuator.OpenParen} named c.in_ok-inside.ensures.found refl refl c.requires.depth in
-    rw (p.1, p.2) (refused_inside (over_part inside c.in_ok-params.ensures.found) _ (c.in_err-last.ensures.refused c.args.depth))
+    let named = signature_named c.in_ok-result.ensures.found c.in_ok-name.ensures.found c.in_ok-name-2.ensures.names (omega arith) in
+    let inside = over_token {kind = lexeme.Sign punctuator.OpenParen} named c.in_ok-inside.ensures.found refl refl (omega arith) in
+    passed_on _ c.from_residual-in_err-last.result c.from_residual-in_err-last.ensures.1 (refused_inside (over_part inside c.in_ok-params.ensures.found) _ c.in_err-last.ensures.refused)
 
 pub returns-in_err-end-clause-refused : goal.returns-in_err-end-clause-refused
 returns-in_err-end-clause-refused c =
-    let p = err_from_is_err_and c.from_residual-in_err-end.result c.from_residual-in_err-end.ensures.1 in
-    let named = signature_named c.in_ok-result.ensures.found c.in_ok-name.ensures.found c.in_ok-name-2.ensures.names c.requires.depth in
-    let closed = parameters_read named c.in_ok-inside.ensures.found c.in_ok-params.ensures.found c.in_ok-last.ensures.found c.requires.depth in
-    rw (p.1, p.2) (refused_inside closed _ (c.in_err-end.ensures.refused c.args.depth))
+    let named = signature_named c.in_ok-result.ensures.found c.in_ok-name.ensures.found c.in_ok-name-2.ensures.names (omega arith) in
+    let closed = parameters_read named c.in_ok-inside.ensures.found c.in_ok-params.ensures.found c.in_ok-last.ensures.found (omega arith) in
+    passed_on _ c.from_residual-in_err-end.result c.from_residual-in_err-end.ensures.1 (refused_inside closed _ c.in_err-end.ensures.refused)
 
 pub returns-clause-found : goal.returns-clause-found
 returns-clause-found c =
     let signature : Signature = record { result = c.in_ok-result.result; name = record { place = c.in_ok-name.name.place; name = c.in_ok-name-2.name }; params = c.in_ok-params.params } in
     signature_found signature refl c.in_ok-result.ensures.found c.in_ok-name.ensures.found c.in_ok-name-2.ensures.symbol c.in_ok-name-2.ensures.names c.in_ok-inside.ensures.found
-    c.in_ok-params.ensures.found c.in_ok-last.ensures.found c.in_ok-end.ensures.found c.requires.depth
+    c.in_ok-params.ensures.found c.in_ok-last.ensures.found c.in_ok-end.ensures.found (omega arith)

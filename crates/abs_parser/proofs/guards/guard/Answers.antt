@@ -1,44 +1,41 @@
 use Rattle.std.proofs.Common.{List, [], ◌∷◌, ◌++◌, ◌∙◌, ap, arith}
-use Rattle.std.proofs.lemmas.Result.{err_from_is_err_and}
 use Rattle.abs_tree.specs.declared.syntax.statement.Test.{Test}
 use Rattle.abs_parser.specs.Views.{spot}
 use Rattle.abs_parser.proofs.GuardSteps.{one_test}
 use Rattle.abs_parser.proofs.ListLemmas.{list_of_tests, trees_of_tests}
 use Rattle.abs_parser.proofs.ListSteps.{first_so_far, next_so_far, all_so_far, refused_first, refused_next}
-use Rattle.abs_parser.proofs.StepLemmas.{token_shorter, found_shorter}
+use Rattle.abs_parser.proofs.StepLemmas.{token_shorter, found_shorter, passed_on}
 use Rattle.abs_parser.proofs.guards.guard.Goals as goal
 
 pub returns-in_err-first-clause-refused : goal.returns-in_err-first-clause-refused
 returns-in_err-first-clause-refused c =
-    let p = err_from_is_err_and c.from_residual.result c.from_residual.ensures.1 in
-    rw (p.1, p.2) (refused_first list_of_tests c.args.depth (spot c.args.from) _ c.in_err-first.ensures.refused)
+    passed_on _ c.from_residual.result c.from_residual.ensures.1 (refused_first list_of_tests c.args.depth (spot c.args.from) _ c.in_err-first.ensures.refused)
 
 pub loop-behind-init : goal.loop-behind-init
 loop-behind-init c = record {
-  read = first_so_far list_of_tests trees_of_tests (c.in_ok-push.ensures.items ∙ ap (λ (l : List Test). l ++ c.in_ok-first.first ∷ []) c.new-tests.ensures.items)
+  read = first_so_far list_of_tests trees_of_tests c.in_ok-tests.ensures.items
       (one_test c.in_ok-first.first c.in_ok-first.ensures.found);
 }
 
-pub test-requires-in-Ok-clause-names : goal.test-requires-in-Ok-clause-names
-test-requires-in-Ok-clause-names c =
+pub test-requires-in-Some-clause-names : goal.test-requires-in-Some-clause-names
+test-requires-in-Some-clause-names c =
     let few = c.loop-behind.invariant.read.read.few in
-    let sign = token_shorter c.in-Ok.ensures.found.takes in
+    let sign = token_shorter c.in-Some.ensures.found.takes in
     omega arith
 
 pub returns-in_err-next-clause-refused : goal.returns-in_err-next-clause-refused
 returns-in_err-next-clause-refused c =
-    let p = err_from_is_err_and c.from_residual-in_err-next.result c.from_residual-in_err-next.ensures.1 in
-    rw (p.1, p.2) (refused_next c.loop-behind.invariant.read c.in-Ok.ensures.found c.requires.depth _ c.in_err-next.ensures.refused)
+    passed_on _ c.from_residual-in_err-next.result c.from_residual-in_err-next.ensures.1 (refused_next c.loop-behind.invariant.read c.in-Some.ensures.found c.requires.depth _ c.in_err-next.ensures.refused)
 
 pub loop-behind-smaller : goal.loop-behind-smaller
 loop-behind-smaller c =
-    let sign = token_shorter c.in-Ok.ensures.found.takes in
+    let sign = token_shorter c.in-Some.ensures.found.takes in
     let test = found_shorter c.in_ok-next.ensures.found in
     omega arith
 
 pub loop-behind-preserved : goal.loop-behind-preserved
 loop-behind-preserved c = record {
-  read = next_so_far c.loop-behind.invariant.read c.in_ok-push-2.ensures.items c.in-Ok.ensures.found c.requires.depth (one_test c.in_ok-next.next c.in_ok-next.ensures.found);
+  read = next_so_far c.loop-behind.invariant.read c.in_ok-push.ensures.items c.in-Some.ensures.found c.requires.depth (one_test c.in_ok-next.next c.in_ok-next.ensures.found);
 }
 
 pub returns-clause-found : goal.returns-clause-found

@@ -1,8 +1,7 @@
 use Rattle.std.proofs.Common.{arith}
-use Rattle.std.proofs.lemmas.Result.{err_from_is_err_and}
 use Rattle.abs_parser.specs.Views.{spot}
 use Rattle.abs_parser.proofs.NameListSteps.{first_name_so_far, next_name_so_far, refused_next_name, all_names_found}
-use Rattle.abs_parser.proofs.StepLemmas.{token_shorter}
+use Rattle.abs_parser.proofs.StepLemmas.{token_shorter, passed_on}
 use Rattle.abs_parser.proofs.names.more_names.Goals as goal
 
 pub loop-name_at-init : goal.loop-name_at-init
@@ -10,23 +9,22 @@ loop-name_at-init c = record { read = first_name_so_far c.args.symbols.now (spot
 
 pub returns-in_err-name-clause-refused : goal.returns-in_err-name-clause-refused
 returns-in_err-name-clause-refused c =
-    let p = err_from_is_err_and c.from_residual-in_err-name.result c.from_residual-in_err-name.ensures.1 in
-    rw (p.1, p.2) (λ depth within. refused_next_name depth _ c.loop-name_at.invariant.read c.in-Ok.ensures.found within (c.in_err-name.ensures.refused depth))
+    passed_on _ c.from_residual-in_err-name.result c.from_residual-in_err-name.ensures.1 (refused_next_name 0 _ c.loop-name_at.invariant.read c.in-Some.ensures.found (omega arith) c.in_err-name.ensures.refused)
 
 pub intern-requires : goal.intern-requires
 intern-requires c = let few = c.loop-name_at.invariant.read.few in omega arith
 
 pub loop-name_at-smaller : goal.loop-name_at-smaller
 loop-name_at-smaller c =
-    let comma = token_shorter c.in-Ok.ensures.found.takes in
+    let comma = token_shorter c.in-Some.ensures.found.takes in
     let name = token_shorter c.in_ok-name.ensures.found.takes in
     omega arith
 
 pub loop-name_at-preserved : goal.loop-name_at-preserved
 loop-name_at-preserved c = record {
-  read = next_name_so_far c.in_ok-name-2.name c.loop-name_at.invariant.read c.in_ok-push.ensures.items c.in-Ok.ensures.found c.in_ok-name.ensures.found c.in_ok-name-2.ensures.symbol
+  read = next_name_so_far c.in_ok-name-2.name c.loop-name_at.invariant.read c.in_ok-push.ensures.items c.in-Some.ensures.found c.in_ok-name.ensures.found c.in_ok-name-2.ensures.symbol
       c.in_ok-name-2.ensures.names;
 }
 
 pub returns-clause-found : goal.returns-clause-found
-returns-clause-found c = λ depth within. all_names_found depth c.loop-name_at.invariant.read c.in_default.ensures.other within
+returns-clause-found c = all_names_found 0 c.loop-name_at.invariant.read c.in_default.ensures.other (omega arith)

@@ -1,38 +1,34 @@
-use Rattle.std.proofs.Common.{map, refl}
-use Rattle.std.proofs.lemmas.Result.{err_from_is_err_and}
+use Rattle.std.proofs.Common.{map, refl, arith}
 use Rattle.abs_lexer.specs.declared.lexeme.Lexeme.TheVariants as lexeme
 use Rattle.abs_lexer.specs.declared.lexeme.Punctuator.TheVariants as punctuator
 use Rattle.abs_tree.specs.SyntaxViews.{declared as declared_tree}
 use Rattle.abs_parser.specs.Views.{spot}
 use Rattle.abs_parser.proofs.NameListSteps.{type_parameter_names, no_names_found, names_begin, names_read}
-use Rattle.abs_parser.proofs.StepLemmas.{over_token, over_name, all_read, refused_inside}
+use Rattle.abs_parser.proofs.StepLemmas.{over_token, over_name, all_read, refused_inside, passed_on}
 use Rattle.abs_parser.proofs.names.type_parameters.Goals as goal
 
 pub returns-in_default-clause-found : goal.returns-in_default-clause-found
-returns-in_default-clause-found c = λ depth within. no_names_found depth c.args.symbols.now (spot c.args.from) type_parameter_names c.in_default.ensures.other c.new.ensures.items
+returns-in_default-clause-found c = no_names_found 0 c.args.symbols.now (spot c.args.from) type_parameter_names c.in_default.ensures.other c.new.ensures.items
 
 pub returns-in_err-name-clause-refused : goal.returns-in_err-name-clause-refused
 returns-in_err-name-clause-refused c =
-    let p = err_from_is_err_and c.from_residual.result c.from_residual.ensures.1 in
-    rw (p.1, p.2) (λ depth within. refused_inside (names_begin depth c.args.symbols.now type_parameter_names c.in-Ok.ensures.found within) _ (c.in_err-name.ensures.refused depth))
+    passed_on _ c.from_residual.result c.from_residual.ensures.1 (refused_inside (names_begin 0 c.args.symbols.now type_parameter_names c.in-Some.ensures.found (omega arith)) _ c.in_err-name.ensures.refused)
 
 pub returns-in_err-parameters-clause-refused : goal.returns-in_err-parameters-clause-refused
 returns-in_err-parameters-clause-refused c =
-    let p = err_from_is_err_and c.from_residual-in_err-parameters.result c.from_residual-in_err-parameters.ensures.1 in
-    rw (p.1, p.2) (λ depth within.
-    let named = over_name (names_begin depth c.args.symbols.now type_parameter_names c.in-Ok.ensures.found within) c.in_ok-name.ensures.found refl refl within c.in_ok-intern.ensures.names in
-    refused_inside named _ (c.in_err-parameters.ensures.refused depth within))
+    passed_on _ c.from_residual-in_err-parameters.result c.from_residual-in_err-parameters.ensures.1 (
+    let named = over_name (names_begin 0 c.args.symbols.now type_parameter_names c.in-Some.ensures.found (omega arith)) c.in_ok-name.ensures.found refl refl (omega arith) c.in_ok-intern.ensures.names in
+    refused_inside named _ c.in_err-parameters.ensures.refused)
 
 pub returns-in_err-end-clause-refused : goal.returns-in_err-end-clause-refused
 returns-in_err-end-clause-refused c =
-    let p = err_from_is_err_and c.from_residual-in_err-end.result c.from_residual-in_err-end.ensures.1 in
-    rw (p.1, p.2) (λ depth within.
-    let read = names_read c.in_ok-intern.field-0 (λ names. map (declared_tree names) c.in_ok-parameters.parameters.items) type_parameter_names c.in-Ok.ensures.found c.in_ok-name.ensures.found
-    c.in_ok-intern.ensures.symbol c.in_ok-intern.ensures.names within (c.in_ok-parameters.ensures.found depth within) in
-    refused_inside read.read _ (c.in_err-end.ensures.refused depth))
+    passed_on _ c.from_residual-in_err-end.result c.from_residual-in_err-end.ensures.1 (
+    let read = names_read c.in_ok-intern.field-0 (λ names. map (declared_tree names) c.in_ok-parameters.parameters.items) type_parameter_names c.in-Some.ensures.found c.in_ok-name.ensures.found
+    c.in_ok-intern.ensures.symbol c.in_ok-intern.ensures.names (omega arith) c.in_ok-parameters.ensures.found in
+    refused_inside read.read _ c.in_err-end.ensures.refused)
 
 pub returns-clause-found : goal.returns-clause-found
-returns-clause-found c = λ depth within.
-    let read = names_read c.in_ok-intern.field-0 (λ names. map (declared_tree names) c.in_ok-parameters.parameters.items) type_parameter_names c.in-Ok.ensures.found c.in_ok-name.ensures.found
-    c.in_ok-intern.ensures.symbol c.in_ok-intern.ensures.names within (c.in_ok-parameters.ensures.found depth within) in
-    all_read (over_token {kind = lexeme.Sign punctuator.Greater} read.read c.in_ok-end.ensures.found refl refl within) (λ names more. read.is names more _)
+returns-clause-found c =
+    let read = names_read c.in_ok-intern.field-0 (λ names. map (declared_tree names) c.in_ok-parameters.parameters.items) type_parameter_names c.in-Some.ensures.found c.in_ok-name.ensures.found
+    c.in_ok-intern.ensures.symbol c.in_ok-intern.ensures.names (omega arith) c.in_ok-parameters.ensures.found in
+    all_read (over_token {kind = lexeme.Sign punctuator.Greater} read.read c.in_ok-end.ensures.found refl refl (omega arith)) (λ names more. read.is names more _)

@@ -1,5 +1,4 @@
-use Rattle.std.proofs.Common.{ap, map, refl}
-use Rattle.std.proofs.lemmas.Result.{err_from_is_err_and}
+use Rattle.std.proofs.Common.{ap, map, refl, arith}
 use Rattle.abs_lexer.specs.declared.lexeme.Lexeme.TheVariants as lexeme
 use Rattle.abs_lexer.specs.declared.lexeme.Punctuator.TheVariants as punctuator
 use Rattle.abs_tree.specs.SyntaxViews.{param_tree}
@@ -8,26 +7,24 @@ use Rattle.abs_parser.specs.Readings.{Optional}
 use Rattle.abs_parser.specs.Views.{spot}
 use Rattle.abs_parser.proofs.ListSteps.{parentheses_left_out, parenthesis_read_maybe}
 use Rattle.abs_parser.proofs.ParameterSteps.{class_parameters}
-use Rattle.abs_parser.proofs.StepLemmas.{opens, over_token, over_part, all_read, refused_inside}
+use Rattle.abs_parser.proofs.StepLemmas.{opens, over_token, over_part, all_read, refused_inside, passed_on}
 use Rattle.abs_parser.proofs.parameters.class_parameters.Goals as goal
 
 pub returns-in_default-clause-found : goal.returns-in_default-clause-found
 returns-in_default-clause-found c =
-    all_read (opens (Optional ClassParameters) c.args.depth c.args.symbols.now (spot c.args.from) _ (parentheses_left_out class_parameters _ c.args.depth c.in_default.ensures.other))
+    all_read (opens (Optional ClassParameters) 0 c.args.symbols.now (spot c.args.from) _ (parentheses_left_out class_parameters _ 0 c.in_default.ensures.other))
     (λ names more. ap (map (param_tree names)) c.new.ensures.items)
 
 pub returns-in_err-params-clause-refused : goal.returns-in_err-params-clause-refused
 returns-in_err-params-clause-refused c =
-    let p = err_from_is_err_and c.from_residual.result c.from_residual.ensures.1 in
-    rw (p.1, p.2) (refused_inside (parenthesis_read_maybe class_parameters c.args.depth c.args.symbols.now c.in-Ok.ensures.found c.requires.depth) _ c.in_err-params.ensures.refused)
+    passed_on _ c.from_residual.result c.from_residual.ensures.1 (refused_inside (parenthesis_read_maybe class_parameters 0 c.args.symbols.now c.in-Some.ensures.found (omega arith)) _ c.in_err-params.ensures.refused)
 
 pub returns-in_err-end-clause-refused : goal.returns-in_err-end-clause-refused
 returns-in_err-end-clause-refused c =
-    let p = err_from_is_err_and c.from_residual-in_err-end.result c.from_residual-in_err-end.ensures.1 in
-    let so = parenthesis_read_maybe class_parameters c.args.depth c.args.symbols.now c.in-Ok.ensures.found c.requires.depth in
-    rw (p.1, p.2) (refused_inside (over_part so c.in_ok-params.ensures.found) _ (c.in_err-end.ensures.refused c.args.depth))
+    let so = parenthesis_read_maybe class_parameters 0 c.args.symbols.now c.in-Some.ensures.found (omega arith) in
+    passed_on _ c.from_residual-in_err-end.result c.from_residual-in_err-end.ensures.1 (refused_inside (over_part so c.in_ok-params.ensures.found) _ c.in_err-end.ensures.refused)
 
 pub returns-clause-found : goal.returns-clause-found
 returns-clause-found c =
-    let so = parenthesis_read_maybe class_parameters c.args.depth c.args.symbols.now c.in-Ok.ensures.found c.requires.depth in
-    all_read (over_token {kind = lexeme.Sign punctuator.CloseParen} (over_part so c.in_ok-params.ensures.found) c.in_ok-end.ensures.found refl refl c.requires.depth) c.in_ok-params.ensures.found.is
+    let so = parenthesis_read_maybe class_parameters 0 c.args.symbols.now c.in-Some.ensures.found (omega arith) in
+    all_read (over_token {kind = lexeme.Sign punctuator.CloseParen} (over_part so c.in_ok-params.ensures.found) c.in_ok-end.ensures.found refl refl (omega arith)) c.in_ok-params.ensures.found.is

@@ -1,42 +1,39 @@
 use Rattle.std.proofs.Common.{◌∙◌, ◌∷◌, ◌++◌, [], List, ap, arith}
-use Rattle.std.proofs.lemmas.Result.{err_from_is_err_and}
 use Rattle.abs_tree.specs.declared.syntax.declaration.Param.{Param}
 use Rattle.abs_parser.specs.Views.{spot}
 use Rattle.abs_parser.proofs.ListSteps.{first_so_far, next_so_far, all_so_far, refused_first, refused_next}
 use Rattle.abs_parser.proofs.ParameterSteps.{list_of_params, trees_of_params, param_in_front}
-use Rattle.abs_parser.proofs.StepLemmas.{token_shorter, found_shorter}
+use Rattle.abs_parser.proofs.StepLemmas.{token_shorter, found_shorter, passed_on}
 use Rattle.abs_parser.proofs.parameters.params.Goals as goal
 
 pub returns-in_err-first-clause-refused : goal.returns-in_err-first-clause-refused
 returns-in_err-first-clause-refused c =
-    let p = err_from_is_err_and c.from_residual.result c.from_residual.ensures.1 in
-    rw (p.1, p.2) (refused_first list_of_params c.args.depth (spot c.args.from) _ c.in_err-first.ensures.refused)
+    passed_on _ c.from_residual.result c.from_residual.ensures.1 (refused_first list_of_params 0 (spot c.args.from) _ c.in_err-first.ensures.refused)
 
 pub loop-behind-init : goal.loop-behind-init
 loop-behind-init c = record {
-  read = first_so_far list_of_params trees_of_params (c.in_ok-push.ensures.items ∙ ap (λ (l : List Param). l ++ c.in_ok-first.first ∷ []) c.new-params.ensures.items) (param_in_front c.in_ok-first.first c.in_ok-first.ensures.found);
+  read = first_so_far list_of_params trees_of_params c.in_ok-params.ensures.items (param_in_front c.in_ok-first.first c.in_ok-first.ensures.found);
 }
 
-pub param-requires-in-Ok-clause-names : goal.param-requires-in-Ok-clause-names
-param-requires-in-Ok-clause-names c =
+pub param-requires-in-Some : goal.param-requires-in-Some
+param-requires-in-Some c =
     let few = c.loop-behind.invariant.read.read.few in
-    let comma = token_shorter c.in-Ok.ensures.found.takes in
+    let comma = token_shorter c.in-Some.ensures.found.takes in
     omega arith
 
 pub returns-in_err-next-clause-refused : goal.returns-in_err-next-clause-refused
 returns-in_err-next-clause-refused c =
-    let p = err_from_is_err_and c.from_residual-in_err-next.result c.from_residual-in_err-next.ensures.1 in
-    rw (p.1, p.2) (refused_next c.loop-behind.invariant.read c.in-Ok.ensures.found c.requires.depth _ c.in_err-next.ensures.refused)
+    passed_on _ c.from_residual-in_err-next.result c.from_residual-in_err-next.ensures.1 (refused_next c.loop-behind.invariant.read c.in-Some.ensures.found (omega arith) _ c.in_err-next.ensures.refused)
 
 pub loop-behind-smaller : goal.loop-behind-smaller
 loop-behind-smaller c =
-    let comma = token_shorter c.in-Ok.ensures.found.takes in
+    let comma = token_shorter c.in-Some.ensures.found.takes in
     let param = found_shorter c.in_ok-next.ensures.found in
     omega arith
 
 pub loop-behind-preserved : goal.loop-behind-preserved
 loop-behind-preserved c = record {
-  read = next_so_far c.loop-behind.invariant.read c.in_ok-push-2.ensures.items c.in-Ok.ensures.found c.requires.depth (param_in_front c.in_ok-next.next c.in_ok-next.ensures.found);
+  read = next_so_far c.loop-behind.invariant.read c.in_ok-push.ensures.items c.in-Some.ensures.found (omega arith) (param_in_front c.in_ok-next.next c.in_ok-next.ensures.found);
 }
 
 pub returns-clause-found : goal.returns-clause-found

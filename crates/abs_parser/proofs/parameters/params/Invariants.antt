@@ -6,7 +6,7 @@ use Rattle.abs_parser.proofs.parameters.params.Given as goal
 
 -- what was read so far
 abbrev pub invariant-loop-behind : goal.invariant-loop-behind
-invariant-loop-behind l = record { read : ReadsSoFar list_of_params trees_of_params l.depth l.fn.symbols l.symbols (spot l.from) (spot l.here) l.params.items }
+invariant-loop-behind l = record { read : ReadsSoFar list_of_params trees_of_params 0 l.fn.symbols l.symbols (spot l.from) (spot l.here) l.params.items }
 
 abbrev pub decreases-loop-behind : goal.decreases-loop-behind
 decreases-loop-behind l = length (spot l.here).rest

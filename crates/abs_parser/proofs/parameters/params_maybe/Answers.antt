@@ -7,13 +7,13 @@ use Rattle.abs_parser.specs.TreesOf.{params_maybe}
 use Rattle.abs_parser.specs.Views.{spot}
 use Rattle.abs_parser.proofs.ListSteps.{maybe_found}
 use Rattle.abs_parser.proofs.ParameterSteps.{list_of_params, params_begin}
-use Rattle.abs_parser.proofs.StepLemmas.{opens, all_read, refused_inside, found_weaker, fits_next}
+use Rattle.abs_parser.proofs.StepLemmas.{opens, all_read, refused_inside, found_weaker}
 use Rattle.abs_parser.proofs.SymbolLemmas.{optional_opened, optional_left_out}
 use Rattle.abs_parser.proofs.parameters.params_maybe.Goals as goal
 
-pub returns-in_default-clause-found : goal.returns-in_default-clause-found
-returns-in_default-clause-found c =
-    all_read (opens (Optional Params) c.args.depth c.args.symbols.now (spot c.args.from) _ (optional_left_out Params _ c.args.depth (params_begin _ ∙ c.in_default.ensures.other)))
+pub returns-then-not-is-clause-found : goal.returns-then-not-is-clause-found
+returns-then-not-is-clause-found c =
+    all_read (opens (Optional Params) 0 c.args.symbols.now (spot c.args.from) _ (optional_left_out Params _ 0 (params_begin _ ∙ (sym c.is.ensures ∙ c.if-not-is.true))))
     (λ names more. ap (map (param_tree names)) c.new.ensures.items)
 
 pub returns-clause-found : goal.returns-clause-found
@@ -23,5 +23,5 @@ returns-clause-found c =
 pub returns-clause-refused : goal.returns-clause-refused
 returns-clause-refused c =
     IfErr-weaker c.params.result _ _ (λ error refused.
-    refused_inside (opens (Optional Params) c.args.depth c.args.symbols.now (spot c.args.from) _ (optional_opened Params _ c.args.depth (params_begin _ ∙ fits_next refl c.in-Ok.ensures.found))) error refused)
+    refused_inside (opens (Optional Params) 0 c.args.symbols.now (spot c.args.from) _ (optional_opened Params _ 0 (params_begin _ ∙ (sym c.is.ensures ∙ c.if-not-is.false)))) error refused)
     c.params.ensures.refused

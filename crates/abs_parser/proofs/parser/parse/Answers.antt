@@ -1,17 +1,15 @@
 use Rattle.std.proofs.Common.{[], sym, subst, ap, length, arith}
-use Rattle.std.proofs.lemmas.Result.{err_from_is_err_and}
 use Rattle.abs_tree.specs.Limits.{table_limit}
 use Rattle.abs_tree.specs.SourceNumbers.{IsNumberedWhole}
 use Rattle.abs_parser.proofs.NumberLemmas.{tree_is_numbered}
 use Rattle.abs_parser.specs.Views.{spot}
-use Rattle.abs_parser.proofs.StepLemmas.{found_few, refused_inside}
+use Rattle.abs_parser.proofs.StepLemmas.{found_few, refused_inside, passed_on}
 use Rattle.abs_parser.proofs.WholeSteps.{program_begins, over_heading, over_import, over_declarations, over_block, heading_refused, import_refused, declarations_refused, block_refused, stops_from, ProgramFound, program_found, text_found, names_found, variables_found, bodies_found, fields_found, statements_found, few_at, few_tokens}
 use Rattle.abs_parser.proofs.parser.parse.Goals as goal
 
 pub returns-in_err-import_at-clause-refused : goal.returns-in_err-import_at-clause-refused
 returns-in_err-import_at-clause-refused c =
-    let p = err_from_is_err_and c.from_residual.result c.from_residual.ensures.1 in
-    rw (p.1, p.2) (stops_from _ c.new.ensures (heading_refused _ (program_begins [] _) c.in_err-import_at.ensures.refused))
+    passed_on _ c.from_residual.result c.from_residual.ensures.1 (stops_from _ c.new.ensures (heading_refused _ (program_begins [] _) c.in_err-import_at.ensures.refused))
 
 pub import_line-requires : goal.import_line-requires
 import_line-requires c =
@@ -22,9 +20,8 @@ import_line-requires c =
 
 pub returns-in_err-first-clause-refused : goal.returns-in_err-first-clause-refused
 returns-in_err-first-clause-refused c =
-    let p = err_from_is_err_and c.from_residual-in_err-first.result c.from_residual-in_err-first.ensures.1 in
     let so = over_heading (program_begins _ _) c.in_ok-import_at.ensures.found in
-    rw (p.1, p.2) (stops_from _ c.new.ensures (import_refused _ so c.in_err-first.ensures.refused))
+    passed_on _ c.from_residual-in_err-first.result c.from_residual-in_err-first.ensures.1 (stops_from _ c.new.ensures (import_refused _ so c.in_err-first.ensures.refused))
 
 pub declarations-requires-clause-names : goal.declarations-requires-clause-names
 declarations-requires-clause-names c =
@@ -36,9 +33,8 @@ declarations-requires-clause-names c =
 
 pub returns-in_err-declarations-clause-refused : goal.returns-in_err-declarations-clause-refused
 returns-in_err-declarations-clause-refused c =
-    let p = err_from_is_err_and c.from_residual-in_err-declarations.result c.from_residual-in_err-declarations.ensures.1 in
     let so = over_import (over_heading (program_begins _ _) c.in_ok-import_at.ensures.found) c.in_ok-first.ensures.found in
-    rw (p.1, p.2) (stops_from _ c.new.ensures (declarations_refused _ so c.in_err-declarations.ensures.refused))
+    passed_on _ c.from_residual-in_err-declarations.result c.from_residual-in_err-declarations.ensures.1 (stops_from _ c.new.ensures (declarations_refused _ so c.in_err-declarations.ensures.refused))
 
 pub block-requires-clause-names : goal.block-requires-clause-names
 block-requires-clause-names c =
@@ -51,15 +47,13 @@ block-requires-clause-names c =
 
 pub returns-in_err-main-clause-refused : goal.returns-in_err-main-clause-refused
 returns-in_err-main-clause-refused c =
-    let p = err_from_is_err_and c.from_residual-in_err-main.result c.from_residual-in_err-main.ensures.1 in
     let so = over_declarations (over_import (over_heading (program_begins _ _) c.in_ok-import_at.ensures.found) c.in_ok-first.ensures.found) c.in_ok-declarations.ensures.found in
-    rw (p.1, p.2) (stops_from _ c.new.ensures (block_refused _ so c.in_err-main.ensures.refused))
+    passed_on _ c.from_residual-in_err-main.result c.from_residual-in_err-main.ensures.1 (stops_from _ c.new.ensures (block_refused _ so c.in_err-main.ensures.refused))
 
 pub returns-in_err-finish-clause-refused : goal.returns-in_err-finish-clause-refused
 returns-in_err-finish-clause-refused c =
-    let p = err_from_is_err_and c.from_residual-in_err-finish.result c.from_residual-in_err-finish.ensures.1 in
     let so = over_declarations (over_import (over_heading (program_begins _ _) c.in_ok-import_at.ensures.found) c.in_ok-first.ensures.found) c.in_ok-declarations.ensures.found in
-    rw (p.1, p.2) (stops_from _ c.new.ensures (refused_inside (over_block so c.in_ok-main.ensures.found) _ (c.in_err-finish.ensures.refused 0)))
+    passed_on _ c.from_residual-in_err-finish.result c.from_residual-in_err-finish.ensures.1 (stops_from _ c.new.ensures (refused_inside (over_block so c.in_ok-main.ensures.found) _ c.in_err-finish.ensures.refused))
 
 pub invariant_of-result : goal.invariant_of-result
 invariant_of-result c =

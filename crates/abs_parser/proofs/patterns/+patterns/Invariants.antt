@@ -5,13 +5,16 @@ use Rattle.abs_parser.proofs.ListSteps.{ReadsSoFar}
 use Rattle.abs_parser.proofs.patterns.+patterns.Given as goal
 
 abbrev pub decreases-pattern : goal.decreases-pattern
-decreases-pattern l = 2 * length (spot l.from).rest
+decreases-pattern l = 3 * length (spot l.from).rest + 1
 
 abbrev pub decreases-pattern_arguments : goal.decreases-pattern_arguments
-decreases-pattern_arguments l = 2 * length (spot l.from).rest
+decreases-pattern_arguments l = 3 * length (spot l.from).rest
+
+abbrev pub decreases-built : goal.decreases-built
+decreases-built l = 3 * length (spot l.from).rest
 
 abbrev pub decreases-patterns : goal.decreases-patterns
-decreases-patterns l = 2 * length (spot l.from).rest + 1
+decreases-patterns l = 3 * length (spot l.from).rest + 2
 
 -- what was read so far
 abbrev pub invariant-patterns-loop-behind : goal.invariant-patterns-loop-behind

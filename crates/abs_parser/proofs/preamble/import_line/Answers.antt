@@ -1,9 +1,9 @@
 use Rattle.std.proofs.Common.{refl}
-use Rattle.std.proofs.lemmas.Result.{err_from_is_err_and}
 use Rattle.abs_lexer.specs.declared.lexeme.Lexeme.TheVariants as lexeme
 use Rattle.abs_lexer.specs.declared.lexeme.Punctuator.TheVariants as punctuator
 use Rattle.abs_parser.specs.Productions.{Import}
 use Rattle.abs_parser.specs.Views.{spot}
+use Rattle.abs_parser.proofs.StepLemmas.{passed_on}
 use Rattle.abs_parser.proofs.PreambleSteps.{past_token, read_whole, refused_left, line_left_out, import_begins, import_starred, import_from, import_abs, import_library}
 use Rattle.abs_parser.proofs.preamble.import_line.Goals as goal
 
@@ -12,44 +12,38 @@ returns-in_default-clause-found c = line_left_out {symbol = Import} c.args.symbo
 
 pub returns-in_err-word-clause-refused : goal.returns-in_err-word-clause-refused
 returns-in_err-word-clause-refused c =
-    let p = err_from_is_err_and c.from_residual.result c.from_residual.ensures.1 in
-    rw (p.1, p.2) (refused_left _ (import_begins c.args.symbols.now c.in-Ok.ensures.found) (c.in_err-word.ensures.refused 0))
+    passed_on _ c.from_residual.result c.from_residual.ensures.1 (refused_left _ (import_begins c.args.symbols.now c.in-Some.ensures.found) c.in_err-word.ensures.refused)
 
 pub returns-in_err-abs_at-clause-refused : goal.returns-in_err-abs_at-clause-refused
 returns-in_err-abs_at-clause-refused c =
-    let p = err_from_is_err_and c.from_residual-in_err-abs_at.result c.from_residual-in_err-abs_at.ensures.1 in
-    rw (p.1, p.2) (refused_left _ (import_starred c.args.symbols.now c.in-Ok.ensures.found c.in_ok-word.ensures.found) (c.in_err-abs_at.ensures.refused 0))
+    passed_on _ c.from_residual-in_err-abs_at.result c.from_residual-in_err-abs_at.ensures.1 (refused_left _ (import_starred c.args.symbols.now c.in-Some.ensures.found c.in_ok-word.ensures.found) c.in_err-abs_at.ensures.refused)
 
 pub returns-in_err-abs-clause-refused : goal.returns-in_err-abs-clause-refused
 returns-in_err-abs-clause-refused c =
-    let p = err_from_is_err_and c.from_residual-in_err-abs.result c.from_residual-in_err-abs.ensures.1 in
-    let begun = import_from c.args.symbols.now c.in-Ok.ensures.found c.in_ok-word.ensures.found c.in_ok-abs_at.ensures.found in
-    rw (p.1, p.2) (refused_left _ begun (c.in_err-abs.ensures.refused 0))
+    let begun = import_from c.args.symbols.now c.in-Some.ensures.found c.in_ok-word.ensures.found c.in_ok-abs_at.ensures.found in
+    passed_on _ c.from_residual-in_err-abs.result c.from_residual-in_err-abs.ensures.1 (refused_left _ begun c.in_err-abs.ensures.refused)
 
 pub returns-in_err-library_at-clause-refused : goal.returns-in_err-library_at-clause-refused
 returns-in_err-library_at-clause-refused c =
-    let p = err_from_is_err_and c.from_residual-in_err-library_at.result c.from_residual-in_err-library_at.ensures.1 in
-    let begun = import_from c.args.symbols.now c.in-Ok.ensures.found c.in_ok-word.ensures.found c.in_ok-abs_at.ensures.found in
-    rw (p.1, p.2) (refused_left _ (import_abs begun c.in_ok-abs.ensures.found c.in_ok-intern.ensures.names) (c.in_err-library_at.ensures.refused 0))
+    let begun = import_from c.args.symbols.now c.in-Some.ensures.found c.in_ok-word.ensures.found c.in_ok-abs_at.ensures.found in
+    passed_on _ c.from_residual-in_err-library_at.result c.from_residual-in_err-library_at.ensures.1 (refused_left _ (import_abs begun c.in_ok-abs.ensures.found c.in_ok-intern.ensures.names) c.in_err-library_at.ensures.refused)
 
 pub returns-in_err-library-clause-refused : goal.returns-in_err-library-clause-refused
 returns-in_err-library-clause-refused c =
-    let p = err_from_is_err_and c.from_residual-in_err-library.result c.from_residual-in_err-library.ensures.1 in
-    let begun = import_from c.args.symbols.now c.in-Ok.ensures.found c.in_ok-word.ensures.found c.in_ok-abs_at.ensures.found in
+    let begun = import_from c.args.symbols.now c.in-Some.ensures.found c.in_ok-word.ensures.found c.in_ok-abs_at.ensures.found in
     let named = import_abs begun c.in_ok-abs.ensures.found c.in_ok-intern.ensures.names in
-    rw (p.1, p.2) (refused_left _ (past_token (lexeme.Sign punctuator.Dot) named c.in_ok-library_at.ensures.found refl refl) (c.in_err-library.ensures.refused 0))
+    passed_on _ c.from_residual-in_err-library.result c.from_residual-in_err-library.ensures.1 (refused_left _ (past_token (lexeme.Sign punctuator.Dot) named c.in_ok-library_at.ensures.found refl refl) c.in_err-library.ensures.refused)
 
 pub returns-in_err-end-clause-refused : goal.returns-in_err-end-clause-refused
 returns-in_err-end-clause-refused c =
-    let p = err_from_is_err_and c.from_residual-in_err-end.result c.from_residual-in_err-end.ensures.1 in
-    let begun = import_from c.args.symbols.now c.in-Ok.ensures.found c.in_ok-word.ensures.found c.in_ok-abs_at.ensures.found in
+    let begun = import_from c.args.symbols.now c.in-Some.ensures.found c.in_ok-word.ensures.found c.in_ok-abs_at.ensures.found in
     let named = import_abs begun c.in_ok-abs.ensures.found c.in_ok-intern.ensures.names in
     let last = import_library named c.in_ok-library_at.ensures.found c.in_ok-library.ensures.found c.in_ok-intern-2.ensures.names in
-    rw (p.1, p.2) (refused_left _ last (c.in_err-end.ensures.refused 0))
+    passed_on _ c.from_residual-in_err-end.result c.from_residual-in_err-end.ensures.1 (refused_left _ last c.in_err-end.ensures.refused)
 
 pub returns-clause-found : goal.returns-clause-found
 returns-clause-found c =
-    let begun = import_from c.args.symbols.now c.in-Ok.ensures.found c.in_ok-word.ensures.found c.in_ok-abs_at.ensures.found in
+    let begun = import_from c.args.symbols.now c.in-Some.ensures.found c.in_ok-word.ensures.found c.in_ok-abs_at.ensures.found in
     let named = import_abs begun c.in_ok-abs.ensures.found c.in_ok-intern.ensures.names in
     let last = import_library named c.in_ok-library_at.ensures.found c.in_ok-library.ensures.found c.in_ok-intern-2.ensures.names in
     read_whole (past_token (lexeme.Sign punctuator.Semicolon) last c.in_ok-end.ensures.found refl refl)

@@ -1,9 +1,9 @@
 use Rattle.std.proofs.Common.{refl}
-use Rattle.std.proofs.lemmas.Result.{err_from_is_err_and}
 use Rattle.abs_lexer.specs.declared.lexeme.Lexeme.TheVariants as lexeme
 use Rattle.abs_lexer.specs.declared.lexeme.Punctuator.TheVariants as punctuator
 use Rattle.abs_parser.specs.Productions.{Module}
 use Rattle.abs_parser.specs.Views.{spot}
+use Rattle.abs_parser.proofs.StepLemmas.{passed_on}
 use Rattle.abs_parser.proofs.PreambleSteps.{past_token, past_part, read_whole, refused_left, line_left_out, module_begins}
 use Rattle.abs_parser.proofs.preamble.module_line.Goals as goal
 
@@ -12,15 +12,13 @@ returns-in_default-clause-found c = line_left_out {symbol = Module} c.args.symbo
 
 pub returns-in_err-last-clause-refused : goal.returns-in_err-last-clause-refused
 returns-in_err-last-clause-refused c =
-    let p = err_from_is_err_and c.from_residual.result c.from_residual.ensures.1 in
-    rw (p.1, p.2) (refused_left _ (module_begins c.args.symbols.now c.in-Ok.ensures.found) c.in_err-last.ensures.refused)
+    passed_on _ c.from_residual.result c.from_residual.ensures.1 (refused_left _ (module_begins c.args.symbols.now c.in-Some.ensures.found) c.in_err-last.ensures.refused)
 
 pub returns-in_err-end-clause-refused : goal.returns-in_err-end-clause-refused
 returns-in_err-end-clause-refused c =
-    let p = err_from_is_err_and c.from_residual-in_err-end.result c.from_residual-in_err-end.ensures.1 in
-    rw (p.1, p.2) (refused_left _ (past_part (module_begins c.args.symbols.now c.in-Ok.ensures.found) c.in_ok-last.ensures.found) (c.in_err-end.ensures.refused 0))
+    passed_on _ c.from_residual-in_err-end.result c.from_residual-in_err-end.ensures.1 (refused_left _ (past_part (module_begins c.args.symbols.now c.in-Some.ensures.found) c.in_ok-last.ensures.found) c.in_err-end.ensures.refused)
 
 pub returns-clause-found : goal.returns-clause-found
 returns-clause-found c =
-    let named = past_part (module_begins c.args.symbols.now c.in-Ok.ensures.found) c.in_ok-last.ensures.found in
+    let named = past_part (module_begins c.args.symbols.now c.in-Some.ensures.found) c.in_ok-last.ensures.found in
     read_whole (past_token (lexeme.Sign punctuator.Semicolon) named c.in_ok-end.ensures.found refl refl)

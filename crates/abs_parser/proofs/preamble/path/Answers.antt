@@ -1,34 +1,31 @@
 use Rattle.std.proofs.Common.{arith}
-use Rattle.std.proofs.lemmas.Result.{err_from_is_err_and}
 use Rattle.abs_parser.specs.Views.{spot}
 use Rattle.abs_parser.proofs.PreambleSteps.{refused_path, path_begins, refused_dot_name, path_goes_on, path_found}
-use Rattle.abs_parser.proofs.StepLemmas.{token_shorter}
+use Rattle.abs_parser.proofs.StepLemmas.{token_shorter, passed_on}
 use Rattle.abs_parser.proofs.preamble.path.Goals as goal
 
 pub returns-in_err-first-clause-refused : goal.returns-in_err-first-clause-refused
 returns-in_err-first-clause-refused c =
-    let p = err_from_is_err_and c.from_residual.result c.from_residual.ensures.1 in
-    rw (p.1, p.2) (refused_path (spot c.args.from) _ c.in_err-first.ensures.other c.in_err-first.ensures.refused)
+    passed_on _ c.from_residual.result c.from_residual.ensures.1 (refused_path (spot c.args.from) _ c.in_err-first.ensures.refused)
 
 pub loop-name_at-init : goal.loop-name_at-init
 loop-name_at-init c = record { read = path_begins c.in_ok-first.ensures.found c.in_ok-intern.ensures.names }
 
 pub returns-in_err-name-clause-refused : goal.returns-in_err-name-clause-refused
 returns-in_err-name-clause-refused c =
-    let p = err_from_is_err_and c.from_residual-in_err-name.result c.from_residual-in_err-name.ensures.1 in
-    rw (p.1, p.2) (refused_dot_name _ c.loop-name_at.invariant.read c.in-Ok.ensures.found (c.in_err-name.ensures.refused 0))
+    passed_on _ c.from_residual-in_err-name.result c.from_residual-in_err-name.ensures.1 (refused_dot_name _ c.loop-name_at.invariant.read c.in-Some.ensures.found c.in_err-name.ensures.refused)
 
-pub intern-requires-in-Ok : goal.intern-requires-in-Ok
-intern-requires-in-Ok c = let few = c.loop-name_at.invariant.read.read.few in omega arith
+pub intern-requires-in-Some : goal.intern-requires-in-Some
+intern-requires-in-Some c = let few = c.loop-name_at.invariant.read.read.few in omega arith
 
 pub loop-name_at-smaller : goal.loop-name_at-smaller
 loop-name_at-smaller c =
-    let dot = token_shorter c.in-Ok.ensures.found.takes in
+    let dot = token_shorter c.in-Some.ensures.found.takes in
     let name = token_shorter c.in_ok-name.ensures.found.takes in
     omega arith
 
 pub loop-name_at-preserved : goal.loop-name_at-preserved
-loop-name_at-preserved c = record { read = path_goes_on c.loop-name_at.invariant.read c.in-Ok.ensures.found c.in_ok-name.ensures.found c.in_ok-intern-2.ensures.names }
+loop-name_at-preserved c = record { read = path_goes_on c.loop-name_at.invariant.read c.in-Some.ensures.found c.in_ok-name.ensures.found c.in_ok-intern-2.ensures.names }
 
 pub returns-clause-found : goal.returns-clause-found
 returns-clause-found c = path_found c.loop-name_at.invariant.read c.in_default.ensures.other

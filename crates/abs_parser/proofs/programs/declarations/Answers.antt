@@ -1,6 +1,6 @@
-use Rattle.std.proofs.Common.{arith}
-use Rattle.std.proofs.lemmas.Result.{err_from_is_err_and}
+use Rattle.std.proofs.Common.{arith, sym, ◌∙◌}
 use Rattle.abs_parser.specs.Views.{spot}
+use Rattle.abs_parser.proofs.StepLemmas.{passed_on}
 use Rattle.abs_parser.proofs.DeclarationListSteps.{declaration_shorter, no_declaration_yet, next_declaration, refused_declaration, declarations_found}
 use Rattle.abs_parser.proofs.programs.declarations.Goals as goal
 
@@ -15,8 +15,7 @@ declaration-requires-clause-few c = let few = c.loop-alloc.invariant.read.few in
 
 pub returns-in_err-next-clause-refused : goal.returns-in_err-next-clause-refused
 returns-in_err-next-clause-refused c =
-    let p = err_from_is_err_and c.from_residual.result c.from_residual.ensures.1 in
-    rw (p.1, p.2) (refused_declaration _ c.loop-alloc.invariant.read c.loop-alloc-test.ensures c.in_err-next.ensures.refused)
+    passed_on _ c.from_residual.result c.from_residual.ensures.1 (refused_declaration _ c.loop-alloc.invariant.read (sym c.is.ensures ∙ c.loop-alloc-test.true) c.in_err-next.ensures.refused)
 
 pub loop-alloc-smaller : goal.loop-alloc-smaller
 loop-alloc-smaller c = let shorter = declaration_shorter c.loop-alloc.free c.in_ok-next.next c.in_ok-next.ensures.found in omega arith
@@ -24,10 +23,10 @@ loop-alloc-smaller c = let shorter = declaration_shorter c.loop-alloc.free c.in_
 pub loop-alloc-preserved : goal.loop-alloc-preserved
 loop-alloc-preserved c =
     let next = c.in_ok-next.ensures in
-    record { read = next_declaration c.in_ok-next.next c.in_ok-push.ensures.items c.loop-alloc.invariant.read c.loop-alloc-test.ensures next.found next.free next.few }
+    record { read = next_declaration c.in_ok-next.next c.in_ok-push.ensures.items c.loop-alloc.invariant.read next.found next.free next.few }
 
 pub returns-clause-found : goal.returns-clause-found
-returns-clause-found c = declarations_found c.loop-alloc.invariant.read c.loop-alloc-test.ensures
+returns-clause-found c = declarations_found c.loop-alloc.invariant.read (sym c.is.ensures ∙ c.loop-alloc-test.false)
 
 pub returns-clause-free : goal.returns-clause-free
 returns-clause-free c = c.loop-alloc.invariant.read.is_free

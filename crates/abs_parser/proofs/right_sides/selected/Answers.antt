@@ -1,5 +1,4 @@
 use Rattle.std.proofs.Common.{List, None, refl, ap}
-use Rattle.std.proofs.lemmas.Result.{err_from_is_err_and}
 use Rattle.abs_tree.specs.Syntax.{Name, Phrases, NextPhrase, SideTree, GetOf, CallOf}
 use Rattle.abs_tree.specs.Trees.{name_of}
 use Rattle.abs_tree.specs.declared.syntax.expression.Expr.{Expr}
@@ -7,22 +6,20 @@ use Rattle.abs_tree.specs.SyntaxViews.{phrase}
 use Rattle.abs_parser.specs.TreesOf.{selected_in}
 use Rattle.abs_parser.specs.Views.{spot}
 use Rattle.abs_parser.proofs.RightSideSteps.{named_call_found, found_same, get_found, refused_selected, selected_named}
-use Rattle.abs_parser.proofs.StepLemmas.{refused_inside}
+use Rattle.abs_parser.proofs.StepLemmas.{refused_inside, passed_on}
 use Rattle.abs_parser.proofs.right_sides.selected.Goals as goal
 
-pub returns-in-Ok-clause-found : goal.returns-in-Ok-clause-found
-returns-in-Ok-clause-found c = found_same (λ names. ap (λ (expr : Expr). GetOf c.args.place c.in-Ok.word.place (phrase names expr)) c.in_ok-new.ensures.ok)
-    (get_found c.args.depth c.args.symbols.now c.args.place c.args.first c.in-Ok.ensures.found c.requires.depth)
+pub returns-in-Some-clause-found : goal.returns-in-Some-clause-found
+returns-in-Some-clause-found c = found_same (λ names. ap (λ (expr : Expr). GetOf c.args.place c.in-Some.word.place (phrase names expr)) c.in_ok-new.ensures.ok)
+    (get_found c.args.depth c.args.symbols.now c.args.place c.args.first c.in-Some.ensures.found c.requires.depth)
 
 pub returns-in_err-name-clause-refused : goal.returns-in_err-name-clause-refused
 returns-in_err-name-clause-refused c =
-    let p = err_from_is_err_and c.from_residual-in_err-name.result c.from_residual-in_err-name.ensures.1 in
-    rw (p.1, p.2) (refused_selected c.args.depth (spot c.args.from) _ c.in_default.ensures.other c.in_err-name.ensures.other c.in_err-name.ensures.refused)
+    passed_on _ c.from_residual-in_err-name.result c.from_residual-in_err-name.ensures.1 (refused_selected c.args.depth (spot c.args.from) _ c.in_default.ensures.other c.in_err-name.ensures.refused)
 
 pub returns-in_err-arguments-clause-refused : goal.returns-in_err-arguments-clause-refused
 returns-in_err-arguments-clause-refused c =
-    let p = err_from_is_err_and c.from_residual-in_err-arguments.result c.from_residual-in_err-arguments.ensures.1 in
-    rw (p.1, p.2) (refused_inside (selected_named c.args.depth c.args.symbols.now c.in_ok-name.ensures.found c.requires.depth c.in_ok-method.ensures.names) _ c.in_err-arguments.ensures.refused)
+    passed_on _ c.from_residual-in_err-arguments.result c.from_residual-in_err-arguments.ensures.1 (refused_inside (selected_named c.args.depth c.args.symbols.now c.in_ok-name.ensures.found c.requires.depth c.in_ok-method.ensures.names) _ c.in_err-arguments.ensures.refused)
 
 pub returns-clause-found : goal.returns-clause-found
 returns-clause-found c =

@@ -1,22 +1,26 @@
 use Rattle.std.proofs.Common.{arith, refl, ◌+◌}
-use Rattle.std.proofs.lemmas.Result.{err_from_is_err_and, IfOk-weaker, IfErr-weaker}
+use Rattle.std.proofs.lemmas.Result.{IfOk-weaker, IfErr-weaker}
 use Rattle.abs_tree.specs.SyntaxViews.{statement as statement_tree}
 use Rattle.abs_tree.specs.declared.syntax.expression.Expr as code_expr
-use Rattle.abs_parser.proofs.FirstSteps.{this_deep, alone_refused, alone_found, field_begins, field_named, field_found}
-use Rattle.abs_parser.proofs.StepLemmas.{refused_inside, found_shorter, token_shorter}
+use Rattle.abs_parser.specs.Productions.{Stmt}
+use Rattle.abs_parser.specs.Readings.{One}
+use Rattle.abs_parser.specs.Views.{spot}
+use Rattle.abs_parser.proofs.WordSteps.{word_refused}
+use Rattle.abs_parser.proofs.FirstSteps.{this_opened, alone_refused, alone_found, field_begins, field_named, field_found}
+use Rattle.abs_parser.proofs.StepLemmas.{refused_inside, found_shorter, token_shorter, passed_on}
 use Rattle.abs_parser.proofs.simple_statements.from_this.Goals as goal
 
-pub returns-then-depth-gt-LIMIT-clause-refused : goal.returns-then-depth-gt-LIMIT-clause-refused
-returns-then-depth-gt-LIMIT-clause-refused c = this_deep c.args.depth _ c.deep.ensures c.in_ok-this.ensures.found (omega (arith, c.if-depth-gt-LIMIT.true))
+pub returns-in_err-this-clause-refused : goal.returns-in_err-this-clause-refused
+returns-in_err-this-clause-refused c =
+    passed_on _ c.from_residual.result c.from_residual.ensures.1 (word_refused (One Stmt) c.args.depth (spot c.args.from) _ (this_opened c.args.depth) c.requires.begins c.in_err-this.ensures.refused)
 
 pub returns-in_err-side-clause-refused : goal.returns-in_err-side-clause-refused
 returns-in_err-side-clause-refused c =
-    let p = err_from_is_err_and c.from_residual-in_err-side.result c.from_residual-in_err-side.ensures.1 in
-    rw (p.1, p.2) (alone_refused c.args.depth _ c.in_ok-this.ensures.found (omega (arith, c.if-depth-gt-LIMIT.false)) c.in_default.ensures.other c.in_err-side.ensures.refused)
+    passed_on _ c.from_residual-in_err-side.result c.from_residual-in_err-side.ensures.1 (alone_refused c.args.depth _ c.in_ok-this.ensures.found c.in_ok-this.ensures.within c.in_default.ensures.other c.in_err-side.ensures.refused)
 
 pub returns-in_default-clause-found : goal.returns-in_default-clause-found
 returns-in_default-clause-found c =
-    alone_found c.args.index c.in_ok-this.this.place (code_expr.This c.in_ok-this.this.place) c.in_ok-side.side c.in_ok-this.ensures.found (omega (arith, c.if-depth-gt-LIMIT.false))
+    alone_found c.args.index c.in_ok-this.this.place (code_expr.This c.in_ok-this.this.place) c.in_ok-side.side c.in_ok-this.ensures.found c.in_ok-this.ensures.within
     c.in_default.ensures.other refl (λ names. refl) c.in_ok-side.ensures.found
 
 pub returns-in_default-clause-shorter : goal.returns-in_default-clause-shorter
@@ -24,30 +28,29 @@ returns-in_default-clause-shorter c = omega (arith, found_shorter c.in_ok-side.e
 
 pub returns-in_err-name-clause-refused : goal.returns-in_err-name-clause-refused
 returns-in_err-name-clause-refused c =
-    let p = err_from_is_err_and c.from_residual-in_err-name.result c.from_residual-in_err-name.ensures.1 in
-    let begun = field_begins c.args.depth c.args.symbols.now c.in_ok-this.ensures.found c.in-Ok.ensures.found (omega (arith, c.if-depth-gt-LIMIT.false)) in
-    rw (p.1, p.2) (refused_inside begun _ (c.in_err-name.ensures.refused (c.args.depth + 1 + 2)))
+    let begun = field_begins c.args.depth c.args.symbols.now c.in_ok-this.ensures.found c.in-Some.ensures.found c.in_ok-this.ensures.within in
+    passed_on _ c.from_residual-in_err-name.result c.from_residual-in_err-name.ensures.1 (refused_inside begun _ c.in_err-name.ensures.refused)
 
 pub behind_first-requires-clause-names : goal.behind_first-requires-clause-names
 behind_first-requires-clause-names c =
-    let named = field_named c.args.depth c.args.symbols.now c.in_ok-this.ensures.found c.in-Ok.ensures.found c.in_ok-name.ensures.found (omega (arith, c.if-depth-gt-LIMIT.false))
+    let named = field_named c.args.depth c.args.symbols.now c.in_ok-this.ensures.found c.in-Some.ensures.found c.in_ok-name.ensures.found c.in_ok-this.ensures.within
     c.in_ok-symbol.ensures.names in
     omega (arith, named.few)
 
 pub returns-clause-found : goal.returns-clause-found
 returns-clause-found c =
     IfOk-weaker c.behind_first.result _ _ (λ found.
-    field_found c.args.index c.args.symbols.now c.in_ok-symbol.symbol (λ names. statement_tree names found.0) c.in_ok-this.ensures.found c.in-Ok.ensures.found c.in_ok-name.ensures.found
-    (omega (arith, c.if-depth-gt-LIMIT.false)) c.in_ok-symbol.ensures.symbol c.in_ok-symbol.ensures.names) c.behind_first.ensures.found
+    field_found c.args.index c.args.symbols.now c.in_ok-symbol.symbol (λ names. statement_tree names found.0) c.in_ok-this.ensures.found c.in-Some.ensures.found c.in_ok-name.ensures.found
+    c.in_ok-this.ensures.within c.in_ok-symbol.ensures.symbol c.in_ok-symbol.ensures.names) c.behind_first.ensures.found
 
 pub returns-clause-shorter : goal.returns-clause-shorter
 returns-clause-shorter c =
     IfOk-weaker c.behind_first.result _ _ (λ found after.
-    omega (arith, found_shorter after, token_shorter c.in_ok-this.ensures.found.takes, token_shorter c.in-Ok.ensures.found.takes, token_shorter c.in_ok-name.ensures.found.takes))
+    omega (arith, found_shorter after, token_shorter c.in_ok-this.ensures.found.takes, token_shorter c.in-Some.ensures.found.takes, token_shorter c.in_ok-name.ensures.found.takes))
     c.behind_first.ensures.found
 
 pub returns-clause-refused : goal.returns-clause-refused
 returns-clause-refused c =
     IfErr-weaker c.behind_first.result _ _ (λ error. refused_inside
-    (field_named c.args.depth c.args.symbols.now c.in_ok-this.ensures.found c.in-Ok.ensures.found c.in_ok-name.ensures.found (omega (arith, c.if-depth-gt-LIMIT.false))
+    (field_named c.args.depth c.args.symbols.now c.in_ok-this.ensures.found c.in-Some.ensures.found c.in_ok-name.ensures.found c.in_ok-this.ensures.within
     c.in_ok-symbol.ensures.names) error) c.behind_first.ensures.refused

@@ -1,17 +1,19 @@
 use Rattle.std.proofs.Common.{arith}
 use Rattle.std.proofs.lemmas.Result.{IfOk-weaker, IfErr-weaker}
 use Rattle.abs_tree.specs.SyntaxViews.{statement as statement_tree}
-use Rattle.abs_parser.proofs.FirstSteps.{variable_deep, variable_begins, variable_found}
-use Rattle.abs_parser.proofs.StepLemmas.{refused_inside, found_shorter, token_shorter}
+use Rattle.abs_parser.specs.Views.{spot}
+use Rattle.abs_parser.proofs.FirstSteps.{variable_refused, variable_begins, variable_found}
+use Rattle.abs_parser.proofs.StepLemmas.{refused_inside, found_shorter, token_shorter, passed_on}
 use Rattle.abs_parser.proofs.simple_statements.from_variable.Goals as goal
 
-pub returns-then-depth-gt-LIMIT-clause-refused : goal.returns-then-depth-gt-LIMIT-clause-refused
-returns-then-depth-gt-LIMIT-clause-refused c = variable_deep c.args.depth _ c.deep.ensures c.in_ok-name.ensures.found (omega (arith, c.if-depth-gt-LIMIT.true))
+pub returns-in_err-name-clause-refused : goal.returns-in_err-name-clause-refused
+returns-in_err-name-clause-refused c =
+    passed_on _ c.from_residual.result c.from_residual.ensures.1 (variable_refused c.args.depth (spot c.args.from) _ c.requires.begins c.in_err-name.ensures.refused)
 
 pub returns-clause-found : goal.returns-clause-found
 returns-clause-found c =
     IfOk-weaker c.behind_first.result _ _ (λ found.
-    variable_found c.args.index c.args.symbols.now c.in_ok-symbol.symbol (λ names. statement_tree names found.0) c.in_ok-name.ensures.found (omega (arith, c.if-depth-gt-LIMIT.false))
+    variable_found c.args.index c.args.symbols.now c.in_ok-symbol.symbol (λ names. statement_tree names found.0) c.in_ok-name.ensures.found c.in_ok-name.ensures.within
     c.in_ok-symbol.ensures.symbol c.in_ok-symbol.ensures.names) c.behind_first.ensures.found
 
 pub returns-clause-shorter : goal.returns-clause-shorter
@@ -21,5 +23,5 @@ returns-clause-shorter c =
 pub returns-clause-refused : goal.returns-clause-refused
 returns-clause-refused c =
     IfErr-weaker c.behind_first.result _ _ (λ error. refused_inside
-    (variable_begins c.args.depth c.args.symbols.now c.in_ok-name.ensures.found (omega (arith, c.if-depth-gt-LIMIT.false)) c.in_ok-symbol.ensures.names) error)
+    (variable_begins c.args.depth c.args.symbols.now c.in_ok-name.ensures.found c.in_ok-name.ensures.within c.in_ok-symbol.ensures.names) error)
     c.behind_first.ensures.refused

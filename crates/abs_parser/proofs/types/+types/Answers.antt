@@ -1,5 +1,4 @@
 use Rattle.std.proofs.Common.{◌∙◌, ◌+◌, ◌∷◌, ◌++◌, [], List, refl, ap, arith, rules}
-use Rattle.std.proofs.lemmas.Result.{err_from_is_err_and}
 use Rattle.abs_lexer.specs.declared.lexeme.Lexeme.TheVariants as lexeme
 use Rattle.abs_lexer.specs.declared.lexeme.Punctuator.TheVariants as punctuator
 use Rattle.std.specs.declared.alloc.Global.{Global}
@@ -13,7 +12,7 @@ use Rattle.abs_parser.specs.Views.{spot}
 use Rattle.abs_parser.proofs.ListLemmas.{list_of_types, trees_of_types}
 use Rattle.abs_parser.proofs.ListSteps.{first_so_far, next_so_far, all_so_far, refused_first, refused_next}
 use Rattle.abs_parser.proofs.NameLemmas.{goes_on_further}
-use Rattle.abs_parser.proofs.StepLemmas.{opens, over_token, over_name, over_part, into_last, all_read, refused_inside, refused_deep, refused_other, fits_next, token_shorter, found_shorter, found_goes_on, symbol_kept}
+use Rattle.abs_parser.proofs.StepLemmas.{opens, over_token, over_name, over_part, into_last, all_read, refused_inside, refused_first_token, fits_next, token_shorter, found_shorter, found_goes_on, symbol_kept, passed_on}
 use Rattle.abs_parser.proofs.TypeLemmas.{type_opened, type_shut, arguments_follow, no_arguments, arguments_opened, type_named}
 use Rattle.abs_parser.proofs.types.+types.Goals as goal
 
@@ -24,26 +23,24 @@ type_arguments-returns-in_default-clause-found t c =
 
 pub type_arguments-returns-in_err-types-clause-refused : goal.type_arguments-returns-in_err-types-clause-refused
 type_arguments-returns-in_err-types-clause-refused t c =
-    let p = err_from_is_err_and c.from_residual.result c.from_residual.ensures.1 in
-    let less = c.in-Ok.ensures.found in
+    let less = c.in-Some.ensures.found in
     let fit = fits_next refl less in
     let outer = opens (Optional TypeArguments) c.args.depth c.args.symbols.now (spot c.args.from) _ (arguments_follow c.args.depth _ fit) in
     let inner = opens (One TypeArguments) c.args.depth c.args.symbols.now (spot c.args.from) _ (arguments_opened c.args.depth _ fit) in
-    rw (p.1, p.2) (refused_inside (into_last outer (over_token {kind = lexeme.Sign punctuator.Less} inner less refl refl c.requires.depth)) _ c.in_err-types.ensures.refused)
+    passed_on _ c.from_residual.result c.from_residual.ensures.1 (refused_inside (into_last outer (over_token {kind = lexeme.Sign punctuator.Less} inner less refl refl c.requires.depth)) _ c.in_err-types.ensures.refused)
 
 pub type_arguments-returns-in_err-end-clause-refused : goal.type_arguments-returns-in_err-end-clause-refused
 type_arguments-returns-in_err-end-clause-refused t c =
-    let p = err_from_is_err_and c.from_residual-in_err-end.result c.from_residual-in_err-end.ensures.1 in
-    let less = c.in-Ok.ensures.found in
+    let less = c.in-Some.ensures.found in
     let fit = fits_next refl less in
     let outer = opens (Optional TypeArguments) c.args.depth c.args.symbols.now (spot c.args.from) _ (arguments_follow c.args.depth _ fit) in
     let inner = opens (One TypeArguments) c.args.depth c.args.symbols.now (spot c.args.from) _ (arguments_opened c.args.depth _ fit) in
     let types = over_part (over_token {kind = lexeme.Sign punctuator.Less} inner less refl refl c.requires.depth) c.in_ok-types.ensures.found in
-    rw (p.1, p.2) (refused_inside (into_last outer types) _ (c.in_err-end.ensures.refused c.args.depth))
+    passed_on _ c.from_residual-in_err-end.result c.from_residual-in_err-end.ensures.1 (refused_inside (into_last outer types) _ c.in_err-end.ensures.refused)
 
 pub type_arguments-returns-clause-found : goal.type_arguments-returns-clause-found
 type_arguments-returns-clause-found t c =
-    let less = c.in-Ok.ensures.found in
+    let less = c.in-Some.ensures.found in
     let fit = fits_next refl less in
     let outer = opens (Optional TypeArguments) c.args.depth c.args.symbols.now (spot c.args.from) _ (arguments_follow c.args.depth _ fit) in
     let inner = opens (One TypeArguments) c.args.depth c.args.symbols.now (spot c.args.from) _ (arguments_opened c.args.depth _ fit) in
@@ -53,28 +50,20 @@ type_arguments-returns-clause-found t c =
 
 pub type_term-returns-in_err-name-clause-refused : goal.type_term-returns-in_err-name-clause-refused
 type_term-returns-in_err-name-clause-refused t c =
-    let p = err_from_is_err_and c.from_residual.result c.from_residual.ensures.1 in
-    let differs = c.in_err-name.ensures.other in
-    rw (p.1, p.2) (refused_other UpperName (One Type') c.args.depth (spot c.args.from) _ differs (type_shut c.args.depth _ differs) c.in_err-name.ensures.refused)
-
-pub type_term-returns-then-depth-eq-LIMIT-clause-refused : goal.type_term-returns-then-depth-eq-LIMIT-clause-refused
-type_term-returns-then-depth-eq-LIMIT-clause-refused t c =
-    let fit = fits_next refl c.in_ok-name.ensures.found in
-    rw c.deep.ensures (refused_deep (One Type') c.args.depth (spot c.args.from) UpperName (c.args.depth + 1) _ (type_opened c.args.depth _ fit) fit (omega arith))
+    passed_on _ c.from_residual.result c.from_residual.ensures.1 (refused_first_token UpperName (c.args.depth + 1) (One Type') c.args.depth (spot c.args.from) _ (type_opened c.args.depth _) (type_shut c.args.depth _) c.in_err-name.ensures.refused)
 
 pub type_term-returns-in_err-arguments-clause-refused : goal.type_term-returns-in_err-arguments-clause-refused
 type_term-returns-in_err-arguments-clause-refused t c =
-    let p = err_from_is_err_and c.from_residual-in_err-arguments.result c.from_residual-in_err-arguments.ensures.1 in
     let name = c.in_ok-name.ensures.found in
     let start = opens (One Type') c.args.depth c.args.symbols.now (spot c.args.from) _ (type_opened c.args.depth _ (fits_next refl name)) in
-    let named = over_name {kind = lexeme.UpperName} start name refl refl (omega arith) c.in_ok-symbol.ensures.names in
-    rw (p.1, p.2) (refused_inside named _ c.in_err-arguments.ensures.refused)
+    let named = over_name {kind = lexeme.UpperName} start name refl refl c.in_ok-name.ensures.within c.in_ok-symbol.ensures.names in
+    passed_on _ c.from_residual-in_err-arguments.result c.from_residual-in_err-arguments.ensures.1 (refused_inside named _ c.in_err-arguments.ensures.refused)
 
 pub type_term-returns-clause-found : goal.type_term-returns-clause-found
 type_term-returns-clause-found t c =
     let name = c.in_ok-name.ensures.found in
     let start = opens (One Type') c.args.depth c.args.symbols.now (spot c.args.from) _ (type_opened c.args.depth _ (fits_next refl name)) in
-    let named = over_name {kind = lexeme.UpperName} start name refl refl (omega arith) c.in_ok-symbol.ensures.names in
+    let named = over_name {kind = lexeme.UpperName} start name refl refl c.in_ok-name.ensures.within c.in_ok-symbol.ensures.names in
     let arguments = c.in_ok-arguments.ensures.found in
     all_read (over_part named arguments) (λ names more.
     type_named names c.in_ok-name.name.place c.in_ok-symbol.symbol c.in_ok-new.field-0 (ap (λ (v : Vec TypeTerm Global). v.items) c.in_ok-new.ensures.ok)
@@ -82,34 +71,32 @@ type_term-returns-clause-found t c =
 
 pub types-returns-in_err-first-clause-refused : goal.types-returns-in_err-first-clause-refused
 types-returns-in_err-first-clause-refused t c =
-    let p = err_from_is_err_and c.from_residual.result c.from_residual.ensures.1 in
-    rw (p.1, p.2) (refused_first list_of_types c.args.depth (spot c.args.from) _ c.in_err-first.ensures.refused)
+    passed_on _ c.from_residual.result c.from_residual.ensures.1 (refused_first list_of_types c.args.depth (spot c.args.from) _ c.in_err-first.ensures.refused)
 
 pub types-loop-behind-init : goal.types-loop-behind-init
 types-loop-behind-init t c = record {
-  read = first_so_far list_of_types trees_of_types (c.in_ok-push.ensures.items ∙ ap (λ (l : List TypeTerm). l ++ c.in_ok-first.first ∷ []) c.new-types.ensures.items) c.in_ok-first.ensures.found;
+  read = first_so_far list_of_types trees_of_types c.in_ok-types.ensures.items c.in_ok-first.ensures.found;
 }
 
-pub types-type_term-requires-in-Ok : goal.types-type_term-requires-in-Ok
-types-type_term-requires-in-Ok t c =
+pub types-type_term-requires-in-Some : goal.types-type_term-requires-in-Some
+types-type_term-requires-in-Some t c =
     let few = c.loop-behind.invariant.read.read.few in
     let shorter = c.loop-behind.invariant.read.read.shorter in
-    let comma = token_shorter c.in-Ok.ensures.found.takes in
-    (search rules, (omega arith, c.requires.depth))
+    let comma = token_shorter c.in-Some.ensures.found.takes in
+    (search rules, (omega arith, omega arith))
 
 pub types-returns-in_err-next-clause-refused : goal.types-returns-in_err-next-clause-refused
 types-returns-in_err-next-clause-refused t c =
-    let p = err_from_is_err_and c.from_residual-in_err-next.result c.from_residual-in_err-next.ensures.1 in
-    rw (p.1, p.2) (refused_next c.loop-behind.invariant.read c.in-Ok.ensures.found c.requires.depth _ c.in_err-next.ensures.refused)
+    passed_on _ c.from_residual-in_err-next.result c.from_residual-in_err-next.ensures.1 (refused_next c.loop-behind.invariant.read c.in-Some.ensures.found c.requires.depth _ c.in_err-next.ensures.refused)
 
 pub types-loop-behind-smaller : goal.types-loop-behind-smaller
 types-loop-behind-smaller t c =
-    let comma = token_shorter c.in-Ok.ensures.found.takes in
+    let comma = token_shorter c.in-Some.ensures.found.takes in
     let type = found_shorter c.in_ok-next.ensures.found in
     omega arith
 
 pub types-loop-behind-preserved : goal.types-loop-behind-preserved
-types-loop-behind-preserved t c = record { read = next_so_far c.loop-behind.invariant.read c.in_ok-push-2.ensures.items c.in-Ok.ensures.found c.requires.depth c.in_ok-next.ensures.found }
+types-loop-behind-preserved t c = record { read = next_so_far c.loop-behind.invariant.read c.in_ok-push.ensures.items c.in-Some.ensures.found c.requires.depth c.in_ok-next.ensures.found }
 
 pub types-returns-clause-found : goal.types-returns-clause-found
 types-returns-clause-found t c = all_so_far c.loop-behind.invariant.read c.in_default.ensures.other
