@@ -18,7 +18,7 @@ use Rattle.abs_tree.specs.Refusals.{IsFirst}
 use Rattle.abs_tree.specs.Syntax.{Name, Phrase, NumberOf, VariableOf, Prefixed, OperatorsOf, ApplyOf, NoPhrase, NextPhrase, Operands, NoOperands, NextOperand, SideTree, ValueOf, ToVariable, SomeSide, Statement, DeclareOf, AssignOf, PrintOf, Statements, NoStatement, NextStatement, DeclTree, SourceTree}
 use Rattle.abs_tree.specs.Trees.{ExprTree, Local, Apply, Negate, Operators, NoMore, More, OperandTrees, Then, StmtTree, Declare, Assign, Print, ProgramTree}
 use Rattle.abs_lexer.specs.Tokens.{Lexed, TokenList, Rise as TokensRise}
-use Rattle.abs_parser.specs.Kinds.{Token, TextEnd, marks, place_of_mark}
+use Rattle.abs_parser.specs.TokenKinds.{Token, TextEnd, marks, place_of_mark}
 use Rattle.abs_parser.specs.Texts.{IsTextOf}
 use Rattle.abs_names.specs.NameOffences.{unknown_name, repeated_declaration, unknown_in, unknown_in_operands, offences_of, offences_from, name_offences}
 use Rattle.abs_names.specs.Scopes.{is_declared, scope_after_statement}

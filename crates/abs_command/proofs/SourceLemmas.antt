@@ -19,7 +19,7 @@ use Rattle.abs_lexer.specs.Tokens.{Lexed, TokenList, TokensOf, IsPieceAt}
 use Rattle.abs_parser.proofs.ReadingLemmas.{one_reading}
 use Rattle.abs_parser.proofs.OutcomeLemmas.{one_stop}
 use Rattle.abs_parser.specs.Answers.{IsWritten}
-use Rattle.abs_parser.specs.Kinds.{Mark, place_of_mark}
+use Rattle.abs_parser.specs.TokenKinds.{Mark, place_of_mark}
 use Rattle.abs_parser.specs.ReaderAnswers.{names_before}
 use Rattle.abs_parser.specs.Readings.{Forest}
 use Rattle.abs_parser.specs.Texts.{IsTextOf, StopsWith}

@@ -5,7 +5,7 @@ use Rattle.std.proofs.lemmas.Bool.Decides.{nat_tests}
 use Rattle.std.specs.Char.{is_ascii_digit, is_ascii_lowercase, is_ascii_uppercase}
 use Rattle.std.specs.Prelude.{slice_index}
 use Rattle.abs_lexer.specs.declared.lexeme.Lexeme.{Lexeme}
-use Rattle.abs_lexer.specs.declared.lexeme.Lexeme.TheVariants.{UpperName, Number, Text, Sign}
+use Rattle.abs_lexer.specs.declared.lexeme.Lexeme.TheVariants.{UpperName, Number, Text, Punctuator as PunctuatorLexeme}
 use Rattle.abs_lexer.specs.declared.lexeme.Punctuator.{Punctuator}
 use Rattle.abs_lexer.specs.declared.lexeme.Punctuator.TheVariants as punctuator
 use Rattle.abs_lexer.specs.declared.piece.Piece.{Piece}
@@ -167,7 +167,7 @@ pub data FormOf (kind : Lexeme) (piece : List ℕ) : Class → Type 0 where
   upper : IsName is_ascii_uppercase piece → kind ≡ UpperName → FormOf kind piece Upper
   number : IsNumber piece → kind ≡ Number → FormOf kind piece Digit
   text : IsQuoted is_on_line piece → kind ≡ Text → FormOf kind piece Quote
-  sign : (p : Punctuator) → piece ≡ punctuator_bytes p → kind ≡ Sign p → FormOf kind piece Mark
+  sign : (p : Punctuator) → piece ≡ punctuator_bytes p → kind ≡ PunctuatorLexeme p → FormOf kind piece Mark
 
 -- the first byte of a name and of a number
 pub first_of_name : {is_first : ℕ → Bool} {piece : List ℕ} (x : IsName is_first piece) (behind : List ℕ) → slice_index (piece ++ behind) 0 ≡ x.first

@@ -11,7 +11,7 @@ use Rattle.std.specs.Str.Parse.{digits_value}
 use Rattle.abs_tree.specs.declared.place.Place.{Place}
 use Rattle.abs_tree.specs.declared.refusal.Code.TheVariants.{L4}
 use Rattle.abs_lexer.specs.declared.lexeme.Lexeme.{Lexeme}
-use Rattle.abs_lexer.specs.declared.lexeme.Lexeme.TheVariants.{UpperName, Number, Text, Sign}
+use Rattle.abs_lexer.specs.declared.lexeme.Lexeme.TheVariants.{UpperName, Number, Text, Punctuator as PunctuatorLexeme}
 use Rattle.abs_lexer.specs.declared.piece.Piece.{Piece}
 use Rattle.abs_lexer.specs.declared.piece.Piece.TheVariants.{Blank, Token, Offence}
 use Rattle.abs_lexer.specs.Words.{word_kind, punctuator_bytes}
@@ -145,7 +145,7 @@ token_found {kind} {bytes} piece behind is unopened x sound Mark class (sign p s
     let marks : mark_at bytes ≡ punctuator_at bytes = rw (opens.0, opens.1) refl in
     piece_of_class Mark bytes class
     ∙ (marks
-    ∙ (sign_is_found p piece behind is spelled (λ q more is_q. x.longest (Sign q) (punctuator_bytes q) more (sym is ∙ is_q) (form_sign q refl refl)) ∙ ap (λ (k : Lexeme). Token k (length piece)) (sym e)))
+    ∙ (sign_is_found p piece behind is spelled (λ q more is_q. x.longest (PunctuatorLexeme q) (punctuator_bytes q) more (sym is ∙ is_q) (form_sign q refl refl)) ∙ ap (λ (k : Lexeme). Token k (length piece)) (sym e)))
 
 -- whatever stands in front without an offence is found
 pub begins_found : {place : Place} {bytes : List ℕ} (piece behind : List ℕ) {tokens : List Lexed} → bytes ≡ piece ++ behind → Begins place piece behind tokens

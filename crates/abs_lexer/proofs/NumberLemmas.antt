@@ -1,9 +1,9 @@
 -- Digits in front of a text, and what the number that they write says of parsing them.
-use Rattle.std.proofs.Common.{◌≡◌, ℕ, ℤ, pos, zero, suc, ◌<◌, ◌^◌, true, List, [], ◌∷◌, Result, Ok, Err, length, nat_lt, arith, lit<}
+use Rattle.std.proofs.Common.{◌≡◌, ℕ, ℤ, pos, zero, suc, ◌<◌, ◌≤◌, ◌^◌, true, List, [], ◌∷◌, Result, Ok, Err, length, nat_lt, arith, lit<}
 use Rattle.std.proofs.lemmas.Bool.Decides.{nat_tests}
 use Rattle.std.proofs.lemmas.List.Elements.{All-tail}
 use Rattle.std.proofs.lemmas.Str.{IsUtf8-from_ascii}
-use Rattle.std.proofs.lemmas.Str.Parse.{parse_signed_digits, numerals_by_value, tells_by_index}
+use Rattle.std.proofs.lemmas.Str.Parse.{parse_signed_digits, numerals_by_value, tells_by_index, digits_value_short}
 use Rattle.std.specs.Char.{is_ascii_digit}
 use Rattle.std.specs.Int.{IsInRange}
 use Rattle.std.specs.List.{AllPass}
@@ -38,3 +38,9 @@ pub parses_small : {E : Type 0} (digits : List ℕ) (parsed : Result ℤ E) → 
 parses_small digits parsed passes some parses =
     parsed_by parsed (length digits) (digits_value 10 digits) some
     (parse_signed_digits (numerals_by_value _ tells_by_index) w128 digits parsed parses (λ i few. digit_range _ (passes i 0 few)))
+
+-- and so few digits write a small number, whichever they are
+pub few_are_small : (digits : List ℕ) → AllPass is_ascii_digit digits → length digits ≤ 38 → true ≡ nat_lt (digits_value 10 digits) (2 ^ 127)
+few_are_small digits passes few =
+    let below = digits_value_short (numerals_by_value _ tells_by_index) digits 38 (λ i within. digit_range _ (passes i 0 within)) few in
+    grind (arith, nat_tests)

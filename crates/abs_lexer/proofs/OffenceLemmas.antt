@@ -13,7 +13,7 @@ use Rattle.abs_tree.specs.declared.refusal.Code.{Code}
 use Rattle.abs_tree.specs.declared.refusal.Code.TheVariants.{L1, L2, L3, L4}
 use Rattle.abs_tree.specs.declared.refusal.Offence.{Offence}
 use Rattle.abs_tree.specs.Places.{place_after}
-use Rattle.abs_lexer.specs.declared.lexeme.Lexeme.TheVariants.{UpperName, Number, Text, Sign}
+use Rattle.abs_lexer.specs.declared.lexeme.Lexeme.TheVariants.{UpperName, Number, Text, Punctuator as PunctuatorLexeme}
 use Rattle.abs_lexer.specs.declared.piece.Piece.TheVariants.{Blank, Token, Offence as Stop}
 use Rattle.abs_lexer.specs.Words.{word_kind, punctuator_bytes}
 use Rattle.abs_lexer.specs.Forms.{is_word, is_on_line, IsQuoted, IsComment}
@@ -90,7 +90,7 @@ stray_found bytes x = by (class_of x.byte) refl
     by Mark e =
         let opens = neither (opens_line bytes) (opens_block bytes) x.no_comment in
         let marks : mark_at bytes ≡ punctuator_at bytes = rw (opens.0, opens.1) refl in
-        piece_of_class Mark bytes (first Mark e) ∙ (marks ∙ no_sign_found bytes (λ p behind is. x.no_token (Sign p) (punctuator_bytes p) behind is (form_sign p refl refl)))
+        piece_of_class Mark bytes (first Mark e) ∙ (marks ∙ no_sign_found bytes (λ p behind is. x.no_token (PunctuatorLexeme p) (punctuator_bytes p) behind is (form_sign p refl refl)))
 
 -- a comment that doesn't end
 open_comment_found : (bytes : List ℕ) → IsOpenComment bytes → piece_at bytes ≡ Stop L2 0

@@ -9,7 +9,7 @@ use Rattle.std.specs.Prelude.{⊤, Option, Some, None}
 use Rattle.std.specs.Str.{bytes_eq}
 use Rattle.abs_tree.specs.declared.refusal.Code.TheVariants.{L1}
 use Rattle.abs_lexer.specs.declared.lexeme.Lexeme.{Lexeme}
-use Rattle.abs_lexer.specs.declared.lexeme.Lexeme.TheVariants.{Sign}
+use Rattle.abs_lexer.specs.declared.lexeme.Lexeme.TheVariants.{Punctuator as PunctuatorLexeme}
 use Rattle.abs_lexer.specs.declared.lexeme.Punctuator.{Punctuator}
 use Rattle.abs_lexer.specs.declared.lexeme.Punctuator.TheVariants as punctuator
 use Rattle.abs_lexer.specs.declared.piece.Piece.TheVariants.{Token, Offence}
@@ -115,21 +115,21 @@ none_long (Some q) none = absurd (none q refl)
 
 -- the longest sign in front is found
 pub sign_is_found : {bytes : List ℕ} (p : Punctuator) (piece behind : List ℕ) → bytes ≡ piece ++ behind → piece ≡ punctuator_bytes p
-    → ((q : Punctuator) (more : List ℕ) → bytes ≡ punctuator_bytes q ++ more → length (punctuator_bytes q) ≤ length piece) → punctuator_at bytes ≡ Token (Sign p) (length piece)
+    → ((q : Punctuator) (more : List ℕ) → bytes ≡ punctuator_bytes q ++ more → length (punctuator_bytes q) ≤ length piece) → punctuator_at bytes ≡ Token (PunctuatorLexeme p) (length piece)
 unfolding punctuator_at
 sign_is_found {bytes} p piece behind is e longest = by (size_of p)
   where
-    by : SizeOf p → punctuator_piece (long_punctuator (take 2 bytes)) (short_punctuator (take 1 bytes)) ≡ Token (Sign p) (length piece)
+    by : SizeOf p → punctuator_piece (long_punctuator (take 2 bytes)) (short_punctuator (take 1 bytes)) ≡ Token (PunctuatorLexeme p) (length piece)
     by (long two known) =
         let found : long_punctuator (take 2 bytes) ≡ Some p = ap long_punctuator (front_is p piece behind 2 is e two) ∙ known in
-        rw found (ap (λ (n : ℕ). Token (Sign p) n) (sym (ap length e ∙ two)))
+        rw found (ap (λ (n : ℕ). Token (PunctuatorLexeme p) n) (sym (ap length e ∙ two)))
     by (short one known) =
         let none = none_long (long_punctuator (take 2 bytes)) (λ q found.
         let x = long_found (take 2 bytes) q found in
         let few = longest q (drop 2 bytes) (sym (take-append-drop 2 bytes) ∙ ap (λ (f : List ℕ). f ++ drop 2 bytes) (sym x.text)) in
         omega (arith, few, x.size_is, ap length e, one)) in
         let found : short_punctuator (take 1 bytes) ≡ Some p = ap short_punctuator (front_is p piece behind 1 is e one) ∙ known in
-        rw (none, found) (ap (λ (n : ℕ). Token (Sign p) n) (sym (ap length e ∙ one)))
+        rw (none, found) (ap (λ (n : ℕ). Token (PunctuatorLexeme p) n) (sym (ap length e ∙ one)))
 
 -- where a sign stands in front, one is found
 not_none : (bytes : List ℕ) (q : Punctuator) (more : List ℕ) → bytes ≡ punctuator_bytes q ++ more → long_punctuator (take 2 bytes) ≡ None → short_punctuator (take 1 bytes) ≡ None → ⊥
@@ -173,12 +173,12 @@ describe_sign byte others class no_comment = by (long_punctuator (take 2 bytes))
     by : (long_one short_one : Option Punctuator) → long_punctuator (take 2 bytes) ≡ long_one → short_punctuator (take 1 bytes) ≡ short_one → Describes bytes (punctuator_piece long_one short_one)
     by (Some p) short_one l s =
         let x = long_found (take 2 bytes) p l in
-        token (Sign p) (punctuator_bytes p) (drop 2 bytes) 2 (in_front p 2 x) no_comment
+        token (PunctuatorLexeme p) (punctuator_bytes p) (drop 2 bytes) 2 (in_front p 2 x) no_comment
         (longest_in (in_front p 2 x) (form_sign p refl refl) (λ other longer more e y.
         let q = signed longer more e y in omega (arith, ap length q.1, within q.0, x.size_is))) tt (sym x.size_is)
     by None (Some p) l s =
         let x = short_found (take 1 bytes) p s in
-        token (Sign p) (punctuator_bytes p) (drop 1 bytes) 1 (in_front p 1 x) no_comment
+        token (PunctuatorLexeme p) (punctuator_bytes p) (drop 1 bytes) 1 (in_front p 1 x) no_comment
         (longest_in (in_front p 1 x) (form_sign p refl refl) (λ other longer more e y.
         let q = signed longer more e y in
         omega (arith, ap length q.1, one_byte q.0 more (e ∙ ap (λ (f : List ℕ). f ++ more) q.1) l, x.size_is))) tt (sym x.size_is)

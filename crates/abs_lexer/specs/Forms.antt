@@ -15,7 +15,7 @@ use Rattle.std.specs.Char.{is_ascii_alphanumeric, is_ascii_digit, is_ascii_lower
 use Rattle.std.specs.List.{AllPass}
 use Rattle.std.specs.Str.{bytes_eq}
 use Rattle.abs_lexer.specs.declared.lexeme.Lexeme.{Lexeme}
-use Rattle.abs_lexer.specs.declared.lexeme.Lexeme.TheVariants.{UpperName, Number, Text, Sign}
+use Rattle.abs_lexer.specs.declared.lexeme.Lexeme.TheVariants.{UpperName, Number, Text, Punctuator as PunctuatorLexeme}
 use Rattle.abs_lexer.specs.declared.lexeme.Punctuator.{Punctuator}
 use Rattle.abs_lexer.specs.Words.{word_kind, punctuator_bytes}
 
@@ -69,7 +69,7 @@ pub data IsForm (kind : Lexeme) (piece : List ℕ) : Type 0 where
   upper : IsName is_ascii_uppercase piece → kind ≡ UpperName → IsForm kind piece
   number : IsNumber piece → kind ≡ Number → IsForm kind piece
   text : IsQuoted is_on_line piece → kind ≡ Text → IsForm kind piece
-  sign : (punctuator : Punctuator) → piece ≡ punctuator_bytes punctuator → kind ≡ Sign punctuator → IsForm kind piece
+  sign : (punctuator : Punctuator) → piece ≡ punctuator_bytes punctuator → kind ≡ PunctuatorLexeme punctuator → IsForm kind piece
 
 -- whether the bytes begin with a comment's opening
 abbrev pub opens_comment : List ℕ → Bool

@@ -7,7 +7,7 @@ use Rattle.std.specs.Str.{bytes_eq}
 use Rattle.std.specs.Str.Lossy.{utf8_valid_len}
 use Rattle.std.specs.Str.Parse.{digits_value}
 use Rattle.abs_tree.specs.declared.refusal.Code.TheVariants.{L1, L2, L3, L4}
-use Rattle.abs_lexer.specs.declared.lexeme.Lexeme.TheVariants.{UpperName, Number, Text, Sign}
+use Rattle.abs_lexer.specs.declared.lexeme.Lexeme.TheVariants.{UpperName, Number, Text, Punctuator as PunctuatorLexeme}
 use Rattle.abs_lexer.specs.declared.lexeme.Punctuator.{Punctuator}
 use Rattle.abs_lexer.specs.declared.lexeme.Punctuator.TheVariants as sign
 use Rattle.abs_lexer.specs.declared.piece.Piece.{Piece}
@@ -109,8 +109,8 @@ short_punctuator = punctuator_among short_punctuators
 
 -- the piece that begins with any other byte
 abbrev pub punctuator_piece : Option Punctuator → Option Punctuator → Piece
-punctuator_piece (Some long) short = Token (Sign long) 2
-punctuator_piece None (Some short) = Token (Sign short) 1
+punctuator_piece (Some long) short = Token (PunctuatorLexeme long) 2
+punctuator_piece None (Some short) = Token (PunctuatorLexeme short) 1
 punctuator_piece None None = Offence L1 0
 
 unfoldable pub punctuator_at : List ℕ → Piece

@@ -11,7 +11,7 @@ use Rattle.std.specs.Str.Parse.{digits_value}
 use Rattle.abs_tree.specs.declared.place.Place.{Place}
 use Rattle.abs_tree.specs.Places.{start, place_after}
 use Rattle.abs_lexer.specs.declared.lexeme.Lexeme.{Lexeme}
-use Rattle.abs_lexer.specs.declared.lexeme.Lexeme.TheVariants.{LowerName, UpperName, Number, Text, Word, Foreign, Sign}
+use Rattle.abs_lexer.specs.declared.lexeme.Lexeme.TheVariants.{LowerName, UpperName, Number, Text, Keyword as KeywordLexeme, Foreign, Punctuator as PunctuatorLexeme}
 use Rattle.abs_lexer.specs.Forms.{is_white, is_escape, IsQuoted, IsForm, opens_comment, IsComment}
 
 -- a token of a source: its kind, the place of its first byte, and its bytes
@@ -36,9 +36,9 @@ IsSound LowerName piece = ⊤
 IsSound UpperName piece = ⊤
 IsSound Number piece = digits_value 10 piece < 2 ^ 127
 IsSound Text piece = IsQuoted is_escape piece × IsUtf8 piece
-IsSound (Word keyword) piece = ⊤
+IsSound (KeywordLexeme keyword) piece = ⊤
 IsSound Foreign piece = ⊤
-IsSound (Sign punctuator) piece = ⊤
+IsSound (PunctuatorLexeme punctuator) piece = ⊤
 
 -- The first piece of the bytes at a place, and what follows it: white space or a comment, which give no token, or a token.
 pub data Begins (place : Place) (piece behind : List ℕ) : List Lexed → Type 0 where

@@ -16,7 +16,7 @@ use Rattle.std.specs.Str.{bytes_eq}
 use Rattle.abs_lexer.specs.declared.lexeme.Keyword.{Keyword}
 use Rattle.abs_lexer.specs.declared.lexeme.Keyword.TheVariants as word
 use Rattle.abs_lexer.specs.declared.lexeme.Lexeme.{Lexeme}
-use Rattle.abs_lexer.specs.declared.lexeme.Lexeme.TheVariants.{LowerName, Foreign, Word}
+use Rattle.abs_lexer.specs.declared.lexeme.Lexeme.TheVariants.{LowerName, Foreign, Keyword as KeywordLexeme}
 use Rattle.abs_lexer.specs.declared.lexeme.Punctuator.{Punctuator}
 use Rattle.abs_lexer.specs.declared.lexeme.Punctuator.TheVariants as sign
 
@@ -84,7 +84,7 @@ is_foreign word = list_any (bytes_eq word) foreign_words
 
 -- the kind of a word that begins with a lower-case letter: a keyword, a word outside the profile, or a name
 abbrev pub kind_of_word : Option Keyword → Bool → Lexeme
-kind_of_word (Some keyword) foreign = Word keyword
+kind_of_word (Some keyword) foreign = KeywordLexeme keyword
 kind_of_word None true = Foreign
 kind_of_word None false = LowerName
 

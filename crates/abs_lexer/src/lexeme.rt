@@ -12,11 +12,11 @@ pub enum Lexeme {
     /// A string between its quotes.
     Text,
     /// A keyword.
-    Word(Keyword),
+    Keyword(Keyword),
     /// A word outside the profile of the language.
     Foreign,
     /// A punctuator.
-    Sign(Punctuator),
+    Punctuator(Punctuator),
 }
 
 /// A keyword: a word that the language reserves.

@@ -11,6 +11,9 @@ use crate::{Lexeme, Punctuator, span};
 use abs_tree::Code;
 use std::cmp::min;
 
+/// How many digits a number may have that is small whatever they are: ten to this power is below two to the 127th.
+const SURELY_SMALL: usize = 38;
+
 /// The first piece of some bytes.
 #[derive(Clone, Copy, Debug, PartialEq, Eq)]
 pub(crate) enum Piece {
@@ -126,10 +129,10 @@ fn punctuator(bytes: &[u8]) -> Piece
     ensures { result ≡ punctuator_at bytes.now }
 {
     if let Some(long) = long_punctuator_at(bytes) {
-        return Piece::Token(Lexeme::Sign(long), 2);
+        return Piece::Token(Lexeme::Punctuator(long), 2);
     }
     match short_punctuator(bytes[0]) {
-        Some(short) => Piece::Token(Lexeme::Sign(short), 1),
+        Some(short) => Piece::Token(Lexeme::Punctuator(short), 1),
         None => Piece::Offence(Code::L1, 0),
     }
 }
@@ -151,6 +154,9 @@ fn is_small(digits: &[u8]) -> bool
     requires digits { AllPass is_ascii_digit digits.now }
     ensures { result ≡ nat_lt (digits_value 10 digits.now) (2 ^ 127) }
 {
+    if digits.len() <= SURELY_SMALL {
+        return true;
+    }
     match str::from_utf8(digits) {
         Ok(text) => text.parse::<i128>().is_ok(),
         Err(_) => false,

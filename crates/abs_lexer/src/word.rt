@@ -30,7 +30,7 @@ pub(crate) fn word_kind(word: &[u8]) -> Lexeme
     ensures { result ≡ word_kind_of word.now }
 {
     match keyword(word) {
-        Some(keyword) => Lexeme::Word(keyword),
+        Some(keyword) => Lexeme::Keyword(keyword),
         None if is_foreign(word) => Lexeme::Foreign,
         None => Lexeme::LowerName,
     }

@@ -15,7 +15,7 @@ use Rattle.abs_lexer.specs.declared.lexeme.Punctuator.TheVariants as punctuator
 use Rattle.abs_lexer.specs.Words.{spelling, punctuator_bytes, keywords, keyword_among}
 use Rattle.abs_lexer.specs.Scans.{punctuator_among, long_punctuators, short_punctuators}
 use Rattle.abs_lexer.specs.Tokens.{Lexed}
-use Rattle.abs_parser.specs.Kinds.{Kind, Token, TextEnd, LowerName, LocalName, UpperName, AbsName, StdLibName, Number, Text, Word, Foreign, Sign, End, kind_of_lexeme, kind_of, fits, next}
+use Rattle.abs_parser.specs.TokenKinds.{TokenKind, Token, TextEnd, LowerName, LocalName, UpperName, AbsName, StdLibName, Number, Text, KeywordKind, Foreign, PunctuatorKind, End, token_kind_of, token_kind, fits, next}
 use Rattle.abs_parser.specs.Readings.{Wanted, Terminal}
 use Rattle.abs_parser.specs.Refusing.{Other}
 use Rattle.abs_parser.specs.ReaderAnswers.{asked, left_at, wrong_at, RefusedAt, IsRefused}
@@ -49,17 +49,17 @@ written_alike a b alike =
     cc
 
 -- what fits a keyword is this keyword
-pub word_fits : (word : Keyword) (found : Kind) → fits (Word word) found ≡ true → found ≡ Word word
-word_fits word (Word other) e = ap Word (sym (spelled_alike word other e))
+pub word_fits : (word : Keyword) (found : TokenKind) → fits (KeywordKind word) found ≡ true → found ≡ KeywordKind word
+word_fits word (KeywordKind other) e = ap KeywordKind (sym (spelled_alike word other e))
 word_fits word _ e = cc
 
 -- and what fits a punctuator is this punctuator
-pub sign_fits : (sign : Punctuator) (found : Kind) → fits (Sign sign) found ≡ true → found ≡ Sign sign
-sign_fits sign (Sign other) e = ap Sign (sym (written_alike sign other e))
+pub sign_fits : (sign : Punctuator) (found : TokenKind) → fits (PunctuatorKind sign) found ≡ true → found ≡ PunctuatorKind sign
+sign_fits sign (PunctuatorKind other) e = ap PunctuatorKind (sym (written_alike sign other e))
 sign_fits sign _ e = cc
 
 -- the kind of token that a kind of the grammar is of; at the end there is none
-lexeme_of : Kind → Option Lexeme
+lexeme_of : TokenKind → Option Lexeme
 lexeme_of LowerName = Some lexeme.LowerName
 lexeme_of LocalName = Some lexeme.LowerName
 lexeme_of UpperName = Some lexeme.UpperName
@@ -67,9 +67,9 @@ lexeme_of AbsName = Some lexeme.UpperName
 lexeme_of StdLibName = Some lexeme.UpperName
 lexeme_of Number = Some lexeme.Number
 lexeme_of Text = Some lexeme.Text
-lexeme_of (Word word) = Some (lexeme.Word word)
+lexeme_of (KeywordKind word) = Some (lexeme.Keyword word)
 lexeme_of Foreign = Some lexeme.Foreign
-lexeme_of (Sign sign) = Some (lexeme.Sign sign)
+lexeme_of (PunctuatorKind sign) = Some (lexeme.Punctuator sign)
 lexeme_of End = None
 
 -- a lower-case name is one, with a text of its own or without
@@ -86,18 +86,18 @@ upper_of false true = refl
 upper_of false false = refl
 
 -- the kind of a token is of the token's own kind
-of_token : (kind : Lexeme) (bytes : List ℕ) → lexeme_of (kind_of_lexeme kind bytes) ≡ Some kind
+of_token : (kind : Lexeme) (bytes : List ℕ) → lexeme_of (token_kind_of kind bytes) ≡ Some kind
 unfolding lexeme_of
 of_token lexeme.LowerName bytes = lower_of (bytes_eq bytes (codes "local"))
 of_token lexeme.UpperName bytes = upper_of (bytes_eq bytes (codes "ABS")) (bytes_eq bytes (codes "StdLib"))
 of_token lexeme.Number bytes = refl
 of_token lexeme.Text bytes = refl
-of_token (lexeme.Word word) bytes = refl
+of_token (lexeme.Keyword word) bytes = refl
 of_token lexeme.Foreign bytes = refl
-of_token (lexeme.Sign sign) bytes = refl
+of_token (lexeme.Punctuator sign) bytes = refl
 
 -- what fits a kind that is asked for is of that kind
-of_asked : (kind : Lexeme) (found : Kind) → fits (asked kind) found ≡ true → lexeme_of found ≡ Some kind
+of_asked : (kind : Lexeme) (found : TokenKind) → fits (asked kind) found ≡ true → lexeme_of found ≡ Some kind
 unfolding lexeme_of
 of_asked lexeme.LowerName LowerName e = refl
 of_asked lexeme.LowerName LocalName e = refl
@@ -110,19 +110,19 @@ of_asked lexeme.Number Number e = refl
 of_asked lexeme.Number _ e = cc
 of_asked lexeme.Text Text e = refl
 of_asked lexeme.Text _ e = cc
-of_asked (lexeme.Word word) (Word other) e = ap (λ (found : Keyword). Some (lexeme.Word found)) (sym (spelled_alike word other e))
-of_asked (lexeme.Word word) _ e = cc
+of_asked (lexeme.Keyword word) (KeywordKind other) e = ap (λ (found : Keyword). Some (lexeme.Keyword found)) (sym (spelled_alike word other e))
+of_asked (lexeme.Keyword word) _ e = cc
 of_asked lexeme.Foreign _ e = cc
-of_asked (lexeme.Sign sign) (Sign other) e = ap (λ (found : Punctuator). Some (lexeme.Sign found)) (sym (written_alike sign other e))
-of_asked (lexeme.Sign sign) _ e = cc
+of_asked (lexeme.Punctuator sign) (PunctuatorKind other) e = ap (λ (found : Punctuator). Some (lexeme.Punctuator found)) (sym (written_alike sign other e))
+of_asked (lexeme.Punctuator sign) _ e = cc
 
 -- a token of another kind does not fit the kind that is asked for
-pub other_kind : (kind : Lexeme) (token : Lexed) → (token.kind ≡ kind → ⊥) → fits (asked kind) (kind_of_lexeme token.kind token.bytes) ≡ false
-other_kind kind token differs = by (fits (asked kind) (kind_of_lexeme token.kind token.bytes)) refl
+pub other_kind : (kind : Lexeme) (token : Lexed) → (token.kind ≡ kind → ⊥) → fits (asked kind) (token_kind_of token.kind token.bytes) ≡ false
+other_kind kind token differs = by (fits (asked kind) (token_kind_of token.kind token.bytes)) refl
   where
-    by : (fit : Bool) → fits (asked kind) (kind_of_lexeme token.kind token.bytes) ≡ fit → fit ≡ false
+    by : (fit : Bool) → fits (asked kind) (token_kind_of token.kind token.bytes) ≡ fit → fit ≡ false
     by false e = refl
-    by true e = absurd (differs (let same : Some token.kind ≡ Some kind = sym (of_token token.kind token.bytes) ∙ of_asked kind (kind_of_lexeme token.kind token.bytes) e in cc))
+    by true e = absurd (differs (let same : Some token.kind ≡ Some kind = sym (of_token token.kind token.bytes) ∙ of_asked kind (token_kind_of token.kind token.bytes) e in cc))
 
 -- and neither does the end
 pub end_is_other : (kind : Lexeme) → fits (asked kind) End ≡ false
@@ -130,20 +130,20 @@ end_is_other lexeme.LowerName = refl
 end_is_other _ = refl
 
 -- the tokens that are left begin with one that does not fit, so what is wanted is refused at it
-refused_at_first : (kind : Kind) (depth : ℕ) (items : List Wanted) (rest : List Lexed) (end : Place)
+refused_at_first : (kind : TokenKind) (depth : ℕ) (items : List Wanted) (rest : List Lexed) (end : Place)
     → fits kind (next (left_at (record { rest = rest; end = end }))) ≡ false
     → RefusedAt (Terminal kind depth ∷ items) (left_at (record { rest = rest; end = end })) (wrong_at (record { rest = rest; end = end }))
 refused_at_first kind depth items [] end unfit = record { mark = TextEnd end; behind = []; code = S1; refuses = Other unfit refl; refusal_is = refl }
 refused_at_first kind depth items (token ∷ others) end unfit = record {
   mark = Token token;
   behind = left_at (record { rest = others; end = end });
-  code = wrong_code (kind_of (Token token));
+  code = wrong_code (token_kind (Token token));
   refuses = Other unfit refl;
   refusal_is = refl;
 }
 
 -- where the next token does not fit the kind that is asked for, a token of that kind is refused, whatever is to follow it
-pub other_refused : (kind : Kind) (from : Spot) (error : SourceError) → error ≡ Refused (wrong_at from) → fits kind (next (left_at from)) ≡ false
+pub other_refused : (kind : TokenKind) (from : Spot) (error : SourceError) → error ≡ Refused (wrong_at from) → fits kind (next (left_at from)) ≡ false
     → (depth : ℕ) → IsRefused (Terminal kind depth) from error
 other_refused kind from error is unfit depth = λ items. rw is (refused_at_first kind depth items from.rest from.end unfit)
 
@@ -156,11 +156,11 @@ pub unfit_end : (kind : Lexeme) (from : Spot) → from.rest ≡ [] → fits (ask
 unfit_end kind from ends = rw ends (end_is_other kind)
 
 -- what is of a kind of tokens does not fit where the end is asked for
-other_than_end : (found : Kind) {kind : Lexeme} → lexeme_of found ≡ Some kind → fits End found ≡ false
+other_than_end : (found : TokenKind) {kind : Lexeme} → lexeme_of found ≡ Some kind → fits End found ≡ false
 unfolding lexeme_of
 other_than_end End is = cc
 other_than_end _ is = refl
 
 -- so a token does not fit there
 pub unfit_for_end : {token : Lexed} {from to : Spot} → TakesToken token from to → fits End (next (left_at from)) ≡ false
-unfit_for_end {token} takes = rw takes.rest (other_than_end (kind_of_lexeme token.kind token.bytes) (of_token token.kind token.bytes))
+unfit_for_end {token} takes = rw takes.rest (other_than_end (token_kind_of token.kind token.bytes) (of_token token.kind token.bytes))

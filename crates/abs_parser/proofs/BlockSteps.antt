@@ -11,9 +11,9 @@ use Rattle.abs_lexer.specs.declared.lexeme.Punctuator.TheVariants as punctuator
 use Rattle.abs_lexer.specs.Tokens.{Lexed}
 use Rattle.abs_parser.specs.Answers.{GoesOn}
 use Rattle.abs_parser.specs.Firsts.{IsBlock}
-use Rattle.abs_parser.specs.Kinds.{Mark, Token, Sign, place_of_mark, fits, next}
+use Rattle.abs_parser.specs.TokenKinds.{Mark, Token, PunctuatorKind, place_of_mark, fits, next}
 use Rattle.abs_parser.specs.Productions.{Stmt, Block, begins, begins_within}
-use Rattle.abs_parser.specs.Readings.{One, Repeated, Terminal, Nonterminal, Forest, Empty, Leaf, Node}
+use Rattle.abs_parser.specs.Readings.{One, Repeated, Terminal, Subgoal, Forest, Empty, Leaf, Node}
 use Rattle.abs_parser.specs.ReaderAnswers.{left_at, TakesKind, FoundAs, IsRefused}
 use Rattle.abs_parser.specs.Stops.{limit}
 use Rattle.abs_parser.specs.Tokens.{Spot}
@@ -24,7 +24,7 @@ use Rattle.abs_parser.proofs.NameLemmas.{goes_on_further}
 use Rattle.abs_parser.proofs.RepeatSteps.{in_front, over_one_more, refused_up_to, none_before}
 use Rattle.abs_parser.proofs.StatementSteps.{IsStatement, block_opened}
 use Rattle.abs_parser.proofs.StepLemmas.{HasRead, opens, over_token, over_part, all_read, refused_inside, fits_next, token_shorter, found_goes_on}
-use Rattle.abs_parser.proofs.SymbolLemmas.{part_begun, repeated_opened}
+use Rattle.abs_parser.proofs.NonterminalLemmas.{part_begun, repeated_opened}
 
 -- the trees of statements, in front of others
 abbrev pub statements_before : List Name → List CodeStmt → Statements → Statements
@@ -51,7 +51,7 @@ before_count names (first ∷ others) stmt = omega (arith, before_count names ot
 -- index that is free then, and the "}" behind them, complete it.
 pub record ReadsBlock (index depth : ℕ) (old now : List (List ℕ)) (from here : Spot) (listed : List CodeStmt) : Type 0 where
   pub make : Forest → Forest
-  pub read : HasRead (One Block) depth old now from make (Nonterminal (Repeated Stmt) depth ∷ Terminal (Sign punctuator.CloseBrace) depth ∷ []) here
+  pub read : HasRead (One Block) depth old now from make (Subgoal (Repeated Stmt) depth ∷ Terminal (PunctuatorKind punctuator.CloseBrace) depth ∷ []) here
   pub shorter : length here.rest < length from.rest
   pub statements_are : (names : List Name) → GoesOn now names → (inside : Forest) (mark : Mark) (at : ℕ)
       → statements_before names listed (statements_in (index + statement_count (statements names listed)) inside) ≡ block_in index (make (Node (Repeated Stmt) inside (Leaf mark at Empty)))
@@ -62,7 +62,7 @@ none_counted : (index : ℕ) (inside : Forest) → statements_in (index + 0) ins
 none_counted index inside = let same : index + 0 ≡ index = omega arith in rw same refl
 
 -- up to the first statement
-pub first_statement : {brace : Lexed} {from here : Spot} {depth : ℕ} {listed : List CodeStmt} (index : ℕ) (table : List (List ℕ)) → listed ≡ [] → TakesKind (lexeme.Sign punctuator.OpenBrace) brace from here → depth ≤ limit
+pub first_statement : {brace : Lexed} {from here : Spot} {depth : ℕ} {listed : List CodeStmt} (index : ℕ) (table : List (List ℕ)) → listed ≡ [] → TakesKind (lexeme.Punctuator punctuator.OpenBrace) brace from here → depth ≤ limit
     → ReadsBlock index depth table table from here listed
 first_statement {brace} {from} {depth = depth} index table same takes within = rw same (record {
   make = λ rest. Leaf (Token brace) depth rest;
@@ -104,27 +104,27 @@ next_free index listed stmt same is_free is_behind names = rw same (omega (arith
 
 -- where the "}" is not next, the block is refused where the next statement is
 pub refused_statement : {depth : ℕ} {old now : List (List ℕ)} {index : ℕ} {from here : Spot} {listed : List CodeStmt} (error : SourceError) → ReadsBlock index depth old now from here listed
-    → fits (Sign punctuator.CloseBrace) (next (left_at here)) ≡ false → IsRefused (Nonterminal (One Stmt) depth) here error → IsRefused (Nonterminal (One Block) depth) from error
-refused_statement error so other refused = refused_up_to (Sign punctuator.CloseBrace) error so.read other refused
+    → fits (PunctuatorKind punctuator.CloseBrace) (next (left_at here)) ≡ false → IsRefused (Subgoal (One Stmt) depth) here error → IsRefused (Subgoal (One Block) depth) from error
+refused_statement error so other refused = refused_up_to (PunctuatorKind punctuator.CloseBrace) error so.read other refused
 
 -- no statement begins with a "}"
-no_statement_closes : begins Stmt (Sign punctuator.CloseBrace) ≡ false
+no_statement_closes : begins Stmt (PunctuatorKind punctuator.CloseBrace) ≡ false
 unfolding begins begins_within
 no_statement_closes = refl
 
 -- so where it is next, there is no further statement
-no_statement : (depth : ℕ) (table : List (List ℕ)) (here : Spot) → fits (Sign punctuator.CloseBrace) (next (left_at here)) ≡ true
+no_statement : (depth : ℕ) (table : List (List ℕ)) (here : Spot) → fits (PunctuatorKind punctuator.CloseBrace) (next (left_at here)) ≡ true
     → FoundAs (Repeated Stmt) depth table table here here (λ names inside. inside ≡ Empty)
 no_statement depth table here closes = none_before Stmt punctuator.CloseBrace depth table here no_statement_closes closes
 
 -- and the block is refused where the "}" is
 pub refused_brace : {depth : ℕ} {old now : List (List ℕ)} {index : ℕ} {from here : Spot} {listed : List CodeStmt} (error : SourceError) → ReadsBlock index depth old now from here listed
-    → fits (Sign punctuator.CloseBrace) (next (left_at here)) ≡ true → IsRefused (Terminal (Sign punctuator.CloseBrace) depth) here error → IsRefused (Nonterminal (One Block) depth) from error
+    → fits (PunctuatorKind punctuator.CloseBrace) (next (left_at here)) ≡ true → IsRefused (Terminal (PunctuatorKind punctuator.CloseBrace) depth) here error → IsRefused (Subgoal (One Block) depth) from error
 refused_brace {depth} {now = now} {here = here} error so closes refused = refused_inside (over_part so.read (no_statement depth now here closes)) error refused
 
 -- behind its "}" the block is found
 pub block_found : {brace : Lexed} {depth : ℕ} {old now : List (List ℕ)} {index : ℕ} {from here end : Spot} (body : Body) → body.end ≡ brace.place → ReadsBlock index depth old now from here body.statements.items
-    → TakesKind (lexeme.Sign punctuator.CloseBrace) brace here end → depth ≤ limit
+    → TakesKind (lexeme.Punctuator punctuator.CloseBrace) brace here end → depth ≤ limit
     → FoundAs (One Block) depth old now from end (λ names inside. IsBlock index names body inside)
 block_found {brace} {depth} {now = now} {index} {here = here} body closed so takes within =
     let none = no_statement depth now here (fits_next refl takes) in

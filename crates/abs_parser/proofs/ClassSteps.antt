@@ -15,9 +15,9 @@ use Rattle.abs_lexer.specs.declared.lexeme.Keyword.TheVariants as keyword
 use Rattle.abs_lexer.specs.declared.lexeme.Lexeme.TheVariants as lexeme
 use Rattle.abs_lexer.specs.declared.lexeme.Punctuator.TheVariants as punctuator
 use Rattle.abs_lexer.specs.Tokens.{Lexed}
-use Rattle.abs_parser.specs.Kinds.{Token, UpperName, Word, Sign}
+use Rattle.abs_parser.specs.TokenKinds.{Token, UpperName, KeywordKind, PunctuatorKind}
 use Rattle.abs_parser.specs.Productions.{Decl, ClassParameters, Implements, Member, begins, begins_within, chosen}
-use Rattle.abs_parser.specs.Readings.{One, Optional, Repeated, Wanted, Terminal, Nonterminal, opened, Forest, Empty, Leaf, Node}
+use Rattle.abs_parser.specs.Readings.{One, Optional, Repeated, Wanted, Terminal, Subgoal, opened, Forest, Empty, Leaf, Node}
 use Rattle.abs_parser.specs.ReaderAnswers.{TakesKind, FoundAs}
 use Rattle.abs_parser.specs.Stops.{limit}
 use Rattle.abs_parser.specs.Tokens.{Spot}
@@ -30,15 +30,15 @@ use Rattle.abs_parser.proofs.NameLemmas.{goes_on_further}
 use Rattle.abs_parser.proofs.StepLemmas.{HasRead, over_token, over_part, found_goes_on}
 
 -- no member begins with "}"
-pub no_member_closes : begins Member (Sign punctuator.CloseBrace) ≡ false
+pub no_member_closes : begins Member (PunctuatorKind punctuator.CloseBrace) ≡ false
 unfolding begins begins_within
 no_member_closes = refl
 
 -- the members of a class repeat up to it
 abbrev pub members_of : Parts CodeMember MemberTree
 members_of = record {
-  symbol = Member;
-  closing = lexeme.Sign punctuator.CloseBrace;
+  nonterminal = Member;
+  closing = lexeme.Punctuator punctuator.CloseBrace;
   closing_asked = refl;
   closing_unnamed = refl;
   closing_ends = ends_at Member punctuator.CloseBrace no_member_closes;
@@ -50,11 +50,11 @@ members_of = record {
 -- behind the name of a class stands this
 abbrev pub behind_class : ℕ → List Wanted
 behind_class at =
-    Nonterminal (Optional ClassParameters) at ∷ Nonterminal (Optional Implements) at ∷ Terminal (Sign punctuator.OpenBrace) at
-    ∷ Nonterminal (Repeated Member) at ∷ Terminal (Sign punctuator.CloseBrace) at ∷ []
+    Subgoal (Optional ClassParameters) at ∷ Subgoal (Optional Implements) at ∷ Terminal (PunctuatorKind punctuator.OpenBrace) at
+    ∷ Subgoal (Repeated Member) at ∷ Terminal (PunctuatorKind punctuator.CloseBrace) at ∷ []
 
 -- `class` opens a declaration
-pub class_opened : (depth : ℕ) → opened (One Decl) (Word keyword.Class) depth ≡ Some (Terminal (Word keyword.Class) depth ∷ Terminal UpperName depth ∷ behind_class depth)
+pub class_opened : (depth : ℕ) → opened (One Decl) (KeywordKind keyword.Class) depth ≡ Some (Terminal (KeywordKind keyword.Class) depth ∷ Terminal UpperName depth ∷ behind_class depth)
 unfolding begins chosen begins_within
 class_opened depth = refl
 
@@ -70,19 +70,19 @@ class_made place members others name params implemented = rw (name, params, impl
 
 -- over the word, the name and the parameters of a class
 pub class_begun : {word name : Lexed} {from name_at behind heading_at : Spot} {depth : ℕ} {old table now : List (List ℕ)} {is_read : List (List ℕ) → Forest → Type 0}
-    → TakesKind (lexeme.Word keyword.Class) word from name_at → TakesKind lexeme.UpperName name name_at behind → table ≡ with_name old name.bytes
+    → TakesKind (lexeme.Keyword keyword.Class) word from name_at → TakesKind lexeme.UpperName name name_at behind → table ≡ with_name old name.bytes
     → (params : FoundAs (Optional ClassParameters) depth table now behind heading_at is_read) → depth ≤ limit
     → HasRead (One Decl) depth old now from (λ rest. Leaf (Token word) depth (Leaf (Token name) depth (Node (Optional ClassParameters) params.inside rest)))
-    (Nonterminal (Optional Implements) depth ∷ Terminal (Sign punctuator.OpenBrace) depth ∷ Nonterminal (Repeated Member) depth ∷ Terminal (Sign punctuator.CloseBrace) depth ∷ []) heading_at
+    (Subgoal (Optional Implements) depth ∷ Terminal (PunctuatorKind punctuator.OpenBrace) depth ∷ Subgoal (Repeated Member) depth ∷ Terminal (PunctuatorKind punctuator.CloseBrace) depth ∷ []) heading_at
 class_begun {depth = depth} word name is params within = over_part (heading_read (class_opened depth) word name is within) params
 
 -- a class was read up to its first member
 pub first_member : {word name brace : Lexed} {from name_at behind heading_at open_at here : Spot} {depth : ℕ} {old table one now : List (List ℕ)} {members : List CodeMember}
     (index : ℕ) (symbol : NameSymbol) (params : List Param) (listed : List Declared) → members ≡ []
-    → TakesKind (lexeme.Word keyword.Class) word from name_at → TakesKind lexeme.UpperName name name_at behind → symbol.0 ≡ number_of_name old name.bytes → table ≡ with_name old name.bytes
+    → TakesKind (lexeme.Keyword keyword.Class) word from name_at → TakesKind lexeme.UpperName name name_at behind → symbol.0 ≡ number_of_name old name.bytes → table ≡ with_name old name.bytes
     → FoundAs (Optional ClassParameters) depth table one behind heading_at (λ names inside. map (param_tree names) params ≡ class_params_maybe inside)
     → FoundAs (Optional Implements) depth one now heading_at open_at (λ names inside. map (declared_tree names) listed ≡ names_maybe inside)
-    → TakesKind (lexeme.Sign punctuator.OpenBrace) brace open_at here → depth ≤ limit
+    → TakesKind (lexeme.Punctuator punctuator.OpenBrace) brace open_at here → depth ≤ limit
     → ReadsParts members_of (λ at. at ≡ index) (class_of word.place (record { place = name.place; name = symbol }) params listed) depth old now from here members
 first_member {word} {name} {brace} {depth = depth} {old} index symbol params listed same takes takes_name number is found implemented takes_brace within = rw same (record {
   make = λ rest.

@@ -1,5 +1,5 @@
 -- Each list of tokens is read as what is wanted, within the limit, or refused somewhere. This goes by recursion on the list and, for a
--- token in front, by opening parts until a token is wanted. That ends, since no symbol begins with itself: each alternative comes to a
+-- token in front, by opening parts until a token is wanted. That ends, since no nonterminal begins with itself: each alternative comes to a
 -- token within a few rounds, and what stands behind that token is decided at the shorter list.
 use Rattle.std.proofs.Common.{◌≡◌, ◌≤◌, ◌<◌, ℕ, zero, suc, Bool, true, false, ◌&&◌, List, [], ◌∷◌, ◌++◌, ◌+◌, Option, Some, None, option_map, refl, sym, ap, subst, ◌∙◌}
 use mathlib.Core.Logic.{◌⊎◌, inl, inr}
@@ -7,9 +7,9 @@ use Rattle.std.specs.List.{list_all, find}
 use Rattle.std.proofs.lemmas.Bool.{cases_Bool, cases_lt, and_parts, cond-true, cond-false}
 use Rattle.abs_tree.specs.declared.refusal.Code.{Code}
 use Rattle.abs_tree.specs.declared.refusal.Code.TheVariants.{S1}
-use Rattle.abs_parser.specs.Kinds.{Mark, Kind, kind_of, fits}
-use Rattle.abs_parser.specs.Productions.{Symbol, Program, Item, Of, Part, Opt, Many, Inside, rule, begins, chosen}
-use Rattle.abs_parser.specs.Readings.{Goal, One, Optional, Repeated, Wanted, Terminal, Nonterminal, place_item, place, inner_depth, opened, Empty, Nothing}
+use Rattle.abs_parser.specs.TokenKinds.{Mark, TokenKind, token_kind, fits}
+use Rattle.abs_parser.specs.Productions.{Nonterminal, Program, Item, Of, Part, Opt, Many, Inside, rule, begins, chosen}
+use Rattle.abs_parser.specs.Readings.{Goal, One, Optional, Repeated, Wanted, Terminal, Subgoal, place_item, place, inner_depth, opened, Empty, Nothing}
 use Rattle.abs_parser.specs.Stops.{limit}
 use Rattle.abs_parser.specs.Refusing.{Refuses, Behind, Other, Below, Past, Shut, Open, Cut, AllWithin}
 use Rattle.abs_parser.proofs.ReadingLemmas.{WholeReading, part_closed, token_put}
@@ -28,26 +28,26 @@ found_passes test passes (x ∷ others) one all e =
         subst (λ y. passes y ≡ true) same each.0
     at (inr is_not) each behind = behind each.1 (sym (cond-false (test x) (Some x) (find test others) is_not) ∙ e)
 
--- whether an item comes to a token, given which symbols do, and whether what stands behind the item does
-abbrev item_leads : (Symbol → Bool) → Item → Bool → Bool
+-- whether an item comes to a token, given which nonterminals do, and whether what stands behind the item does
+abbrev item_leads : (Nonterminal → Bool) → Item → Bool → Bool
 item_leads leads (Of kind) behind = true
-item_leads leads (Part symbol) behind = leads symbol
-item_leads leads (Opt symbol) behind = leads symbol && behind
-item_leads leads (Many symbol) behind = leads symbol && behind
+item_leads leads (Part nonterminal) behind = leads nonterminal
+item_leads leads (Opt nonterminal) behind = leads nonterminal && behind
+item_leads leads (Many nonterminal) behind = leads nonterminal && behind
 item_leads leads (Inside more item) behind = item_leads leads item behind
 
 -- whether the items of an alternative do
-abbrev items_lead : (Symbol → Bool) → List Item → Bool
+abbrev items_lead : (Nonterminal → Bool) → List Item → Bool
 items_lead leads [] = false
 items_lead leads (item ∷ others) = item_leads leads item (items_lead leads others)
 
--- whether each alternative of a symbol comes to a token within so many rounds of opening what stands in front
-leads_within : ℕ → Symbol → Bool
-leads_within zero symbol = false
-leads_within (suc rounds) symbol = list_all (items_lead (leads_within rounds)) (rule symbol)
+-- whether each alternative of a nonterminal comes to a token within so many rounds of opening what stands in front
+leads_within : ℕ → Nonterminal → Bool
+leads_within zero nonterminal = false
+leads_within (suc rounds) nonterminal = list_all (items_lead (leads_within rounds)) (rule nonterminal)
 
--- Each symbol comes to a token within 12 rounds.
-all_lead : (symbol : Symbol) → leads_within 12 symbol ≡ true
+-- Each nonterminal comes to a token within 12 rounds.
+all_lead : (nonterminal : Nonterminal) → leads_within 12 nonterminal ≡ true
 unfolding leads_within
 all_lead Program = refl
 all_lead _ = refl
@@ -59,10 +59,10 @@ pub data Decided (items : List Wanted) (ts : List Mark) : Type 0 where
 
 module _ (mark : Mark) (ts : List Mark) (behind : (items : List Wanted) → Decided items ts) where
   -- A wanted token is decided, since everything is behind it.
-  at_token : (kind : Kind) (depth : ℕ) (items : List Wanted) → Decided (Terminal kind depth ∷ items) (mark ∷ ts)
-  at_token kind depth items = go (cases_Bool (fits kind (kind_of mark))) (cases_lt limit depth) (behind items)
+  at_token : (kind : TokenKind) (depth : ℕ) (items : List Wanted) → Decided (Terminal kind depth ∷ items) (mark ∷ ts)
+  at_token kind depth items = go (cases_Bool (fits kind (token_kind mark))) (cases_lt limit depth) (behind items)
     where
-      go : (fits kind (kind_of mark) ≡ true) ⊎ (fits kind (kind_of mark) ≡ false) → (limit < depth) ⊎ (depth ≤ limit) → Decided items ts
+      go : (fits kind (token_kind mark) ≡ true) ⊎ (fits kind (token_kind mark) ≡ false) → (limit < depth) ⊎ (depth ≤ limit) → Decided items ts
           → Decided (Terminal kind depth ∷ items) (mark ∷ ts)
       go (inr other) room x = refused _ _ (Other other refl)
       go (inl fit) (inl deep) x = refused _ _ (Below fit deep)
@@ -70,77 +70,77 @@ module _ (mark : Mark) (ts : List Mark) (behind : (items : List Wanted) → Deci
       go (inl fit) (inr within) (refused rest code no_reading) = refused rest code (Past fit within no_reading)
 
   -- A part is decided where what it opens to is.
-  at_opened : (goal : Goal) (depth : ℕ) (inner items : List Wanted) → opened goal (kind_of mark) depth ≡ Some inner → Decided (inner ++ items) (mark ∷ ts)
-      → Decided (Nonterminal goal depth ∷ items) (mark ∷ ts)
+  at_opened : (goal : Goal) (depth : ℕ) (inner items : List Wanted) → opened goal (token_kind mark) depth ≡ Some inner → Decided (inner ++ items) (mark ∷ ts)
+      → Decided (Subgoal goal depth ∷ items) (mark ∷ ts)
   at_opened goal depth inner items e (read depths whole all) = read depths (part_closed e whole) all
   at_opened goal depth inner items e (refused rest code no_reading) = refused rest code (Open e no_reading)
 
   -- A part that may be left out is decided where the part is, and what stands behind it.
-  at_optional : (symbol : Symbol) (depth : ℕ) (items : List Wanted) → Decided (Nonterminal (One symbol) depth ∷ items) (mark ∷ ts) → Decided items (mark ∷ ts)
-      → Decided (Nonterminal (Optional symbol) depth ∷ items) (mark ∷ ts)
-  at_optional symbol depth items with_it without = go (cases_Bool (begins symbol (kind_of mark)))
+  at_optional : (nonterminal : Nonterminal) (depth : ℕ) (items : List Wanted) → Decided (Subgoal (One nonterminal) depth ∷ items) (mark ∷ ts) → Decided items (mark ∷ ts)
+      → Decided (Subgoal (Optional nonterminal) depth ∷ items) (mark ∷ ts)
+  at_optional nonterminal depth items with_it without = go (cases_Bool (begins nonterminal (token_kind mark)))
     where
-      go : (begins symbol (kind_of mark) ≡ true) ⊎ (begins symbol (kind_of mark) ≡ false) → Decided (Nonterminal (Optional symbol) depth ∷ items) (mark ∷ ts)
-      go (inl stands) = at_opened (Optional symbol) depth (Nonterminal (One symbol) depth ∷ []) items (cond-true _ _ _ stands) with_it
-      go (inr missing) = at_opened (Optional symbol) depth [] items (cond-false _ _ _ missing) without
+      go : (begins nonterminal (token_kind mark) ≡ true) ⊎ (begins nonterminal (token_kind mark) ≡ false) → Decided (Subgoal (Optional nonterminal) depth ∷ items) (mark ∷ ts)
+      go (inl stands) = at_opened (Optional nonterminal) depth (Subgoal (One nonterminal) depth ∷ []) items (cond-true _ _ _ stands) with_it
+      go (inr missing) = at_opened (Optional nonterminal) depth [] items (cond-false _ _ _ missing) without
 
   -- So is one that may stand any number of times: what stands behind the first of them is decided with it.
-  at_repeated : (symbol : Symbol) (depth : ℕ) (items : List Wanted)
-      → Decided (Nonterminal (One symbol) depth ∷ Nonterminal (Repeated symbol) depth ∷ items) (mark ∷ ts) → Decided items (mark ∷ ts)
-      → Decided (Nonterminal (Repeated symbol) depth ∷ items) (mark ∷ ts)
-  at_repeated symbol depth items with_one without = go (cases_Bool (begins symbol (kind_of mark)))
+  at_repeated : (nonterminal : Nonterminal) (depth : ℕ) (items : List Wanted)
+      → Decided (Subgoal (One nonterminal) depth ∷ Subgoal (Repeated nonterminal) depth ∷ items) (mark ∷ ts) → Decided items (mark ∷ ts)
+      → Decided (Subgoal (Repeated nonterminal) depth ∷ items) (mark ∷ ts)
+  at_repeated nonterminal depth items with_one without = go (cases_Bool (begins nonterminal (token_kind mark)))
     where
-      go : (begins symbol (kind_of mark) ≡ true) ⊎ (begins symbol (kind_of mark) ≡ false) → Decided (Nonterminal (Repeated symbol) depth ∷ items) (mark ∷ ts)
+      go : (begins nonterminal (token_kind mark) ≡ true) ⊎ (begins nonterminal (token_kind mark) ≡ false) → Decided (Subgoal (Repeated nonterminal) depth ∷ items) (mark ∷ ts)
       go (inl stands) =
-          at_opened (Repeated symbol) depth (Nonterminal (One symbol) depth ∷ Nonterminal (Repeated symbol) depth ∷ []) items (cond-true _ _ _ stands) with_one
-      go (inr missing) = at_opened (Repeated symbol) depth [] items (cond-false _ _ _ missing) without
+          at_opened (Repeated nonterminal) depth (Subgoal (One nonterminal) depth ∷ Subgoal (Repeated nonterminal) depth ∷ []) items (cond-true _ _ _ stands) with_one
+      go (inr missing) = at_opened (Repeated nonterminal) depth [] items (cond-false _ _ _ missing) without
 
-  -- these symbols are decided, whatever stands behind them
-  abbrev Decides : (Symbol → Bool) → Type 0
-  Decides leads = (symbol : Symbol) → leads symbol ≡ true → (depth : ℕ) (items : List Wanted) → Decided (Nonterminal (One symbol) depth ∷ items) (mark ∷ ts)
+  -- these nonterminals are decided, whatever stands behind them
+  abbrev Decides : (Nonterminal → Bool) → Type 0
+  Decides leads = (nonterminal : Nonterminal) → leads nonterminal ≡ true → (depth : ℕ) (items : List Wanted) → Decided (Subgoal (One nonterminal) depth ∷ items) (mark ∷ ts)
 
   -- An item that comes to a token is decided.
-  at_item : (leads : Symbol → Bool) → Decides leads → (item : Item) (others_lead : Bool) → item_leads leads item others_lead ≡ true → (depth : ℕ) (items : List Wanted)
+  at_item : (leads : Nonterminal → Bool) → Decides leads → (item : Item) (others_lead : Bool) → item_leads leads item others_lead ≡ true → (depth : ℕ) (items : List Wanted)
       → (others_lead ≡ true → Decided items (mark ∷ ts)) → Decided (place_item depth item ∷ items) (mark ∷ ts)
   at_item leads each (Of kind) others_lead e depth items others = at_token kind depth items
-  at_item leads each (Part symbol) others_lead e depth items others = each symbol e depth items
-  at_item leads each (Opt symbol) others_lead e depth items others =
-      let both = and_parts (leads symbol) others_lead e in
-      at_optional symbol depth items (each symbol both.0 depth items) (others both.1)
-  at_item leads each (Many symbol) others_lead e depth items others =
-      let both = and_parts (leads symbol) others_lead e in
-      at_repeated symbol depth items (each symbol both.0 depth (Nonterminal (Repeated symbol) depth ∷ items)) (others both.1)
+  at_item leads each (Part nonterminal) others_lead e depth items others = each nonterminal e depth items
+  at_item leads each (Opt nonterminal) others_lead e depth items others =
+      let both = and_parts (leads nonterminal) others_lead e in
+      at_optional nonterminal depth items (each nonterminal both.0 depth items) (others both.1)
+  at_item leads each (Many nonterminal) others_lead e depth items others =
+      let both = and_parts (leads nonterminal) others_lead e in
+      at_repeated nonterminal depth items (each nonterminal both.0 depth (Subgoal (Repeated nonterminal) depth ∷ items)) (others both.1)
   at_item leads each (Inside more item) others_lead e depth items others = at_item leads each item others_lead e (depth + more) items others
 
   -- An alternative that comes to a token is decided, whatever stands behind it.
-  at_alternative : (leads : Symbol → Bool) → Decides leads → (alternative : List Item) → items_lead leads alternative ≡ true → (depth : ℕ) (items : List Wanted)
+  at_alternative : (leads : Nonterminal → Bool) → Decides leads → (alternative : List Item) → items_lead leads alternative ≡ true → (depth : ℕ) (items : List Wanted)
       → Decided (place depth alternative ++ items) (mark ∷ ts)
   at_alternative leads each [] e depth items = cc
   at_alternative leads each (item ∷ alternative) e depth items =
       at_item leads each item (items_lead leads alternative) e depth (place depth alternative ++ items) (λ others_lead. at_alternative leads each alternative others_lead depth items)
 
-  -- And so is a symbol all of whose alternatives come to a token.
+  -- And so is a nonterminal all of whose alternatives come to a token.
   at_symbol : (rounds : ℕ) → Decides (leads_within rounds)
   unfolding leads_within chosen
-  at_symbol zero symbol e depth items = cc
-  at_symbol (suc rounds) symbol e depth items = go (at_symbol rounds) (chosen symbol (kind_of mark)) refl
+  at_symbol zero nonterminal e depth items = cc
+  at_symbol (suc rounds) nonterminal e depth items = go (at_symbol rounds) (chosen nonterminal (token_kind mark)) refl
     where
-      go : Decides (leads_within rounds) → (choice : Option (List Item)) → chosen symbol (kind_of mark) ≡ choice → Decided (Nonterminal (One symbol) depth ∷ items) (mark ∷ ts)
-      go each None shut = refused _ _ (Shut (ap (option_map (place (inner_depth symbol depth))) shut) refl)
+      go : Decides (leads_within rounds) → (choice : Option (List Item)) → chosen nonterminal (token_kind mark) ≡ choice → Decided (Subgoal (One nonterminal) depth ∷ items) (mark ∷ ts)
+      go each None shut = refused _ _ (Shut (ap (option_map (place (inner_depth nonterminal depth))) shut) refl)
       go each (Some alternative) is =
-          let deeper = inner_depth symbol depth in
-          let leads = found_passes _ (items_lead (leads_within rounds)) (rule symbol) alternative e is in
+          let deeper = inner_depth nonterminal depth in
+          let leads = found_passes _ (items_lead (leads_within rounds)) (rule nonterminal) alternative e is in
           let inside = at_alternative (leads_within rounds) each alternative leads deeper items in
-          at_opened (One symbol) depth (place deeper alternative) items (ap (option_map (place deeper)) is) inside
+          at_opened (One nonterminal) depth (place deeper alternative) items (ap (option_map (place deeper)) is) inside
 
   -- Whatever is wanted is decided.
   at_stack : (items : List Wanted) → Decided items (mark ∷ ts)
   at_stack [] = refused _ _ (Behind refl)
   at_stack (Terminal kind depth ∷ items) = at_token kind depth items
-  at_stack (Nonterminal (One symbol) depth ∷ items) = at_symbol 12 symbol (all_lead symbol) depth items
-  at_stack (Nonterminal (Optional symbol) depth ∷ items) = at_optional symbol depth items (at_symbol 12 symbol (all_lead symbol) depth items) (at_stack items)
-  at_stack (Nonterminal (Repeated symbol) depth ∷ items) =
-      at_repeated symbol depth items (at_symbol 12 symbol (all_lead symbol) depth (Nonterminal (Repeated symbol) depth ∷ items)) (at_stack items)
+  at_stack (Subgoal (One nonterminal) depth ∷ items) = at_symbol 12 nonterminal (all_lead nonterminal) depth items
+  at_stack (Subgoal (Optional nonterminal) depth ∷ items) = at_optional nonterminal depth items (at_symbol 12 nonterminal (all_lead nonterminal) depth items) (at_stack items)
+  at_stack (Subgoal (Repeated nonterminal) depth ∷ items) =
+      at_repeated nonterminal depth items (at_symbol 12 nonterminal (all_lead nonterminal) depth (Subgoal (Repeated nonterminal) depth ∷ items)) (at_stack items)
 
 -- Each list of tokens is read as what is wanted, or refused.
 pub decided : (ts : List Mark) (items : List Wanted) → Decided items ts

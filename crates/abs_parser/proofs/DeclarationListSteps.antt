@@ -16,9 +16,9 @@ use Rattle.abs_tree.specs.SyntaxViews.{decl_tree}
 use Rattle.abs_tree.specs.SyntaxSizes.{decl_statements}
 use Rattle.abs_tree.specs.declared.syntax.declaration.Decl.{Decl as CodeDecl}
 use Rattle.abs_parser.specs.Answers.{GoesOn}
-use Rattle.abs_parser.specs.Kinds.{Mark, Sign, fits, next}
+use Rattle.abs_parser.specs.TokenKinds.{Mark, PunctuatorKind, fits, next}
 use Rattle.abs_parser.specs.Productions.{Decl, Block, begins, begins_within}
-use Rattle.abs_parser.specs.Readings.{One, Repeated, Wanted, Nonterminal, Forest, Empty, Leaf, Node, Reads, Taken}
+use Rattle.abs_parser.specs.Readings.{One, Repeated, Wanted, Subgoal, Forest, Empty, Leaf, Node, Reads, Taken}
 use Rattle.abs_parser.specs.ReaderAnswers.{left_at, asked, wrong_at, FoundAs, IsRefused, IsRefusedWith}
 use Rattle.abs_parser.specs.Tokens.{Spot, TakesToken}
 use Rattle.abs_parser.specs.TreesOf.{decl_in, decls_in}
@@ -31,7 +31,7 @@ use Rattle.abs_parser.proofs.PatternSteps.{next_end}
 use Rattle.abs_parser.proofs.RepeatSteps.{in_front, over_one_more, none_before}
 use Rattle.abs_parser.proofs.StatementSteps.{block_shut}
 use Rattle.abs_parser.proofs.StepLemmas.{HasRead, inside_alone, left_whole, opens, over_part, all_read, refused_inside, refused_after, refused_alike, refused_shut, reads_shorter, left_length, found_goes_on}
-use Rattle.abs_parser.proofs.SymbolLemmas.{part_shut, part_begun, repeated_opened, repeated_ends}
+use Rattle.abs_parser.proofs.NonterminalLemmas.{part_shut, part_begun, repeated_opened, repeated_ends}
 
 -- The first token
 
@@ -41,13 +41,13 @@ declaration_words = keyword.Data ∷ keyword.Def ∷ keyword.Interface ∷ keywo
 
 -- whether a declaration may begin with a token of a kind
 abbrev begins_declaration : Lexeme → Bool
-begins_declaration (lexeme.Word word) = list_any (sameb keywords word) declaration_words
+begins_declaration (lexeme.Keyword word) = list_any (sameb keywords word) declaration_words
 begins_declaration _ = false
 
 -- that is so for each kind
 declaration_told : (kind : Lexeme) → begins_declaration kind ≡ begins Decl (asked kind)
 unfolding begins begins_within
-declaration_told (lexeme.Word keyword.Data) = refl
+declaration_told (lexeme.Keyword keyword.Data) = refl
 declaration_told _ = refl
 
 -- and for each name
@@ -56,17 +56,17 @@ unfolding begins begins_within
 declaration_kinds = record { told = declaration_told; local_too = refl; abs_too = refl; library_too = refl }
 
 -- with another word none begins
-pub no_declaration_word : {token : Lexed} {from behind : Spot} (word : Keyword) → TakesToken token from behind → token.kind ≡ lexeme.Word word → IsNoneOf declaration_words word
+pub no_declaration_word : {token : Lexed} {from behind : Spot} (word : Keyword) → TakesToken token from behind → token.kind ≡ lexeme.Keyword word → IsNoneOf declaration_words word
     → false ≡ begins Decl (next (left_at from))
-no_declaration_word word takes is none = begins_next declaration_kinds (lexeme.Word word) takes is (none_found keywords tt declaration_words word none)
+no_declaration_word word takes is none = begins_next declaration_kinds (lexeme.Keyword word) takes is (none_found keywords tt declaration_words word none)
 
 -- what is no word begins none
-no_word_begins : (kind : Lexeme) → ((word : Keyword) → kind ≡ lexeme.Word word → ⊥) → false ≡ begins_declaration kind
-no_word_begins (lexeme.Word word) no_word = absurd (no_word word refl)
+no_word_begins : (kind : Lexeme) → ((word : Keyword) → kind ≡ lexeme.Keyword word → ⊥) → false ≡ begins_declaration kind
+no_word_begins (lexeme.Keyword word) no_word = absurd (no_word word refl)
 no_word_begins _ no_word = refl
 
 -- nor does a token that is none
-pub no_declaration_kind : {token : Lexed} {from behind : Spot} → TakesToken token from behind → ((word : Keyword) → token.kind ≡ lexeme.Word word → ⊥)
+pub no_declaration_kind : {token : Lexed} {from behind : Spot} → TakesToken token from behind → ((word : Keyword) → token.kind ≡ lexeme.Keyword word → ⊥)
     → false ≡ begins Decl (next (left_at from))
 no_declaration_kind {token} takes no_word = begins_next declaration_kinds token.kind takes refl (no_word_begins token.kind no_word)
 
@@ -77,7 +77,7 @@ no_declaration_at_end from ended = rw (next_end from ended) refl
 
 -- where none begins, it is refused
 pub refused_no_declaration : (from : Spot) (error : SourceError) → error ≡ Refused (wrong_at from) → false ≡ begins Decl (next (left_at from))
-    → IsRefused (Nonterminal (One Decl) 0) from error
+    → IsRefused (Subgoal (One Decl) 0) from error
 refused_no_declaration from error is none = rw is (refused_shut (One Decl) 0 from (part_shut Decl _ 0 (sym none)))
 
 -- One declaration
@@ -104,13 +104,13 @@ declaration_shorter {from} {to} {new = new} index decl found =
 -- what is read as further ones has its trees behind these.
 pub record DeclsSoFar (old now : List (List ℕ)) (index free : ℕ) (from here : Spot) (listed : List CodeDecl) : Type 0 where
   pub make : Forest → Forest
-  pub read : HasRead (Repeated Decl) 0 old now from make (Nonterminal (Repeated Decl) 0 ∷ []) here
+  pub read : HasRead (Repeated Decl) 0 old now from make (Subgoal (Repeated Decl) 0 ∷ []) here
   pub is : (names : List (List ℕ)) → GoesOn now names → (inside : Forest) → decls_in index (make (Node (Repeated Decl) inside Empty)) ≡ map (decl_tree names) listed ++ decls_in free inside
   pub is_free : (names : List (List ℕ)) → free ≡ index + decl_statements (map (decl_tree names) listed)
   pub few : free + length here.rest ≤ index + length from.rest
 
 -- none was at first, as the repeated part is left whole
-none_so_far : (table : List (List ℕ)) (index : ℕ) (from : Spot) → HasRead (Repeated Decl) 0 table table from inside_alone (Nonterminal (Repeated Decl) 0 ∷ []) from
+none_so_far : (table : List (List ℕ)) (index : ℕ) (from : Spot) → HasRead (Repeated Decl) 0 table table from inside_alone (Subgoal (Repeated Decl) 0 ∷ []) from
     → DeclsSoFar table table index index from from []
 none_so_far table index from read = record {
   make = inside_alone;
@@ -168,27 +168,27 @@ next_declaration {index = index} {free} {behind} {listed = listed} decl same so 
 
 -- by cases of whether one more may begin
 refused_by : (may : Bool) {old now : List (List ℕ)} {index free : ℕ} {from here : Spot} {listed : List CodeDecl} (error : SourceError) → begins Decl (next (left_at here)) ≡ may
-    → DeclsSoFar old now index free from here listed → fits (Sign punctuator.OpenBrace) (next (left_at here)) ≡ false → IsRefused (Nonterminal (One Decl) 0) here error
-    → IsRefusedWith (Nonterminal (Repeated Decl) 0) (Nonterminal (One Block) 0) from error
+    → DeclsSoFar old now index free from here listed → fits (PunctuatorKind punctuator.OpenBrace) (next (left_at here)) ≡ false → IsRefused (Subgoal (One Decl) 0) here error
+    → IsRefusedWith (Subgoal (Repeated Decl) 0) (Subgoal (One Block) 0) from error
 refused_by true {now = now} {here = here} error e so other refused = λ items.
-    refused_inside so.read error (refused_inside (opens (Repeated Decl) 0 now here _ (repeated_opened Decl _ 0 e)) error refused) (Nonterminal (One Block) 0 ∷ items)
-refused_by false {now = now} {here = here} error e so other refused = refused_after (Nonterminal (One Block) 0) so.read (no_part Decl 0 now here e) error
+    refused_inside so.read error (refused_inside (opens (Repeated Decl) 0 now here _ (repeated_opened Decl _ 0 e)) error refused) (Subgoal (One Block) 0 ∷ items)
+refused_by false {now = now} {here = here} error e so other refused = refused_after (Subgoal (One Block) 0) so.read (no_part Decl 0 now here e) error
     (refused_alike (One Decl) 0 (One Block) 0 here error (part_shut Decl _ 0 e) (block_shut _ 0 other) refused)
 
 -- where the main block is not next, what refuses one more declaration refuses them with the block
 pub refused_declaration : {old now : List (List ℕ)} {index free : ℕ} {from here : Spot} {listed : List CodeDecl} (error : SourceError)
-    → DeclsSoFar old now index free from here listed → fits (Sign punctuator.OpenBrace) (next (left_at here)) ≡ false → IsRefused (Nonterminal (One Decl) 0) here error
-    → IsRefusedWith (Nonterminal (Repeated Decl) 0) (Nonterminal (One Block) 0) from error
+    → DeclsSoFar old now index free from here listed → fits (PunctuatorKind punctuator.OpenBrace) (next (left_at here)) ≡ false → IsRefused (Subgoal (One Decl) 0) here error
+    → IsRefusedWith (Subgoal (Repeated Decl) 0) (Subgoal (One Block) 0) from error
 refused_declaration {here = here} error so other refused = refused_by (begins Decl (next (left_at here))) error refl so other refused
 
 -- no declaration begins with "{"
-no_declaration_opens : begins Decl (Sign punctuator.OpenBrace) ≡ false
+no_declaration_opens : begins Decl (PunctuatorKind punctuator.OpenBrace) ≡ false
 unfolding begins begins_within
 no_declaration_opens = refl
 
 -- so where it is next, these are all declarations
 pub declarations_found : {old now : List (List ℕ)} {index free : ℕ} {from here : Spot} {listed : List CodeDecl} → DeclsSoFar old now index free from here listed
-    → fits (Sign punctuator.OpenBrace) (next (left_at here)) ≡ true → FoundAs (Repeated Decl) 0 old now from here (λ names inside. map (decl_tree names) listed ≡ decls_in index inside)
+    → fits (PunctuatorKind punctuator.OpenBrace) (next (left_at here)) ≡ true → FoundAs (Repeated Decl) 0 old now from here (λ names inside. map (decl_tree names) listed ≡ decls_in index inside)
 declarations_found {now = now} {index} {free} {here = here} {listed = listed} so opens_block =
     let none = none_before Decl punctuator.OpenBrace 0 now here no_declaration_opens opens_block in
     all_read (over_part so.read none) (λ names more.

@@ -8,7 +8,7 @@ use Rattle.abs_tree.specs.Syntax.{ParamTree, TypeTree, DeclaredTree, SignatureTr
 use Rattle.abs_tree.specs.SyntaxSizes.{member_statements, decl_statements, fields_among, decl_fields, body_sizes, class_sizes}
 use Rattle.abs_tree.specs.SourceSizes.{signature_params, member_variables, decl_variables, all_variables}
 use Rattle.abs_lexer.specs.declared.lexeme.Keyword.TheVariants as keyword
-use Rattle.abs_parser.specs.Kinds.{Kind, Word, place_of_mark, kind_of}
+use Rattle.abs_parser.specs.TokenKinds.{TokenKind, KeywordKind, place_of_mark, token_kind}
 use Rattle.abs_parser.specs.Readings.{Forest, Leaf, Node}
 use Rattle.abs_parser.specs.TreesOf.{type_in, declared, param_in, more_params, params_in, params_maybe, class_params_maybe, signature_in, signatures_in, member_by, member_in, members_in, decl_by, decl_in, decls_in, text_in, tree_of}
 use Rattle.abs_parser.proofs.LeafLemmas.{leaves}
@@ -87,19 +87,19 @@ fields_few index (Node _ member (Node _ others _)) = let behind = index + member
 fields_few index _ = omega arith
 
 -- a declaration has no more variables than leaves, by its first token, in front of others
-decl_by_few : (index : ℕ) (kind : Kind) (place : Place) (forest : Forest) (others : List DeclTree)
+decl_by_few : (index : ℕ) (kind : TokenKind) (place : Place) (forest : Forest) (others : List DeclTree)
     → decl_variables (decl_by index kind place forest others) ≤ leaves forest + decl_variables others
-decl_by_few index (Word keyword.Data) place (Leaf name _ (Node _ parameters (Leaf equals _ (Node _ first (Node _ more _))))) others = omega arith
-decl_by_few index (Word keyword.Def) place (Node _ type (Leaf name _ (Node _ parameters (Leaf opening _ (Node _ params (Leaf closing _ (Leaf equals _ (Node _ expr _)))))))) others =
+decl_by_few index (KeywordKind keyword.Data) place (Leaf name _ (Node _ parameters (Leaf equals _ (Node _ first (Node _ more _))))) others = omega arith
+decl_by_few index (KeywordKind keyword.Def) place (Node _ type (Leaf name _ (Node _ parameters (Leaf opening _ (Node _ params (Leaf closing _ (Leaf equals _ (Node _ expr _)))))))) others =
     omega (arith, params_maybe_few params, expr_few expr)
-decl_by_few index (Word keyword.Interface) place (Leaf name _ (Node _ extended (Leaf opening _ (Node _ signatures _)))) others = omega (arith, signatures_few signatures)
-decl_by_few index (Word keyword.Class) place (Leaf name _ (Node _ params (Node _ implemented (Leaf opening _ (Node _ members _))))) others =
+decl_by_few index (KeywordKind keyword.Interface) place (Leaf name _ (Node _ extended (Leaf opening _ (Node _ signatures _)))) others = omega (arith, signatures_few signatures)
+decl_by_few index (KeywordKind keyword.Class) place (Leaf name _ (Node _ params (Node _ implemented (Leaf opening _ (Node _ members _))))) others =
     omega (arith, class_params_few params, members_few index members)
 decl_by_few index _ place forest others = omega arith
 
 -- so it is of the whole declaration
 decl_few : (index : ℕ) (forest : Forest) (others : List DeclTree) → decl_variables (decl_in index forest others) ≤ leaves forest + decl_variables others
-decl_few index (Leaf mark _ inside) others = omega (arith, decl_by_few index (kind_of mark) (place_of_mark mark) inside others)
+decl_few index (Leaf mark _ inside) others = omega (arith, decl_by_few index (token_kind mark) (place_of_mark mark) inside others)
 decl_few index _ others = omega arith
 
 -- of all declarations
@@ -123,13 +123,13 @@ pub bodies_of_text : (forest : Forest) → All (λ n. n ≤ leaves forest) (body
 bodies_of_text forest = bodies_within (leaves forest) (tree_of forest) (variables_of_text forest)
 
 -- a class has no more fields than leaves, by the first token of its declaration, in front of others
-class_by_few : (index bound : ℕ) (kind : Kind) (place : Place) (forest : Forest) (others : List DeclTree) → leaves forest ≤ bound → All (λ n. n ≤ bound) (decl_fields others)
+class_by_few : (index bound : ℕ) (kind : TokenKind) (place : Place) (forest : Forest) (others : List DeclTree) → leaves forest ≤ bound → All (λ n. n ≤ bound) (decl_fields others)
     → All (λ n. n ≤ bound) (decl_fields (decl_by index kind place forest others))
-class_by_few index bound (Word keyword.Data) place (Leaf name _ (Node _ parameters (Leaf equals _ (Node _ first (Node _ more _))))) others few behind = behind
-class_by_few index bound (Word keyword.Def) place (Node _ type (Leaf name _ (Node _ parameters (Leaf opening _ (Node _ params (Leaf closing _ (Leaf equals _ (Node _ expr _)))))))) others few behind =
+class_by_few index bound (KeywordKind keyword.Data) place (Leaf name _ (Node _ parameters (Leaf equals _ (Node _ first (Node _ more _))))) others few behind = behind
+class_by_few index bound (KeywordKind keyword.Def) place (Node _ type (Leaf name _ (Node _ parameters (Leaf opening _ (Node _ params (Leaf closing _ (Leaf equals _ (Node _ expr _)))))))) others few behind =
     behind
-class_by_few index bound (Word keyword.Interface) place (Leaf name _ (Node _ extended (Leaf opening _ (Node _ signatures _)))) others few behind = behind
-class_by_few index bound (Word keyword.Class) place (Leaf name _ (Node _ params (Node _ implemented (Leaf opening _ (Node _ members _))))) others few behind =
+class_by_few index bound (KeywordKind keyword.Interface) place (Leaf name _ (Node _ extended (Leaf opening _ (Node _ signatures _)))) others few behind = behind
+class_by_few index bound (KeywordKind keyword.Class) place (Leaf name _ (Node _ params (Node _ implemented (Leaf opening _ (Node _ members _))))) others few behind =
     within_cons bound (length (class_params_maybe params) + fields_among (members_in index members)) (decl_fields others)
     (omega (arith, few, class_params_few params, fields_few index members))
     behind
@@ -138,7 +138,7 @@ class_by_few index bound _ place forest others few behind = behind
 -- so it is of the whole declaration
 class_few : (index bound : ℕ) (forest : Forest) (others : List DeclTree) → leaves forest ≤ bound → All (λ n. n ≤ bound) (decl_fields others)
     → All (λ n. n ≤ bound) (decl_fields (decl_in index forest others))
-class_few index bound (Leaf mark _ inside) others few behind = class_by_few index bound (kind_of mark) (place_of_mark mark) inside others (omega (arith, few)) behind
+class_few index bound (Leaf mark _ inside) others few behind = class_by_few index bound (token_kind mark) (place_of_mark mark) inside others (omega (arith, few)) behind
 class_few index bound _ others few behind = behind
 
 -- of all declarations

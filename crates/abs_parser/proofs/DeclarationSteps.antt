@@ -18,9 +18,9 @@ use Rattle.abs_lexer.specs.declared.lexeme.Lexeme.TheVariants as lexeme
 use Rattle.abs_lexer.specs.declared.lexeme.Punctuator.TheVariants as punctuator
 use Rattle.abs_lexer.specs.Tokens.{Lexed}
 use Rattle.abs_parser.specs.Answers.{GoesOn}
-use Rattle.abs_parser.specs.Kinds.{Mark, Token, Kind, UpperName, Word, Sign, kind_of_lexeme, fits, next}
-use Rattle.abs_parser.specs.Productions.{Symbol, Decl, Constructor, NextConstructor, ConstructorTypes, TypeParameters, begins, begins_within, chosen}
-use Rattle.abs_parser.specs.Readings.{One, Optional, Repeated, Wanted, Terminal, Nonterminal, opened, Forest, Empty, Leaf, Node}
+use Rattle.abs_parser.specs.TokenKinds.{Mark, Token, TokenKind, UpperName, KeywordKind, PunctuatorKind, token_kind_of, fits, next}
+use Rattle.abs_parser.specs.Productions.{Nonterminal, Decl, Constructor, NextConstructor, ConstructorTypes, TypeParameters, begins, begins_within, chosen}
+use Rattle.abs_parser.specs.Readings.{One, Optional, Repeated, Wanted, Terminal, Subgoal, opened, Forest, Empty, Leaf, Node}
 use Rattle.abs_parser.specs.ReaderAnswers.{left_at, asked, TakesKind, FoundAs, IsRefused, is_asked}
 use Rattle.abs_parser.specs.Stops.{limit}
 use Rattle.abs_parser.specs.Tokens.{Spot}
@@ -28,7 +28,7 @@ use Rattle.abs_parser.specs.TreesOf.{names_maybe, constructor_types, constructor
 use Rattle.abs_tree.specs.declared.source_error.SourceError.{SourceError}
 use Rattle.abs_parser.proofs.NameLemmas.{goes_on_further}
 use Rattle.abs_parser.proofs.StepLemmas.{HasRead, is_name, opens, over_token, over_name, over_part, all_read, refused_inside, fits_next, found_goes_on, symbol_kept}
-use Rattle.abs_parser.proofs.SymbolLemmas.{begins_with_token, part_shut, part_begun, part_opened, repeated_opened, repeated_ends}
+use Rattle.abs_parser.proofs.NonterminalLemmas.{begins_with_token, part_shut, part_begun, part_opened, repeated_opened, repeated_ends}
 use Rattle.abs_parser.proofs.PatternSteps.{next_taken, nothing_found}
 use Rattle.abs_parser.proofs.RepeatSteps.{in_front, over_one_more, refused_up_to, ends_at}
 use Rattle.abs_parser.proofs.NameListSteps.{declared_kept}
@@ -43,11 +43,11 @@ AnyIndex index = ⊤
 -- The parts of a declaration that repeat up to a token that closes: which symbol they are, which token closes, and the trees of one of them
 -- in the code and of those that were read, from the index that is free before the declaration and behind those of these trees.
 pub record Parts (Listed Tree : Type 0) : Type 0 where
-  pub symbol : Symbol
+  pub nonterminal : Nonterminal
   pub closing : Lexeme
   pub closing_asked : is_asked closing ≡ true
   pub closing_unnamed : is_name closing ≡ false
-  pub closing_ends : (kind : Kind) → fits (asked closing) kind ≡ true → begins symbol kind ≡ false
+  pub closing_ends : (kind : TokenKind) → fits (asked closing) kind ≡ true → begins nonterminal kind ≡ false
   pub tree : List Name → Listed → Tree
   pub trees_in : ℕ → List Tree → Forest → List Tree
   pub trees_none : (index : ℕ) (before : List Tree) → trees_in index before Empty ≡ []
@@ -56,9 +56,9 @@ pub record Parts (Listed Tree : Type 0) : Type 0 where
 -- whatever further parts are read, and the token behind them, complete it, where the declaration has one of these first indexes.
 pub record ReadsParts {Listed Tree : Type 0} (parts : Parts Listed Tree) (Starts : ℕ → Type 0) (whole : List Name → List Tree → DeclTree) (depth : ℕ) (old now : List (List ℕ)) (from here : Spot) (listed : List Listed) : Type 0 where
   pub make : Forest → Forest
-  pub read : HasRead (One Decl) depth old now from make (Nonterminal (Repeated parts.symbol) depth ∷ Terminal (asked parts.closing) depth ∷ []) here
+  pub read : HasRead (One Decl) depth old now from make (Subgoal (Repeated parts.nonterminal) depth ∷ Terminal (asked parts.closing) depth ∷ []) here
   pub is : (index : ℕ) → Starts index → (names : List Name) → GoesOn now names → (inside : Forest) (mark : Mark) (at : ℕ) (others : List DeclTree)
-      → decl_in index (make (Node (Repeated parts.symbol) inside (Leaf mark at Empty))) others
+      → decl_in index (make (Node (Repeated parts.nonterminal) inside (Leaf mark at Empty))) others
       ≡ whole names (map (parts.tree names) listed ++ parts.trees_in index (map (parts.tree names) listed) inside) ∷ others
 
 -- the tree of one more stands behind those of the others
@@ -68,16 +68,16 @@ one_more tree listed one behind = ap (λ trees. trees ++ behind) (map-append tre
 -- over one more of the parts
 pub next_part : {Listed Tree : Type 0} {parts : Parts Listed Tree} {Starts : ℕ → Type 0} {whole : List Name → List Tree → DeclTree} {depth : ℕ} {old now new : List (List ℕ)} {from here to : Spot} {listed longer : List Listed}
     {is_read : List (List ℕ) → Forest → Type 0} (one : Listed) → longer ≡ listed ++ one ∷ [] → ReadsParts parts Starts whole depth old now from here listed
-    → (found : FoundAs (One parts.symbol) depth now new here to is_read)
+    → (found : FoundAs (One parts.nonterminal) depth now new here to is_read)
     → ((index : ℕ) → Starts index → (names : List Name) → GoesOn new names → (others : Forest)
     → parts.tree names one ∷ parts.trees_in index (map (parts.tree names) (listed ++ one ∷ [])) others
-    ≡ parts.trees_in index (map (parts.tree names) listed) (Node (One parts.symbol) found.inside (Node (Repeated parts.symbol) others Empty)))
+    ≡ parts.trees_in index (map (parts.tree names) listed) (Node (One parts.nonterminal) found.inside (Node (Repeated parts.nonterminal) others Empty)))
     → ReadsParts parts Starts whole depth old new from to longer
 next_part {parts = parts} {whole = whole} {depth} {listed = listed} one same so found is = rw same (record {
-  make = λ rest. so.make (in_front parts.symbol found.inside rest);
-  read = over_one_more so.read (repeated_opened parts.symbol _ depth (part_begun parts.symbol _ depth found.rule_is)) found;
+  make = λ rest. so.make (in_front parts.nonterminal found.inside rest);
+  read = over_one_more so.read (repeated_opened parts.nonterminal _ depth (part_begun parts.nonterminal _ depth found.rule_is)) found;
   is = λ index starts names more inside mark at others.
-      so.is index starts names (goes_on_further (found_goes_on found) more) (Node (One parts.symbol) found.inside (Node (Repeated parts.symbol) inside Empty)) mark at others
+      so.is index starts names (goes_on_further (found_goes_on found) more) (Node (One parts.nonterminal) found.inside (Node (Repeated parts.nonterminal) inside Empty)) mark at others
       ∙ ap (λ trees. whole names trees ∷ others)
       (ap (λ trees. map (parts.tree names) listed ++ trees) (sym (is index starts names more inside))
       ∙ sym (one_more (parts.tree names) listed one (parts.trees_in index (map (parts.tree names) (listed ++ one ∷ [])) inside)));
@@ -85,26 +85,26 @@ next_part {parts = parts} {whole = whole} {depth} {listed = listed} one same so 
 
 -- where the token that closes is not next, the declaration is refused where one more is
 pub refused_part : {Listed Tree : Type 0} {parts : Parts Listed Tree} {Starts : ℕ → Type 0} {whole : List Name → List Tree → DeclTree} {depth : ℕ} {old now : List (List ℕ)} {from here : Spot} {listed : List Listed} (error : SourceError)
-    → ReadsParts parts Starts whole depth old now from here listed → fits (asked parts.closing) (next (left_at here)) ≡ false → IsRefused (Nonterminal (One parts.symbol) depth) here error
-    → IsRefused (Nonterminal (One Decl) depth) from error
+    → ReadsParts parts Starts whole depth old now from here listed → fits (asked parts.closing) (next (left_at here)) ≡ false → IsRefused (Subgoal (One parts.nonterminal) depth) here error
+    → IsRefused (Subgoal (One Decl) depth) from error
 refused_part {parts = parts} error so other refused = refused_up_to (asked parts.closing) error so.read other refused
 
 -- where no further one begins, there is none
-pub no_part : (symbol : Symbol) (depth : ℕ) (table : List (List ℕ)) (here : Spot) → begins symbol (next (left_at here)) ≡ false → FoundAs (Repeated symbol) depth table table here here (λ names inside. inside ≡ Empty)
+pub no_part : (symbol : Nonterminal) (depth : ℕ) (table : List (List ℕ)) (here : Spot) → begins symbol (next (left_at here)) ≡ false → FoundAs (Repeated symbol) depth table table here here (λ names inside. inside ≡ Empty)
 no_part symbol depth table here ends = nothing_found (Repeated symbol) depth table here (repeated_ends symbol _ depth ends)
 
 -- and the declaration is refused where the token is that closes
 pub refused_closing : {Listed Tree : Type 0} {parts : Parts Listed Tree} {Starts : ℕ → Type 0} {whole : List Name → List Tree → DeclTree} {depth : ℕ} {old now : List (List ℕ)} {from here : Spot} {listed : List Listed} (error : SourceError)
-    → ReadsParts parts Starts whole depth old now from here listed → begins parts.symbol (next (left_at here)) ≡ false → IsRefused (Terminal (asked parts.closing) depth) here error
-    → IsRefused (Nonterminal (One Decl) depth) from error
-refused_closing {parts = parts} {depth = depth} {now = now} {here = here} error so ends refused = refused_inside (over_part so.read (no_part parts.symbol depth now here ends)) error refused
+    → ReadsParts parts Starts whole depth old now from here listed → begins parts.nonterminal (next (left_at here)) ≡ false → IsRefused (Terminal (asked parts.closing) depth) here error
+    → IsRefused (Subgoal (One Decl) depth) from error
+refused_closing {parts = parts} {depth = depth} {now = now} {here = here} error so ends refused = refused_inside (over_part so.read (no_part parts.nonterminal depth now here ends)) error refused
 
 -- behind the token that closes, the declaration is found
 pub all_parts : {Listed Tree : Type 0} {parts : Parts Listed Tree} {Starts : ℕ → Type 0} {whole : List Name → List Tree → DeclTree} {depth : ℕ} {old now : List (List ℕ)} {from here end : Spot} {token : Lexed} {listed : List Listed}
     → ReadsParts parts Starts whole depth old now from here listed → TakesKind parts.closing token here end → depth ≤ limit
     → FoundAs (One Decl) depth old now from end (λ names inside. (index : ℕ) → Starts index → (others : List DeclTree) → whole names (map (parts.tree names) listed) ∷ others ≡ decl_in index inside others)
 all_parts {parts = parts} {whole = whole} {depth} {now = now} {here = here} {token = token} {listed} so takes within =
-    let none = no_part parts.symbol depth now here (parts.closing_ends _ (fits_next parts.closing_asked takes)) in
+    let none = no_part parts.nonterminal depth now here (parts.closing_ends _ (fits_next parts.closing_asked takes)) in
     all_read (over_token (over_part so.read none) takes parts.closing_asked parts.closing_unnamed within) (λ names more index starts others.
     let before = map (parts.tree names) listed in
     sym (so.is index starts names more none.inside (Token token) depth others ∙ ap (λ trees. whole names trees ∷ others)
@@ -115,15 +115,15 @@ all_parts {parts = parts} {whole = whole} {depth} {now = now} {here = here} {tok
 
 -- over the word that opens a declaration, and the name behind it
 pub heading_read : {word : Keyword} {left : List Wanted} {token name : Lexed} {from name_at behind : Spot} {depth : ℕ} {old table : List (List ℕ)}
-    → opened (One Decl) (Word word) depth ≡ Some (Terminal (Word word) depth ∷ Terminal UpperName depth ∷ left) → TakesKind (lexeme.Word word) token from name_at
+    → opened (One Decl) (KeywordKind word) depth ≡ Some (Terminal (KeywordKind word) depth ∷ Terminal UpperName depth ∷ left) → TakesKind (lexeme.Keyword word) token from name_at
     → TakesKind lexeme.UpperName name name_at behind → table ≡ with_name old name.bytes → depth ≤ limit
     → HasRead (One Decl) depth old table from (λ rest. Leaf (Token token) depth (Leaf (Token name) depth rest)) left behind
 heading_read {depth = depth} {old} is word name named within = over_name (word_read depth old is word within) name refl refl within named
 
 -- the tree of a declaration is the one for its word
-pub by_word : {word : Keyword} {token : Lexed} {from behind : Spot} (index depth : ℕ) (inside : Forest) (others : List DeclTree) → TakesKind (lexeme.Word word) token from behind
-    → decl_in index (Leaf (Token token) depth inside) others ≡ decl_by index (Word word) token.place inside others
-by_word {token = token} index depth inside others takes = ap (λ (kind : Lexeme). decl_by index (kind_of_lexeme kind token.bytes) token.place inside others) takes.kind_is
+pub by_word : {word : Keyword} {token : Lexed} {from behind : Spot} (index depth : ℕ) (inside : Forest) (others : List DeclTree) → TakesKind (lexeme.Keyword word) token from behind
+    → decl_in index (Leaf (Token token) depth inside) others ≡ decl_by index (KeywordKind word) token.place inside others
+by_word {token = token} index depth inside others takes = ap (λ (kind : Lexeme). decl_by index (token_kind_of kind token.bytes) token.place inside others) takes.kind_is
 
 -- Constructors
 
@@ -132,20 +132,20 @@ abbrev pub IsConstructor : CodeConstructor → List (List ℕ) → Forest → Ty
 IsConstructor constructor names inside = (others : List ConstructorTree) → constructor_tree names constructor ∷ others ≡ constructor_in inside others
 
 -- a constructor begins with its name
-constructor_begins : (kind : Kind) → begins Constructor kind ≡ fits UpperName kind
+constructor_begins : (kind : TokenKind) → begins Constructor kind ≡ fits UpperName kind
 constructor_begins kind = begins_with_token Constructor kind refl
 
 -- which opens it
-pub constructor_opened : (kind : Kind) (depth : ℕ) → fits UpperName kind ≡ true → opened (One Constructor) kind depth ≡ Some (Terminal UpperName depth ∷ Nonterminal (Optional ConstructorTypes) depth ∷ [])
+pub constructor_opened : (kind : TokenKind) (depth : ℕ) → fits UpperName kind ≡ true → opened (One Constructor) kind depth ≡ Some (Terminal UpperName depth ∷ Subgoal (Optional ConstructorTypes) depth ∷ [])
 constructor_opened kind depth fit = part_opened Constructor kind depth refl refl (constructor_begins kind ∙ fit)
 
 -- nothing else opens one
-pub constructor_shut : (kind : Kind) (depth : ℕ) → fits UpperName kind ≡ false → opened (One Constructor) kind depth ≡ None
+pub constructor_shut : (kind : TokenKind) (depth : ℕ) → fits UpperName kind ≡ false → opened (One Constructor) kind depth ≡ None
 constructor_shut kind depth differs = part_shut Constructor kind depth (constructor_begins kind ∙ differs)
 
 -- over the name of a constructor
 pub constructor_named : {name : Lexed} {from behind : Spot} {depth : ℕ} {old table : List (List ℕ)} → TakesKind lexeme.UpperName name from behind → table ≡ with_name old name.bytes → depth ≤ limit
-    → HasRead (One Constructor) depth old table from (λ rest. Leaf (Token name) depth rest) (Nonterminal (Optional ConstructorTypes) depth ∷ []) behind
+    → HasRead (One Constructor) depth old table from (λ rest. Leaf (Token name) depth rest) (Subgoal (Optional ConstructorTypes) depth ∷ []) behind
 constructor_named {from = from} {depth = depth} {old} name is within =
     over_name (opens (One Constructor) depth old from _ (constructor_opened _ depth (fits_next refl name))) name refl refl within is
 
@@ -161,15 +161,15 @@ constructor_found {name} {old = old} constructor same takes number is types with
 -- Data
 
 -- no further constructor begins with ";"
-pub no_constructor_closes : begins NextConstructor (Sign punctuator.Semicolon) ≡ false
+pub no_constructor_closes : begins NextConstructor (PunctuatorKind punctuator.Semicolon) ≡ false
 unfolding begins begins_within
 no_constructor_closes = refl
 
 -- the constructors of data repeat up to ";"
 abbrev pub constructors_of : Parts CodeConstructor ConstructorTree
 constructors_of = record {
-  symbol = NextConstructor;
-  closing = lexeme.Sign punctuator.Semicolon;
+  nonterminal = NextConstructor;
+  closing = lexeme.Punctuator punctuator.Semicolon;
   closing_asked = refl;
   closing_unnamed = refl;
   closing_ends = ends_at NextConstructor punctuator.Semicolon no_constructor_closes;
@@ -179,22 +179,22 @@ constructors_of = record {
 }
 
 -- a further one begins with "|"
-pub next_constructor_begins : (kind : Kind) → begins NextConstructor kind ≡ fits (Sign punctuator.Bar) kind
+pub next_constructor_begins : (kind : TokenKind) → begins NextConstructor kind ≡ fits (PunctuatorKind punctuator.Bar) kind
 next_constructor_begins kind = begins_with_token NextConstructor kind refl
 
 -- over "|"
-bar_read : {bar : Lexed} {from behind : Spot} (depth : ℕ) (table : List (List ℕ)) → TakesKind (lexeme.Sign punctuator.Bar) bar from behind → depth ≤ limit
-    → HasRead (One NextConstructor) depth table table from (λ rest. Leaf (Token bar) depth rest) (Nonterminal (One Constructor) depth ∷ []) behind
+bar_read : {bar : Lexed} {from behind : Spot} (depth : ℕ) (table : List (List ℕ)) → TakesKind (lexeme.Punctuator punctuator.Bar) bar from behind → depth ≤ limit
+    → HasRead (One NextConstructor) depth table table from (λ rest. Leaf (Token bar) depth rest) (Subgoal (One Constructor) depth ∷ []) behind
 bar_read {from = from} depth table takes within =
     over_token (opens (One NextConstructor) depth table from _ (part_opened NextConstructor _ depth refl refl (next_constructor_begins _ ∙ fits_next refl takes))) takes refl refl within
 
 -- behind the name of data stands this
 abbrev pub behind_data : ℕ → List Wanted
 behind_data at =
-    Nonterminal (Optional TypeParameters) at ∷ Terminal (Sign punctuator.Assign) at ∷ Nonterminal (One Constructor) at ∷ Nonterminal (Repeated NextConstructor) at ∷ Terminal (Sign punctuator.Semicolon) at ∷ []
+    Subgoal (Optional TypeParameters) at ∷ Terminal (PunctuatorKind punctuator.Assign) at ∷ Subgoal (One Constructor) at ∷ Subgoal (Repeated NextConstructor) at ∷ Terminal (PunctuatorKind punctuator.Semicolon) at ∷ []
 
 -- `data` opens a declaration
-pub data_opened : (depth : ℕ) → opened (One Decl) (Word keyword.Data) depth ≡ Some (Terminal (Word keyword.Data) depth ∷ Terminal UpperName depth ∷ behind_data depth)
+pub data_opened : (depth : ℕ) → opened (One Decl) (KeywordKind keyword.Data) depth ≡ Some (Terminal (KeywordKind keyword.Data) depth ∷ Terminal UpperName depth ∷ behind_data depth)
 unfolding begins chosen begins_within
 data_opened depth = refl
 
@@ -204,10 +204,10 @@ data_of place name parameters names constructors = DataTree place (declared_tree
 
 -- over the parameters of data and "="
 pub data_assigned : {word name equals : Lexed} {from name_at behind equals_at first_at : Spot} {depth : ℕ} {old table now : List (List ℕ)} {is_read : List (List ℕ) → Forest → Type 0}
-    → TakesKind (lexeme.Word keyword.Data) word from name_at → TakesKind lexeme.UpperName name name_at behind → table ≡ with_name old name.bytes
-    → (parameters : FoundAs (Optional TypeParameters) depth table now behind equals_at is_read) → TakesKind (lexeme.Sign punctuator.Assign) equals equals_at first_at → depth ≤ limit
+    → TakesKind (lexeme.Keyword keyword.Data) word from name_at → TakesKind lexeme.UpperName name name_at behind → table ≡ with_name old name.bytes
+    → (parameters : FoundAs (Optional TypeParameters) depth table now behind equals_at is_read) → TakesKind (lexeme.Punctuator punctuator.Assign) equals equals_at first_at → depth ≤ limit
     → HasRead (One Decl) depth old now from (λ rest. Leaf (Token word) depth (Leaf (Token name) depth (Node (Optional TypeParameters) parameters.inside (Leaf (Token equals) depth rest))))
-    (Nonterminal (One Constructor) depth ∷ Nonterminal (Repeated NextConstructor) depth ∷ Terminal (Sign punctuator.Semicolon) depth ∷ []) first_at
+    (Subgoal (One Constructor) depth ∷ Subgoal (Repeated NextConstructor) depth ∷ Terminal (PunctuatorKind punctuator.Semicolon) depth ∷ []) first_at
 data_assigned {depth = depth} word name is parameters equals within = over_token (over_part (heading_read (data_opened depth) word name is within) parameters) equals refl refl within
 
 -- the tree of data is made of those of its parts
@@ -217,10 +217,10 @@ data_made place others name parameters constructors = rw (name, parameters, cons
 
 -- data was read up to its first constructor
 pub first_constructor : {word name equals : Lexed} {from name_at behind equals_at first_at here : Spot} {depth : ℕ} {old table now new : List (List ℕ)} {constructors : List CodeConstructor}
-    (symbol : NameSymbol) (listed : List Declared) (first : CodeConstructor) → constructors ≡ first ∷ [] → TakesKind (lexeme.Word keyword.Data) word from name_at → TakesKind lexeme.UpperName name name_at behind
+    (symbol : NameSymbol) (listed : List Declared) (first : CodeConstructor) → constructors ≡ first ∷ [] → TakesKind (lexeme.Keyword keyword.Data) word from name_at → TakesKind lexeme.UpperName name name_at behind
     → symbol.0 ≡ number_of_name old name.bytes → table ≡ with_name old name.bytes
     → FoundAs (Optional TypeParameters) depth table now behind equals_at (λ names inside. map (declared_tree names) listed ≡ names_maybe inside)
-    → TakesKind (lexeme.Sign punctuator.Assign) equals equals_at first_at → FoundAs (One Constructor) depth now new first_at here (IsConstructor first) → depth ≤ limit
+    → TakesKind (lexeme.Punctuator punctuator.Assign) equals equals_at first_at → FoundAs (One Constructor) depth now new first_at here (IsConstructor first) → depth ≤ limit
     → ReadsParts constructors_of AnyIndex (data_of word.place (record { place = name.place; name = symbol }) listed) depth old new from here constructors
 first_constructor {word} {name} {equals} {depth = depth} {old} symbol listed first same takes takes_name number is parameters takes_equals found within = rw same (record {
   make = λ rest. Leaf (Token word) depth (Leaf (Token name) depth (Node (Optional TypeParameters) parameters.inside (Leaf (Token equals) depth (Node (One Constructor) found.inside rest))));
@@ -233,7 +233,7 @@ first_constructor {word} {name} {equals} {depth = depth} {old} symbol listed fir
 
 -- and up to one more behind "|"
 pub next_constructor : {whole : List Name → List ConstructorTree → DeclTree} {bar : Lexed} {from here constructor_at to : Spot} {depth : ℕ} {old now new : List (List ℕ)} {constructors longer : List CodeConstructor}
-    (constructor : CodeConstructor) → longer ≡ constructors ++ constructor ∷ [] → ReadsParts constructors_of AnyIndex whole depth old now from here constructors → TakesKind (lexeme.Sign punctuator.Bar) bar here constructor_at
+    (constructor : CodeConstructor) → longer ≡ constructors ++ constructor ∷ [] → ReadsParts constructors_of AnyIndex whole depth old now from here constructors → TakesKind (lexeme.Punctuator punctuator.Bar) bar here constructor_at
     → FoundAs (One Constructor) depth now new constructor_at to (IsConstructor constructor) → depth ≤ limit → ReadsParts constructors_of AnyIndex whole depth old new from to longer
 next_constructor {bar = bar} {depth = depth} {now = now} {new = new} constructor same so takes found within =
     let next : FoundAs (One NextConstructor) depth now new _ _ (λ names inside. inside ≡ Leaf (Token bar) depth (Node (One Constructor) found.inside Empty)) =
@@ -244,7 +244,7 @@ next_constructor {bar = bar} {depth = depth} {now = now} {new = new} constructor
 
 -- behind "|" data is refused where the constructor is
 pub refused_constructor : {whole : List Name → List ConstructorTree → DeclTree} {bar : Lexed} {from here constructor_at : Spot} {depth : ℕ} {old now : List (List ℕ)} {constructors : List CodeConstructor} (error : SourceError)
-    → ReadsParts constructors_of AnyIndex whole depth old now from here constructors → TakesKind (lexeme.Sign punctuator.Bar) bar here constructor_at → depth ≤ limit
-    → IsRefused (Nonterminal (One Constructor) depth) constructor_at error → IsRefused (Nonterminal (One Decl) depth) from error
+    → ReadsParts constructors_of AnyIndex whole depth old now from here constructors → TakesKind (lexeme.Punctuator punctuator.Bar) bar here constructor_at → depth ≤ limit
+    → IsRefused (Subgoal (One Constructor) depth) constructor_at error → IsRefused (Subgoal (One Decl) depth) from error
 refused_constructor {depth = depth} {now = now} error so takes within refused =
-    refused_part error so (ap (fits (Sign punctuator.Semicolon)) (next_taken takes)) (refused_inside (bar_read depth now takes within) error refused)
+    refused_part error so (ap (fits (PunctuatorKind punctuator.Semicolon)) (next_taken takes)) (refused_inside (bar_read depth now takes within) error refused)

@@ -6,36 +6,36 @@ use Rattle.std.proofs.lemmas.Bool.{and_parts, and_from}
 use Rattle.abs_tree.specs.declared.place.Place.{Place}
 use Rattle.abs_tree.specs.declared.refusal.Code.{Code}
 use Rattle.abs_lexer.specs.Tokens.{Lexed, TokenList}
-use Rattle.abs_parser.specs.Kinds.{Mark, Token, TextEnd, marks, Kind, End, kind_of, fits, next}
-use Rattle.abs_parser.specs.Productions.{Symbol, Program, Item, rule, begins, chosen}
-use Rattle.abs_parser.specs.Readings.{Goal, One, Optional, Repeated, Wanted, Terminal, Nonterminal, place, inner_depth, opened}
+use Rattle.abs_parser.specs.TokenKinds.{Mark, Token, TextEnd, marks, TokenKind, End, token_kind, fits, next}
+use Rattle.abs_parser.specs.Productions.{Nonterminal, Program, Item, rule, begins, chosen}
+use Rattle.abs_parser.specs.Readings.{Goal, One, Optional, Repeated, Wanted, Terminal, Subgoal, place, inner_depth, opened}
 use Rattle.abs_parser.specs.Refusing.{Refuses}
 use Rattle.abs_parser.proofs.MoveLemmas.{Moves, Stays, Takes, Opens, Blocked, Refusal, AtToken, AtEnd, refusal}
 use Rattle.abs_parser.proofs.DecisionLemmas.{found_passes}
 use Rattle.abs_parser.proofs.ReadingLemmas.{a_program}
 
--- whether the symbol is not the program
-abbrev is_inner : Symbol → Bool
+-- whether the nonterminal is not the program
+abbrev is_inner : Nonterminal → Bool
 is_inner Program = false
-is_inner symbol = true
+is_inner nonterminal = true
 
 -- whether what is wanted has no end in it: it is neither the end nor a program
 abbrev endless : Wanted → Bool
 endless (Terminal End depth) = false
 endless (Terminal kind depth) = true
-endless (Nonterminal (One symbol) depth) = is_inner symbol
-endless (Nonterminal (Optional symbol) depth) = is_inner symbol
-endless (Nonterminal (Repeated symbol) depth) = is_inner symbol
+endless (Subgoal (One nonterminal) depth) = is_inner nonterminal
+endless (Subgoal (Optional nonterminal) depth) = is_inner nonterminal
+endless (Subgoal (Repeated nonterminal) depth) = is_inner nonterminal
 
 -- what is wanted has an end as its last item at most
 data Closed : List Wanted → Type 0 where
   NoMore : Closed []
   Endless : {item : Wanted} {items : List Wanted} → endless item ≡ true → Closed items → Closed (item ∷ items)
   LastEnd : {depth : ℕ} → Closed (Terminal End depth ∷ [])
-  LastProgram : {depth : ℕ} → Closed (Nonterminal (One Program) depth ∷ [])
+  LastProgram : {depth : ℕ} → Closed (Subgoal (One Program) depth ∷ [])
 
--- The alternatives of the inner symbols have no end in them.
-inner_endless : (symbol : Symbol) (depth : ℕ) → is_inner symbol ≡ true → list_all (λ (items : List Item). list_all endless (place depth items)) (rule symbol) ≡ true
+-- The alternatives of the inner nonterminals have no end in them.
+inner_endless : (nonterminal : Nonterminal) (depth : ℕ) → is_inner nonterminal ≡ true → list_all (λ (items : List Item). list_all endless (place depth items)) (rule nonterminal) ≡ true
 inner_endless Program depth e = cc
 inner_endless _ depth e = refl
 
@@ -56,16 +56,16 @@ either_closed : (stands : Bool) (inner items : List Wanted) → list_all endless
 either_closed true inner items e closed = endless_first inner items e closed
 either_closed false inner items e closed = closed
 
--- An inner symbol opens to items without an end.
-inner_closed : (symbol : Symbol) (kind : Kind) (depth : ℕ) (items : List Wanted) → is_inner symbol ≡ true → Closed items → ClosedInside (opened (One symbol) kind depth) items
+-- An inner nonterminal opens to items without an end.
+inner_closed : (nonterminal : Nonterminal) (kind : TokenKind) (depth : ℕ) (items : List Wanted) → is_inner nonterminal ≡ true → Closed items → ClosedInside (opened (One nonterminal) kind depth) items
 unfolding chosen
-inner_closed symbol kind depth items is closed = go (chosen symbol kind) refl
+inner_closed nonterminal kind depth items is closed = go (chosen nonterminal kind) refl
   where
-    go : (choice : Option (List Item)) → chosen symbol kind ≡ choice → ClosedInside (option_map (place (inner_depth symbol depth)) choice) items
+    go : (choice : Option (List Item)) → chosen nonterminal kind ≡ choice → ClosedInside (option_map (place (inner_depth nonterminal depth)) choice) items
     go None shut = tt
     go (Some alternative) e =
-        let deeper = inner_depth symbol depth in
-        let without_end = found_passes _ (λ (row : List Item). list_all endless (place deeper row)) (rule symbol) alternative (inner_endless symbol deeper is) e in
+        let deeper = inner_depth nonterminal depth in
+        let without_end = found_passes _ (λ (row : List Item). list_all endless (place deeper row)) (rule nonterminal) alternative (inner_endless nonterminal deeper is) e in
         endless_first (place deeper alternative) items without_end closed
 
 -- Where a test decides between an alternative and none, what is chosen is closed if the alternative is.
@@ -75,32 +75,32 @@ only_closed true alternative depth closed = closed
 only_closed false alternative depth closed = tt
 
 -- A program opens to items of which the last alone is the end.
-program_closed : (kind : Kind) (depth : ℕ) → ClosedInside (opened (One Program) kind depth) []
+program_closed : (kind : TokenKind) (depth : ℕ) → ClosedInside (opened (One Program) kind depth) []
 unfolding chosen
 program_closed kind depth = only_closed _ _ depth (Endless refl (Endless refl (Endless refl (Endless refl LastEnd))))
 
 -- A part that is closed opens to items that are.
-opened_closed : (goal : Goal) (kind : Kind) (depth : ℕ) (items : List Wanted) → Closed (Nonterminal goal depth ∷ items) → ClosedInside (opened goal kind depth) items
-opened_closed (One symbol) kind depth items (Endless e closed) = inner_closed symbol kind depth items e closed
+opened_closed : (goal : Goal) (kind : TokenKind) (depth : ℕ) (items : List Wanted) → Closed (Subgoal goal depth ∷ items) → ClosedInside (opened goal kind depth) items
+opened_closed (One nonterminal) kind depth items (Endless e closed) = inner_closed nonterminal kind depth items e closed
 opened_closed (One Program) kind depth [] LastProgram = program_closed kind depth
-opened_closed (Optional symbol) kind depth items (Endless e closed) =
-    either_closed (begins symbol kind) (Nonterminal (One symbol) depth ∷ []) items (and_from (is_inner symbol) true e refl) closed
-opened_closed (Repeated symbol) kind depth items (Endless e closed) =
-    let both = and_from (is_inner symbol) (is_inner symbol && true) e (and_from (is_inner symbol) true e refl) in
-    either_closed (begins symbol kind) (Nonterminal (One symbol) depth ∷ Nonterminal (Repeated symbol) depth ∷ []) items both closed
+opened_closed (Optional nonterminal) kind depth items (Endless e closed) =
+    either_closed (begins nonterminal kind) (Subgoal (One nonterminal) depth ∷ []) items (and_from (is_inner nonterminal) true e refl) closed
+opened_closed (Repeated nonterminal) kind depth items (Endless e closed) =
+    let both = and_from (is_inner nonterminal) (is_inner nonterminal && true) e (and_from (is_inner nonterminal) true e refl) in
+    either_closed (begins nonterminal kind) (Subgoal (One nonterminal) depth ∷ Subgoal (Repeated nonterminal) depth ∷ []) items both closed
 
 -- Behind a token there are closed items.
-behind_token : {kind : Kind} {depth : ℕ} {items : List Wanted} → Closed (Terminal kind depth ∷ items) → Closed items
+behind_token : {kind : TokenKind} {depth : ℕ} {items : List Wanted} → Closed (Terminal kind depth ∷ items) → Closed items
 behind_token (Endless e closed) = closed
 behind_token LastEnd = NoMore
 
 -- Only where the end is asked for does it fit.
-end_fits : (kind : Kind) → fits kind End ≡ true → kind ≡ End
+end_fits : (kind : TokenKind) → fits kind End ≡ true → kind ≡ End
 end_fits End e = refl
 end_fits _ e = cc
 
 -- Behind the end there are none.
-behind_end : {kind : Kind} {depth : ℕ} {items : List Wanted} → kind ≡ End → Closed (Terminal kind depth ∷ items) → items ≡ []
+behind_end : {kind : TokenKind} {depth : ℕ} {items : List Wanted} → kind ≡ End → Closed (Terminal kind depth ∷ items) → items ≡ []
 behind_end {depth = depth} is (Endless e closed) =
     let not_endless : endless (Terminal End depth) ≡ true = subst (λ kind. endless (Terminal kind depth) ≡ true) is e in
     cc
@@ -117,7 +117,7 @@ all_moved Stays [] end are closed = cc
 all_moved Stays (token ∷ tokens) end are closed = cc
 all_moved (Takes {kind = kind} {others = others} {mark = mark} {ts = ts} fit within moves) [] end are closed =
     let last : mark ≡ TextEnd end = cc in
-    let wanted : kind ≡ End = end_fits kind (subst (λ (m : Mark). fits kind (kind_of m) ≡ true) last fit) in
+    let wanted : kind ≡ End = end_fits kind (subst (λ (m : Mark). fits kind (token_kind m) ≡ true) last fit) in
     nothing_moves (subst (λ (list : List Wanted). Moves list ts others []) (behind_end wanted closed) moves)
 all_moved (Takes {ts = ts} fit within moves) (token ∷ tokens) end are closed =
     let tail : ts ≡ map Token tokens ++ TextEnd end ∷ [] = cc in

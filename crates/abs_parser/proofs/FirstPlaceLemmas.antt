@@ -1,5 +1,5 @@
--- The first token of what was read as a symbol: the tree has its place, which is that of the spot where the reader began, it stands in no
--- fewer counted symbols than the part does, and without it fewer tokens are left. For this goes what was wanted, up to the first of it that
+-- The first token of what was read as a nonterminal: the tree has its place, which is that of the spot where the reader began, it stands in no
+-- fewer counted nonterminals than the part does, and without it fewer tokens are left. For this goes what was wanted, up to the first of it that
 -- is not left out.
 use Rattle.std.proofs.Common.{◌≡◌, ◌≤◌, ◌<◌, ℕ, ◌+◌, length, Bool, true, false, ◌||◌, cond, List, [], ◌∷◌, Option, Some, None, option_map, refl, sym, ap, subst, ◌∙◌, arith}
 use mathlib.Core.Logic.{◌⊎◌, inl, inr}
@@ -9,9 +9,9 @@ use Rattle.std.proofs.lemmas.Bool.{cases_Bool, cond-true, cond-false}
 use Rattle.abs_tree.specs.Places.{start}
 use Rattle.abs_tree.specs.declared.place.Place.{Place}
 use Rattle.abs_lexer.specs.Tokens.{Lexed}
-use Rattle.abs_parser.specs.Kinds.{Mark, Kind, place_of_mark, fits, next}
-use Rattle.abs_parser.specs.Productions.{Symbol, Item, Of, Part, Opt, Many, Inside, rule, counts, items_begin, begins, chosen}
-use Rattle.abs_parser.specs.Readings.{Goal, One, Optional, Repeated, Wanted, Terminal, Nonterminal, place_item, place, inner_depth, opened, Forest, Node, Reads, Nothing, Taken, Opened, depths}
+use Rattle.abs_parser.specs.TokenKinds.{Mark, TokenKind, place_of_mark, fits, next}
+use Rattle.abs_parser.specs.Productions.{Nonterminal, Item, Of, Part, Opt, Many, Inside, rule, counts, items_begin, begins, chosen}
+use Rattle.abs_parser.specs.Readings.{Goal, One, Optional, Repeated, Wanted, Terminal, Subgoal, place_item, place, inner_depth, opened, Forest, Node, Reads, Nothing, Taken, Opened, depths}
 use Rattle.abs_parser.specs.ReaderAnswers.{left_at, FoundAs}
 use Rattle.abs_parser.specs.Refusing.{AllWithin}
 use Rattle.abs_parser.specs.Stops.{limit}
@@ -33,34 +33,34 @@ found_fits test (x ∷ others) one e = at (cases_Bool (test x)) (found_fits test
     at (inr is_not) behind = behind (sym (cond-false (test x) (Some x) (find test others) is_not) ∙ e)
 
 -- whether what is wanted may begin with a token of a kind, given whether what stands behind it may
-abbrev pub one_may : Wanted → Kind → Bool → Bool
+abbrev pub one_may : Wanted → TokenKind → Bool → Bool
 one_may (Terminal asked depth) kind behind = fits asked kind
-one_may (Nonterminal (One symbol) depth) kind behind = begins symbol kind
-one_may (Nonterminal (Optional symbol) depth) kind behind = begins symbol kind || behind
-one_may (Nonterminal (Repeated symbol) depth) kind behind = begins symbol kind || behind
+one_may (Subgoal (One nonterminal) depth) kind behind = begins nonterminal kind
+one_may (Subgoal (Optional nonterminal) depth) kind behind = begins nonterminal kind || behind
+one_may (Subgoal (Repeated nonterminal) depth) kind behind = begins nonterminal kind || behind
 
 -- the same of a list
-abbrev pub may : List Wanted → Kind → Bool
+abbrev pub may : List Wanted → TokenKind → Bool
 may [] kind = false
 may (item ∷ others) kind = one_may item kind (may others kind)
 
 -- an item in front of others may begin with a token where what is wanted for it may
-item_may : (item : Item) (others : List Item) (depth : ℕ) (kind : Kind) → one_may (place_item depth item) kind (items_begin begins others kind) ≡ items_begin begins (item ∷ others) kind
+item_may : (item : Item) (others : List Item) (depth : ℕ) (kind : TokenKind) → one_may (place_item depth item) kind (items_begin begins others kind) ≡ items_begin begins (item ∷ others) kind
 item_may (Of asked) others depth kind = refl
-item_may (Part symbol) others depth kind = refl
-item_may (Opt symbol) others depth kind = refl
-item_may (Many symbol) others depth kind = refl
+item_may (Part nonterminal) others depth kind = refl
+item_may (Opt nonterminal) others depth kind = refl
+item_may (Many nonterminal) others depth kind = refl
 item_may (Inside more item) others depth kind = item_may item others (depth + more) kind
 
 -- and so may the items of an alternative
-items_may : (items : List Item) (depth : ℕ) (kind : Kind) → may (place depth items) kind ≡ items_begin begins items kind
+items_may : (items : List Item) (depth : ℕ) (kind : TokenKind) → may (place depth items) kind ≡ items_begin begins items kind
 items_may [] depth kind = refl
 items_may (item ∷ others) depth kind = ap (one_may (place_item depth item) kind) (items_may others depth kind) ∙ item_may item others depth kind
 
--- in how many counted symbols what is wanted stands
+-- in how many counted nonterminals what is wanted stands
 abbrev pub depth_of : Wanted → ℕ
 depth_of (Terminal kind depth) = depth
-depth_of (Nonterminal goal depth) = depth
+depth_of (Subgoal goal depth) = depth
 
 -- all that is wanted stands in so many or more
 abbrev pub AllBelow : ℕ → List Wanted → Type 0
@@ -70,9 +70,9 @@ AllBelow least (item ∷ others) = (least ≤ depth_of item) × AllBelow least o
 -- an item stands in no fewer than its alternative
 item_below : (item : Item) (least depth : ℕ) → least ≤ depth → least ≤ depth_of (place_item depth item)
 item_below (Of asked) least depth below = below
-item_below (Part symbol) least depth below = below
-item_below (Opt symbol) least depth below = below
-item_below (Many symbol) least depth below = below
+item_below (Part nonterminal) least depth below = below
+item_below (Opt nonterminal) least depth below = below
+item_below (Many nonterminal) least depth below = below
 item_below (Inside more item) least depth below = item_below item least (depth + more) (omega (arith, below))
 
 -- and so does each of them
@@ -80,58 +80,58 @@ items_below : (items : List Item) (least depth : ℕ) → least ≤ depth → Al
 items_below [] least depth below = tt
 items_below (item ∷ others) least depth below = (item_below item least depth below, items_below others least depth below)
 
--- inside a symbol everything stands in no fewer than the symbol does
+-- inside a nonterminal everything stands in no fewer than the nonterminal does
 inner_below : (is_counted : Bool) (least depth : ℕ) → least ≤ depth → least ≤ cond is_counted (depth + 1) depth
 inner_below true least depth below = omega (arith, below)
 inner_below false least depth below = below
 
--- a symbol is opened to what may begin with the next token, and stands no higher
-pub one_opened : (symbol : Symbol) (kind : Kind) (least depth : ℕ) (inner : List Wanted) → least ≤ depth → opened (One symbol) kind depth ≡ Some inner
+-- a nonterminal is opened to what may begin with the next token, and stands no higher
+pub one_opened : (nonterminal : Nonterminal) (kind : TokenKind) (least depth : ℕ) (inner : List Wanted) → least ≤ depth → opened (One nonterminal) kind depth ≡ Some inner
     → (may inner kind ≡ true) × AllBelow least inner
 unfolding chosen
-one_opened symbol kind least depth inner below is = at (chosen symbol kind) refl
+one_opened nonterminal kind least depth inner below is = at (chosen nonterminal kind) refl
   where
-    at : (choice : Option (List Item)) → chosen symbol kind ≡ choice → (may inner kind ≡ true) × AllBelow least inner
-    at None none = let shut = ap (option_map (place (inner_depth symbol depth))) none in absurd cc
+    at : (choice : Option (List Item)) → chosen nonterminal kind ≡ choice → (may inner kind ≡ true) × AllBelow least inner
+    at None none = let shut = ap (option_map (place (inner_depth nonterminal depth))) none in absurd cc
     at (Some items) some =
-        let deeper = inner_depth symbol depth in
+        let deeper = inner_depth nonterminal depth in
         let opens = ap (option_map (place deeper)) some in
         let same : inner ≡ place deeper items = cc in
-        rw same (items_may items deeper kind ∙ found_fits (λ (list : List Item). items_begin begins list kind) (rule symbol) items some, items_below items least deeper (inner_below (counts symbol) least depth below))
+        rw same (items_may items deeper kind ∙ found_fits (λ (list : List Item). items_begin begins list kind) (rule nonterminal) items some, items_below items least deeper (inner_below (counts nonterminal) least depth below))
 
 -- A part is opened to what may begin with the next token, or it is left out, and then what stands behind it may.
-pub data OpenedTo (least : ℕ) (kind : Kind) (behind : Bool) (inner : List Wanted) : Type 0 where
+pub data OpenedTo (least : ℕ) (kind : TokenKind) (behind : Bool) (inner : List Wanted) : Type 0 where
   Standing : may inner kind ≡ true → AllBelow least inner → OpenedTo least kind behind inner
   LeftOut : inner ≡ [] → behind ≡ true → OpenedTo least kind behind inner
 
--- a part that may be left out is the symbol first where that may begin
-maybe_opened : {inner : List Wanted} (symbol : Symbol) (kind : Kind) (least depth : ℕ) (behind : Bool) (others : List Wanted) → least ≤ depth → AllBelow least others
-    → cond (begins symbol kind) (Some (Nonterminal (One symbol) depth ∷ others)) (Some []) ≡ Some inner → (begins symbol kind || behind) ≡ true → OpenedTo least kind behind inner
-maybe_opened {inner} symbol kind least depth behind others below all is starts = at (cases_Bool (begins symbol kind))
+-- a part that may be left out is the nonterminal first where that may begin
+maybe_opened : {inner : List Wanted} (nonterminal : Nonterminal) (kind : TokenKind) (least depth : ℕ) (behind : Bool) (others : List Wanted) → least ≤ depth → AllBelow least others
+    → cond (begins nonterminal kind) (Some (Subgoal (One nonterminal) depth ∷ others)) (Some []) ≡ Some inner → (begins nonterminal kind || behind) ≡ true → OpenedTo least kind behind inner
+maybe_opened {inner} nonterminal kind least depth behind others below all is starts = at (cases_Bool (begins nonterminal kind))
   where
-    at : (begins symbol kind ≡ true) ⊎ (begins symbol kind ≡ false) → OpenedTo least kind behind inner
+    at : (begins nonterminal kind ≡ true) ⊎ (begins nonterminal kind ≡ false) → OpenedTo least kind behind inner
     at (inl stands) =
-        let opens = cond-true (begins symbol kind) (Some (Nonterminal (One symbol) depth ∷ others)) (Some []) stands in
-        let same : inner ≡ Nonterminal (One symbol) depth ∷ others = cc in
+        let opens = cond-true (begins nonterminal kind) (Some (Subgoal (One nonterminal) depth ∷ others)) (Some []) stands in
+        let same : inner ≡ Subgoal (One nonterminal) depth ∷ others = cc in
         rw same (Standing stands (below, all))
     at (inr missing) =
-        let opens = cond-false (begins symbol kind) (Some (Nonterminal (One symbol) depth ∷ others)) (Some []) missing in
+        let opens = cond-false (begins nonterminal kind) (Some (Subgoal (One nonterminal) depth ∷ others)) (Some []) missing in
         let same : inner ≡ [] = cc in
         LeftOut same (rw missing at starts)
 
 -- each part is opened so
-pub part_opened : (goal : Goal) (kind : Kind) (least depth : ℕ) (behind : Bool) (inner : List Wanted) → least ≤ depth → opened goal kind depth ≡ Some inner
-    → one_may (Nonterminal goal depth) kind behind ≡ true → OpenedTo least kind behind inner
-part_opened (One symbol) kind least depth behind inner below is starts = let inside = one_opened symbol kind least depth inner below is in Standing inside.0 inside.1
-part_opened (Optional symbol) kind least depth behind inner below is starts = maybe_opened symbol kind least depth behind [] below tt is starts
-part_opened (Repeated symbol) kind least depth behind inner below is starts = maybe_opened symbol kind least depth behind (Nonterminal (Repeated symbol) depth ∷ []) below (below, tt) is starts
+pub part_opened : (goal : Goal) (kind : TokenKind) (least depth : ℕ) (behind : Bool) (inner : List Wanted) → least ≤ depth → opened goal kind depth ≡ Some inner
+    → one_may (Subgoal goal depth) kind behind ≡ true → OpenedTo least kind behind inner
+part_opened (One nonterminal) kind least depth behind inner below is starts = let inside = one_opened nonterminal kind least depth inner below is in Standing inside.0 inside.1
+part_opened (Optional nonterminal) kind least depth behind inner below is starts = maybe_opened nonterminal kind least depth behind [] below tt is starts
+part_opened (Repeated nonterminal) kind least depth behind inner below is starts = maybe_opened nonterminal kind least depth behind (Subgoal (Repeated nonterminal) depth ∷ []) below (below, tt) is starts
 
 -- the place of the first of some tokens
 abbrev place_first : List Mark → Place
 place_first [] = start
 place_first (mark ∷ others) = place_of_mark mark
 
--- What was read begins with the first of the tokens, which stands in no fewer counted symbols than this, and fewer of them are left.
+-- What was read begins with the first of the tokens, which stands in no fewer counted nonterminals than this, and fewer of them are left.
 pub record BeginsWith (least : ℕ) (ts rest : List Mark) (forest : Forest) : Type 0 where
   pub place_is : (behind : Place) → first_place forest behind ≡ place_first ts
   pub within : AllWithin (depths forest) → least ≤ limit
@@ -165,24 +165,24 @@ left_first : (rest : List Lexed) (end : Place) → place_first (left_at (record 
 left_first [] end = refl
 left_first (token ∷ others) end = refl
 
--- a symbol that was found begins with the token that stands where its reader began
-found_first : {symbol : Symbol} {depth : ℕ} {old new : List (List ℕ)} {from to : Spot} {is_read : List (List ℕ) → Forest → Type 0} → (found : FoundAs (One symbol) depth old new from to is_read)
+-- a nonterminal that was found begins with the token that stands where its reader began
+found_first : {nonterminal : Nonterminal} {depth : ℕ} {old new : List (List ℕ)} {from to : Spot} {is_read : List (List ℕ) → Forest → Type 0} → (found : FoundAs (One nonterminal) depth old new from to is_read)
     → BeginsWith depth (left_at from) (left_at to) found.inside
-found_first {symbol} {depth} {from = from} found =
-    let inside = one_opened symbol (next (left_at from)) depth depth found.inner (omega arith) found.rule_is in
+found_first {nonterminal} {depth} {from = from} found =
+    let inside = one_opened nonterminal (next (left_at from)) depth depth found.inner (omega arith) found.rule_is in
     first_read depth inside.0 inside.1 found.reads
 
 -- so it has that place
-pub first_place_found : {symbol : Symbol} {depth : ℕ} {old new : List (List ℕ)} {from to : Spot} {is_read : List (List ℕ) → Forest → Type 0} → (found : FoundAs (One symbol) depth old new from to is_read)
+pub first_place_found : {nonterminal : Nonterminal} {depth : ℕ} {old new : List (List ℕ)} {from to : Spot} {is_read : List (List ℕ) → Forest → Type 0} → (found : FoundAs (One nonterminal) depth old new from to is_read)
     → place_in found.inside ≡ place_of from
 first_place_found {from = from} found = (found_first found).place_is start ∙ left_first from.rest from.end
 
 -- and it stands within the limit
-pub found_within : {symbol : Symbol} {depth : ℕ} {old new : List (List ℕ)} {from to : Spot} {is_read : List (List ℕ) → Forest → Type 0} → FoundAs (One symbol) depth old new from to is_read
+pub found_within : {nonterminal : Nonterminal} {depth : ℕ} {old new : List (List ℕ)} {from to : Spot} {is_read : List (List ℕ) → Forest → Type 0} → FoundAs (One nonterminal) depth old new from to is_read
     → depth ≤ limit
 found_within found = (found_first found).within found.within
 
 -- and fewer tokens are left
-pub found_fewer : {symbol : Symbol} {depth : ℕ} {old new : List (List ℕ)} {from to : Spot} {is_read : List (List ℕ) → Forest → Type 0} → FoundAs (One symbol) depth old new from to is_read
+pub found_fewer : {nonterminal : Nonterminal} {depth : ℕ} {old new : List (List ℕ)} {from to : Spot} {is_read : List (List ℕ) → Forest → Type 0} → FoundAs (One nonterminal) depth old new from to is_read
     → length to.rest < length from.rest
 found_fewer {from = from} {to} found = omega (arith, (found_first found).fewer, left_length from, left_length to)

@@ -1,4 +1,4 @@
--- Which tokens a symbol may begin with, by the kind of the token alone, however the token is written. The words and the signs that begin
+-- Which tokens a nonterminal may begin with, by the kind of the token alone, however the token is written. The words and the signs that begin
 -- one stand in lists: what is one of a list passes each test that all of the list pass, and what is none of it is not found there.
 use Rattle.std.proofs.Common.{◌≡◌, ℕ, Bool, true, false, cond, List, [], ◌∷◌, refl, sym, ap, ◌∙◌}
 use Rattle.std.proofs.lemmas.Bool.{and_parts}
@@ -11,50 +11,50 @@ use denote.Enum.Declared.{Declared}
 use Rattle.abs_lexer.specs.declared.lexeme.Lexeme.{Lexeme}
 use Rattle.abs_lexer.specs.declared.lexeme.Lexeme.TheVariants as lexeme
 use Rattle.abs_lexer.specs.Tokens.{Lexed}
-use Rattle.abs_parser.specs.Kinds.{kind_of_lexeme, LowerName, LocalName, UpperName, AbsName, StdLibName, next}
-use Rattle.abs_parser.specs.Productions.{Symbol, begins}
+use Rattle.abs_parser.specs.TokenKinds.{token_kind_of, LowerName, LocalName, UpperName, AbsName, StdLibName, next}
+use Rattle.abs_parser.specs.Productions.{Nonterminal, begins}
 use Rattle.abs_parser.specs.ReaderAnswers.{left_at, asked}
 use Rattle.abs_parser.specs.Tokens.{Spot, TakesToken}
 use Rattle.abs_parser.proofs.StepLemmas.{next_is}
 
--- A symbol begins with tokens of just the kinds that pass a test; of the names of a kind it begins with each or with none.
-pub record BeginsBy (symbol : Symbol) (test : Lexeme → Bool) : Type 0 where
-  pub told : (kind : Lexeme) → test kind ≡ begins symbol (asked kind)
-  pub local_too : begins symbol LowerName ≡ begins symbol LocalName
-  pub abs_too : begins symbol UpperName ≡ begins symbol AbsName
-  pub library_too : begins symbol UpperName ≡ begins symbol StdLibName
+-- A nonterminal begins with tokens of just the kinds that pass a test; of the names of a kind it begins with each or with none.
+pub record BeginsBy (nonterminal : Nonterminal) (test : Lexeme → Bool) : Type 0 where
+  pub told : (kind : Lexeme) → test kind ≡ begins nonterminal (asked kind)
+  pub local_too : begins nonterminal LowerName ≡ begins nonterminal LocalName
+  pub abs_too : begins nonterminal UpperName ≡ begins nonterminal AbsName
+  pub library_too : begins nonterminal UpperName ≡ begins nonterminal StdLibName
 
 -- so it is for a lower-case name, whichever it is
-lower_alike : {symbol : Symbol} {test : Lexeme → Bool} → BeginsBy symbol test → (is_local : Bool) → begins symbol LowerName ≡ begins symbol (cond is_local LocalName LowerName)
+lower_alike : {nonterminal : Nonterminal} {test : Lexeme → Bool} → BeginsBy nonterminal test → (is_local : Bool) → begins nonterminal LowerName ≡ begins nonterminal (cond is_local LocalName LowerName)
 lower_alike by true = by.local_too
 lower_alike by false = refl
 
 -- and for an upper-case name
-upper_alike : {symbol : Symbol} {test : Lexeme → Bool} → BeginsBy symbol test → (is_abs is_library : Bool)
-    → begins symbol UpperName ≡ begins symbol (cond is_abs AbsName (cond is_library StdLibName UpperName))
+upper_alike : {nonterminal : Nonterminal} {test : Lexeme → Bool} → BeginsBy nonterminal test → (is_abs is_library : Bool)
+    → begins nonterminal UpperName ≡ begins nonterminal (cond is_abs AbsName (cond is_library StdLibName UpperName))
 upper_alike by true is_library = by.abs_too
 upper_alike by false true = by.library_too
 upper_alike by false false = refl
 
--- then the test tells whether the symbol may begin with a token, however the token is written
-pub begins_by_kind : {symbol : Symbol} {test : Lexeme → Bool} → BeginsBy symbol test → (kind : Lexeme) (bytes : List ℕ) → test kind ≡ begins symbol (kind_of_lexeme kind bytes)
+-- then the test tells whether the nonterminal may begin with a token, however the token is written
+pub begins_by_kind : {nonterminal : Nonterminal} {test : Lexeme → Bool} → BeginsBy nonterminal test → (kind : Lexeme) (bytes : List ℕ) → test kind ≡ begins nonterminal (token_kind_of kind bytes)
 begins_by_kind by lexeme.LowerName bytes = by.told lexeme.LowerName ∙ lower_alike by (bytes_eq bytes (codes "local"))
 begins_by_kind by lexeme.UpperName bytes = by.told lexeme.UpperName ∙ upper_alike by (bytes_eq bytes (codes "ABS")) (bytes_eq bytes (codes "StdLib"))
 begins_by_kind by lexeme.Number bytes = by.told lexeme.Number
 begins_by_kind by lexeme.Text bytes = by.told lexeme.Text
-begins_by_kind by (lexeme.Word word) bytes = by.told (lexeme.Word word)
+begins_by_kind by (lexeme.Keyword word) bytes = by.told (lexeme.Keyword word)
 begins_by_kind by lexeme.Foreign bytes = by.told lexeme.Foreign
-begins_by_kind by (lexeme.Sign sign) bytes = by.told (lexeme.Sign sign)
+begins_by_kind by (lexeme.Punctuator sign) bytes = by.told (lexeme.Punctuator sign)
 
 -- so a token of a kind that is known is told
-pub begins_as : {symbol : Symbol} {test : Lexeme → Bool} {kind : Lexeme} → BeginsBy symbol test → (known : Lexeme) {answer : Bool} → kind ≡ known → answer ≡ test known
-    → (bytes : List ℕ) → answer ≡ begins symbol (kind_of_lexeme kind bytes)
+pub begins_as : {nonterminal : Nonterminal} {test : Lexeme → Bool} {kind : Lexeme} → BeginsBy nonterminal test → (known : Lexeme) {answer : Bool} → kind ≡ known → answer ≡ test known
+    → (bytes : List ℕ) → answer ≡ begins nonterminal (token_kind_of kind bytes)
 begins_as {test = test} by known is answers bytes = answers ∙ (ap test (sym is) ∙ begins_by_kind by _ bytes)
 
 -- and so is the next one
-pub begins_next : {symbol : Symbol} {test : Lexeme → Bool} {token : Lexed} {from behind : Spot} → BeginsBy symbol test → (known : Lexeme) {answer : Bool} → TakesToken token from behind
-    → token.kind ≡ known → answer ≡ test known → answer ≡ begins symbol (next (left_at from))
-begins_next {symbol} {token = token} by known takes is answers = begins_as by known is answers token.bytes ∙ sym (ap (begins symbol) (next_is takes))
+pub begins_next : {nonterminal : Nonterminal} {test : Lexeme → Bool} {token : Lexed} {from behind : Spot} → BeginsBy nonterminal test → (known : Lexeme) {answer : Bool} → TakesToken token from behind
+    → token.kind ≡ known → answer ≡ test known → answer ≡ begins nonterminal (next (left_at from))
+begins_next {nonterminal} {token = token} by known takes is answers = begins_as by known is answers token.bytes ∙ sym (ap (begins nonterminal) (next_is takes))
 
 -- names, numbers and texts
 abbrev pub plain_kinds : List Lexeme

@@ -8,9 +8,9 @@ use Rattle.abs_tree.specs.SyntaxViews.{phrase}
 use Rattle.abs_tree.specs.declared.place.Place.{Place}
 use Rattle.abs_tree.specs.declared.syntax.expression.Expr.{Expr}
 use Rattle.abs_tree.specs.declared.syntax.statement.Test as code_test
-use Rattle.abs_parser.specs.Kinds.{Kind, Sign, fits, next}
+use Rattle.abs_parser.specs.TokenKinds.{TokenKind, PunctuatorKind, fits, next}
 use Rattle.abs_parser.specs.Productions.{Equal, Test, Question, begins}
-use Rattle.abs_parser.specs.Readings.{One, Optional, Nonterminal, opened, Forest}
+use Rattle.abs_parser.specs.Readings.{One, Optional, Subgoal, opened, Forest}
 use Rattle.abs_parser.specs.ReaderAnswers.{left_at, TakesKind, FoundAs, IsRefused}
 use Rattle.abs_parser.specs.Stops.{limit}
 use Rattle.abs_parser.specs.Tokens.{Spot, place_of}
@@ -21,20 +21,20 @@ use Rattle.abs_parser.proofs.InFrontSteps.{refused_in_front}
 use Rattle.abs_parser.proofs.NameLemmas.{goes_on_further}
 use Rattle.abs_parser.proofs.PatternSteps.{nothing_found}
 use Rattle.abs_parser.proofs.StepLemmas.{opens, over_token, over_part, into_last, all_read, fits_next, found_weaker, found_goes_on}
-use Rattle.abs_parser.proofs.SymbolLemmas.{begins_with_token, begins_with_part, part_shut, part_begun, part_opened, optional_opened, optional_left_out}
+use Rattle.abs_parser.proofs.NonterminalLemmas.{begins_with_token, begins_with_part, part_shut, part_begun, part_opened, optional_opened, optional_left_out}
 
 -- where a value may begin, a test is it and what may stand behind it
-test_opened : (kind : Kind) (depth : ℕ) → begins Equal kind ≡ true
-    → opened (One Test) kind depth ≡ Some (Nonterminal (One Equal) depth ∷ Nonterminal (Optional Question) depth ∷ [])
+test_opened : (kind : TokenKind) (depth : ℕ) → begins Equal kind ≡ true
+    → opened (One Test) kind depth ≡ Some (Subgoal (One Equal) depth ∷ Subgoal (Optional Question) depth ∷ [])
 test_opened kind depth may = part_opened Test kind depth refl refl (begins_with_part Test kind refl ∙ may)
 
 -- a test is refused where its value is
-pub test_refused : (depth : ℕ) (from : Spot) (error : SourceError) → IsRefused (Nonterminal (One Equal) depth) from error → IsRefused (Nonterminal (One Test) depth) from error
+pub test_refused : (depth : ℕ) (from : Spot) (error : SourceError) → IsRefused (Subgoal (One Equal) depth) from error → IsRefused (Subgoal (One Test) depth) from error
 test_refused depth from error refused =
     refused_in_front Equal depth (One Test) depth from error (test_opened _ depth) (λ none. part_shut Test _ depth (begins_with_part Test _ refl ∙ none)) refused
 
 -- a `?` is found where it stands
-pub question_found : {token : Lexed} {from to : Spot} (depth : ℕ) (table : List (List ℕ)) → TakesKind (lexeme.Sign punctuator.Question) token from to → depth ≤ limit
+pub question_found : {token : Lexed} {from to : Spot} (depth : ℕ) (table : List (List ℕ)) → TakesKind (lexeme.Punctuator punctuator.Question) token from to → depth ≤ limit
     → FoundAs (Optional Question) depth table table from to (λ names inside. is_asked inside ≡ true)
 question_found {from = from} depth table takes within =
     let fit = begins_with_token Question _ refl ∙ fits_next refl takes in
@@ -42,7 +42,7 @@ question_found {from = from} depth table takes within =
     (over_token (opens (One Question) depth table from _ (part_opened Question _ depth refl refl fit)) takes refl refl within)) (λ names more. refl)
 
 -- and where it does not, it is left out
-pub question_left_out : (depth : ℕ) (table : List (List ℕ)) (from : Spot) → fits (Sign punctuator.Question) (next (left_at from)) ≡ false
+pub question_left_out : (depth : ℕ) (table : List (List ℕ)) (from : Spot) → fits (PunctuatorKind punctuator.Question) (next (left_at from)) ≡ false
     → FoundAs (Optional Question) depth table table from from (λ names inside. is_asked inside ≡ false)
 question_left_out depth table from other =
     found_weaker (nothing_found (Optional Question) depth table from (optional_left_out Question _ depth (begins_with_token Question _ refl ∙ other))) (λ names more none. ap is_asked none)

@@ -96,14 +96,14 @@ kind_self lexeme.LowerName = refl
 kind_self lexeme.UpperName = refl
 kind_self lexeme.Number = refl
 kind_self lexeme.Text = refl
-kind_self (lexeme.Word w) = same_word w
+kind_self (lexeme.Keyword w) = same_word w
 kind_self lexeme.Foreign = refl
-kind_self (lexeme.Sign s) = same_sign s
+kind_self (lexeme.Punctuator s) = same_sign s
 
 -- so kinds whose comparison answers false are different
 pub kind_other : (k l : Lexeme) (equal : Bool) → equal ≡ ghosts.eq k l → equal ≡ false → k ≡ l → ⊥
 kind_other k l equal is differ same = let clash : true ≡ false = sym (kind_self l) ∙ (ap (λ (j : Lexeme). ghosts.eq j l) (sym same) ∙ (sym is ∙ differ)) in cc
 
 -- a sign that compares as equal with another is that one
-pub sign_is : {kind : Lexeme} (one wanted : Punctuator) {is : Bool} → kind ≡ lexeme.Sign one → is ≡ sameb punctuator one wanted → is ≡ true → kind ≡ lexeme.Sign wanted
-sign_is one wanted kind_is tells holds = kind_is ∙ ap lexeme.Sign (same_true punctuator tt one wanted (sym tells ∙ holds))
+pub sign_is : {kind : Lexeme} (one wanted : Punctuator) {is : Bool} → kind ≡ lexeme.Punctuator one → is ≡ sameb punctuator one wanted → is ≡ true → kind ≡ lexeme.Punctuator wanted
+sign_is one wanted kind_is tells holds = kind_is ∙ ap lexeme.Punctuator (same_true punctuator tt one wanted (sym tells ∙ holds))

@@ -1,6 +1,6 @@
 -- How many tokens what was read has: each is a leaf of it. So it has as many leaves as tokens were taken.
 use Rattle.std.proofs.Common.{◌≡◌, ℕ, ◌+◌, List, length, arith}
-use Rattle.abs_parser.specs.Kinds.{Mark}
+use Rattle.abs_parser.specs.TokenKinds.{Mark}
 use Rattle.abs_parser.specs.Readings.{Wanted, Forest, Empty, Leaf, Node, Reads, Nothing, Taken, Opened}
 
 -- how many tokens a forest has

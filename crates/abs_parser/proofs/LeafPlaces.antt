@@ -6,7 +6,7 @@ use Rattle.abs_tree.specs.Syntax.{Name, Phrase, VariableOf, Prefixed, OperatorsO
 use Rattle.abs_tree.specs.SyntaxSizes.{count_of, decl_statements}
 use Rattle.abs_lexer.specs.declared.lexeme.Keyword.TheVariants as keyword
 use Rattle.abs_lexer.specs.declared.lexeme.Punctuator.TheVariants as punctuator
-use Rattle.abs_parser.specs.Kinds.{Mark, Kind, LowerName, LocalName, UpperName, AbsName, StdLibName, Word, Sign, place_of_mark, kind_of}
+use Rattle.abs_parser.specs.TokenKinds.{Mark, TokenKind, LowerName, LocalName, UpperName, AbsName, StdLibName, KeywordKind, PunctuatorKind, place_of_mark, token_kind}
 use Rattle.abs_parser.specs.Readings.{Wanted, Forest, Empty, Leaf, Node, Reads, Nothing, Taken, Opened}
 use Rattle.abs_parser.specs.TreesOf.{written, place_in, with_operators, named, member, built, expr_in, or_in, or_operands, and_in, and_operands, equal_in, equal_operand, compare_in, compare_operand, sum_in, sum_operands, mul_in, mul_operands, unary_in, primary_in, primary_by, this_in, arguments_maybe, arguments_in, args_maybe, args_in, more_args, selected_in, tail_in, rhs_in, initial_in, after_variable, after_field, after_this, statement_in, statement_by, block_in, statements_in, decls_in, text_in, tree_of}
 use Rattle.abs_tree.proofs.Subsequences.{IsPartOf}
@@ -171,12 +171,12 @@ mutual
 
   -- and one without signs
   primary_part : (forest : Forest) → IsPartOf (phrase_uses (primary_in forest)) (leaf_places forest)
-  primary_part (Leaf mark _ others) = primary_by_part (kind_of mark) mark others
+  primary_part (Leaf mark _ others) = primary_by_part (token_kind mark) mark others
   primary_part _ = none
 
   -- by its first token
-  primary_by_part : (kind : Kind) (mark : Mark) (others : Forest) → IsPartOf (phrase_uses (primary_by kind mark others)) (place_of_mark mark ∷ leaf_places others)
-  primary_by_part (Word keyword.This) mark (Node _ tail _) = this_part (place_of_mark mark) tail
+  primary_by_part : (kind : TokenKind) (mark : Mark) (others : Forest) → IsPartOf (phrase_uses (primary_by kind mark others)) (place_of_mark mark ∷ leaf_places others)
+  primary_by_part (KeywordKind keyword.This) mark (Node _ tail _) = this_part (place_of_mark mark) tail
   primary_by_part LowerName mark (Node _ arguments _) =
       named_part (place_of_mark mark) (written mark) (arguments_maybe arguments) (part_before _ (arguments_maybe_part arguments))
   primary_by_part LocalName mark (Node _ arguments _) =
@@ -184,8 +184,8 @@ mutual
   primary_by_part UpperName mark (Node _ arguments _) = built_part (place_of_mark mark) (written mark) (arguments_maybe arguments)
   primary_by_part AbsName mark (Node _ arguments _) = built_part (place_of_mark mark) (written mark) (arguments_maybe arguments)
   primary_by_part StdLibName mark (Node _ arguments _) = built_part (place_of_mark mark) (written mark) (arguments_maybe arguments)
-  primary_by_part (Word keyword.Case) mark (Node _ subject (Leaf opening _ (Node _ first (Node _ others (Leaf closing _ _))))) = none
-  primary_by_part (Sign punctuator.OpenParen) mark (Node _ inside _) = skipped (part_before _ (expr_part inside))
+  primary_by_part (KeywordKind keyword.Case) mark (Node _ subject (Leaf opening _ (Node _ first (Node _ others (Leaf closing _ _))))) = none
+  primary_by_part (PunctuatorKind punctuator.OpenParen) mark (Node _ inside _) = skipped (part_before _ (expr_part inside))
   primary_by_part _ mark others = none
 
   -- so do arguments that may be left out
@@ -257,21 +257,21 @@ after_this_part index place (Node _ rest _) = none
 after_this_part index place _ = none
 
 -- a statement declares and uses variables at some of its tokens, by the first of them
-statement_by_part : (index : ℕ) (kind : Kind) (mark : Mark) (others : Forest) → IsPartOf (statement_uses (statement_by index kind mark others)) (place_of_mark mark ∷ leaf_places others)
-statement_by_part index (Word keyword.Suspend) mark others = none
-statement_by_part index (Word keyword.Await) mark (Node _ guard _) = none
-statement_by_part index (Word keyword.Return) mark (Node _ expr _) = none
-statement_by_part index (Word keyword.Println) mark (Leaf opening _ (Node _ expr _)) = skipped (skipped (part_before _ (expr_part expr)))
-statement_by_part index (Word keyword.If) mark (Leaf opening _ (Node _ test (Leaf closing _ (Node _ first (Node _ other _))))) = none
-statement_by_part index (Word keyword.While) mark (Leaf opening _ (Node _ test (Leaf closing _ (Node _ body _)))) = none
-statement_by_part index (Word keyword.This) mark (Node _ after _) = after_this_part index (place_of_mark mark) after
+statement_by_part : (index : ℕ) (kind : TokenKind) (mark : Mark) (others : Forest) → IsPartOf (statement_uses (statement_by index kind mark others)) (place_of_mark mark ∷ leaf_places others)
+statement_by_part index (KeywordKind keyword.Suspend) mark others = none
+statement_by_part index (KeywordKind keyword.Await) mark (Node _ guard _) = none
+statement_by_part index (KeywordKind keyword.Return) mark (Node _ expr _) = none
+statement_by_part index (KeywordKind keyword.Println) mark (Leaf opening _ (Node _ expr _)) = skipped (skipped (part_before _ (expr_part expr)))
+statement_by_part index (KeywordKind keyword.If) mark (Leaf opening _ (Node _ test (Leaf closing _ (Node _ first (Node _ other _))))) = none
+statement_by_part index (KeywordKind keyword.While) mark (Leaf opening _ (Node _ test (Leaf closing _ (Node _ body _)))) = none
+statement_by_part index (KeywordKind keyword.This) mark (Node _ after _) = after_this_part index (place_of_mark mark) after
 statement_by_part index LowerName mark (Node _ after _) = part_before _ (after_variable_part index (place_of_mark mark) (written mark) after)
 statement_by_part index LocalName mark (Node _ after _) = part_before _ (after_variable_part index (place_of_mark mark) (written mark) after)
 statement_by_part index _ mark others = none
 
 -- so it is of any statement
 statement_part : (index : ℕ) (forest : Forest) → IsPartOf (statement_uses (statement_in index forest)) (leaf_places forest)
-statement_part index (Leaf mark _ others) = statement_by_part index (kind_of mark) mark others
+statement_part index (Leaf mark _ others) = statement_by_part index (token_kind mark) mark others
 statement_part index (Node _ block Empty) = none
 statement_part index (Node _ type (Leaf name _ (Node _ initial _))) = part_behind (leaf_places type) (kept (part_before _ (initial_part initial)))
 statement_part index (Node _ rhs _) = none

@@ -23,7 +23,7 @@ pub mod PatternLemmas
 pub mod PatternSteps
 pub mod WordSteps
 pub mod PrimaryLemmas
-pub mod SymbolLemmas
+pub mod NonterminalLemmas
 pub mod InFrontSteps
 pub mod ListSteps
 pub mod ListLemmas

@@ -7,7 +7,7 @@ use Rattle.abs_tree.specs.declared.syntax.expression.Expr as code_expr
 use Rattle.abs_tree.specs.declared.syntax.pattern.Pattern as code_pattern
 use Rattle.abs_tree.specs.declared.syntax.statement.Test as code_test
 use Rattle.abs_tree.specs.declared.syntax.types.TypeTerm.{TypeTerm}
-use Rattle.abs_parser.specs.Kinds.{Sign}
+use Rattle.abs_parser.specs.TokenKinds.{PunctuatorKind}
 use Rattle.abs_parser.specs.Productions.{Type', Types, CommaType, Pattern, PatternArguments, Patterns, CommaPattern, Expr, Arguments, Args, CommaExpr, Guard, Test, AndTest, begins, begins_within}
 use Rattle.abs_parser.specs.Readings.{Forest, Empty, Leaf, Node}
 use Rattle.abs_parser.specs.TreesOf.{type_in, types_in, more_types, pattern_in, patterns_in, more_patterns, expr_in, args_in, more_args, test_in, guard_in, more_tests}
@@ -78,13 +78,13 @@ trees_of_patterns = record {
 }
 
 -- no pattern begins with a parenthesis that closes
-pub no_pattern_closes : begins Pattern (Sign punctuator.CloseParen) ≡ false
+pub no_pattern_closes : begins Pattern (PunctuatorKind punctuator.CloseParen) ≡ false
 unfolding begins begins_within
 no_pattern_closes = refl
 
 -- the arguments of a pattern are patterns between parentheses
 abbrev pub pattern_arguments : InParentheses list_of_patterns
-pattern_arguments = record { symbol = PatternArguments; symbol_is = refl; symbol_counts = refl; none_closes = no_pattern_closes }
+pattern_arguments = record { nonterminal = PatternArguments; nonterminal_is = refl; nonterminal_counts = refl; none_closes = no_pattern_closes }
 
 -- Expressions
 
@@ -119,13 +119,13 @@ trees_of_expressions = record {
 }
 
 -- no expression begins with a parenthesis that closes
-pub no_expression_closes : begins Expr (Sign punctuator.CloseParen) ≡ false
+pub no_expression_closes : begins Expr (PunctuatorKind punctuator.CloseParen) ≡ false
 unfolding begins begins_within
 no_expression_closes = refl
 
 -- arguments are expressions between parentheses
 abbrev pub arguments : InParentheses list_of_expressions
-arguments = record { symbol = Arguments; symbol_is = refl; symbol_counts = refl; none_closes = no_expression_closes }
+arguments = record { nonterminal = Arguments; nonterminal_is = refl; nonterminal_counts = refl; none_closes = no_expression_closes }
 
 -- Guards
 

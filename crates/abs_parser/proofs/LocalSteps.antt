@@ -1,38 +1,35 @@
 -- The steps of the readers of the declarations of local variables: what such a statement consists of, where a type begins it, over its type and
 -- its name, and that it is found with what stands behind the name; and the right side behind "=", where there is one.
-use Rattle.std.proofs.Common.{◌≡◌, ◌≤◌, ◌<◌, ℕ, ◌+◌, true, false, List, [], ◌∷◌, Option, Some, refl, sym, ap, ◌∙◌}
+use Rattle.std.proofs.Common.{◌≡◌, ◌≤◌, ℕ, ◌+◌, true, false, List, [], ◌∷◌, Option, Some, refl, sym, ap, ◌∙◌}
 use Rattle.abs_tree.specs.Names.{with_name, number_of_name}
 use Rattle.abs_tree.specs.Syntax.{Name, TypeTree, Unresolved, NoSide, SomeSide, MaybeSide, DeclareOf}
 use Rattle.abs_tree.specs.SyntaxViews.{type_tree, side_tree, maybe_side}
 use Rattle.abs_tree.specs.Trees.{name_of}
 use Rattle.abs_tree.specs.declared.place.Place.{Place}
-use Rattle.abs_tree.specs.declared.refusal.Code.TheVariants.{S2}
 use Rattle.abs_tree.specs.declared.symbol.Symbol.{Symbol as NameSymbol}
 use Rattle.abs_tree.specs.declared.syntax.statement.RightSide.{RightSide}
 use Rattle.abs_tree.specs.declared.syntax.types.TypeTerm.{TypeTerm}
 use Rattle.abs_lexer.specs.declared.lexeme.Lexeme.TheVariants as lexeme
 use Rattle.abs_lexer.specs.declared.lexeme.Punctuator.TheVariants as punctuator
 use Rattle.abs_lexer.specs.Tokens.{Lexed}
-use Rattle.abs_parser.specs.Kinds.{Kind, Token, LowerName, UpperName, AbsName, StdLibName, Sign, fits, next}
+use Rattle.abs_parser.specs.TokenKinds.{TokenKind, Token, LowerName, UpperName, AbsName, StdLibName, PunctuatorKind, fits, next}
 use Rattle.abs_parser.specs.Productions.{Stmt, Type', Initial, Rhs, begins, begins_within, chosen}
-use Rattle.abs_parser.specs.Readings.{One, Optional, Wanted, Terminal, Nonterminal, opened, Forest, Empty, Leaf, Node}
-use Rattle.abs_parser.specs.ReaderAnswers.{left_at, refusal_at, TakesKind, FoundAs, IsRefused}
+use Rattle.abs_parser.specs.Readings.{One, Optional, Wanted, Terminal, Subgoal, opened, Forest, Empty, Leaf, Node}
+use Rattle.abs_parser.specs.ReaderAnswers.{left_at, TakesKind, FoundAs}
 use Rattle.abs_parser.specs.Stops.{limit}
 use Rattle.abs_parser.specs.Tokens.{Spot, place_of}
 use Rattle.abs_parser.specs.TreesOf.{type_in, rhs_in, initial_in, statement_in}
-use Rattle.abs_tree.specs.declared.source_error.SourceError.TheVariants.{Refused}
 use Rattle.abs_parser.proofs.ExpressionSteps.{goes_on_name}
 use Rattle.abs_parser.proofs.FirstPlaceLemmas.{first_place_found}
 use Rattle.abs_parser.proofs.NameLemmas.{goes_on_further}
-use Rattle.abs_parser.proofs.StepLemmas.{HasRead, opens, over_token, over_name, over_part, into_last, all_read, refused_inside, fits_next, found_goes_on, symbol_kept}
-use Rattle.abs_parser.proofs.SymbolLemmas.{begins_with_token, part_opened, optional_opened, optional_left_out}
-use Rattle.abs_parser.proofs.TypeLemmas.{type_opened}
+use Rattle.abs_parser.proofs.StepLemmas.{HasRead, opens, over_token, over_name, over_part, into_last, all_read, fits_next, found_goes_on, symbol_kept}
+use Rattle.abs_parser.proofs.NonterminalLemmas.{begins_with_token, part_opened, optional_opened, optional_left_out}
 
 -- What stands behind the name
 
 -- over "=", behind which a right side is to stand
-pub initial_begins : {equals : Lexed} {from behind : Spot} (depth : ℕ) (table : List (List ℕ)) → TakesKind (lexeme.Sign punctuator.Assign) equals from behind → depth ≤ limit
-    → HasRead (Optional Initial) depth table table from (λ rest. Node (One Initial) (Leaf (Token equals) depth rest) Empty) (Nonterminal (One Rhs) depth ∷ []) behind
+pub initial_begins : {equals : Lexed} {from behind : Spot} (depth : ℕ) (table : List (List ℕ)) → TakesKind (lexeme.Punctuator punctuator.Assign) equals from behind → depth ≤ limit
+    → HasRead (Optional Initial) depth table table from (λ rest. Node (One Initial) (Leaf (Token equals) depth rest) Empty) (Subgoal (One Rhs) depth ∷ []) behind
 initial_begins {from = from} depth table equals within =
     let begun = begins_with_token Initial _ refl ∙ fits_next refl equals in
     into_last (opens (Optional Initial) depth table from _ (optional_opened Initial _ depth begun))
@@ -40,12 +37,12 @@ initial_begins {from = from} depth table equals within =
 
 -- the right side behind "=" is found
 pub initial_found : {equals : Lexed} {from behind to : Spot} {depth : ℕ} {old new : List (List ℕ)} (side : RightSide)
-    → TakesKind (lexeme.Sign punctuator.Assign) equals from behind → depth ≤ limit → FoundAs (One Rhs) depth old new behind to (λ names inside. side_tree names side ≡ rhs_in inside)
+    → TakesKind (lexeme.Punctuator punctuator.Assign) equals from behind → depth ≤ limit → FoundAs (One Rhs) depth old new behind to (λ names inside. side_tree names side ≡ rhs_in inside)
     → FoundAs (Optional Initial) depth old new from to (λ names inside. SomeSide (side_tree names side) ≡ initial_in inside)
 initial_found {depth = depth} {old} side equals within found = all_read (over_part (initial_begins depth old equals within) found) (λ names more. ap SomeSide (found.is names more))
 
 -- without "=" there is none
-pub no_initial_found : (depth : ℕ) (table : List (List ℕ)) (from : Spot) → fits (Sign punctuator.Assign) (next (left_at from)) ≡ false
+pub no_initial_found : (depth : ℕ) (table : List (List ℕ)) (from : Spot) → fits (PunctuatorKind punctuator.Assign) (next (left_at from)) ≡ false
     → FoundAs (Optional Initial) depth table table from from (λ names inside. NoSide ≡ initial_in inside)
 no_initial_found depth table from other =
     all_read (opens (Optional Initial) depth table from [] (optional_left_out Initial _ depth (begins_with_token Initial _ refl ∙ other))) (λ names more. refl)
@@ -54,11 +51,11 @@ no_initial_found depth table from other =
 
 -- behind the name of a variable stands this
 abbrev behind_variable : ℕ → List Wanted
-behind_variable at = Nonterminal (Optional Initial) at ∷ Terminal (Sign punctuator.Semicolon) at ∷ []
+behind_variable at = Subgoal (Optional Initial) at ∷ Terminal (PunctuatorKind punctuator.Semicolon) at ∷ []
 
 -- where a type begins a statement, that is the declaration of a variable
-local_opened : (kind : Kind) (depth : ℕ) → fits UpperName kind ≡ true
-    → opened (One Stmt) kind depth ≡ Some (Nonterminal (One Type') (depth + 1) ∷ Terminal LowerName (depth + 1) ∷ behind_variable (depth + 1))
+local_opened : (kind : TokenKind) (depth : ℕ) → fits UpperName kind ≡ true
+    → opened (One Stmt) kind depth ≡ Some (Subgoal (One Type') (depth + 1) ∷ Terminal LowerName (depth + 1) ∷ behind_variable (depth + 1))
 unfolding begins chosen begins_within
 local_opened UpperName depth fit = refl
 local_opened AbsName depth fit = refl
@@ -67,7 +64,7 @@ local_opened _ depth fit = absurd cc
 
 -- it begins with its type
 pub local_begins : (depth : ℕ) (table : List (List ℕ)) (from : Spot) → fits UpperName (next (left_at from)) ≡ true
-    → HasRead (One Stmt) depth table table from (λ rest. rest) (Nonterminal (One Type') (depth + 1) ∷ Terminal LowerName (depth + 1) ∷ behind_variable (depth + 1)) from
+    → HasRead (One Stmt) depth table table from (λ rest. rest) (Subgoal (One Type') (depth + 1) ∷ Terminal LowerName (depth + 1) ∷ behind_variable (depth + 1)) from
 local_begins depth table from fit = opens (One Stmt) depth table from _ (local_opened _ depth fit)
 
 -- over its type
@@ -95,7 +92,7 @@ pub local_found : {name semicolon : Lexed} {from name_at behind last_at end : Sp
     → FoundAs (One Type') (depth + 1) old now from name_at (λ names inside. type_tree names type_term ≡ type_in inside)
     → TakesKind lexeme.LowerName name name_at behind → symbol.0 ≡ number_of_name now name.bytes → table ≡ with_name now name.bytes
     → FoundAs (Optional Initial) (depth + 1) table new behind last_at (λ names inside. maybe_side names initial ≡ initial_in inside)
-    → TakesKind (lexeme.Sign punctuator.Semicolon) semicolon last_at end → depth + 1 ≤ limit
+    → TakesKind (lexeme.Punctuator punctuator.Semicolon) semicolon last_at end → depth + 1 ≤ limit
     → FoundAs (One Stmt) depth old new from end
     (λ names inside. DeclareOf index place (type_tree names type_term) name.place (Unresolved (name_of names symbol)) (maybe_side names initial) ≡ statement_in index inside)
 local_found {name = name} {now = now} index type_term symbol initial fit at type takes number is found semicolon within =

@@ -6,8 +6,8 @@ use Rattle.std.proofs.Common.{◌≡◌, ◌≤◌, ◌<◌, ℕ, true, List, []
 use Rattle.std.proofs.lemmas.List.{length-append}
 use Rattle.abs_tree.specs.declared.refusal.Code.{Code}
 use Rattle.abs_tree.specs.declared.refusal.Code.TheVariants.{S2}
-use Rattle.abs_parser.specs.Kinds.{Mark, Kind, kind_of, fits, next}
-use Rattle.abs_parser.specs.Readings.{Goal, Wanted, Terminal, Nonterminal, opened, Forest, Reads, Nothing, Taken, Opened, depths}
+use Rattle.abs_parser.specs.TokenKinds.{Mark, TokenKind, token_kind, fits, next}
+use Rattle.abs_parser.specs.Readings.{Goal, Wanted, Terminal, Subgoal, opened, Forest, Reads, Nothing, Taken, Opened, depths}
 use Rattle.abs_parser.specs.Refusing.{Refuses, Behind, Other, Below, Past, Shut, Open, Cut, AllWithin}
 use Rattle.abs_parser.specs.Stops.{limit, wrong_code}
 use Rattle.abs_parser.proofs.ReadingLemmas.{WholeReading, part_closed, part_opened, token_taken, token_put, unfit_unread, shut_unread, unwanted_unread}
@@ -15,16 +15,16 @@ use Rattle.abs_parser.proofs.ReadingLemmas.{WholeReading, part_closed, part_open
 -- These items, wanted at these tokens, come to be others, wanted at the rest.
 pub data Moves : List Wanted → List Mark → List Wanted → List Mark → Type 0 where
   Stays : {items : List Wanted} {ts : List Mark} → Moves items ts items ts
-  Takes : {kind : Kind} {depth : ℕ} {items others : List Wanted} {mark : Mark} {ts rest : List Mark}
-      → fits kind (kind_of mark) ≡ true → depth ≤ limit → Moves items ts others rest → Moves (Terminal kind depth ∷ items) (mark ∷ ts) others rest
+  Takes : {kind : TokenKind} {depth : ℕ} {items others : List Wanted} {mark : Mark} {ts rest : List Mark}
+      → fits kind (token_kind mark) ≡ true → depth ≤ limit → Moves items ts others rest → Moves (Terminal kind depth ∷ items) (mark ∷ ts) others rest
   Opens : {goal : Goal} {depth : ℕ} {inner items others : List Wanted} {ts rest : List Mark}
-      → opened goal (next ts) depth ≡ Some inner → Moves (inner ++ items) ts others rest → Moves (Nonterminal goal depth ∷ items) ts others rest
+      → opened goal (next ts) depth ≡ Some inner → Moves (inner ++ items) ts others rest → Moves (Subgoal goal depth ∷ items) ts others rest
 
 -- A token blocks what is wanted: no list that begins with it is read as that, or it fits but stands too deep.
 pub data Blocks : List Wanted → Mark → Code → Type 0 where
   Unread : {items : List Wanted} {mark : Mark} {code : Code} → ((behind : List Mark) (levels : List ℕ) → WholeReading items (mark ∷ behind) levels → ⊥)
-      → code ≡ wrong_code (kind_of mark) → Blocks items mark code
-  TooDeep : {kind : Kind} {depth : ℕ} {items : List Wanted} {mark : Mark} → fits kind (kind_of mark) ≡ true → limit < depth → Blocks (Terminal kind depth ∷ items) mark S2
+      → code ≡ wrong_code (token_kind mark) → Blocks items mark code
+  TooDeep : {kind : TokenKind} {depth : ℕ} {items : List Wanted} {mark : Mark} → fits kind (token_kind mark) ≡ true → limit < depth → Blocks (Terminal kind depth ∷ items) mark S2
 
 -- What is wanted has moved up to a token that blocks it.
 pub record Blocked (items : List Wanted) (ts rest : List Mark) (code : Code) : Type 0 where
@@ -167,7 +167,7 @@ moves_up_to {mark = mark} {behind = behind} (Opens {goal = goal} {depth = depth}
     record {
       before = further.before;
       is = further.is;
-      moves = λ more. Opens (ap (λ (kind : Kind). opened goal kind depth) (next_same further.before mark behind more further.is) ∙ opens) (further.moves more);
+      moves = λ more. Opens (ap (λ (kind : TokenKind). opened goal kind depth) (next_same further.before mark behind more further.is) ∙ opens) (further.moves more);
     }
 
 -- What is wanted moves over these tokens and this one, whatever stands behind it.
@@ -181,11 +181,11 @@ pub moves_over : {items others : List Wanted} {ts rest : List Mark} → Moves it
 moves_over Stays before mark behind is fewer = absurd (omega (arith, fewer, ap length is, length-append before (mark ∷ behind)))
 moves_over (Takes {kind = kind} {mark = taken} fit within moves) [] mark behind is fewer =
     let same : mark ≡ taken = cc in
-    record { others = _; moves = λ more. Takes (ap (λ (token : Mark). fits kind (kind_of token)) same ∙ fit) within Stays }
+    record { others = _; moves = λ more. Takes (ap (λ (token : Mark). fits kind (token_kind token)) same ∙ fit) within Stays }
 moves_over (Takes {kind = kind} {mark = taken} fit within moves) (first ∷ before) mark behind is fewer =
     let same : first ≡ taken = cc in
     let further = moves_over moves before mark behind (cc) fewer in
-    record { others = further.others; moves = λ more. Takes (ap (λ (token : Mark). fits kind (kind_of token)) same ∙ fit) within (further.moves more) }
+    record { others = further.others; moves = λ more. Takes (ap (λ (token : Mark). fits kind (token_kind token)) same ∙ fit) within (further.moves more) }
 moves_over (Opens {goal = goal} {depth = depth} opens moves) before mark behind is fewer =
     let further = moves_over moves before mark behind is fewer in
-    record { others = further.others; moves = λ more. Opens (ap (λ (kind : Kind). opened goal kind depth) (next_same before mark behind more is) ∙ opens) (further.moves more) }
+    record { others = further.others; moves = λ more. Opens (ap (λ (kind : TokenKind). opened goal kind depth) (next_same before mark behind more is) ∙ opens) (further.moves more) }

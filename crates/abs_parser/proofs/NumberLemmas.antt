@@ -6,7 +6,7 @@ use Rattle.abs_tree.specs.SyntaxNumbers.{IsNumbered, BranchIsNumbered, AreNumber
 use Rattle.abs_tree.specs.SyntaxSizes.{count_of, statement_count, member_statements, decl_statements}
 use Rattle.abs_tree.specs.SourceNumbers.{MembersAreNumbered, DeclsAreNumbered, IsNumberedWhole}
 use Rattle.abs_lexer.specs.declared.lexeme.Keyword.TheVariants as keyword
-use Rattle.abs_parser.specs.Kinds.{Mark, Kind, LowerName, LocalName, Word, place_of_mark, kind_of}
+use Rattle.abs_parser.specs.TokenKinds.{Mark, TokenKind, LowerName, LocalName, KeywordKind, place_of_mark, token_kind}
 use Rattle.abs_parser.specs.Readings.{Forest, Empty, Leaf, Node}
 use Rattle.abs_parser.specs.TreesOf.{written, declared, type_in, after_variable, after_field, after_this, branch_of, statement_in, statement_by, else_in, block_in, statements_in, member_by, member_in, members_in, decl_by, decl_in, decls_in, text_in, tree_of}
 
@@ -36,25 +36,25 @@ branch_is_numbered index _ is = (is, tt)
 mutual
   -- a statement is numbered from its first index
   statement_is_numbered : (index : ℕ) (forest : Forest) → IsNumbered index (statement_in index forest)
-  statement_is_numbered index (Leaf mark _ others) = by_first_token index (kind_of mark) mark others
+  statement_is_numbered index (Leaf mark _ others) = by_first_token index (token_kind mark) mark others
   statement_is_numbered index (Node _ block Empty) = block_is_numbered index block
   statement_is_numbered index (Node _ type (Leaf name _ (Node _ initial _))) = refl
   statement_is_numbered index (Node _ rhs _) = refl
   statement_is_numbered index Empty = refl
 
   -- whatever its first token is
-  by_first_token : (index : ℕ) (kind : Kind) (mark : Mark) (others : Forest) → IsNumbered index (statement_by index kind mark others)
-  by_first_token index (Word keyword.Skip) mark others = refl
-  by_first_token index (Word keyword.Suspend) mark others = refl
-  by_first_token index (Word keyword.Await) mark (Node _ guard _) = refl
-  by_first_token index (Word keyword.Return) mark (Node _ expr _) = refl
-  by_first_token index (Word keyword.Println) mark (Leaf opening _ (Node _ expr _)) = refl
-  by_first_token index (Word keyword.If) mark (Leaf opening _ (Node _ test (Leaf closing _ (Node _ first (Node _ other _))))) =
+  by_first_token : (index : ℕ) (kind : TokenKind) (mark : Mark) (others : Forest) → IsNumbered index (statement_by index kind mark others)
+  by_first_token index (KeywordKind keyword.Skip) mark others = refl
+  by_first_token index (KeywordKind keyword.Suspend) mark others = refl
+  by_first_token index (KeywordKind keyword.Await) mark (Node _ guard _) = refl
+  by_first_token index (KeywordKind keyword.Return) mark (Node _ expr _) = refl
+  by_first_token index (KeywordKind keyword.Println) mark (Leaf opening _ (Node _ expr _)) = refl
+  by_first_token index (KeywordKind keyword.If) mark (Leaf opening _ (Node _ test (Leaf closing _ (Node _ first (Node _ other _))))) =
       let branch = statement_in (index + 1) first in
       (refl, branch_is_numbered (index + 1) branch (statement_is_numbered (index + 1) first), else_is_numbered (index + 1 + statement_count (branch_of branch)) other)
-  by_first_token index (Word keyword.While) mark (Leaf opening _ (Node _ test (Leaf closing _ (Node _ body _)))) =
+  by_first_token index (KeywordKind keyword.While) mark (Leaf opening _ (Node _ test (Leaf closing _ (Node _ body _)))) =
       (refl, branch_is_numbered (index + 1) (statement_in (index + 1) body) (statement_is_numbered (index + 1) body))
-  by_first_token index (Word keyword.This) mark (Node _ after _) = after_this_numbered index (place_of_mark mark) after
+  by_first_token index (KeywordKind keyword.This) mark (Node _ after _) = after_this_numbered index (place_of_mark mark) after
   by_first_token index LowerName mark (Node _ after _) = after_variable_numbered index (place_of_mark mark) (written mark) after
   by_first_token index LocalName mark (Node _ after _) = after_variable_numbered index (place_of_mark mark) (written mark) after
   by_first_token index _ mark others = refl
@@ -96,21 +96,21 @@ members_are_numbered index (Node _ member (Node _ others _)) =
 members_are_numbered index _ = tt
 
 -- a declaration in front of others that go on where it ends
-decl_by_numbered : (index : ℕ) (kind : Kind) (place : Place) (forest : Forest) (others : List DeclTree) → DeclsAreNumbered (index + decl_statements (decl_by index kind place forest [])) others
+decl_by_numbered : (index : ℕ) (kind : TokenKind) (place : Place) (forest : Forest) (others : List DeclTree) → DeclsAreNumbered (index + decl_statements (decl_by index kind place forest [])) others
     → DeclsAreNumbered index (decl_by index kind place forest others)
-decl_by_numbered index (Word keyword.Data) place (Leaf name _ (Node _ parameters (Leaf equals _ (Node _ first (Node _ more _))))) others are =
+decl_by_numbered index (KeywordKind keyword.Data) place (Leaf name _ (Node _ parameters (Leaf equals _ (Node _ first (Node _ more _))))) others are =
     subst (λ (n : ℕ). DeclsAreNumbered n others) (omega arith) are
-decl_by_numbered index (Word keyword.Def) place (Node _ type (Leaf name _ (Node _ parameters (Leaf opening _ (Node _ params (Leaf closing _ (Leaf equals _ (Node _ expr _)))))))) others are =
+decl_by_numbered index (KeywordKind keyword.Def) place (Node _ type (Leaf name _ (Node _ parameters (Leaf opening _ (Node _ params (Leaf closing _ (Leaf equals _ (Node _ expr _)))))))) others are =
     subst (λ (n : ℕ). DeclsAreNumbered n others) (omega arith) are
-decl_by_numbered index (Word keyword.Interface) place (Leaf name _ (Node _ extended (Leaf opening _ (Node _ signatures _)))) others are =
+decl_by_numbered index (KeywordKind keyword.Interface) place (Leaf name _ (Node _ extended (Leaf opening _ (Node _ signatures _)))) others are =
     subst (λ (n : ℕ). DeclsAreNumbered n others) (omega arith) are
-decl_by_numbered index (Word keyword.Class) place (Leaf name _ (Node _ params (Node _ implemented (Leaf opening _ (Node _ members _))))) others are =
+decl_by_numbered index (KeywordKind keyword.Class) place (Leaf name _ (Node _ params (Node _ implemented (Leaf opening _ (Node _ members _))))) others are =
     (members_are_numbered index members, subst (λ (n : ℕ). DeclsAreNumbered n others) (omega arith) are)
 decl_by_numbered index _ place forest others are = subst (λ (n : ℕ). DeclsAreNumbered n others) (omega arith) are
 
 decl_is_numbered : (index : ℕ) (forest : Forest) (others : List DeclTree) → DeclsAreNumbered (index + decl_statements (decl_in index forest [])) others
     → DeclsAreNumbered index (decl_in index forest others)
-decl_is_numbered index (Leaf mark _ inside) others are = decl_by_numbered index (kind_of mark) (place_of_mark mark) inside others are
+decl_is_numbered index (Leaf mark _ inside) others are = decl_by_numbered index (token_kind mark) (place_of_mark mark) inside others are
 decl_is_numbered index _ others are = subst (λ (n : ℕ). DeclsAreNumbered n others) (omega arith) are
 
 -- the declarations of a source

@@ -4,7 +4,7 @@
 use Rattle.std.proofs.Common.{◌≡◌, List, [], ◌∷◌, ◌++◌, refl, sym, ap, subst, ◌∙◌}
 use Rattle.abs_tree.specs.declared.refusal.Code.{Code}
 use Rattle.abs_lexer.specs.Tokens.{TokenList}
-use Rattle.abs_parser.specs.Kinds.{Mark, marks}
+use Rattle.abs_parser.specs.TokenKinds.{Mark, marks}
 use Rattle.abs_parser.specs.Refusing.{AllWithin}
 use Rattle.abs_parser.specs.StopLaw.{Outcome, EachTextStopsOrIsAccepted}
 use Rattle.abs_parser.specs.StopLaw.Outcome.{accepts, stops}

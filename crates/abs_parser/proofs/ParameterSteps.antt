@@ -13,9 +13,9 @@ use Rattle.abs_tree.specs.declared.syntax.variable.Variable.TheVariants as varia
 use Rattle.abs_tree.specs.declared.symbol.Symbol as code_symbol
 use Rattle.abs_tree.specs.declared.syntax.declaration.Param as code_param
 use Rattle.abs_tree.specs.declared.syntax.types.TypeTerm.{TypeTerm}
-use Rattle.abs_parser.specs.Kinds.{Kind, LowerName, UpperName, Sign, fits}
+use Rattle.abs_parser.specs.TokenKinds.{TokenKind, LowerName, UpperName, PunctuatorKind, fits}
 use Rattle.abs_parser.specs.Productions.{Param, Params, CommaParam, ClassParameters, ConstructorTypes, Type', begins, begins_within}
-use Rattle.abs_parser.specs.Readings.{One, Terminal, Nonterminal, opened, Forest, Node}
+use Rattle.abs_parser.specs.Readings.{One, Terminal, Subgoal, opened, Forest, Node}
 use Rattle.abs_parser.specs.ReaderAnswers.{TakesKind, FoundAs, IsRefused}
 use Rattle.abs_parser.specs.Stops.{limit}
 use Rattle.abs_parser.specs.Tokens.{Spot}
@@ -27,20 +27,20 @@ use Rattle.abs_parser.proofs.ListLemmas.{list_of_types}
 use Rattle.abs_parser.proofs.ListSteps.{SeparatedList, ListTrees, InParentheses}
 use Rattle.abs_parser.proofs.NameLemmas.{goes_on_further}
 use Rattle.abs_parser.proofs.StepLemmas.{HasRead, opens, over_name, over_part, all_read, found_weaker, symbol_kept}
-use Rattle.abs_parser.proofs.SymbolLemmas.{begins_with_token, begins_with_part, part_begun, part_opened, part_shut}
+use Rattle.abs_parser.proofs.NonterminalLemmas.{begins_with_token, begins_with_part, part_begun, part_opened, part_shut}
 
 -- One parameter
 
 -- where a type may begin, a parameter is it and a name
-param_opened : (kind : Kind) (depth : ℕ) → begins Type' kind ≡ true → opened (One Param) kind depth ≡ Some (Nonterminal (One Type') depth ∷ Terminal LowerName depth ∷ [])
+param_opened : (kind : TokenKind) (depth : ℕ) → begins Type' kind ≡ true → opened (One Param) kind depth ≡ Some (Subgoal (One Type') depth ∷ Terminal LowerName depth ∷ [])
 param_opened kind depth may = part_opened Param kind depth refl refl (begins_with_part Param kind refl ∙ may)
 
 -- where none may, no parameter is opened
-param_shut : (kind : Kind) (depth : ℕ) → begins Type' kind ≡ false → opened (One Param) kind depth ≡ None
+param_shut : (kind : TokenKind) (depth : ℕ) → begins Type' kind ≡ false → opened (One Param) kind depth ≡ None
 param_shut kind depth none = part_shut Param kind depth (begins_with_part Param kind refl ∙ none)
 
 -- what refuses the type of a parameter refuses the parameter
-pub refused_param : (depth : ℕ) (from : Spot) (error : SourceError) → IsRefused (Nonterminal (One Type') depth) from error → IsRefused (Nonterminal (One Param) depth) from error
+pub refused_param : (depth : ℕ) (from : Spot) (error : SourceError) → IsRefused (Subgoal (One Type') depth) from error → IsRefused (Subgoal (One Param) depth) from error
 refused_param depth from error refused = refused_in_front Type' depth (One Param) depth from error (param_opened _ depth) (param_shut _ depth) refused
 
 -- over the type of a parameter
@@ -98,7 +98,7 @@ trees_of_params = record {
 }
 
 -- parameters begin with an upper-case name
-pub params_begin : (kind : Kind) → begins Params kind ≡ fits UpperName kind
+pub params_begin : (kind : TokenKind) → begins Params kind ≡ fits UpperName kind
 params_begin kind = begins_with_part Params kind refl ∙ (begins_with_part Param kind refl ∙ begins_with_token Type' kind refl)
 
 -- a parameter that was found has its tree in front of any others
@@ -110,19 +110,19 @@ param_in_front param found = found_weaker found (λ names more is. fun_ext is)
 -- Between parentheses
 
 -- no parameter begins with a parenthesis that closes
-pub no_param_closes : begins Param (Sign punctuator.CloseParen) ≡ false
+pub no_param_closes : begins Param (PunctuatorKind punctuator.CloseParen) ≡ false
 unfolding begins begins_within
 no_param_closes = refl
 
 -- the parameters of a class are parameters between parentheses
 abbrev pub class_parameters : InParentheses list_of_params
-class_parameters = record { symbol = ClassParameters; symbol_is = refl; symbol_counts = refl; none_closes = no_param_closes }
+class_parameters = record { nonterminal = ClassParameters; nonterminal_is = refl; nonterminal_counts = refl; none_closes = no_param_closes }
 
 -- no type begins with a parenthesis that closes
-pub no_type_closes : begins Type' (Sign punctuator.CloseParen) ≡ false
+pub no_type_closes : begins Type' (PunctuatorKind punctuator.CloseParen) ≡ false
 unfolding begins begins_within
 no_type_closes = refl
 
 -- the types of a constructor are types between parentheses
 abbrev pub constructor_types : InParentheses list_of_types
-constructor_types = record { symbol = ConstructorTypes; symbol_is = refl; symbol_counts = refl; none_closes = no_type_closes }
+constructor_types = record { nonterminal = ConstructorTypes; nonterminal_is = refl; nonterminal_counts = refl; none_closes = no_type_closes }

@@ -11,28 +11,28 @@ use Rattle.abs_lexer.specs.declared.lexeme.Punctuator.TheVariants as punctuator
 use denote.Enum.Bare.{sameb}
 use Rattle.abs_lexer.specs.Tokens.{Lexed}
 use Rattle.abs_tree.specs.Syntax.{Unresolved, AnyValue, Binds, SameNumber, SameString, Built}
-use Rattle.abs_parser.specs.Kinds.{Mark, Token, Kind, LowerName, LocalName, UpperName, AbsName, StdLibName, Number, Sign, End, place_of_mark, kind_of_lexeme, fits}
+use Rattle.abs_parser.specs.TokenKinds.{Mark, Token, TokenKind, LowerName, LocalName, UpperName, AbsName, StdLibName, Number, PunctuatorKind, End, place_of_mark, token_kind_of, fits}
 use Rattle.abs_parser.specs.Productions.{Pattern, PatternArguments, begins, chosen, begins_within}
-use Rattle.abs_parser.specs.Readings.{Goal, One, Optional, Wanted, Terminal, Nonterminal, opened, Forest, Empty, Leaf, Node}
+use Rattle.abs_parser.specs.Readings.{Goal, One, Optional, Wanted, Terminal, Subgoal, opened, Forest, Empty, Leaf, Node}
 use Rattle.abs_parser.specs.ReaderAnswers.{asked}
 use Rattle.abs_parser.specs.TreesOf.{written, unescaped, pattern_in, pattern_by, pattern_arguments}
 use Rattle.abs_parser.proofs.StepLemmas.{asked_fits}
 
 -- behind the token of a kind that begins a pattern stands this
 abbrev pub behind_first : Lexeme → ℕ → List Wanted
-behind_first lexeme.UpperName depth = Nonterminal (Optional PatternArguments) depth ∷ []
-behind_first (lexeme.Sign punctuator.Minus) depth = Terminal Number depth ∷ []
+behind_first lexeme.UpperName depth = Subgoal (Optional PatternArguments) depth ∷ []
+behind_first (lexeme.Punctuator punctuator.Minus) depth = Terminal Number depth ∷ []
 behind_first _ depth = []
 
 -- a lower-case name opens a pattern, whichever it is
-lower_opened : (kind : Kind) (depth : ℕ) → fits LowerName kind ≡ true → opened (One Pattern) kind depth ≡ Some (Terminal LowerName (depth + 1) ∷ [])
+lower_opened : (kind : TokenKind) (depth : ℕ) → fits LowerName kind ≡ true → opened (One Pattern) kind depth ≡ Some (Terminal LowerName (depth + 1) ∷ [])
 unfolding begins chosen begins_within
 lower_opened LowerName depth fit = refl
 lower_opened LocalName depth fit = refl
 lower_opened _ depth fit = absurd cc
 
 -- and so does an upper-case name
-pub constructor_opened : (kind : Kind) (depth : ℕ) → fits UpperName kind ≡ true → opened (One Pattern) kind depth ≡ Some (Terminal UpperName (depth + 1) ∷ Nonterminal (Optional PatternArguments) (depth + 1) ∷ [])
+pub constructor_opened : (kind : TokenKind) (depth : ℕ) → fits UpperName kind ≡ true → opened (One Pattern) kind depth ≡ Some (Terminal UpperName (depth + 1) ∷ Subgoal (Optional PatternArguments) (depth + 1) ∷ [])
 unfolding begins chosen begins_within
 constructor_opened UpperName depth fit = refl
 constructor_opened AbsName depth fit = refl
@@ -40,29 +40,29 @@ constructor_opened StdLibName depth fit = refl
 constructor_opened _ depth fit = absurd cc
 
 -- a token that begins a pattern opens it
-pub pattern_opened : (kind : Lexeme) (bytes : List ℕ) (depth : ℕ) → begins Pattern (kind_of_lexeme kind bytes) ≡ true
-    → opened (One Pattern) (kind_of_lexeme kind bytes) depth ≡ Some (Terminal (asked kind) (depth + 1) ∷ behind_first kind (depth + 1))
+pub pattern_opened : (kind : Lexeme) (bytes : List ℕ) (depth : ℕ) → begins Pattern (token_kind_of kind bytes) ≡ true
+    → opened (One Pattern) (token_kind_of kind bytes) depth ≡ Some (Terminal (asked kind) (depth + 1) ∷ behind_first kind (depth + 1))
 unfolding begins chosen begins_within
 pattern_opened lexeme.LowerName bytes depth is = lower_opened _ depth (asked_fits lexeme.LowerName bytes refl)
 pattern_opened lexeme.UpperName bytes depth is = constructor_opened _ depth (asked_fits lexeme.UpperName bytes refl)
 pattern_opened lexeme.Number bytes depth is = refl
 pattern_opened lexeme.Text bytes depth is = refl
-pattern_opened (lexeme.Sign punctuator.Underscore) bytes depth is = refl
-pattern_opened (lexeme.Sign punctuator.Minus) bytes depth is = refl
+pattern_opened (lexeme.Punctuator punctuator.Underscore) bytes depth is = refl
+pattern_opened (lexeme.Punctuator punctuator.Minus) bytes depth is = refl
 pattern_opened _ bytes depth is = absurd cc
 
 -- an underscore opens one
-pub any_opened : (depth : ℕ) → opened (One Pattern) (Sign punctuator.Underscore) depth ≡ Some (Terminal (Sign punctuator.Underscore) (depth + 1) ∷ [])
+pub any_opened : (depth : ℕ) → opened (One Pattern) (PunctuatorKind punctuator.Underscore) depth ≡ Some (Terminal (PunctuatorKind punctuator.Underscore) (depth + 1) ∷ [])
 unfolding begins chosen begins_within
 any_opened depth = refl
 
 -- and so does a minus
-pub minus_opened : (depth : ℕ) → opened (One Pattern) (Sign punctuator.Minus) depth ≡ Some (Terminal (Sign punctuator.Minus) (depth + 1) ∷ Terminal Number (depth + 1) ∷ [])
+pub minus_opened : (depth : ℕ) → opened (One Pattern) (PunctuatorKind punctuator.Minus) depth ≡ Some (Terminal (PunctuatorKind punctuator.Minus) (depth + 1) ∷ Terminal Number (depth + 1) ∷ [])
 unfolding begins chosen begins_within
 minus_opened depth = refl
 
 -- no other sign does
-pub sign_shut : (sign : Punctuator) (depth : ℕ) → sameb the_type sign punctuator.Underscore ≡ false → fits (Sign punctuator.Minus) (Sign sign) ≡ false → opened (One Pattern) (Sign sign) depth ≡ None
+pub sign_shut : (sign : Punctuator) (depth : ℕ) → sameb the_type sign punctuator.Underscore ≡ false → fits (PunctuatorKind punctuator.Minus) (PunctuatorKind sign) ≡ false → opened (One Pattern) (PunctuatorKind sign) depth ≡ None
 unfolding begins chosen begins_within
 sign_shut punctuator.Underscore depth other differs = absurd cc
 sign_shut punctuator.Minus depth other differs = absurd cc
@@ -83,7 +83,7 @@ binds_by false mark others = refl
 -- a name that begins with a lower-case letter binds a variable
 pub binds_tree : (token : Lexed) (at : ℕ) → token.kind ≡ lexeme.LowerName → pattern_in (Leaf (Token token) at Empty) ≡ Binds token.place (Unresolved token.bytes)
 binds_tree token at is =
-    ap (λ (kind : Lexeme). pattern_by (kind_of_lexeme kind token.bytes) (Token token) Empty) is ∙ binds_by (bytes_eq token.bytes (codes "local")) (Token token) Empty
+    ap (λ (kind : Lexeme). pattern_by (token_kind_of kind token.bytes) (Token token) Empty) is ∙ binds_by (bytes_eq token.bytes (codes "local")) (Token token) Empty
 
 -- each kind of upper-case name builds a value
 built_by : (is_abs is_std : Bool) (mark : Mark) (goal : Goal) (arguments others : Forest)
@@ -96,22 +96,22 @@ built_by false false mark goal arguments others = refl
 pub built_tree : (token : Lexed) (at : ℕ) (goal : Goal) (arguments : Forest) → token.kind ≡ lexeme.UpperName
     → pattern_in (Leaf (Token token) at (Node goal arguments Empty)) ≡ Built token.place token.bytes (pattern_arguments arguments)
 built_tree token at goal arguments is =
-    ap (λ (kind : Lexeme). pattern_by (kind_of_lexeme kind token.bytes) (Token token) (Node goal arguments Empty)) is
+    ap (λ (kind : Lexeme). pattern_by (token_kind_of kind token.bytes) (Token token) (Node goal arguments Empty)) is
     ∙ built_by (bytes_eq token.bytes (codes "ABS")) (bytes_eq token.bytes (codes "StdLib")) (Token token) goal arguments Empty
 
 -- digits are a number
 pub number_tree : (token : Lexed) (at : ℕ) → token.kind ≡ lexeme.Number → pattern_in (Leaf (Token token) at Empty) ≡ SameNumber token.place (pos (digits_value 10 token.bytes))
-number_tree token at is = ap (λ (kind : Lexeme). pattern_by (kind_of_lexeme kind token.bytes) (Token token) Empty) is
+number_tree token at is = ap (λ (kind : Lexeme). pattern_by (token_kind_of kind token.bytes) (Token token) Empty) is
 
 -- digits behind a minus are a negative number
-pub minus_tree : (token digits : Lexed) (at below : ℕ) → token.kind ≡ lexeme.Sign punctuator.Minus
+pub minus_tree : (token digits : Lexed) (at below : ℕ) → token.kind ≡ lexeme.Punctuator punctuator.Minus
     → pattern_in (Leaf (Token token) at (Leaf (Token digits) below Empty)) ≡ SameNumber token.place (neg_ℤ (pos (digits_value 10 digits.bytes)))
-minus_tree token digits at below is = ap (λ (kind : Lexeme). pattern_by (kind_of_lexeme kind token.bytes) (Token token) (Leaf (Token digits) below Empty)) is
+minus_tree token digits at below is = ap (λ (kind : Lexeme). pattern_by (token_kind_of kind token.bytes) (Token token) (Leaf (Token digits) below Empty)) is
 
 -- a literal is a text
 pub text_tree : (token : Lexed) (at : ℕ) → token.kind ≡ lexeme.Text → pattern_in (Leaf (Token token) at Empty) ≡ SameString token.place (unescaped (drop 1 token.bytes))
-text_tree token at is = ap (λ (kind : Lexeme). pattern_by (kind_of_lexeme kind token.bytes) (Token token) Empty) is
+text_tree token at is = ap (λ (kind : Lexeme). pattern_by (token_kind_of kind token.bytes) (Token token) Empty) is
 
 -- an underscore is any value
-pub any_tree : (token : Lexed) (at : ℕ) → token.kind ≡ lexeme.Sign punctuator.Underscore → pattern_in (Leaf (Token token) at Empty) ≡ AnyValue token.place
-any_tree token at is = ap (λ (kind : Lexeme). pattern_by (kind_of_lexeme kind token.bytes) (Token token) Empty) is
+pub any_tree : (token : Lexed) (at : ℕ) → token.kind ≡ lexeme.Punctuator punctuator.Underscore → pattern_in (Leaf (Token token) at Empty) ≡ AnyValue token.place
+any_tree token at is = ap (λ (kind : Lexeme). pattern_by (token_kind_of kind token.bytes) (Token token) Empty) is

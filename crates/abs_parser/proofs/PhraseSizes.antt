@@ -6,7 +6,7 @@ use Rattle.abs_tree.specs.Syntax.{Name, Phrase, Phrases, Operands, NoOperands, N
 use Rattle.abs_tree.specs.SyntaxSizes.{pattern_variables, patterns_variables, phrase_variables, phrases_variables, operand_variables, branch_variables, side_variables, test_variables}
 use Rattle.abs_lexer.specs.declared.lexeme.Keyword.TheVariants as keyword
 use Rattle.abs_lexer.specs.declared.lexeme.Punctuator.TheVariants as punctuator
-use Rattle.abs_parser.specs.Kinds.{Mark, Kind, LowerName, LocalName, UpperName, AbsName, StdLibName, Word, Sign, place_of_mark, kind_of}
+use Rattle.abs_parser.specs.TokenKinds.{Mark, TokenKind, LowerName, LocalName, UpperName, AbsName, StdLibName, KeywordKind, PunctuatorKind, place_of_mark, token_kind}
 use Rattle.abs_parser.specs.Readings.{Forest, Leaf, Node}
 use Rattle.abs_parser.specs.TreesOf.{written, pattern_in, pattern_by, pattern_arguments, patterns_maybe, patterns_in, more_patterns, place_in, with_operators, named, member, built, expr_in, or_in, or_operands, and_in, and_operands, equal_in, equal_operand, compare_in, compare_operand, sum_in, sum_operands, mul_in, mul_operands, unary_in, primary_in, primary_by, this_in, arguments_maybe, arguments_in, args_maybe, args_in, more_args, branch_in, branches_in, selected_in, tail_in, rhs_in, rest_in, test_in, more_tests, guard_in}
 use Rattle.abs_parser.proofs.LeafLemmas.{leaves}
@@ -14,12 +14,12 @@ use Rattle.abs_parser.proofs.LeafLemmas.{leaves}
 mutual
   -- a pattern has no more variables than leaves
   pattern_few : (forest : Forest) → pattern_variables (pattern_in forest) ≤ leaves forest
-  pattern_few (Leaf mark _ others) = omega (arith, pattern_by_few (kind_of mark) mark others)
+  pattern_few (Leaf mark _ others) = omega (arith, pattern_by_few (token_kind mark) mark others)
   pattern_few _ = omega arith
 
   -- neither has one by its first token
-  pattern_by_few : (kind : Kind) (mark : Mark) (others : Forest) → pattern_variables (pattern_by kind mark others) ≤ 1 + leaves others
-  pattern_by_few (Sign punctuator.Minus) mark (Leaf number _ _) = omega arith
+  pattern_by_few : (kind : TokenKind) (mark : Mark) (others : Forest) → pattern_variables (pattern_by kind mark others) ≤ 1 + leaves others
+  pattern_by_few (PunctuatorKind punctuator.Minus) mark (Leaf number _ _) = omega arith
   pattern_by_few UpperName mark (Node _ arguments _) = omega (arith, pattern_arguments_few arguments)
   pattern_by_few AbsName mark (Node _ arguments _) = omega (arith, pattern_arguments_few arguments)
   pattern_by_few StdLibName mark (Node _ arguments _) = omega (arith, pattern_arguments_few arguments)
@@ -154,12 +154,12 @@ mutual
 
   -- nor one without signs
   primary_few : (forest : Forest) → phrase_variables (primary_in forest) ≤ leaves forest
-  primary_few (Leaf mark _ others) = omega (arith, primary_by_few (kind_of mark) mark others)
+  primary_few (Leaf mark _ others) = omega (arith, primary_by_few (token_kind mark) mark others)
   primary_few _ = omega arith
 
   -- nor one by its first token
-  primary_by_few : (kind : Kind) (mark : Mark) (others : Forest) → phrase_variables (primary_by kind mark others) ≤ 1 + leaves others
-  primary_by_few (Word keyword.This) mark (Node _ tail _) = omega (arith, this_few (place_of_mark mark) tail)
+  primary_by_few : (kind : TokenKind) (mark : Mark) (others : Forest) → phrase_variables (primary_by kind mark others) ≤ 1 + leaves others
+  primary_by_few (KeywordKind keyword.This) mark (Node _ tail _) = omega (arith, this_few (place_of_mark mark) tail)
   primary_by_few LowerName mark (Node _ arguments _) =
       omega (arith, named_variables (place_of_mark mark) (written mark) (arguments_maybe arguments), arguments_maybe_few arguments)
   primary_by_few LocalName mark (Node _ arguments _) =
@@ -170,9 +170,9 @@ mutual
       omega (arith, built_variables (place_of_mark mark) (written mark) (arguments_maybe arguments), arguments_maybe_few arguments)
   primary_by_few StdLibName mark (Node _ arguments _) =
       omega (arith, built_variables (place_of_mark mark) (written mark) (arguments_maybe arguments), arguments_maybe_few arguments)
-  primary_by_few (Word keyword.Case) mark (Node _ subject (Leaf opening _ (Node _ first (Node _ others (Leaf closing _ _))))) =
+  primary_by_few (KeywordKind keyword.Case) mark (Node _ subject (Leaf opening _ (Node _ first (Node _ others (Leaf closing _ _))))) =
       omega (arith, expr_few subject, branch_few first (branches_in others), branches_few others)
-  primary_by_few (Sign punctuator.OpenParen) mark (Node _ inside _) = omega (arith, expr_few inside)
+  primary_by_few (PunctuatorKind punctuator.OpenParen) mark (Node _ inside _) = omega (arith, expr_few inside)
   primary_by_few _ mark others = omega arith
 
   -- nor "this" with what stands behind it

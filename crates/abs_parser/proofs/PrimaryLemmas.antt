@@ -25,10 +25,10 @@ use Rattle.abs_tree.specs.Syntax.{Phrase, Phrases, Prefixed, ThisOf, BuildOf}
 use Rattle.abs_tree.specs.SyntaxViews.{phrase, phrases}
 use Rattle.abs_tree.specs.Trees.{name_of}
 use Rattle.abs_tree.proofs.SyntaxLemmas.{phrase-build}
-use Rattle.abs_parser.specs.Kinds.{Mark, Token, Kind, kind_of_lexeme, LowerName, LocalName, UpperName, AbsName, StdLibName, Number, Text, Word, Sign, End, place_of_mark, fits}
-use Rattle.abs_parser.specs.Levels.{prefix_sign}
+use Rattle.abs_parser.specs.TokenKinds.{Mark, Token, TokenKind, token_kind_of, LowerName, LocalName, UpperName, AbsName, StdLibName, Number, Text, KeywordKind, PunctuatorKind, End, place_of_mark, fits}
+use Rattle.abs_parser.specs.Precedences.{prefix_sign}
 use Rattle.abs_parser.specs.Productions.{begins, begins_within, chosen, Unary, Primary, ThisTail, Arguments, Expr, Branch}
-use Rattle.abs_parser.specs.Readings.{One, Optional, Repeated, Wanted, Terminal, Nonterminal, opened, Forest, Empty, Leaf, Node}
+use Rattle.abs_parser.specs.Readings.{One, Optional, Repeated, Wanted, Terminal, Subgoal, opened, Forest, Empty, Leaf, Node}
 use Rattle.abs_parser.specs.ReaderAnswers.{asked, maybe_phrases, is_asked}
 use Rattle.abs_parser.specs.TreesOf.{written, prefix_of, named, member, built, unary_in, primary_in, primary_by, arguments_maybe, expr_in}
 use Rattle.abs_parser.proofs.FirstTokens.{BeginsBy, none_found}
@@ -40,16 +40,16 @@ first_words = keyword.Null ∷ keyword.Destiny ∷ keyword.This ∷ keyword.Case
 
 -- whether a primary may begin with a token of a kind
 abbrev pub may_begin : Lexeme → Bool
-may_begin (lexeme.Word word) = list_any (sameb keywords word) first_words
+may_begin (lexeme.Keyword word) = list_any (sameb keywords word) first_words
 may_begin lexeme.Foreign = false
-may_begin (lexeme.Sign sign) = sameb punctuators sign punctuator.OpenParen
+may_begin (lexeme.Punctuator sign) = sameb punctuators sign punctuator.OpenParen
 may_begin _ = true
 
 -- that is so for each kind
 may_begin_told : (kind : Lexeme) → may_begin kind ≡ begins Primary (asked kind)
 unfolding begins begins_within
-may_begin_told (lexeme.Word keyword.Null) = refl
-may_begin_told (lexeme.Sign punctuator.OpenParen) = refl
+may_begin_told (lexeme.Keyword keyword.Null) = refl
+may_begin_told (lexeme.Punctuator punctuator.OpenParen) = refl
 may_begin_told _ = refl
 
 -- and for each name
@@ -58,31 +58,31 @@ unfolding begins begins_within
 first_kinds = record { told = may_begin_told; local_too = refl; abs_too = refl; library_too = refl }
 
 -- no other word begins one
-pub other_word : (word : Keyword) → (word ≡ keyword.Null → ⊥) → (word ≡ keyword.Destiny → ⊥) → (word ≡ keyword.This → ⊥) → (word ≡ keyword.Case → ⊥) → false ≡ may_begin (lexeme.Word word)
+pub other_word : (word : Keyword) → (word ≡ keyword.Null → ⊥) → (word ≡ keyword.Destiny → ⊥) → (word ≡ keyword.This → ⊥) → (word ≡ keyword.Case → ⊥) → false ≡ may_begin (lexeme.Keyword word)
 other_word word not_null not_destiny not_this not_case = none_found keywords tt first_words word (not_null, (not_destiny, (not_this, (not_case, tt))))
 
 -- What they consist of, by the next token
 
 -- behind the token of a kind that begins a primary stands this
 abbrev pub behind_first : Lexeme → ℕ → List Wanted
-behind_first lexeme.LowerName depth = Nonterminal (Optional Arguments) depth ∷ []
-behind_first lexeme.UpperName depth = Nonterminal (Optional Arguments) depth ∷ []
-behind_first (lexeme.Word keyword.This) depth = Nonterminal (Optional ThisTail) depth ∷ []
-behind_first (lexeme.Word keyword.Case) depth =
-    Nonterminal (One Expr) depth ∷ Terminal (Sign punctuator.OpenBrace) depth ∷ Nonterminal (One Branch) depth ∷ Nonterminal (Repeated Branch) depth
-    ∷ Terminal (Sign punctuator.CloseBrace) depth ∷ []
-behind_first (lexeme.Sign punctuator.OpenParen) depth = Nonterminal (One Expr) depth ∷ Terminal (Sign punctuator.CloseParen) depth ∷ []
+behind_first lexeme.LowerName depth = Subgoal (Optional Arguments) depth ∷ []
+behind_first lexeme.UpperName depth = Subgoal (Optional Arguments) depth ∷ []
+behind_first (lexeme.Keyword keyword.This) depth = Subgoal (Optional ThisTail) depth ∷ []
+behind_first (lexeme.Keyword keyword.Case) depth =
+    Subgoal (One Expr) depth ∷ Terminal (PunctuatorKind punctuator.OpenBrace) depth ∷ Subgoal (One Branch) depth ∷ Subgoal (Repeated Branch) depth
+    ∷ Terminal (PunctuatorKind punctuator.CloseBrace) depth ∷ []
+behind_first (lexeme.Punctuator punctuator.OpenParen) depth = Subgoal (One Expr) depth ∷ Terminal (PunctuatorKind punctuator.CloseParen) depth ∷ []
 behind_first _ depth = []
 
 -- a lower-case name opens a primary, whichever it is
-pub lower_opened : (kind : Kind) (depth : ℕ) → fits LowerName kind ≡ true → opened (One Primary) kind depth ≡ Some (Terminal LowerName depth ∷ Nonterminal (Optional Arguments) depth ∷ [])
+pub lower_opened : (kind : TokenKind) (depth : ℕ) → fits LowerName kind ≡ true → opened (One Primary) kind depth ≡ Some (Terminal LowerName depth ∷ Subgoal (Optional Arguments) depth ∷ [])
 unfolding begins chosen begins_within
 lower_opened LowerName depth fit = refl
 lower_opened LocalName depth fit = refl
 lower_opened _ depth fit = absurd cc
 
 -- and so does an upper-case name
-pub upper_opened : (kind : Kind) (depth : ℕ) → fits UpperName kind ≡ true → opened (One Primary) kind depth ≡ Some (Terminal UpperName depth ∷ Nonterminal (Optional Arguments) depth ∷ [])
+pub upper_opened : (kind : TokenKind) (depth : ℕ) → fits UpperName kind ≡ true → opened (One Primary) kind depth ≡ Some (Terminal UpperName depth ∷ Subgoal (Optional Arguments) depth ∷ [])
 unfolding begins chosen begins_within
 upper_opened UpperName depth fit = refl
 upper_opened AbsName depth fit = refl
@@ -91,17 +91,17 @@ upper_opened _ depth fit = absurd cc
 
 -- a token that may begin a primary opens it
 pub primary_opened : (kind : Lexeme) (bytes : List ℕ) (depth : ℕ) → may_begin kind ≡ true
-    → opened (One Primary) (kind_of_lexeme kind bytes) depth ≡ Some (Terminal (asked kind) depth ∷ behind_first kind depth)
+    → opened (One Primary) (token_kind_of kind bytes) depth ≡ Some (Terminal (asked kind) depth ∷ behind_first kind depth)
 unfolding begins chosen begins_within
 primary_opened lexeme.LowerName bytes depth is = lower_opened _ depth (asked_fits lexeme.LowerName bytes refl)
 primary_opened lexeme.UpperName bytes depth is = upper_opened _ depth (asked_fits lexeme.UpperName bytes refl)
 primary_opened lexeme.Number bytes depth is = refl
 primary_opened lexeme.Text bytes depth is = refl
-primary_opened (lexeme.Word keyword.Null) bytes depth is = refl
-primary_opened (lexeme.Word keyword.Destiny) bytes depth is = refl
-primary_opened (lexeme.Word keyword.This) bytes depth is = refl
-primary_opened (lexeme.Word keyword.Case) bytes depth is = refl
-primary_opened (lexeme.Sign punctuator.OpenParen) bytes depth is = refl
+primary_opened (lexeme.Keyword keyword.Null) bytes depth is = refl
+primary_opened (lexeme.Keyword keyword.Destiny) bytes depth is = refl
+primary_opened (lexeme.Keyword keyword.This) bytes depth is = refl
+primary_opened (lexeme.Keyword keyword.Case) bytes depth is = refl
+primary_opened (lexeme.Punctuator punctuator.OpenParen) bytes depth is = refl
 primary_opened _ bytes depth is = absurd cc
 
 -- the grammar asks for each kind that may begin one
@@ -110,17 +110,17 @@ first_asked lexeme.Foreign is = absurd cc
 first_asked _ is = refl
 
 -- a token that may begin no primary opens none
-pub primary_shut : (kind : Lexeme) (bytes : List ℕ) (depth : ℕ) → may_begin kind ≡ false → opened (One Primary) (kind_of_lexeme kind bytes) depth ≡ None
+pub primary_shut : (kind : Lexeme) (bytes : List ℕ) (depth : ℕ) → may_begin kind ≡ false → opened (One Primary) (token_kind_of kind bytes) depth ≡ None
 unfolding begins chosen begins_within
 primary_shut lexeme.LowerName bytes depth is = absurd cc
 primary_shut lexeme.UpperName bytes depth is = absurd cc
 primary_shut lexeme.Number bytes depth is = absurd cc
 primary_shut lexeme.Text bytes depth is = absurd cc
-primary_shut (lexeme.Word keyword.Null) bytes depth is = absurd cc
-primary_shut (lexeme.Word keyword.Destiny) bytes depth is = absurd cc
-primary_shut (lexeme.Word keyword.This) bytes depth is = absurd cc
-primary_shut (lexeme.Word keyword.Case) bytes depth is = absurd cc
-primary_shut (lexeme.Sign punctuator.OpenParen) bytes depth is = absurd cc
+primary_shut (lexeme.Keyword keyword.Null) bytes depth is = absurd cc
+primary_shut (lexeme.Keyword keyword.Destiny) bytes depth is = absurd cc
+primary_shut (lexeme.Keyword keyword.This) bytes depth is = absurd cc
+primary_shut (lexeme.Keyword keyword.Case) bytes depth is = absurd cc
+primary_shut (lexeme.Punctuator punctuator.OpenParen) bytes depth is = absurd cc
 primary_shut _ bytes depth is = refl
 
 -- nor does the end of the text
@@ -129,13 +129,13 @@ unfolding begins chosen begins_within
 primary_end depth = refl
 
 -- of the signs only "(" opens one
-pub group_shut : (sign : Punctuator) (depth : ℕ) → fits (Sign punctuator.OpenParen) (Sign sign) ≡ false → opened (One Primary) (Sign sign) depth ≡ None
+pub group_shut : (sign : Punctuator) (depth : ℕ) → fits (PunctuatorKind punctuator.OpenParen) (PunctuatorKind sign) ≡ false → opened (One Primary) (PunctuatorKind sign) depth ≡ None
 unfolding begins chosen begins_within
 group_shut punctuator.OpenParen depth differs = absurd cc
 group_shut _ depth differs = refl
 
 -- where a primary may begin, a unary is one
-pub operand_opened : (kind : Kind) (depth : ℕ) → begins Primary kind ≡ true → opened (One Unary) kind depth ≡ Some (Nonterminal (One Primary) (depth + 1) ∷ [])
+pub operand_opened : (kind : TokenKind) (depth : ℕ) → begins Primary kind ≡ true → opened (One Unary) kind depth ≡ Some (Subgoal (One Primary) (depth + 1) ∷ [])
 unfolding begins chosen begins_within
 operand_opened LowerName depth is = refl
 operand_opened LocalName depth is = refl
@@ -144,37 +144,37 @@ operand_opened AbsName depth is = refl
 operand_opened StdLibName depth is = refl
 operand_opened Number depth is = refl
 operand_opened Text depth is = refl
-operand_opened (Word keyword.Null) depth is = refl
-operand_opened (Word keyword.Destiny) depth is = refl
-operand_opened (Word keyword.This) depth is = refl
-operand_opened (Word keyword.Case) depth is = refl
-operand_opened (Sign punctuator.OpenParen) depth is = refl
+operand_opened (KeywordKind keyword.Null) depth is = refl
+operand_opened (KeywordKind keyword.Destiny) depth is = refl
+operand_opened (KeywordKind keyword.This) depth is = refl
+operand_opened (KeywordKind keyword.Case) depth is = refl
+operand_opened (PunctuatorKind punctuator.OpenParen) depth is = refl
 operand_opened _ depth is = absurd cc
 
 -- an operator before an operand opens a unary, and behind it stands another
 pub prefix_opened : (operation : Prefix) (depth : ℕ)
-    → opened (One Unary) (Sign (prefix_sign operation)) depth ≡ Some (Terminal (Sign (prefix_sign operation)) (depth + 1) ∷ Nonterminal (One Unary) (depth + 1) ∷ [])
+    → opened (One Unary) (PunctuatorKind (prefix_sign operation)) depth ≡ Some (Terminal (PunctuatorKind (prefix_sign operation)) (depth + 1) ∷ Subgoal (One Unary) (depth + 1) ∷ [])
 unfolding begins chosen begins_within
 prefix_opened prefix.Not depth = refl
 prefix_opened prefix.Tilde depth = refl
 prefix_opened prefix.Minus depth = refl
 
 -- what is no such operator and may begin no primary opens no unary
-pub unary_shut : (kind : Lexeme) (bytes : List ℕ) (depth : ℕ) → may_begin kind ≡ false → ((operation : Prefix) → kind ≡ lexeme.Sign (prefix_sign operation) → ⊥)
-    → opened (One Unary) (kind_of_lexeme kind bytes) depth ≡ None
+pub unary_shut : (kind : Lexeme) (bytes : List ℕ) (depth : ℕ) → may_begin kind ≡ false → ((operation : Prefix) → kind ≡ lexeme.Punctuator (prefix_sign operation) → ⊥)
+    → opened (One Unary) (token_kind_of kind bytes) depth ≡ None
 unfolding begins chosen begins_within
 unary_shut lexeme.LowerName bytes depth is none = absurd cc
 unary_shut lexeme.UpperName bytes depth is none = absurd cc
 unary_shut lexeme.Number bytes depth is none = absurd cc
 unary_shut lexeme.Text bytes depth is none = absurd cc
-unary_shut (lexeme.Word keyword.Null) bytes depth is none = absurd cc
-unary_shut (lexeme.Word keyword.Destiny) bytes depth is none = absurd cc
-unary_shut (lexeme.Word keyword.This) bytes depth is none = absurd cc
-unary_shut (lexeme.Word keyword.Case) bytes depth is none = absurd cc
-unary_shut (lexeme.Sign punctuator.OpenParen) bytes depth is none = absurd cc
-unary_shut (lexeme.Sign punctuator.Not) bytes depth is none = absurd (none prefix.Not refl)
-unary_shut (lexeme.Sign punctuator.Tilde) bytes depth is none = absurd (none prefix.Tilde refl)
-unary_shut (lexeme.Sign punctuator.Minus) bytes depth is none = absurd (none prefix.Minus refl)
+unary_shut (lexeme.Keyword keyword.Null) bytes depth is none = absurd cc
+unary_shut (lexeme.Keyword keyword.Destiny) bytes depth is none = absurd cc
+unary_shut (lexeme.Keyword keyword.This) bytes depth is none = absurd cc
+unary_shut (lexeme.Keyword keyword.Case) bytes depth is none = absurd cc
+unary_shut (lexeme.Punctuator punctuator.OpenParen) bytes depth is none = absurd cc
+unary_shut (lexeme.Punctuator punctuator.Not) bytes depth is none = absurd (none prefix.Not refl)
+unary_shut (lexeme.Punctuator punctuator.Tilde) bytes depth is none = absurd (none prefix.Tilde refl)
+unary_shut (lexeme.Punctuator punctuator.Minus) bytes depth is none = absurd (none prefix.Minus refl)
 unary_shut _ bytes depth is none = refl
 
 -- nor does the end of the text
@@ -183,18 +183,18 @@ unfolding begins chosen begins_within
 unary_end depth = refl
 
 -- behind "this" a dot opens what may be left out
-pub tail_follows : (depth : ℕ) (kind : Kind) → fits (Sign punctuator.Dot) kind ≡ true → opened (Optional ThisTail) kind depth ≡ Some (Nonterminal (One ThisTail) depth ∷ [])
+pub tail_follows : (depth : ℕ) (kind : TokenKind) → fits (PunctuatorKind punctuator.Dot) kind ≡ true → opened (Optional ThisTail) kind depth ≡ Some (Subgoal (One ThisTail) depth ∷ [])
 unfolding begins begins_within
 tail_follows depth kind fit = rw fit refl
 
 -- which is the dot, a name and perhaps arguments
-pub tail_opened : (depth : ℕ) (kind : Kind) → fits (Sign punctuator.Dot) kind ≡ true
-    → opened (One ThisTail) kind depth ≡ Some (Terminal (Sign punctuator.Dot) depth ∷ Terminal LowerName depth ∷ Nonterminal (Optional Arguments) depth ∷ [])
+pub tail_opened : (depth : ℕ) (kind : TokenKind) → fits (PunctuatorKind punctuator.Dot) kind ≡ true
+    → opened (One ThisTail) kind depth ≡ Some (Terminal (PunctuatorKind punctuator.Dot) depth ∷ Terminal LowerName depth ∷ Subgoal (Optional Arguments) depth ∷ [])
 unfolding begins chosen begins_within
 tail_opened depth kind fit = rw fit refl
 
 -- without a dot it is left out
-pub no_tail : (depth : ℕ) (kind : Kind) → fits (Sign punctuator.Dot) kind ≡ false → opened (Optional ThisTail) kind depth ≡ Some []
+pub no_tail : (depth : ℕ) (kind : TokenKind) → fits (PunctuatorKind punctuator.Dot) kind ≡ false → opened (Optional ThisTail) kind depth ≡ Some []
 unfolding begins begins_within
 no_tail depth kind other = rw other refl
 
@@ -202,8 +202,8 @@ no_tail depth kind other = rw other refl
 
 -- the tree of a primary is that of its first token and of what stands behind it
 pub tree_by : {kind : Lexeme} (token : Lexed) (at : ℕ) (others : Forest) → token.kind ≡ kind
-    → primary_in (Leaf (Token token) at others) ≡ primary_by (kind_of_lexeme kind token.bytes) (Token token) others
-tree_by token at others is = ap (λ (kind : Lexeme). primary_by (kind_of_lexeme kind token.bytes) (Token token) others) is
+    → primary_in (Leaf (Token token) at others) ≡ primary_by (token_kind_of kind token.bytes) (Token token) others
+tree_by token at others is = ap (λ (kind : Lexeme). primary_by (token_kind_of kind token.bytes) (Token token) others) is
 
 -- each kind of lower-case name is a function or a variable
 named_by : (is_local : Bool) (mark : Mark) (arguments : Forest)
@@ -234,7 +234,7 @@ built_tree token at arguments is trees =
     ∙ sym (tree_by token at (Node (Optional Arguments) arguments Empty) is ∙ built_by (bytes_eq token.bytes (codes "ABS")) (bytes_eq token.bytes (codes "StdLib")) (Token token) arguments)
 
 -- `this`, a dot and a name are a method or a field, by whether there are arguments
-pub member_tree : (this dot name : Lexed) (at : ℕ) (arguments : Forest) {trees : Option Phrases} → this.kind ≡ lexeme.Word keyword.This → trees ≡ arguments_maybe arguments
+pub member_tree : (this dot name : Lexed) (at : ℕ) (arguments : Forest) {trees : Option Phrases} → this.kind ≡ lexeme.Keyword keyword.This → trees ≡ arguments_maybe arguments
     → member this.place name.place name.bytes trees
     ≡ primary_in (Leaf (Token this) at (Node (Optional ThisTail) (Node (One ThisTail) (Leaf (Token dot) at (Leaf (Token name) at (Node (Optional Arguments) arguments Empty))) Empty) Empty))
 member_tree this dot name at arguments is trees =
@@ -242,26 +242,26 @@ member_tree this dot name at arguments is trees =
     ∙ sym (tree_by this at (Node (Optional ThisTail) (Node (One ThisTail) (Leaf (Token dot) at (Leaf (Token name) at (Node (Optional Arguments) arguments Empty))) Empty) Empty) is)
 
 -- without a dot `this` stands for itself
-pub this_tree : (this : Lexed) (at : ℕ) → this.kind ≡ lexeme.Word keyword.This → ThisOf this.place ≡ primary_in (Leaf (Token this) at (Node (Optional ThisTail) Empty Empty))
+pub this_tree : (this : Lexed) (at : ℕ) → this.kind ≡ lexeme.Keyword keyword.This → ThisOf this.place ≡ primary_in (Leaf (Token this) at (Node (Optional ThisTail) Empty Empty))
 this_tree this at is = sym (tree_by this at (Node (Optional ThisTail) Empty Empty) is)
 
 -- what stands in parentheses is its own tree
-pub group_tree : (opening closing : Lexed) (at : ℕ) (inside : Forest) {tree : Phrase} → opening.kind ≡ lexeme.Sign punctuator.OpenParen → tree ≡ expr_in inside
+pub group_tree : (opening closing : Lexed) (at : ℕ) (inside : Forest) {tree : Phrase} → opening.kind ≡ lexeme.Punctuator punctuator.OpenParen → tree ≡ expr_in inside
     → tree ≡ primary_in (Leaf (Token opening) at (Node (One Expr) inside (Leaf (Token closing) at Empty)))
 group_tree opening closing at inside is trees = trees ∙ sym (tree_by opening at (Node (One Expr) inside (Leaf (Token closing) at Empty)) is)
 
 -- an operator before an operand is told by its sign
-prefix_told : (operation : Prefix) → prefix_of (Sign (prefix_sign operation)) ≡ operation
+prefix_told : (operation : Prefix) → prefix_of (PunctuatorKind (prefix_sign operation)) ≡ operation
 prefix_told prefix.Not = refl
 prefix_told prefix.Tilde = refl
 prefix_told prefix.Minus = refl
 
 -- the tree of an operator and the unary behind it
-pub prefixed_tree : (operation : Prefix) (token : Lexed) (at : ℕ) (operand : Forest) {tree : Phrase} → token.kind ≡ lexeme.Sign (prefix_sign operation) → tree ≡ unary_in operand
+pub prefixed_tree : (operation : Prefix) (token : Lexed) (at : ℕ) (operand : Forest) {tree : Phrase} → token.kind ≡ lexeme.Punctuator (prefix_sign operation) → tree ≡ unary_in operand
     → Prefixed token.place operation tree ≡ unary_in (Leaf (Token token) at (Node (One Unary) operand Empty))
 prefixed_tree operation token at operand is trees =
     ap (Prefixed token.place operation) trees
-    ∙ ap (λ (told : Prefix). Prefixed token.place told (unary_in operand)) (sym (ap (λ (kind : Lexeme). prefix_of (kind_of_lexeme kind token.bytes)) is ∙ prefix_told operation))
+    ∙ ap (λ (told : Prefix). Prefixed token.place told (unary_in operand)) (sym (ap (λ (kind : Lexeme). prefix_of (token_kind_of kind token.bytes)) is ∙ prefix_told operation))
 
 -- a constructor has the arguments that are there
 pub build_phrase : (names : List (List ℕ)) (place : Place) (symbol : Symbol) (arguments : Vec code_expr.Expr Global) {given : Option (Vec code_expr.Expr Global)} {name : List ℕ}

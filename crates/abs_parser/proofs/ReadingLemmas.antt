@@ -3,13 +3,13 @@
 -- such a part is closed again, and where a token in front is taken or put back. And a list is read as the same items in one way only.
 use Rattle.std.proofs.Common.{◌≡◌, ℕ, true, false, List, [], ◌∷◌, ◌++◌, Some, None, refl, sym, ap, ◌∙◌}
 use Rattle.std.proofs.lemmas.List.{append_assoc}
-use Rattle.abs_parser.specs.Kinds.{Mark, Kind, kind_of, fits, next}
+use Rattle.abs_parser.specs.TokenKinds.{Mark, TokenKind, token_kind, fits, next}
 use Rattle.abs_parser.specs.Productions.{Program}
-use Rattle.abs_parser.specs.Readings.{Goal, One, Wanted, Terminal, Nonterminal, opened, Forest, Empty, Leaf, Node, Reads, Nothing, Taken, Opened, depths}
+use Rattle.abs_parser.specs.Readings.{Goal, One, Wanted, Terminal, Subgoal, opened, Forest, Empty, Leaf, Node, Reads, Nothing, Taken, Opened, depths}
 
 -- What is wanted of a text is a program.
 abbrev pub a_program : List Wanted
-a_program = Nonterminal (One Program) 0 ∷ []
+a_program = Subgoal (One Program) 0 ∷ []
 
 -- Two forests stand side by side as one.
 abbrev join : Forest → Forest → Forest
@@ -53,7 +53,7 @@ split (Terminal kind depth ∷ first) second (Taken {mark = mark} fit reads) =
       reads_behind = parts.reads_behind;
       is = ap (Leaf mark depth) parts.is;
     }
-split (Nonterminal goal depth ∷ first) second (Opened {inside = inside} is reads_inside reads) =
+split (Subgoal goal depth ∷ first) second (Opened {inside = inside} is reads_inside reads) =
     let parts = split first second reads in
     record {
       middle = parts.middle;
@@ -85,7 +85,7 @@ pub record WholeReading (items : List Wanted) (ts : List Mark) (levels : List �
 
 -- A whole reading of what a part consists of, in front of others, is one of the part.
 pub part_closed : {goal : Goal} {depth : ℕ} {inner items : List Wanted} {ts : List Mark} {levels : List ℕ} → opened goal (next ts) depth ≡ Some inner
-    → WholeReading (inner ++ items) ts levels → WholeReading (Nonterminal goal depth ∷ items) ts levels
+    → WholeReading (inner ++ items) ts levels → WholeReading (Subgoal goal depth ∷ items) ts levels
 part_closed {goal} {depth} {inner} {items} is reading =
     let parts = split inner items reading.reads in
     record {
@@ -96,52 +96,52 @@ part_closed {goal} {depth} {inner} {items} is reading =
 
 -- What is read inside a part, with what is read behind it, is a whole reading of what the part consists of.
 inside_joined : {goal : Goal} {depth : ℕ} {inner items : List Wanted} {ts : List Mark} {forest : Forest} {levels : List ℕ} → opened goal (next ts) depth ≡ Some inner
-    → Reads (Nonterminal goal depth ∷ items) ts forest [] → depths forest ≡ levels → WholeReading (inner ++ items) ts levels
+    → Reads (Subgoal goal depth ∷ items) ts forest [] → depths forest ≡ levels → WholeReading (inner ++ items) ts levels
 inside_joined {inner = inner} is (Opened {inner = other_inner} {inside = inside} {forest = forest} other_is reads_inside reads) are =
     let alike : other_inner ≡ inner = cc in
     record { forest = join inside forest; reads = reads_join (rw alike at reads_inside) reads; are = depths_join inside forest ∙ are }
 
 -- A whole reading of a part, in front of others, is one of what the part consists of.
 pub part_opened : {goal : Goal} {depth : ℕ} {inner items : List Wanted} {ts : List Mark} {levels : List ℕ} → opened goal (next ts) depth ≡ Some inner
-    → WholeReading (Nonterminal goal depth ∷ items) ts levels → WholeReading (inner ++ items) ts levels
+    → WholeReading (Subgoal goal depth ∷ items) ts levels → WholeReading (inner ++ items) ts levels
 part_opened is reading = inside_joined is reading.reads reading.are
 
 -- A token fits and stands at the first of these depths, and the list behind it is read as the other items.
-pub record TokenTaken (kind : Kind) (depth : ℕ) (items : List Wanted) (mark : Mark) (ts : List Mark) (levels : List ℕ) : Type 0 where
-  pub fit : fits kind (kind_of mark) ≡ true
+pub record TokenTaken (kind : TokenKind) (depth : ℕ) (items : List Wanted) (mark : Mark) (ts : List Mark) (levels : List ℕ) : Type 0 where
+  pub fit : fits kind (token_kind mark) ≡ true
   pub others : List ℕ
   pub are : levels ≡ depth ∷ others
   pub behind : WholeReading items ts others
 
 -- A reading that begins with a token is one of it and of the list behind it.
-first_taken : {kind : Kind} {depth : ℕ} {items : List Wanted} {mark : Mark} {ts : List Mark} {forest : Forest} {levels : List ℕ}
+first_taken : {kind : TokenKind} {depth : ℕ} {items : List Wanted} {mark : Mark} {ts : List Mark} {forest : Forest} {levels : List ℕ}
     → Reads (Terminal kind depth ∷ items) (mark ∷ ts) forest [] → depths forest ≡ levels → TokenTaken kind depth items mark ts levels
 first_taken (Taken {forest = forest} fit reads) are = record { fit = fit; others = depths forest; are = sym are; behind = record { forest = forest; reads = reads; are = refl } }
 
 -- So is a whole reading that begins with one.
-pub token_taken : {kind : Kind} {depth : ℕ} {items : List Wanted} {mark : Mark} {ts : List Mark} {levels : List ℕ}
+pub token_taken : {kind : TokenKind} {depth : ℕ} {items : List Wanted} {mark : Mark} {ts : List Mark} {levels : List ℕ}
     → WholeReading (Terminal kind depth ∷ items) (mark ∷ ts) levels → TokenTaken kind depth items mark ts levels
 token_taken reading = first_taken reading.reads reading.are
 
 -- A token that fits, put in front of a whole reading, is read with it.
-pub token_put : {kind : Kind} {depth : ℕ} {items : List Wanted} {mark : Mark} {ts : List Mark} {levels : List ℕ} → fits kind (kind_of mark) ≡ true
+pub token_put : {kind : TokenKind} {depth : ℕ} {items : List Wanted} {mark : Mark} {ts : List Mark} {levels : List ℕ} → fits kind (token_kind mark) ≡ true
     → WholeReading items ts levels → WholeReading (Terminal kind depth ∷ items) (mark ∷ ts) (depth ∷ levels)
 token_put {depth = depth} {mark = mark} fit reading =
     record { forest = Leaf mark depth reading.forest; reads = Taken fit reading.reads; are = ap (λ (levels : List ℕ). depth ∷ levels) reading.are }
 
 -- No whole reading begins with a token that does not fit.
-pub unfit_unread : {kind : Kind} {depth : ℕ} {items : List Wanted} {mark : Mark} {ts : List Mark} {levels : List ℕ} → fits kind (kind_of mark) ≡ false
+pub unfit_unread : {kind : TokenKind} {depth : ℕ} {items : List Wanted} {mark : Mark} {ts : List Mark} {levels : List ℕ} → fits kind (token_kind mark) ≡ false
     → WholeReading (Terminal kind depth ∷ items) (mark ∷ ts) levels → ⊥
 unfit_unread unfit reading = cc (token_taken reading).fit
 
 -- A part that the next token does not open is not read.
 no_part : {goal : Goal} {depth : ℕ} {items : List Wanted} {ts rest : List Mark} {forest : Forest} → opened goal (next ts) depth ≡ None
-    → Reads (Nonterminal goal depth ∷ items) ts forest rest → ⊥
+    → Reads (Subgoal goal depth ∷ items) ts forest rest → ⊥
 no_part shut (Opened is inside reads) = cc
 
 -- So no whole reading begins with such a part.
 pub shut_unread : {goal : Goal} {depth : ℕ} {items : List Wanted} {ts : List Mark} {levels : List ℕ} → opened goal (next ts) depth ≡ None
-    → WholeReading (Nonterminal goal depth ∷ items) ts levels → ⊥
+    → WholeReading (Subgoal goal depth ∷ items) ts levels → ⊥
 shut_unread shut reading = no_part shut reading.reads
 
 -- Where nothing is wanted, nothing is taken.

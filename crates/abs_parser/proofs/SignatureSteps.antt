@@ -19,9 +19,9 @@ use Rattle.abs_lexer.specs.declared.lexeme.Keyword.TheVariants as keyword
 use Rattle.abs_lexer.specs.declared.lexeme.Lexeme.TheVariants as lexeme
 use Rattle.abs_lexer.specs.declared.lexeme.Punctuator.TheVariants as punctuator
 use Rattle.abs_lexer.specs.Tokens.{Lexed}
-use Rattle.abs_parser.specs.Kinds.{Token, Kind, LowerName, UpperName, Word, Sign}
+use Rattle.abs_parser.specs.TokenKinds.{Token, TokenKind, LowerName, UpperName, KeywordKind, PunctuatorKind}
 use Rattle.abs_parser.specs.Productions.{Decl, TypeParameters, Params, Extends, Signature, Type', Expr, begins, begins_within, chosen}
-use Rattle.abs_parser.specs.Readings.{Goal, One, Optional, Repeated, Wanted, Terminal, Nonterminal, opened, Forest, Leaf, Node}
+use Rattle.abs_parser.specs.Readings.{Goal, One, Optional, Repeated, Wanted, Terminal, Subgoal, opened, Forest, Leaf, Node}
 use Rattle.abs_parser.specs.ReaderAnswers.{TakesKind, FoundAs, IsRefused}
 use Rattle.abs_parser.specs.Stops.{limit}
 use Rattle.abs_parser.specs.Tokens.{Spot}
@@ -35,7 +35,7 @@ use Rattle.abs_parser.proofs.InFrontSteps.{refused_in_front}
 use Rattle.abs_parser.proofs.NameLemmas.{goes_on_further}
 use Rattle.abs_parser.proofs.RepeatSteps.{ends_at, row_shorter}
 use Rattle.abs_parser.proofs.StepLemmas.{HasRead, opens, over_token, over_name, over_part, all_read, found_goes_on, symbol_kept}
-use Rattle.abs_parser.proofs.SymbolLemmas.{begins_with_part, part_shut, part_begun, part_opened}
+use Rattle.abs_parser.proofs.NonterminalLemmas.{begins_with_part, part_shut, part_begun, part_opened}
 
 -- Methods of an interface
 
@@ -44,19 +44,19 @@ abbrev pub IsSignature : CodeSignature → List (List ℕ) → Forest → Type 0
 IsSignature signature names inside = (others : List SignatureTree) → signature_tree names signature ∷ others ≡ signature_in inside others
 
 -- a method begins where a type does
-signature_begins : (kind : Kind) → begins Signature kind ≡ begins Type' kind
+signature_begins : (kind : TokenKind) → begins Signature kind ≡ begins Type' kind
 signature_begins kind = begins_with_part Signature kind refl
 
 -- behind the name of a method stands this
 abbrev pub behind_signature : ℕ → List Wanted
-behind_signature at = Terminal (Sign punctuator.OpenParen) at ∷ Nonterminal (Optional Params) at ∷ Terminal (Sign punctuator.CloseParen) at ∷ Terminal (Sign punctuator.Semicolon) at ∷ []
+behind_signature at = Terminal (PunctuatorKind punctuator.OpenParen) at ∷ Subgoal (Optional Params) at ∷ Terminal (PunctuatorKind punctuator.CloseParen) at ∷ Terminal (PunctuatorKind punctuator.Semicolon) at ∷ []
 
 -- a method is a type, a name, and this
-signature_opened : (kind : Kind) (depth : ℕ) → begins Type' kind ≡ true → opened (One Signature) kind depth ≡ Some (Nonterminal (One Type') depth ∷ Terminal LowerName depth ∷ behind_signature depth)
+signature_opened : (kind : TokenKind) (depth : ℕ) → begins Type' kind ≡ true → opened (One Signature) kind depth ≡ Some (Subgoal (One Type') depth ∷ Terminal LowerName depth ∷ behind_signature depth)
 signature_opened kind depth may = part_opened Signature kind depth refl refl (signature_begins kind ∙ may)
 
 -- where no type may begin, there is no method
-signature_shut : (kind : Kind) (depth : ℕ) → begins Type' kind ≡ false → opened (One Signature) kind depth ≡ None
+signature_shut : (kind : TokenKind) (depth : ℕ) → begins Type' kind ≡ false → opened (One Signature) kind depth ≡ None
 signature_shut kind depth none = part_shut Signature kind depth (signature_begins kind ∙ none)
 
 -- a method that was found leaves fewer tokens than there were
@@ -65,7 +65,7 @@ pub signature_shorter : {from to : Spot} {depth : ℕ} {old new : List (List ℕ
 signature_shorter {depth = depth} found = row_shorter (signature_opened _ depth (sym (signature_begins _) ∙ part_begun Signature _ depth found.rule_is)) found
 
 -- a method is refused where its type is
-pub refused_result : (depth : ℕ) (from : Spot) (error : SourceError) → IsRefused (Nonterminal (One Type') depth) from error → IsRefused (Nonterminal (One Signature) depth) from error
+pub refused_result : (depth : ℕ) (from : Spot) (error : SourceError) → IsRefused (Subgoal (One Type') depth) from error → IsRefused (Subgoal (One Signature) depth) from error
 refused_result depth from error refused = refused_in_front Type' depth (One Signature) depth from error (signature_opened _ depth) (signature_shut _ depth) refused
 
 -- over the type of a method
@@ -82,18 +82,18 @@ signature_named result name is within = over_name (result_read result) name refl
 -- over "(", its parameters, and ")"
 pub parameters_read : {goal : Goal} {opening closing : Lexed} {from open_at inside_at close_at behind : Spot} {depth at : ℕ} {old now new : List (List ℕ)} {make : Forest → Forest} {left : List Wanted}
     {is_read : List (List ℕ) → Forest → Type 0}
-    → HasRead goal depth old now from make (Terminal (Sign punctuator.OpenParen) at ∷ Nonterminal (Optional Params) at ∷ Terminal (Sign punctuator.CloseParen) at ∷ left) open_at
-    → TakesKind (lexeme.Sign punctuator.OpenParen) opening open_at inside_at → (params : FoundAs (Optional Params) at now new inside_at close_at is_read)
-    → TakesKind (lexeme.Sign punctuator.CloseParen) closing close_at behind → at ≤ limit
+    → HasRead goal depth old now from make (Terminal (PunctuatorKind punctuator.OpenParen) at ∷ Subgoal (Optional Params) at ∷ Terminal (PunctuatorKind punctuator.CloseParen) at ∷ left) open_at
+    → TakesKind (lexeme.Punctuator punctuator.OpenParen) opening open_at inside_at → (params : FoundAs (Optional Params) at now new inside_at close_at is_read)
+    → TakesKind (lexeme.Punctuator punctuator.CloseParen) closing close_at behind → at ≤ limit
     → HasRead goal depth old new from (λ rest. make (Leaf (Token opening) at (Node (Optional Params) params.inside (Leaf (Token closing) at rest)))) left behind
 parameters_read so opening params closing within = over_token (over_part (over_token so opening refl refl within) params) closing refl refl within
 
 -- a method with its type, its name and its parameters is found
 pub signature_found : {name opening closing semicolon : Lexed} {from name_at open_at inside_at close_at last_at end : Spot} {depth : ℕ} {old now table new : List (List ℕ)} (signature : CodeSignature)
     → signature.name.place ≡ name.place → FoundAs (One Type') depth old now from name_at (λ names inside. type_tree names signature.result ≡ type_in inside) → TakesKind lexeme.LowerName name name_at open_at
-    → signature.name.name.0 ≡ number_of_name now name.bytes → table ≡ with_name now name.bytes → TakesKind (lexeme.Sign punctuator.OpenParen) opening open_at inside_at
+    → signature.name.name.0 ≡ number_of_name now name.bytes → table ≡ with_name now name.bytes → TakesKind (lexeme.Punctuator punctuator.OpenParen) opening open_at inside_at
     → FoundAs (Optional Params) depth table new inside_at close_at (λ names inside. map (param_tree names) signature.params.items ≡ params_maybe inside)
-    → TakesKind (lexeme.Sign punctuator.CloseParen) closing close_at last_at → TakesKind (lexeme.Sign punctuator.Semicolon) semicolon last_at end → depth ≤ limit
+    → TakesKind (lexeme.Punctuator punctuator.CloseParen) closing close_at last_at → TakesKind (lexeme.Punctuator punctuator.Semicolon) semicolon last_at end → depth ≤ limit
     → FoundAs (One Signature) depth old new from end (IsSignature signature)
 signature_found {now = now} signature same result name number is opening params closing semicolon within =
     all_read (over_token (parameters_read (signature_named result name is within) opening params closing within) semicolon refl refl within) (λ names more others.
@@ -103,15 +103,15 @@ signature_found {now = now} signature same result name number is opening params 
 -- Interfaces
 
 -- no method begins with "}"
-pub no_signature_closes : begins Signature (Sign punctuator.CloseBrace) ≡ false
+pub no_signature_closes : begins Signature (PunctuatorKind punctuator.CloseBrace) ≡ false
 unfolding begins begins_within
 no_signature_closes = refl
 
 -- the methods of an interface repeat up to it
 abbrev pub signatures_of : Parts CodeSignature SignatureTree
 signatures_of = record {
-  symbol = Signature;
-  closing = lexeme.Sign punctuator.CloseBrace;
+  nonterminal = Signature;
+  closing = lexeme.Punctuator punctuator.CloseBrace;
   closing_asked = refl;
   closing_unnamed = refl;
   closing_ends = ends_at Signature punctuator.CloseBrace no_signature_closes;
@@ -122,10 +122,10 @@ signatures_of = record {
 
 -- behind the name of an interface stands this
 abbrev pub behind_interface : ℕ → List Wanted
-behind_interface at = Nonterminal (Optional Extends) at ∷ Terminal (Sign punctuator.OpenBrace) at ∷ Nonterminal (Repeated Signature) at ∷ Terminal (Sign punctuator.CloseBrace) at ∷ []
+behind_interface at = Subgoal (Optional Extends) at ∷ Terminal (PunctuatorKind punctuator.OpenBrace) at ∷ Subgoal (Repeated Signature) at ∷ Terminal (PunctuatorKind punctuator.CloseBrace) at ∷ []
 
 -- `interface` opens a declaration
-pub interface_opened : (depth : ℕ) → opened (One Decl) (Word keyword.Interface) depth ≡ Some (Terminal (Word keyword.Interface) depth ∷ Terminal UpperName depth ∷ behind_interface depth)
+pub interface_opened : (depth : ℕ) → opened (One Decl) (KeywordKind keyword.Interface) depth ≡ Some (Terminal (KeywordKind keyword.Interface) depth ∷ Terminal UpperName depth ∷ behind_interface depth)
 unfolding begins chosen begins_within
 interface_opened depth = refl
 
@@ -140,9 +140,9 @@ interface_made place signatures others name extended = rw (name, extended) refl
 
 -- an interface was read up to its first method
 pub first_signature : {word name brace : Lexed} {from name_at behind open_at here : Spot} {depth : ℕ} {old table now : List (List ℕ)} {signatures : List CodeSignature} (symbol : NameSymbol) (listed : List Declared)
-    → signatures ≡ [] → TakesKind (lexeme.Word keyword.Interface) word from name_at → TakesKind lexeme.UpperName name name_at behind → symbol.0 ≡ number_of_name old name.bytes → table ≡ with_name old name.bytes
+    → signatures ≡ [] → TakesKind (lexeme.Keyword keyword.Interface) word from name_at → TakesKind lexeme.UpperName name name_at behind → symbol.0 ≡ number_of_name old name.bytes → table ≡ with_name old name.bytes
     → FoundAs (Optional Extends) depth table now behind open_at (λ names inside. map (declared_tree names) listed ≡ names_maybe inside)
-    → TakesKind (lexeme.Sign punctuator.OpenBrace) brace open_at here → depth ≤ limit
+    → TakesKind (lexeme.Punctuator punctuator.OpenBrace) brace open_at here → depth ≤ limit
     → ReadsParts signatures_of AnyIndex (interface_of word.place (record { place = name.place; name = symbol }) listed) depth old now from here signatures
 first_signature {word} {name} {brace} {depth = depth} {old} symbol listed same takes takes_name number is extended takes_brace within = rw same (record {
   make = λ rest. Leaf (Token word) depth (Leaf (Token name) depth (Node (Optional Extends) extended.inside (Leaf (Token brace) depth rest)));
@@ -164,16 +164,16 @@ next_signature signature same so found =
 -- behind the name of a function stands this
 abbrev pub behind_function : ℕ → List Wanted
 behind_function at =
-    Nonterminal (Optional TypeParameters) at ∷ Terminal (Sign punctuator.OpenParen) at ∷ Nonterminal (Optional Params) at ∷ Terminal (Sign punctuator.CloseParen) at
-    ∷ Terminal (Sign punctuator.Assign) at ∷ Nonterminal (One Expr) at ∷ Terminal (Sign punctuator.Semicolon) at ∷ []
+    Subgoal (Optional TypeParameters) at ∷ Terminal (PunctuatorKind punctuator.OpenParen) at ∷ Subgoal (Optional Params) at ∷ Terminal (PunctuatorKind punctuator.CloseParen) at
+    ∷ Terminal (PunctuatorKind punctuator.Assign) at ∷ Subgoal (One Expr) at ∷ Terminal (PunctuatorKind punctuator.Semicolon) at ∷ []
 
 -- `def` opens a declaration
-pub function_opened : (depth : ℕ) → opened (One Decl) (Word keyword.Def) depth ≡ Some (Terminal (Word keyword.Def) depth ∷ Nonterminal (One Type') depth ∷ Terminal LowerName depth ∷ behind_function depth)
+pub function_opened : (depth : ℕ) → opened (One Decl) (KeywordKind keyword.Def) depth ≡ Some (Terminal (KeywordKind keyword.Def) depth ∷ Subgoal (One Type') depth ∷ Terminal LowerName depth ∷ behind_function depth)
 unfolding begins chosen begins_within
 function_opened depth = refl
 
 -- over the type and the name of a function
-pub function_named : {word name : Lexed} {from type_at name_at behind : Spot} {depth : ℕ} {old now table : List (List ℕ)} {is_read : List (List ℕ) → Forest → Type 0} → TakesKind (lexeme.Word keyword.Def) word from type_at
+pub function_named : {word name : Lexed} {from type_at name_at behind : Spot} {depth : ℕ} {old now table : List (List ℕ)} {is_read : List (List ℕ) → Forest → Type 0} → TakesKind (lexeme.Keyword keyword.Def) word from type_at
     → (result : FoundAs (One Type') depth old now type_at name_at is_read) → TakesKind lexeme.LowerName name name_at behind → table ≡ with_name now name.bytes → depth ≤ limit
     → HasRead (One Decl) depth old table from (λ rest. Leaf (Token word) depth (Node (One Type') result.inside (Leaf (Token name) depth rest))) (behind_function depth) behind
 function_named {depth = depth} {old} word result name is within = over_name (over_part (word_read depth old (function_opened depth) word within) result) name refl refl within is
@@ -181,12 +181,12 @@ function_named {depth = depth} {old} word result name is within = over_name (ove
 -- over its type parameters, its parameters and "="
 pub function_assigned : {opening closing equals : Lexed} {from behind open_at inside_at close_at equals_at value_at : Spot} {depth : ℕ} {old table now new : List (List ℕ)} {make : Forest → Forest}
     {is_read are_read : List (List ℕ) → Forest → Type 0} → HasRead (One Decl) depth old table from make (behind_function depth) behind
-    → (parameters : FoundAs (Optional TypeParameters) depth table now behind open_at is_read) → TakesKind (lexeme.Sign punctuator.OpenParen) opening open_at inside_at
-    → (params : FoundAs (Optional Params) depth now new inside_at close_at are_read) → TakesKind (lexeme.Sign punctuator.CloseParen) closing close_at equals_at
-    → TakesKind (lexeme.Sign punctuator.Assign) equals equals_at value_at → depth ≤ limit
+    → (parameters : FoundAs (Optional TypeParameters) depth table now behind open_at is_read) → TakesKind (lexeme.Punctuator punctuator.OpenParen) opening open_at inside_at
+    → (params : FoundAs (Optional Params) depth now new inside_at close_at are_read) → TakesKind (lexeme.Punctuator punctuator.CloseParen) closing close_at equals_at
+    → TakesKind (lexeme.Punctuator punctuator.Assign) equals equals_at value_at → depth ≤ limit
     → HasRead (One Decl) depth old new from
     (λ rest. make (Node (Optional TypeParameters) parameters.inside (Leaf (Token opening) depth (Node (Optional Params) params.inside (Leaf (Token closing) depth (Leaf (Token equals) depth rest))))))
-    (Nonterminal (One Expr) depth ∷ Terminal (Sign punctuator.Semicolon) depth ∷ []) value_at
+    (Subgoal (One Expr) depth ∷ Terminal (PunctuatorKind punctuator.Semicolon) depth ∷ []) value_at
 function_assigned so parameters opening params closing equals within = over_token (parameters_read (over_part so parameters) opening params closing within) equals refl refl within
 
 -- the tree of a function is made of those of its parts
@@ -198,12 +198,12 @@ function_made place others result name parameters params value = rw (result, nam
 -- a function with its types, its name, its parameters and its value is found, as they are held in memory
 pub function_found : {word name opening closing equals semicolon : Lexed} {from type_at name_at behind open_at inside_at close_at equals_at value_at last_at end : Spot} {depth : ℕ} {old one table two three new : List (List ℕ)}
     {value : CodeExpr} (result : TypeTerm) (symbol : NameSymbol) (parameters : Vec Declared Global) (params : Vec Param Global) (held : Arc CodeExpr Global) → held.value ≡ value
-    → TakesKind (lexeme.Word keyword.Def) word from type_at → FoundAs (One Type') depth old one type_at name_at (λ names inside. type_tree names result ≡ type_in inside)
+    → TakesKind (lexeme.Keyword keyword.Def) word from type_at → FoundAs (One Type') depth old one type_at name_at (λ names inside. type_tree names result ≡ type_in inside)
     → TakesKind lexeme.LowerName name name_at behind → symbol.0 ≡ number_of_name one name.bytes → table ≡ with_name one name.bytes
     → FoundAs (Optional TypeParameters) depth table two behind open_at (λ names inside. map (declared_tree names) parameters.items ≡ names_maybe inside)
-    → TakesKind (lexeme.Sign punctuator.OpenParen) opening open_at inside_at → FoundAs (Optional Params) depth two three inside_at close_at (λ names inside. map (param_tree names) params.items ≡ params_maybe inside)
-    → TakesKind (lexeme.Sign punctuator.CloseParen) closing close_at equals_at → TakesKind (lexeme.Sign punctuator.Assign) equals equals_at value_at
-    → FoundAs (One Expr) depth three new value_at last_at (λ names inside. phrase names value ≡ expr_in inside) → TakesKind (lexeme.Sign punctuator.Semicolon) semicolon last_at end → depth ≤ limit
+    → TakesKind (lexeme.Punctuator punctuator.OpenParen) opening open_at inside_at → FoundAs (Optional Params) depth two three inside_at close_at (λ names inside. map (param_tree names) params.items ≡ params_maybe inside)
+    → TakesKind (lexeme.Punctuator punctuator.CloseParen) closing close_at equals_at → TakesKind (lexeme.Punctuator punctuator.Assign) equals equals_at value_at
+    → FoundAs (One Expr) depth three new value_at last_at (λ names inside. phrase names value ≡ expr_in inside) → TakesKind (lexeme.Punctuator punctuator.Semicolon) semicolon last_at end → depth ≤ limit
     → FoundAs (One Decl) depth old new from end
     (λ names inside. (index : ℕ) (others : List DeclTree) → decl_tree names (decl.Function word.place result (record { place = name.place; name = symbol }) parameters params held) ∷ others ≡ decl_in index inside others)
 function_found {word = word} {name} {depth = depth} {one = one} result symbol parameters params held same takes type takes_name number is listed opening found closing equals value semicolon within =

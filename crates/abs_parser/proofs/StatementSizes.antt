@@ -5,7 +5,7 @@ use Rattle.abs_tree.specs.declared.place.Place.{Place}
 use Rattle.abs_tree.specs.Syntax.{Name, Unresolved, Phrase, ThisOf, TypeTree, VariableTree, MaybeSide, NoSide, SomeSide, Statement, BlockOf, IfOf, DeclareOf, MaybeStatements, NoElse, Else, Statements}
 use Rattle.abs_tree.specs.SyntaxSizes.{count_of, statement_count, phrase_variables, side_variables, statement_variables, statements_variables}
 use Rattle.abs_lexer.specs.declared.lexeme.Keyword.TheVariants as keyword
-use Rattle.abs_parser.specs.Kinds.{Mark, Kind, LowerName, LocalName, Word, place_of_mark, kind_of}
+use Rattle.abs_parser.specs.TokenKinds.{Mark, TokenKind, LowerName, LocalName, KeywordKind, place_of_mark, token_kind}
 use Rattle.abs_parser.specs.Readings.{Forest, Empty, Leaf, Node}
 use Rattle.abs_parser.specs.TreesOf.{written, place_in, type_in, expr_in, named, member, arguments_maybe, initial_in, after_variable, after_field, after_this, branch_of, statement_in, statement_by, else_in, block_in, statements_in}
 use Rattle.abs_parser.proofs.LeafLemmas.{leaves}
@@ -76,7 +76,7 @@ if_variables index place test first (Else second) = refl
 mutual
   -- a statement has no more variables than leaves
   pub statement_few : (index : ℕ) (forest : Forest) → statement_variables (statement_in index forest) ≤ leaves forest
-  statement_few index (Leaf mark _ others) = omega (arith, statement_by_few index (kind_of mark) mark others)
+  statement_few index (Leaf mark _ others) = omega (arith, statement_by_few index (token_kind mark) mark others)
   statement_few index (Node _ block Empty) = omega (arith, block_few index block)
   statement_few index (Node _ type (Leaf name _ (Node _ initial _))) =
       omega (
@@ -88,12 +88,12 @@ mutual
   statement_few index Empty = omega arith
 
   -- neither has one by its first token
-  statement_by_few : (index : ℕ) (kind : Kind) (mark : Mark) (others : Forest) → statement_variables (statement_by index kind mark others) ≤ 1 + leaves others
-  statement_by_few index (Word keyword.Suspend) mark others = omega arith
-  statement_by_few index (Word keyword.Await) mark (Node _ guard _) = omega (arith, guard_few guard)
-  statement_by_few index (Word keyword.Return) mark (Node _ expr _) = omega (arith, expr_few expr)
-  statement_by_few index (Word keyword.Println) mark (Leaf opening _ (Node _ expr _)) = omega (arith, expr_few expr)
-  statement_by_few index (Word keyword.If) mark (Leaf opening _ (Node _ test (Leaf closing _ (Node _ first (Node _ other _))))) =
+  statement_by_few : (index : ℕ) (kind : TokenKind) (mark : Mark) (others : Forest) → statement_variables (statement_by index kind mark others) ≤ 1 + leaves others
+  statement_by_few index (KeywordKind keyword.Suspend) mark others = omega arith
+  statement_by_few index (KeywordKind keyword.Await) mark (Node _ guard _) = omega (arith, guard_few guard)
+  statement_by_few index (KeywordKind keyword.Return) mark (Node _ expr _) = omega (arith, expr_few expr)
+  statement_by_few index (KeywordKind keyword.Println) mark (Leaf opening _ (Node _ expr _)) = omega (arith, expr_few expr)
+  statement_by_few index (KeywordKind keyword.If) mark (Leaf opening _ (Node _ test (Leaf closing _ (Node _ first (Node _ other _))))) =
       omega (
         arith,
         if_variables index (place_of_mark mark) (expr_in test) (branch_of (statement_in (index + 1) first))
@@ -103,9 +103,9 @@ mutual
         statement_few (index + 1) first,
         else_few (index + 1 + statement_count (branch_of (statement_in (index + 1) first))) other,
       )
-  statement_by_few index (Word keyword.While) mark (Leaf opening _ (Node _ test (Leaf closing _ (Node _ body _)))) =
+  statement_by_few index (KeywordKind keyword.While) mark (Leaf opening _ (Node _ test (Leaf closing _ (Node _ body _)))) =
       omega (arith, expr_few test, branch_variables_are (statement_in (index + 1) body), statement_few (index + 1) body)
-  statement_by_few index (Word keyword.This) mark (Node _ after _) = omega (arith, after_this_few index (place_of_mark mark) after)
+  statement_by_few index (KeywordKind keyword.This) mark (Node _ after _) = omega (arith, after_this_few index (place_of_mark mark) after)
   statement_by_few index LowerName mark (Node _ after _) = omega (arith, after_variable_few index (place_of_mark mark) (written mark) after)
   statement_by_few index LocalName mark (Node _ after _) = omega (arith, after_variable_few index (place_of_mark mark) (written mark) after)
   statement_by_few index _ mark others = omega arith

@@ -23,8 +23,8 @@ use Rattle.abs_lexer.specs.declared.lexeme.Lexeme.TheVariants as lexeme
 use Rattle.abs_lexer.specs.Tokens.{Lexed}
 use Rattle.abs_lexer.specs.Words.{spelling, punctuator_bytes}
 use Rattle.abs_parser.specs.Answers.{GoesOn}
-use Rattle.abs_parser.specs.Kinds.{Mark, Token, TextEnd, Kind, LowerName, LocalName, UpperName, AbsName, StdLibName, place_of_mark, kind_of, kind_of_lexeme, fits, next}
-use Rattle.abs_parser.specs.Readings.{Goal, Wanted, Terminal, Nonterminal, opened, Forest, Empty, Leaf, Node, Reads, Nothing, Taken, Opened, depths}
+use Rattle.abs_parser.specs.TokenKinds.{Mark, Token, TextEnd, TokenKind, LowerName, LocalName, UpperName, AbsName, StdLibName, place_of_mark, token_kind, token_kind_of, fits, next}
+use Rattle.abs_parser.specs.Readings.{Goal, Wanted, Terminal, Subgoal, opened, Forest, Empty, Leaf, Node, Reads, Nothing, Taken, Opened, depths}
 use Rattle.abs_parser.specs.Refusing.{Refuses, Other, Below, Past, Shut, Open, Cut, AllWithin}
 use Rattle.abs_parser.specs.Stops.{limit, wrong_code}
 use Rattle.abs_parser.specs.Tokens.{Spot, place_of, TakesToken}
@@ -72,14 +72,14 @@ upper_fits false true = refl
 upper_fits false false = refl
 
 -- a token of a kind fits where one of it is asked for, however it is written
-pub asked_fits : (kind : Lexeme) (bytes : List ℕ) → is_asked kind ≡ true → fits (asked kind) (kind_of_lexeme kind bytes) ≡ true
+pub asked_fits : (kind : Lexeme) (bytes : List ℕ) → is_asked kind ≡ true → fits (asked kind) (token_kind_of kind bytes) ≡ true
 asked_fits lexeme.LowerName bytes is = lower_fits _
 asked_fits lexeme.UpperName bytes is = upper_fits _ _
 asked_fits lexeme.Number bytes is = refl
 asked_fits lexeme.Text bytes is = refl
-asked_fits (lexeme.Word keyword) bytes is = (bytes_eq-Decides (spelling keyword) (spelling keyword)).1 refl
+asked_fits (lexeme.Keyword keyword) bytes is = (bytes_eq-Decides (spelling keyword) (spelling keyword)).1 refl
 asked_fits lexeme.Foreign bytes is = absurd cc
-asked_fits (lexeme.Sign punctuator) bytes is = (bytes_eq-Decides (punctuator_bytes punctuator) (punctuator_bytes punctuator)).1 refl
+asked_fits (lexeme.Punctuator punctuator) bytes is = (bytes_eq-Decides (punctuator_bytes punctuator) (punctuator_bytes punctuator)).1 refl
 
 -- a name that begins with a lower-case letter stands in front of others
 lower_named : (is_local : Bool) (name : List ℕ) (others : List (List ℕ)) → name_first (cond is_local LocalName LowerName) name others ≡ name ∷ others
@@ -93,19 +93,19 @@ upper_named false true name others = refl
 upper_named false false name others = refl
 
 -- a name stands in front of others
-pub named_first : (kind : Lexeme) (bytes : List ℕ) (others : List (List ℕ)) → is_name kind ≡ true → name_first (kind_of_lexeme kind bytes) bytes others ≡ bytes ∷ others
+pub named_first : (kind : Lexeme) (bytes : List ℕ) (others : List (List ℕ)) → is_name kind ≡ true → name_first (token_kind_of kind bytes) bytes others ≡ bytes ∷ others
 named_first lexeme.LowerName bytes others is = lower_named _ bytes others
 named_first lexeme.UpperName bytes others is = upper_named _ _ bytes others
 named_first _ bytes others is = absurd cc
 
 -- what is no name leaves the others as they are
-pub unnamed_first : (kind : Lexeme) (bytes : List ℕ) (others : List (List ℕ)) → is_name kind ≡ false → name_first (kind_of_lexeme kind bytes) bytes others ≡ others
+pub unnamed_first : (kind : Lexeme) (bytes : List ℕ) (others : List (List ℕ)) → is_name kind ≡ false → name_first (token_kind_of kind bytes) bytes others ≡ others
 unnamed_first lexeme.LowerName bytes others is = absurd cc
 unnamed_first lexeme.UpperName bytes others is = absurd cc
 unnamed_first _ bytes others is = refl
 
 -- names in front of others in front of more
-name_first_append : (kind : Kind) (name : List ℕ) (others more : List (List ℕ)) → name_first kind name (others ++ more) ≡ name_first kind name others ++ more
+name_first_append : (kind : TokenKind) (name : List ℕ) (others more : List (List ℕ)) → name_first kind name (others ++ more) ≡ name_first kind name others ++ more
 name_first_append LowerName name others more = refl
 name_first_append LocalName name others more = refl
 name_first_append UpperName name others more = refl
@@ -117,7 +117,7 @@ name_first_append _ name others more = refl
 pub names_append : (forest : Forest) (others more : List (List ℕ)) → names_before forest (others ++ more) ≡ names_before forest others ++ more
 names_append Empty others more = refl
 names_append (Leaf mark depth behind) others more =
-    ap (name_first (kind_of mark) (written mark)) (names_append behind others more) ∙ name_first_append (kind_of mark) (written mark) (names_before behind others) more
+    ap (name_first (token_kind mark) (written mark)) (names_append behind others more) ∙ name_first_append (token_kind mark) (written mark) (names_before behind others) more
 names_append (Node goal inside behind) others more =
     ap (names_before inside) (names_append behind others more) ∙ names_append inside (names_before behind others) more
 
@@ -128,7 +128,7 @@ table_of_both table forest others =
     ap (fold with_name table) (names_append forest [] others) ∙ fold-append with_name table (names_before forest []) others
 
 -- no token is more than one name
-few_first : (kind : Kind) (name : List ℕ) (others : List (List ℕ)) → length (name_first kind name others) ≤ length others + 1
+few_first : (kind : TokenKind) (name : List ℕ) (others : List (List ℕ)) → length (name_first kind name others) ≤ length others + 1
 few_first LowerName name others = omega arith
 few_first LocalName name others = omega arith
 few_first UpperName name others = omega arith
@@ -141,7 +141,7 @@ few_names : {items : List Wanted} {ts rest : List Mark} {forest : Forest} → Re
     → length (names_before forest others) + length rest ≤ length others + length ts
 few_names Nothing others = omega arith
 few_names (Taken {mark = mark} {forest = forest} e reads) others =
-    omega (arith, few_first (kind_of mark) (written mark) (names_before forest others), few_names reads others)
+    omega (arith, few_first (token_kind mark) (written mark) (names_before forest others), few_names reads others)
 few_names (Opened {inside = inside} {forest = forest} e first reads) others =
     omega (arith, few_names first (names_before forest others), few_names reads others)
 
@@ -214,7 +214,7 @@ pub record HasRead (goal : Goal) (depth : ℕ) (old now : List (List ℕ)) (from
   pub rule_is : opened goal (next (left_at from)) depth ≡ Some inner
   pub reads : (rest : Forest) (to : List Mark) → Reads left (left_at here) rest to → Reads inner (left_at from) (make rest) to
   pub within : (rest : Forest) → AllWithin (depths rest) → AllWithin (depths (make rest))
-  pub refuses : (items : List Wanted) (to : List Mark) (code : Code) → Refuses (left ++ items) (left_at here) to code → Refuses (Nonterminal goal depth ∷ items) (left_at from) to code
+  pub refuses : (items : List Wanted) (to : List Mark) (code : Code) → Refuses (left ++ items) (left_at here) to code → Refuses (Subgoal goal depth ∷ items) (left_at from) to code
   pub table : (rest : Forest) → fold with_name old (names_before (make rest) []) ≡ fold with_name now (names_before rest [])
   pub goes_on : GoesOn old now
   pub few : length now + length here.rest ≤ length old + length from.rest
@@ -242,7 +242,7 @@ inside_alone forest = forest
 
 -- what is read as a part alone is read as what it is opened to
 alone_reads : {goal : Goal} {depth : ℕ} {inner : List Wanted} {ts to : List Mark} {rest : Forest} → opened goal (next ts) depth ≡ Some inner
-    → Reads (Nonterminal goal depth ∷ []) ts rest to → Reads inner ts (inside_alone rest) to
+    → Reads (Subgoal goal depth ∷ []) ts rest to → Reads inner ts (inside_alone rest) to
 alone_reads is (Opened e first Nothing) = rw (same_Some _ _ (sym is ∙ e)) first
 
 -- no token is too deep inside it
@@ -263,7 +263,7 @@ alone_names (Node part inside (Node goal first others)) = refl
 
 -- a part that the next token opens is left whole where nothing of it was read
 pub left_whole : (goal : Goal) (depth : ℕ) (table : List (List ℕ)) (from : Spot) (inner : List Wanted) → opened goal (next (left_at from)) depth ≡ Some inner
-    → HasRead goal depth table table from inside_alone (Nonterminal goal depth ∷ []) from
+    → HasRead goal depth table table from inside_alone (Subgoal goal depth ∷ []) from
 left_whole goal depth table from inner is = record {
   inner = inner;
   rule_is = is;
@@ -277,11 +277,11 @@ left_whole goal depth table from inner is = record {
 }
 
 -- what a token of a kind is taken for
-kind_fits : {kind : Lexeme} {token : Lexed} {from to : Spot} → is_asked kind ≡ true → TakesKind kind token from to → fits (asked kind) (kind_of (Token token)) ≡ true
+kind_fits : {kind : Lexeme} {token : Lexed} {from to : Spot} → is_asked kind ≡ true → TakesKind kind token from to → fits (asked kind) (token_kind (Token token)) ≡ true
 kind_fits {kind} {token} wanted takes = rw takes.kind_is (asked_fits kind token.bytes wanted)
 
 -- the kind of a token that stands at a spot is the next one
-pub next_is : {token : Lexed} {from to : Spot} → TakesToken token from to → next (left_at from) ≡ kind_of (Token token)
+pub next_is : {token : Lexed} {from to : Spot} → TakesToken token from to → next (left_at from) ≡ token_kind (Token token)
 next_is takes = ap next (left_of takes)
 
 -- the next token fits where one of its kind is asked for
@@ -295,7 +295,7 @@ fits_itself fixed.Abs = refl
 fits_itself fixed.StdLib = refl
 
 -- and so does the token that is it
-fixed_fits : {name : FixedName} {token : Lexed} {from to : Spot} → TakesFixed name token from to → fits (fixed_kind name) (kind_of (Token token)) ≡ true
+fixed_fits : {name : FixedName} {token : Lexed} {from to : Spot} → TakesFixed name token from to → fits (fixed_kind name) (token_kind (Token token)) ≡ true
 fixed_fits {name} takes = ap (fits (fixed_kind name)) takes.kind_is ∙ fits_itself name
 
 -- the next token is such a name
@@ -304,12 +304,12 @@ next_fixed takes = next_is takes.takes ∙ takes.kind_is
 
 -- a token that is no name leaves the others as they are
 token_unnamed : {kind : Lexeme} {token : Lexed} {from to : Spot} → TakesKind kind token from to → is_name kind ≡ false → (others : List (List ℕ))
-    → name_first (kind_of (Token token)) token.bytes others ≡ others
+    → name_first (token_kind (Token token)) token.bytes others ≡ others
 token_unnamed {kind} {token} takes is others = rw takes.kind_is (unnamed_first kind token.bytes others is)
 
 -- a token that is a name stands in front of others
 token_named : {kind : Lexeme} {token : Lexed} {from to : Spot} → TakesKind kind token from to → is_name kind ≡ true → (others : List (List ℕ))
-    → name_first (kind_of (Token token)) token.bytes others ≡ token.bytes ∷ others
+    → name_first (token_kind (Token token)) token.bytes others ≡ token.bytes ∷ others
 token_named {kind} {token} takes is others = rw takes.kind_is (named_first kind token.bytes others is)
 
 -- a name with a text of its own stands in front of others
@@ -320,13 +320,13 @@ fixed_first fixed.StdLib bytes others = refl
 
 -- and so does the token that is it
 fixed_named : {name : FixedName} {token : Lexed} {from to : Spot} → TakesFixed name token from to → (others : List (List ℕ))
-    → name_first (kind_of (Token token)) token.bytes others ≡ token.bytes ∷ others
-fixed_named {name} {token} takes others = ap (λ (kind : Kind). name_first kind token.bytes others) takes.kind_is ∙ fixed_first name token.bytes others
+    → name_first (token_kind (Token token)) token.bytes others ≡ token.bytes ∷ others
+fixed_named {name} {token} takes others = ap (λ (kind : TokenKind). name_first kind token.bytes others) takes.kind_is ∙ fixed_first name token.bytes others
 
 -- over a token that fits, with what it does to the table
-over_fitting : {goal : Goal} {depth at : ℕ} {old now table : List (List ℕ)} {from here behind : Spot} {make : Forest → Forest} {left : List Wanted} {kind : Kind} {token : Lexed}
-    → HasRead goal depth old now from make (Terminal kind at ∷ left) here → TakesToken token here behind → fits kind (kind_of (Token token)) ≡ true → at ≤ limit
-    → ((others : List (List ℕ)) → fold with_name now (name_first (kind_of (Token token)) token.bytes others) ≡ fold with_name table others)
+over_fitting : {goal : Goal} {depth at : ℕ} {old now table : List (List ℕ)} {from here behind : Spot} {make : Forest → Forest} {left : List Wanted} {kind : TokenKind} {token : Lexed}
+    → HasRead goal depth old now from make (Terminal kind at ∷ left) here → TakesToken token here behind → fits kind (token_kind (Token token)) ≡ true → at ≤ limit
+    → ((others : List (List ℕ)) → fold with_name now (name_first (token_kind (Token token)) token.bytes others) ≡ fold with_name table others)
     → GoesOn now table → length table ≤ length now + 1 → HasRead goal depth old table from (λ rest. make (Leaf (Token token) at rest)) left behind
 over_fitting {at = at} {token = token} so takes fit within is goes_on few = record {
   inner = so.inner;
@@ -348,9 +348,9 @@ over_token {now = now} so takes wanted no_name within =
     over_fitting so takes.takes (kind_fits wanted takes) within (λ others. ap (fold with_name now) (token_unnamed takes no_name others)) (goes_on_itself now) (omega arith)
 
 -- over a token that fits and is a name, which the table has then
-over_named : {goal : Goal} {depth at : ℕ} {old now table : List (List ℕ)} {from here behind : Spot} {make : Forest → Forest} {left : List Wanted} {kind : Kind} {token : Lexed}
-    → HasRead goal depth old now from make (Terminal kind at ∷ left) here → TakesToken token here behind → fits kind (kind_of (Token token)) ≡ true
-    → ((others : List (List ℕ)) → name_first (kind_of (Token token)) token.bytes others ≡ token.bytes ∷ others) → at ≤ limit → table ≡ with_name now token.bytes
+over_named : {goal : Goal} {depth at : ℕ} {old now table : List (List ℕ)} {from here behind : Spot} {make : Forest → Forest} {left : List Wanted} {kind : TokenKind} {token : Lexed}
+    → HasRead goal depth old now from make (Terminal kind at ∷ left) here → TakesToken token here behind → fits kind (token_kind (Token token)) ≡ true
+    → ((others : List (List ℕ)) → name_first (token_kind (Token token)) token.bytes others ≡ token.bytes ∷ others) → at ≤ limit → table ≡ with_name now token.bytes
     → HasRead goal depth old table from (λ rest. make (Leaf (Token token) at rest)) left behind
 over_named {now = now} {token = token} so takes fit named within is =
     over_fitting so takes fit within (λ others. ap (fold with_name now) (named others) ∙ ap (λ (names : List (List ℕ)). fold with_name names others) (sym is))
@@ -370,7 +370,7 @@ over_fixed so takes within is = over_named so takes.takes (fixed_fits takes) (fi
 
 -- over a part that was found
 pub over_part : {goal part : Goal} {depth at : ℕ} {old now new : List (List ℕ)} {from here behind : Spot} {make : Forest → Forest} {left : List Wanted} {is_read : List (List ℕ) → Forest → Type 0}
-    → HasRead goal depth old now from make (Nonterminal part at ∷ left) here → (found : FoundAs part at now new here behind is_read)
+    → HasRead goal depth old now from make (Subgoal part at ∷ left) here → (found : FoundAs part at now new here behind is_read)
     → HasRead goal depth old new from (λ rest. make (Node part found.inside rest)) left behind
 over_part {part = part} {now = now} {left = left} so found = record {
   inner = so.inner;
@@ -388,7 +388,7 @@ over_part {part = part} {now = now} {left = left} so found = record {
 
 -- the reader of the last part in place of what it reads
 pub into_last : {goal last : Goal} {depth at : ℕ} {old now new : List (List ℕ)} {from here behind : Spot} {make make_last : Forest → Forest} {left : List Wanted}
-    → HasRead goal depth old now from make (Nonterminal last at ∷ []) here → HasRead last at now new here make_last left behind
+    → HasRead goal depth old now from make (Subgoal last at ∷ []) here → HasRead last at now new here make_last left behind
     → HasRead goal depth old new from (λ rest. make (Node last (make_last rest) Empty)) left behind
 into_last {last = last} {make_last = make_last} so inside = record {
   inner = so.inner;
@@ -418,7 +418,7 @@ all_read {here = here} {make = make} so is = record {
 
 -- what refuses the next item, whatever follows it, refuses the part
 pub refused_inside : {goal : Goal} {depth : ℕ} {old now : List (List ℕ)} {from here : Spot} {make : Forest → Forest} {item : Wanted} {left : List Wanted}
-    → HasRead goal depth old now from make (item ∷ left) here → (error : SourceError) → IsRefused item here error → IsRefused (Nonterminal goal depth) from error
+    → HasRead goal depth old now from make (item ∷ left) here → (error : SourceError) → IsRefused item here error → IsRefused (Subgoal goal depth) from error
 refused_inside {left = left} so (Refused refusal) refused = λ items.
     let at = refused (left ++ items) in
     record { mark = at.mark; behind = at.behind; code = at.code; refuses = so.refuses items (at.mark ∷ at.behind) at.code at.refuses; refusal_is = at.refusal_is }
@@ -426,8 +426,8 @@ refused_inside so Memory refused = λ items. tt
 
 -- where all of the part is read but what leaves nothing behind, what refuses the item that is to follow the part refuses the part with it
 pub refused_after : {goal part : Goal} {depth at : ℕ} {old now new : List (List ℕ)} {from here behind : Spot} {make : Forest → Forest} {is_read : List (List ℕ) → Forest → Type 0} (second : Wanted)
-    → HasRead goal depth old now from make (Nonterminal part at ∷ []) here → FoundAs part at now new here behind is_read → (error : SourceError) → IsRefused second behind error
-    → IsRefusedWith (Nonterminal goal depth) second from error
+    → HasRead goal depth old now from make (Subgoal part at ∷ []) here → FoundAs part at now new here behind is_read → (error : SourceError) → IsRefused second behind error
+    → IsRefusedWith (Subgoal goal depth) second from error
 refused_after second so found (Refused refusal) refused = λ items.
     let over = over_part so found in
     let at = refused items in
@@ -436,7 +436,7 @@ refused_after second so found Memory refused = λ items. tt
 
 -- and so does what refuses the next two items
 pub refused_both : {goal : Goal} {depth : ℕ} {old now : List (List ℕ)} {from here : Spot} {make : Forest → Forest} {item second : Wanted} {left : List Wanted}
-    → HasRead goal depth old now from make (item ∷ second ∷ left) here → (error : SourceError) → IsRefusedWith item second here error → IsRefused (Nonterminal goal depth) from error
+    → HasRead goal depth old now from make (item ∷ second ∷ left) here → (error : SourceError) → IsRefusedWith item second here error → IsRefused (Subgoal goal depth) from error
 refused_both {left = left} so (Refused refusal) refused = λ items.
     let at = refused (left ++ items) in
     record { mark = at.mark; behind = at.behind; code = at.code; refuses = so.refuses items (at.mark ∷ at.behind) at.code at.refuses; refusal_is = at.refusal_is }
@@ -465,7 +465,7 @@ next_mark spot = next_by spot.rest spot.end
 
 -- what is refused at the token that stands at a spot, by a code
 pub refused_here : {items : List Wanted} (spot : Spot) (code : Code)
-    → ((mark : Mark) (behind : List Mark) → left_at spot ≡ mark ∷ behind → kind_of mark ≡ next (left_at spot) → Refuses items (mark ∷ behind) (mark ∷ behind) code)
+    → ((mark : Mark) (behind : List Mark) → left_at spot ≡ mark ∷ behind → token_kind mark ≡ next (left_at spot) → Refuses items (mark ∷ behind) (mark ∷ behind) code)
     → RefusedAt items (left_at spot) (refusal_at code spot)
 refused_here {items} spot code refuses =
     let here = next_mark spot in
@@ -478,58 +478,58 @@ refused_here {items} spot code refuses =
     }
 
 -- a part that the next token does not open is refused there
-pub refused_shut : (goal : Goal) (depth : ℕ) (spot : Spot) → opened goal (next (left_at spot)) depth ≡ None → IsRefused (Nonterminal goal depth) spot (Refused (wrong_at spot))
+pub refused_shut : (goal : Goal) (depth : ℕ) (spot : Spot) → opened goal (next (left_at spot)) depth ≡ None → IsRefused (Subgoal goal depth) spot (Refused (wrong_at spot))
 refused_shut goal depth spot shut = λ items.
     refused_here spot (wrong_code (next (left_at spot))) (λ mark behind is same.
-    Shut (ap (λ (kind : Kind). opened goal kind depth) same ∙ shut) (ap wrong_code (sym same)))
+    Shut (ap (λ (kind : TokenKind). opened goal kind depth) same ∙ shut) (ap wrong_code (sym same)))
 
 -- a token that fits and is too deeply nested is refused
-pub deep_refused : (kind : Kind) (depth : ℕ) (spot : Spot) (error : SourceError) → error ≡ Refused (refusal_at S2 spot) → fits kind (next (left_at spot)) ≡ true → limit < depth
+pub deep_refused : (kind : TokenKind) (depth : ℕ) (spot : Spot) (error : SourceError) → error ≡ Refused (refusal_at S2 spot) → fits kind (next (left_at spot)) ≡ true → limit < depth
     → IsRefused (Terminal kind depth) spot error
 deep_refused kind depth spot error is fit deep = rw is (λ items. refused_here spot S2 (λ mark behind is_left same. Below (ap (fits kind) same ∙ fit) deep))
 
 -- a refusal of a token that does not fit is one of a part that it does not open, behind which others stand
-other_by : {kind : Kind} {at : ℕ} {items others : List Wanted} {goal : Goal} {depth : ℕ} {ts rest : List Mark} {code : Code} → fits kind (next ts) ≡ false
-    → opened goal (next ts) depth ≡ None → Refuses (Terminal kind at ∷ items) ts rest code → Refuses (Nonterminal goal depth ∷ others) ts rest code
+other_by : {kind : TokenKind} {at : ℕ} {items others : List Wanted} {goal : Goal} {depth : ℕ} {ts rest : List Mark} {code : Code} → fits kind (next ts) ≡ false
+    → opened goal (next ts) depth ≡ None → Refuses (Terminal kind at ∷ items) ts rest code → Refuses (Subgoal goal depth ∷ others) ts rest code
 other_by differs shut (Other e is) = Shut shut is
 other_by differs shut (Below e deep) = absurd cc
 other_by differs shut (Past e within refused) = absurd cc
 other_by differs shut (Cut is) = Cut is
 
 -- what refuses a token that does not fit refuses a part that it does not open
-pub refused_other : (kind : Kind) (at : ℕ) (goal : Goal) (depth : ℕ) (spot : Spot) (error : SourceError) → fits kind (next (left_at spot)) ≡ false
-    → opened goal (next (left_at spot)) depth ≡ None → IsRefused (Terminal kind at) spot error → IsRefused (Nonterminal goal depth) spot error
+pub refused_other : (kind : TokenKind) (at : ℕ) (goal : Goal) (depth : ℕ) (spot : Spot) (error : SourceError) → fits kind (next (left_at spot)) ≡ false
+    → opened goal (next (left_at spot)) depth ≡ None → IsRefused (Terminal kind at) spot error → IsRefused (Subgoal goal depth) spot error
 refused_other kind at goal depth spot (Refused refusal) differs shut refused = λ items.
     let found = refused items in
     record { mark = found.mark; behind = found.behind; code = found.code; refuses = other_by differs shut found.refuses; refusal_is = found.refusal_is }
 refused_other kind at goal depth spot Memory differs shut refused = λ items. tt
 
 -- by cases of whether the next token fits
-by_fit : (fit : Bool) (kind : Kind) (at : ℕ) (goal : Goal) (depth : ℕ) {inner : List Wanted} (spot : Spot) (error : SourceError) → fits kind (next (left_at spot)) ≡ fit
+by_fit : (fit : Bool) (kind : TokenKind) (at : ℕ) (goal : Goal) (depth : ℕ) {inner : List Wanted} (spot : Spot) (error : SourceError) → fits kind (next (left_at spot)) ≡ fit
     → (fits kind (next (left_at spot)) ≡ true → opened goal (next (left_at spot)) depth ≡ Some (Terminal kind at ∷ inner))
     → (fits kind (next (left_at spot)) ≡ false → opened goal (next (left_at spot)) depth ≡ None)
-    → IsRefused (Terminal kind at) spot error → IsRefused (Nonterminal goal depth) spot error
+    → IsRefused (Terminal kind at) spot error → IsRefused (Subgoal goal depth) spot error
 by_fit true kind at goal depth spot error e is_opened is_shut refused = refused_inside (opens goal depth [] spot _ (is_opened e)) error refused
 by_fit false kind at goal depth spot error e is_opened is_shut refused = refused_other kind at goal depth spot error e (is_shut e) refused
 
 -- a part that begins with a token of a kind, and with nothing else, is refused where that token is
-pub refused_first_token : (kind : Kind) (at : ℕ) (goal : Goal) (depth : ℕ) {inner : List Wanted} (spot : Spot) (error : SourceError)
+pub refused_first_token : (kind : TokenKind) (at : ℕ) (goal : Goal) (depth : ℕ) {inner : List Wanted} (spot : Spot) (error : SourceError)
     → (fits kind (next (left_at spot)) ≡ true → opened goal (next (left_at spot)) depth ≡ Some (Terminal kind at ∷ inner))
     → (fits kind (next (left_at spot)) ≡ false → opened goal (next (left_at spot)) depth ≡ None)
-    → IsRefused (Terminal kind at) spot error → IsRefused (Nonterminal goal depth) spot error
+    → IsRefused (Terminal kind at) spot error → IsRefused (Subgoal goal depth) spot error
 refused_first_token kind at goal depth spot error is_opened is_shut refused =
     by_fit (fits kind (next (left_at spot))) kind at goal depth spot error refl is_opened is_shut refused
 
 -- a refusal of a part that is not opened is one of another that is not, behind which others stand
 shut_by : {part : Goal} {at : ℕ} {items others : List Wanted} {goal : Goal} {depth : ℕ} {ts rest : List Mark} {code : Code} → opened part (next ts) at ≡ None
-    → opened goal (next ts) depth ≡ None → Refuses (Nonterminal part at ∷ items) ts rest code → Refuses (Nonterminal goal depth ∷ others) ts rest code
+    → opened goal (next ts) depth ≡ None → Refuses (Subgoal part at ∷ items) ts rest code → Refuses (Subgoal goal depth ∷ others) ts rest code
 shut_by closed shut (Shut e is) = Shut shut is
 shut_by closed shut (Open e refused) = absurd cc
 shut_by closed shut (Cut is) = Cut is
 
 -- what refuses a part that is not opened refuses another one that is not
 pub refused_alike : (part : Goal) (at : ℕ) (goal : Goal) (depth : ℕ) (spot : Spot) (error : SourceError) → opened part (next (left_at spot)) at ≡ None
-    → opened goal (next (left_at spot)) depth ≡ None → IsRefused (Nonterminal part at) spot error → IsRefused (Nonterminal goal depth) spot error
+    → opened goal (next (left_at spot)) depth ≡ None → IsRefused (Subgoal part at) spot error → IsRefused (Subgoal goal depth) spot error
 refused_alike part at goal depth spot (Refused refusal) closed shut refused = λ items.
     let found = refused items in
     record { mark = found.mark; behind = found.behind; code = found.code; refuses = shut_by closed shut found.refuses; refusal_is = found.refusal_is }

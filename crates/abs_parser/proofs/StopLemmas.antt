@@ -5,7 +5,7 @@
 use Rattle.std.proofs.Common.{◌≡◌, ◌≤◌, ◌<◌, ℕ, suc, true, List, [], ◌∷◌, ◌++◌, length, refl, arith}
 use Rattle.std.proofs.lemmas.List.{append_assoc, length-append}
 use Rattle.abs_tree.specs.declared.refusal.Code.{Code}
-use Rattle.abs_parser.specs.Kinds.{Mark, Kind, kind_of, fits}
+use Rattle.abs_parser.specs.TokenKinds.{Mark, TokenKind, token_kind, fits}
 use Rattle.abs_parser.specs.Readings.{Wanted, Terminal, Forest, Reads, depths}
 use Rattle.abs_parser.specs.Refusing.{AllWithin}
 use Rattle.abs_parser.specs.Stops.{limit, IsDeep, IsWrong, RefusedBy, StopsAt, IsAccepted}
@@ -51,8 +51,8 @@ each_over {mark = mark} {behind = behind} up front more other is =
     moves_over (up.moves behind) front other (more ++ mark ∷ behind) all (omega (arith, length-append more (mark ∷ behind)))
 
 -- A token that fits but stands too deep is deep: what is wanted behind it is read to the end of some list.
-is_deep : {kind : Kind} {depth : ℕ} {items : List Wanted} {mark : Mark} {ts behind : List Mark} → (up : MovesUpTo a_program (Terminal kind depth ∷ items) mark ts behind)
-    → Fine (Terminal kind depth ∷ items) → fits kind (kind_of mark) ≡ true → limit < depth → IsDeep up.before mark
+is_deep : {kind : TokenKind} {depth : ℕ} {items : List Wanted} {mark : Mark} {ts behind : List Mark} → (up : MovesUpTo a_program (Terminal kind depth ∷ items) mark ts behind)
+    → Fine (Terminal kind depth ∷ items) → fits kind (token_kind mark) ≡ true → limit < depth → IsDeep up.before mark
 is_deep {kind} {depth} {items} {mark} up fine fit below =
     let last = finishes items (fine_behind kind depth items fine) in
     let all = read_back (up.moves (finish items)) (token_put fit last.whole) in

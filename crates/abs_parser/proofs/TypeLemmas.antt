@@ -12,34 +12,34 @@ use Rattle.abs_tree.specs.declared.symbol.Symbol.{Symbol}
 use Rattle.abs_tree.specs.Trees.{name_of}
 use Rattle.abs_tree.specs.declared.syntax.types.TypeTerm as code_type
 use Rattle.abs_tree.specs.declared.syntax.types.TypeTerm.{TypeTerm}
-use Rattle.abs_parser.specs.Kinds.{Kind, UpperName, Sign, fits}
+use Rattle.abs_parser.specs.TokenKinds.{TokenKind, UpperName, PunctuatorKind, fits}
 use Rattle.abs_parser.specs.Productions.{Type', TypeArguments, Types, begins, begins_within, chosen}
-use Rattle.abs_parser.specs.Readings.{One, Optional, Terminal, Nonterminal, opened}
+use Rattle.abs_parser.specs.Readings.{One, Optional, Terminal, Subgoal, opened}
 
 -- a type is a name, and perhaps arguments
-pub type_opened : (depth : ℕ) (kind : Kind) → fits UpperName kind ≡ true
-    → opened (One Type') kind depth ≡ Some (Terminal UpperName (depth + 1) ∷ Nonterminal (Optional TypeArguments) (depth + 1) ∷ [])
+pub type_opened : (depth : ℕ) (kind : TokenKind) → fits UpperName kind ≡ true
+    → opened (One Type') kind depth ≡ Some (Terminal UpperName (depth + 1) ∷ Subgoal (Optional TypeArguments) (depth + 1) ∷ [])
 unfolding begins chosen begins_within
 type_opened depth kind fit = rw fit refl
 
 -- where no name stands, no type is opened
-pub type_shut : (depth : ℕ) (kind : Kind) → fits UpperName kind ≡ false → opened (One Type') kind depth ≡ None
+pub type_shut : (depth : ℕ) (kind : TokenKind) → fits UpperName kind ≡ false → opened (One Type') kind depth ≡ None
 unfolding begins chosen begins_within
 type_shut depth kind other = rw other refl
 
 -- where "<" stands, there are arguments
-pub arguments_follow : (depth : ℕ) (kind : Kind) → fits (Sign punctuator.Less) kind ≡ true → opened (Optional TypeArguments) kind depth ≡ Some (Nonterminal (One TypeArguments) depth ∷ [])
+pub arguments_follow : (depth : ℕ) (kind : TokenKind) → fits (PunctuatorKind punctuator.Less) kind ≡ true → opened (Optional TypeArguments) kind depth ≡ Some (Subgoal (One TypeArguments) depth ∷ [])
 unfolding begins begins_within
 arguments_follow depth kind fit = rw fit refl
 
 -- where it does not, there are none
-pub no_arguments : (depth : ℕ) (kind : Kind) → fits (Sign punctuator.Less) kind ≡ false → opened (Optional TypeArguments) kind depth ≡ Some []
+pub no_arguments : (depth : ℕ) (kind : TokenKind) → fits (PunctuatorKind punctuator.Less) kind ≡ false → opened (Optional TypeArguments) kind depth ≡ Some []
 unfolding begins begins_within
 no_arguments depth kind other = rw other refl
 
 -- arguments are "<", types and ">"
-pub arguments_opened : (depth : ℕ) (kind : Kind) → fits (Sign punctuator.Less) kind ≡ true
-    → opened (One TypeArguments) kind depth ≡ Some (Terminal (Sign punctuator.Less) depth ∷ Nonterminal (One Types) depth ∷ Terminal (Sign punctuator.Greater) depth ∷ [])
+pub arguments_opened : (depth : ℕ) (kind : TokenKind) → fits (PunctuatorKind punctuator.Less) kind ≡ true
+    → opened (One TypeArguments) kind depth ≡ Some (Terminal (PunctuatorKind punctuator.Less) depth ∷ Subgoal (One Types) depth ∷ Terminal (PunctuatorKind punctuator.Greater) depth ∷ [])
 unfolding begins chosen begins_within
 arguments_opened depth kind fit = rw fit refl
 

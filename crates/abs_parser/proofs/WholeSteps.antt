@@ -17,9 +17,9 @@ use Rattle.abs_tree.specs.declared.syntax.declaration.Decl as code_decl
 use Rattle.abs_lexer.specs.Tokens.{Lexed, TokenList}
 use Rattle.abs_parser.specs.Answers.{IsWritten}
 use Rattle.abs_parser.specs.Firsts.{IsBlock}
-use Rattle.abs_parser.specs.Kinds.{Mark, TextEnd, marks, Kind, End, place_of_mark, next}
-use Rattle.abs_parser.specs.Productions.{Symbol, Program, Module, Import, Decl, Block, begins}
-use Rattle.abs_parser.specs.Readings.{One, Optional, Repeated, Wanted, Terminal, Nonterminal, opened, Forest, Empty, Leaf, Node, Reads, Nothing, Taken, Opened, depths}
+use Rattle.abs_parser.specs.TokenKinds.{Mark, TextEnd, marks, TokenKind, End, place_of_mark, next}
+use Rattle.abs_parser.specs.Productions.{Nonterminal, Program, Module, Import, Decl, Block, begins}
+use Rattle.abs_parser.specs.Readings.{One, Optional, Repeated, Wanted, Terminal, Subgoal, opened, Forest, Empty, Leaf, Node, Reads, Nothing, Taken, Opened, depths}
 use Rattle.abs_parser.specs.Refusing.{AllWithin}
 use Rattle.abs_parser.specs.ReaderAnswers.{left_at, names_before, FoundAs, RefusedAt, IsRefused, IsRefusedWith}
 use Rattle.abs_parser.specs.Texts.{IsTextOf, StopsWith, RefusesText}
@@ -37,18 +37,18 @@ use Rattle.abs_parser.proofs.ReadingLemmas.{a_program}
 use Rattle.abs_parser.proofs.RestSteps.{MayHaveRead, may_open, over_left_out, has_read, refused_left_out, refused_either_way, refused_there, refused_both_either_way}
 use Rattle.abs_parser.proofs.StepLemmas.{HasRead, left_length, within_both, over_part, found_shorter, found_goes_on, refused_alike}
 use Rattle.abs_parser.proofs.StopLemmas.{accepted, stopped}
-use Rattle.abs_parser.proofs.SymbolLemmas.{begins_by, part_begun, part_opened, part_shut, optional_left_out, repeated_ends}
+use Rattle.abs_parser.proofs.NonterminalLemmas.{begins_by, part_begun, part_opened, part_shut, optional_left_out, repeated_ends}
 use Rattle.abs_parser.proofs.WordLemmas.{table_written}
 
 -- What begins nothing that a text may begin with: no line in front of the program, no declaration and no block.
-record BeginsNone (kind : Kind) : Type 0 where
+record BeginsNone (kind : TokenKind) : Type 0 where
   heading : begins Module kind ≡ false
   imported : begins Import kind ≡ false
   decl : begins Decl kind ≡ false
   block : begins Block kind ≡ false
 
 -- what begins no program begins none of it
-begins_none : (kind : Kind) → begins Program kind ≡ false → BeginsNone kind
+begins_none : (kind : TokenKind) → begins Program kind ≡ false → BeginsNone kind
 begins_none kind none =
     let headings = or_parts _ _ (sym (begins_by Program kind refl) ∙ none) in
     let imports = or_parts _ _ headings.1 in
@@ -61,46 +61,46 @@ ProgramRead old now from make left here = MayHaveRead (begins Program (next (lef
 
 -- what is wanted behind the declarations
 abbrev pub behind_declarations : List Wanted
-behind_declarations = Nonterminal (One Block) 0 ∷ Terminal End 0 ∷ []
+behind_declarations = Subgoal (One Block) 0 ∷ Terminal End 0 ∷ []
 
 -- a text begins with the lines in front of its declarations
 pub program_begins : (table : List (List ℕ)) (from : Spot)
-    → ProgramRead table table from (λ rest. rest) (Nonterminal (Optional Module) 0 ∷ Nonterminal (Optional Import) 0 ∷ Nonterminal (Repeated Decl) 0 ∷ behind_declarations) from
+    → ProgramRead table table from (λ rest. rest) (Subgoal (Optional Module) 0 ∷ Subgoal (Optional Import) 0 ∷ Subgoal (Repeated Decl) 0 ∷ behind_declarations) from
 program_begins table from = may_open (One Program) 0 table from _ (λ begun. part_opened Program _ 0 refl refl begun)
 
 -- where nothing of a text begins, no `module` line is read
-heading_left_out : (kind : Kind) → begins Program kind ≡ false → opened (Optional Module) kind 0 ≡ Some []
+heading_left_out : (kind : TokenKind) → begins Program kind ≡ false → opened (Optional Module) kind 0 ≡ Some []
 heading_left_out kind none = optional_left_out Module kind 0 (begins_none kind none).heading
 
 -- nor is an `import` line
-import_left_out : (kind : Kind) → begins Program kind ≡ false → opened (Optional Import) kind 0 ≡ Some []
+import_left_out : (kind : TokenKind) → begins Program kind ≡ false → opened (Optional Import) kind 0 ≡ Some []
 import_left_out kind none = optional_left_out Import kind 0 (begins_none kind none).imported
 
 -- nor a declaration
-decls_left_out : (kind : Kind) → begins Program kind ≡ false → opened (Repeated Decl) kind 0 ≡ Some []
+decls_left_out : (kind : TokenKind) → begins Program kind ≡ false → opened (Repeated Decl) kind 0 ≡ Some []
 decls_left_out kind none = repeated_ends Decl kind 0 (begins_none kind none).decl
 
 -- over the `module` line, which may be left out
 pub over_heading : {old now new : List (List ℕ)} {from here behind : Spot} {make : Forest → Forest} {left : List Wanted} {is_read : List (List ℕ) → Forest → Type 0}
-    → ProgramRead old now from make (Nonterminal (Optional Module) 0 ∷ left) here → (found : FoundAs (Optional Module) 0 now new here behind is_read)
+    → ProgramRead old now from make (Subgoal (Optional Module) 0 ∷ left) here → (found : FoundAs (Optional Module) 0 now new here behind is_read)
     → ProgramRead old new from (λ rest. make (Node (Optional Module) found.inside rest)) left behind
 over_heading so found = over_left_out so (heading_left_out _) found
 
 -- over the `import` line, which may be left out, too
 pub over_import : {old now new : List (List ℕ)} {from here behind : Spot} {make : Forest → Forest} {left : List Wanted} {is_read : List (List ℕ) → Forest → Type 0}
-    → ProgramRead old now from make (Nonterminal (Optional Import) 0 ∷ left) here → (found : FoundAs (Optional Import) 0 now new here behind is_read)
+    → ProgramRead old now from make (Subgoal (Optional Import) 0 ∷ left) here → (found : FoundAs (Optional Import) 0 now new here behind is_read)
     → ProgramRead old new from (λ rest. make (Node (Optional Import) found.inside rest)) left behind
 over_import so found = over_left_out so (import_left_out _) found
 
 -- over the declarations
 pub over_declarations : {old now new : List (List ℕ)} {from here behind : Spot} {make : Forest → Forest} {left : List Wanted} {is_read : List (List ℕ) → Forest → Type 0}
-    → ProgramRead old now from make (Nonterminal (Repeated Decl) 0 ∷ left) here → (found : FoundAs (Repeated Decl) 0 now new here behind is_read)
+    → ProgramRead old now from make (Subgoal (Repeated Decl) 0 ∷ left) here → (found : FoundAs (Repeated Decl) 0 now new here behind is_read)
     → ProgramRead old new from (λ rest. make (Node (Repeated Decl) found.inside rest)) left behind
 over_declarations so found = over_left_out so (decls_left_out _) found
 
 -- over the main block, which must stand there
 pub over_block : {old now new : List (List ℕ)} {from here behind : Spot} {make : Forest → Forest} {left : List Wanted} {is_read : List (List ℕ) → Forest → Type 0}
-    → ProgramRead old now from make (Nonterminal (One Block) 0 ∷ left) here → (found : FoundAs (One Block) 0 now new here behind is_read)
+    → ProgramRead old now from make (Subgoal (One Block) 0 ∷ left) here → (found : FoundAs (One Block) 0 now new here behind is_read)
     → HasRead (One Program) 0 old new from (λ rest. make (Node (One Block) found.inside rest)) left behind
 over_block so found =
     over_part (has_read so (λ none same.
@@ -111,32 +111,32 @@ over_block so found =
 
 -- the text is refused where the `module` line is
 pub heading_refused : {old now : List (List ℕ)} {from here : Spot} {make : Forest → Forest} {left : List Wanted} (error : SourceError)
-    → ProgramRead old now from make (Nonterminal (Optional Module) 0 ∷ left) here → IsRefused (Nonterminal (Optional Module) 0) here error
-    → IsRefused (Nonterminal (One Program) 0) from error
+    → ProgramRead old now from make (Subgoal (Optional Module) 0 ∷ left) here → IsRefused (Subgoal (Optional Module) 0) here error
+    → IsRefused (Subgoal (One Program) 0) from error
 heading_refused error so refused = refused_left_out so (heading_left_out _) error refused
 
 -- and where the `import` line is
 pub import_refused : {old now : List (List ℕ)} {from here : Spot} {make : Forest → Forest} {left : List Wanted} (error : SourceError)
-    → ProgramRead old now from make (Nonterminal (Optional Import) 0 ∷ left) here → IsRefused (Nonterminal (Optional Import) 0) here error
-    → IsRefused (Nonterminal (One Program) 0) from error
+    → ProgramRead old now from make (Subgoal (Optional Import) 0 ∷ left) here → IsRefused (Subgoal (Optional Import) 0) here error
+    → IsRefused (Subgoal (One Program) 0) from error
 import_refused error so refused = refused_left_out so (import_left_out _) error refused
 
 -- where no token opens the program, it is refused where the main block is
-block_alike : (from : Spot) (error : SourceError) → begins Program (next (left_at from)) ≡ false → IsRefused (Nonterminal (One Block) 0) from error → IsRefused (Nonterminal (One Program) 0) from error
+block_alike : (from : Spot) (error : SourceError) → begins Program (next (left_at from)) ≡ false → IsRefused (Subgoal (One Block) 0) from error → IsRefused (Subgoal (One Program) 0) from error
 block_alike from error none refused = refused_alike (One Block) 0 (One Program) 0 from error (part_shut Block _ 0 (begins_none _ none).block) (part_shut Program _ 0 none) refused
 
 -- it is refused where the declarations with the main block are
 pub declarations_refused : {old now : List (List ℕ)} {from here : Spot} {make : Forest → Forest} {left : List Wanted} (error : SourceError)
-    → ProgramRead old now from make (Nonterminal (Repeated Decl) 0 ∷ Nonterminal (One Block) 0 ∷ left) here → IsRefusedWith (Nonterminal (Repeated Decl) 0) (Nonterminal (One Block) 0) here error
-    → IsRefused (Nonterminal (One Program) 0) from error
+    → ProgramRead old now from make (Subgoal (Repeated Decl) 0 ∷ Subgoal (One Block) 0 ∷ left) here → IsRefusedWith (Subgoal (Repeated Decl) 0) (Subgoal (One Block) 0) here error
+    → IsRefused (Subgoal (One Program) 0) from error
 declarations_refused {from = from} error so refused = refused_both_either_way so (decls_left_out _) error refused (block_alike from error)
 
 -- and where the main block is
 pub block_refused : {old now : List (List ℕ)} {from here : Spot} {make : Forest → Forest} {left : List Wanted} (error : SourceError)
-    → ProgramRead old now from make (Nonterminal (One Block) 0 ∷ left) here → IsRefused (Nonterminal (One Block) 0) here error
-    → IsRefused (Nonterminal (One Program) 0) from error
+    → ProgramRead old now from make (Subgoal (One Block) 0 ∷ left) here → IsRefused (Subgoal (One Block) 0) here error
+    → IsRefused (Subgoal (One Program) 0) from error
 block_refused {from = from} error so refused =
-    refused_either_way so error refused (λ none same. block_alike from error none (refused_there (Nonterminal (One Block) 0) _ from error same refused))
+    refused_either_way so error refused (λ none same. block_alike from error none (refused_there (Subgoal (One Block) 0) _ from error same refused))
 
 -- a refusal with a code and a place is that of the token at which the text stops
 stops_with : (list : TokenList) (refusal : Refusal) → RefusedAt a_program (marks list) refusal → StopsWith list refusal
@@ -152,13 +152,13 @@ stops_with list refusal at =
     }
 
 -- where a program is refused, its text stops
-text_stops : (list : TokenList) (error : SourceError) → IsRefused (Nonterminal (One Program) 0) (whole list) error → RefusesText error list
+text_stops : (list : TokenList) (error : SourceError) → IsRefused (Subgoal (One Program) 0) (whole list) error → RefusesText error list
 text_stops list (Refused refusal) refused = stops_with list refusal (refused [])
 text_stops list Memory refused = tt
 
 -- the same where its first spot is given a name of its own
-pub stops_from : {list : TokenList} {from : Spot} (error : SourceError) → from ≡ whole list → IsRefused (Nonterminal (One Program) 0) from error → RefusesText error list
-stops_from {list} error is refused = text_stops list error (subst (λ (spot : Spot). IsRefused (Nonterminal (One Program) 0) spot error) is refused)
+pub stops_from : {list : TokenList} {from : Spot} (error : SourceError) → from ≡ whole list → IsRefused (Subgoal (One Program) 0) from error → RefusesText error list
+stops_from {list} error is refused = text_stops list error (subst (λ (spot : Spot). IsRefused (Subgoal (One Program) 0) spot error) is refused)
 
 -- A whole text was read as a program that consists of this, and these are its names.
 pub record TextRead (list : TokenList) (names : List (List ℕ)) (inside : Forest) : Type 0 where
@@ -211,8 +211,8 @@ abbrev pub BlockFound : ℕ → List (List ℕ) → List (List ℕ) → Spot →
 BlockFound index old new from to main = FoundAs (One Block) 0 old new from to (λ names inside. IsBlock index names main inside)
 
 -- a line in front of a program was found, or none stands there
-abbrev pub LineFound : Symbol → List (List ℕ) → List (List ℕ) → Spot → Spot → Type 0
-LineFound symbol old new from to = FoundAs (Optional symbol) 0 old new from to (λ names inside. ⊤)
+abbrev pub LineFound : Nonterminal → List (List ℕ) → List (List ℕ) → Spot → Spot → Type 0
+LineFound nonterminal old new from to = FoundAs (Optional nonterminal) 0 old new from to (λ names inside. ⊤)
 
 -- a program is found with the lines in front of it, its declarations and its main block, behind which no token is left
 pub program_found : {list : TokenList} {old a b c names : List (List ℕ)} {from import_at first main_at end : Spot} {free : ℕ} (declarations : List code_decl.Decl) (main : Body)

@@ -6,7 +6,7 @@ use Rattle.std.specs.List.{All, Contains}
 use Rattle.abs_lexer.specs.Tokens.{Lexed, TokenList}
 use Rattle.abs_tree.specs.Names.{with_name}
 use Rattle.abs_parser.specs.Answers.{IsWritten}
-use Rattle.abs_parser.specs.Kinds.{Mark, Token, TextEnd, marks, Kind, LowerName, LocalName, UpperName, AbsName, StdLibName, kind_of}
+use Rattle.abs_parser.specs.TokenKinds.{Mark, Token, TextEnd, marks, TokenKind, LowerName, LocalName, UpperName, AbsName, StdLibName, token_kind}
 use Rattle.abs_parser.specs.Readings.{Wanted, Forest, Reads, Nothing, Taken, Opened}
 use Rattle.abs_parser.specs.ReaderAnswers.{name_first, names_before}
 use Rattle.abs_parser.specs.TreesOf.{written}
@@ -19,7 +19,7 @@ all_left P (Taken {mark = mark} {ts = ts} fit reads) all = all_left P reads (All
 all_left P (Opened is first reads) all = all_left P reads (all_left P first all)
 
 -- what holds of a name and of all others holds of all, if the token is a name or not
-first_by : (P : List ℕ → Type 0) (kind : Kind) (name : List ℕ) (others : List (List ℕ)) → P name → All P others → All P (name_first kind name others)
+first_by : (P : List ℕ → Type 0) (kind : TokenKind) (name : List ℕ) (others : List (List ℕ)) → P name → All P others → All P (name_first kind name others)
 first_by P LowerName name others one each = All-cons P name others one each
 first_by P LocalName name others one each = All-cons P name others one each
 first_by P UpperName name others one each = All-cons P name others one each
@@ -34,9 +34,9 @@ IsAmong tokens (TextEnd place) = ⊤
 
 -- a token that is a name is written as one of the tokens
 first_written : (tokens : List Lexed) (mark : Mark) (others : List (List ℕ)) → IsAmong tokens mark → All (IsWritten tokens) others
-    → All (IsWritten tokens) (name_first (kind_of mark) (written mark) others)
+    → All (IsWritten tokens) (name_first (token_kind mark) (written mark) others)
 first_written tokens (Token token) others among each =
-    first_by (IsWritten tokens) (kind_of (Token token)) token.bytes others (record { token = token; among = among; is = refl }) each
+    first_by (IsWritten tokens) (token_kind (Token token)) token.bytes others (record { token = token; among = among; is = refl }) each
 first_written tokens (TextEnd place) others among each = each
 
 -- the names in what was read are written as tokens, in front of others that are

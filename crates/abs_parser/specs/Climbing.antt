@@ -1,5 +1,5 @@
--- What is read where operators are climbed, from a first operand of one level to a level that binds as much or less: with the first
--- operand, wherever that began, it is the other level, or is refused as it.
+-- What is read where operators are climbed, from a first operand of one precedence to a precedence that binds as much or less: with the first
+-- operand, wherever that began, it is the other precedence, or is refused as it.
 --
 --   `Climbs`                                           what is found
 --   `FailsToClimb`                                     where it is refused
@@ -8,22 +8,22 @@ use Rattle.abs_tree.specs.SyntaxViews.{phrase}
 use Rattle.abs_tree.specs.declared.place.Place.{Place}
 use Rattle.abs_tree.specs.declared.syntax.expression.Expr.{Expr}
 use Rattle.abs_tree.specs.declared.source_error.SourceError.{SourceError}
-use Rattle.abs_parser.specs.declared.operators.Level.{Level}
-use Rattle.abs_parser.specs.Levels.{symbol_of, operand_symbol, level_in, operand_in}
-use Rattle.abs_parser.specs.Readings.{One, Nonterminal}
+use Rattle.abs_parser.specs.declared.operators.Precedence.{Precedence}
+use Rattle.abs_parser.specs.Precedences.{nonterminal_of, operand_nonterminal, precedence_in, operand_in}
+use Rattle.abs_parser.specs.Readings.{One, Subgoal}
 use Rattle.abs_parser.specs.ReaderAnswers.{FoundAs, IsRefused}
 use Rattle.abs_parser.specs.Tokens.{Spot, place_of}
 
 -- the first operand and what follows it are this expression
-abbrev pub Climbs : Level → Level → ℕ → List (List ℕ) → List (List ℕ) → Place → Expr → Expr → Spot → Spot → Type 0
+abbrev pub Climbs : Precedence → Precedence → ℕ → List (List ℕ) → List (List ℕ) → Place → Expr → Expr → Spot → Spot → Type 0
 Climbs at to depth old new place first expr from end =
     (older : List (List ℕ)) (begin : Spot) → place ≡ place_of begin
-    → FoundAs (One (operand_symbol at)) depth older old begin from (λ names inside. phrase names first ≡ operand_in at inside)
-    → FoundAs (One (symbol_of to)) depth older new begin end (λ names inside. phrase names expr ≡ level_in to inside)
+    → FoundAs (One (operand_nonterminal at)) depth older old begin from (λ names inside. phrase names first ≡ operand_in at inside)
+    → FoundAs (One (nonterminal_of to)) depth older new begin end (λ names inside. phrase names expr ≡ precedence_in to inside)
 
 -- they are refused
-abbrev pub FailsToClimb : Level → Level → ℕ → List (List ℕ) → Place → Expr → Spot → SourceError → Type 0
+abbrev pub FailsToClimb : Precedence → Precedence → ℕ → List (List ℕ) → Place → Expr → Spot → SourceError → Type 0
 FailsToClimb at to depth old place first from error =
     (older : List (List ℕ)) (begin : Spot) → place ≡ place_of begin
-    → FoundAs (One (operand_symbol at)) depth older old begin from (λ names inside. phrase names first ≡ operand_in at inside)
-    → IsRefused (Nonterminal (One (symbol_of to)) depth) begin error
+    → FoundAs (One (operand_nonterminal at)) depth older old begin from (λ names inside. phrase names first ≡ operand_in at inside)
+    → IsRefused (Subgoal (One (nonterminal_of to)) depth) begin error

@@ -13,7 +13,7 @@ use Rattle.abs_tree.specs.Trees.{name_of}
 use Rattle.abs_tree.specs.declared.syntax.declaration.Body.{Body}
 use Rattle.abs_lexer.specs.declared.lexeme.Keyword.TheVariants as keyword
 use Rattle.abs_lexer.specs.declared.lexeme.Punctuator.TheVariants as punctuator
-use Rattle.abs_parser.specs.Kinds.{Kind, LowerName, LocalName, UpperName, AbsName, StdLibName, Word, Sign}
+use Rattle.abs_parser.specs.TokenKinds.{TokenKind, LowerName, LocalName, UpperName, AbsName, StdLibName, KeywordKind, PunctuatorKind}
 use Rattle.abs_parser.specs.declared.simple_statements.First.{First}
 use Rattle.abs_parser.specs.declared.simple_statements.First.TheVariants as first
 use Rattle.abs_parser.specs.Readings.{Forest}
@@ -36,21 +36,21 @@ after_first index names (first.Variable place symbol) inside = after_variable in
 after_first index names (first.Field place name_place symbol) inside = after_field index place name_place (name_of names symbol) inside
 
 -- whether a token begins a statement that is no right side alone
-abbrev pub begins_another : Kind → Bool
+abbrev pub begins_another : TokenKind → Bool
 begins_another LowerName = true
 begins_another LocalName = true
 begins_another UpperName = true
 begins_another AbsName = true
 begins_another StdLibName = true
-begins_another (Sign punctuator.OpenBrace) = true
-begins_another (Word keyword.Skip) = true
-begins_another (Word keyword.Suspend) = true
-begins_another (Word keyword.Await) = true
-begins_another (Word keyword.Return) = true
-begins_another (Word keyword.Println) = true
-begins_another (Word keyword.If) = true
-begins_another (Word keyword.While) = true
-begins_another (Word keyword.This) = true
+begins_another (PunctuatorKind punctuator.OpenBrace) = true
+begins_another (KeywordKind keyword.Skip) = true
+begins_another (KeywordKind keyword.Suspend) = true
+begins_another (KeywordKind keyword.Await) = true
+begins_another (KeywordKind keyword.Return) = true
+begins_another (KeywordKind keyword.Println) = true
+begins_another (KeywordKind keyword.If) = true
+begins_another (KeywordKind keyword.While) = true
+begins_another (KeywordKind keyword.This) = true
 begins_another _ = false
 
 -- this block was read, whose first statement has the index: its statements, and the place of the brace that closes it

@@ -1,8 +1,8 @@
--- The words in front of lists of interfaces: as which symbol each is read with its list.
+-- The words in front of lists of interfaces: as which nonterminal each is read with its list.
 use Rattle.abs_parser.specs.declared.names.Heading.{Heading}
 use Rattle.abs_parser.specs.declared.names.Heading.TheVariants as heading
-use Rattle.abs_parser.specs.Productions.{Symbol, Extends, Implements}
+use Rattle.abs_parser.specs.Productions.{Nonterminal, Extends, Implements}
 
-abbrev pub symbol_of : Heading → Symbol
-symbol_of heading.Extends = Extends
-symbol_of heading.Implements = Implements
+abbrev pub nonterminal_of : Heading → Nonterminal
+nonterminal_of heading.Extends = Extends
+nonterminal_of heading.Implements = Implements

@@ -1,7 +1,7 @@
 pub mod Tokens
 pub mod Answers
 pub mod Views
-pub mod Kinds
+pub mod TokenKinds
 pub mod Productions
 pub mod Readings
 pub mod Stops
@@ -9,7 +9,7 @@ pub mod StopLaw
 pub mod Refusing
 pub mod TreesOf
 pub mod ReaderAnswers
-pub mod Levels
+pub mod Precedences
 pub mod Climbing
 pub mod Headings
 pub mod Firsts

@@ -1,100 +1,100 @@
--- The grammar: each symbol with its alternatives, each line of it beside its line of the grammar as it is written for people.
+-- The grammar: each nonterminal with its alternatives, each line of it beside its line of the grammar as it is written for people.
 -- A part in brackets may stand once or not (`Opt`), a part in braces any number of times (`Many`); where such a part has more
--- than one item it is a symbol of its own. Which alternative is read is chosen by the next token (`chosen`): the first one that may
+-- than one item it is a nonterminal of its own. Which alternative is read is chosen by the next token (`chosen`): the first one that may
 -- begin with it; and `Opt` and `Many` take a part where one may begin, so an `else` belongs to the nearest `if`.
 --
---   `Symbol`                                           the symbols
+--   `Nonterminal`                                           the nonterminals
 --   `Item`, `Of`, `Part`, `Opt`, `Many`, `Inside`      what stands in an alternative
---   `rule`                                             the alternatives of each symbol
---   `counts`                                           the symbols of which at most 100 may be open
---   `begins`, `chosen`                                 what a symbol may begin with, and the alternative that the next token chooses
+--   `rule`                                             the alternatives of each nonterminal
+--   `counts`                                           the nonterminals of which at most 100 may be open
+--   `begins`, `chosen`                                 what a nonterminal may begin with, and the alternative that the next token chooses
 use Rattle.std.specs.Prelude.{ℕ, zero, suc, Bool, true, false, ◌||◌, List, [], ◌∷◌, Option}
 use Rattle.std.specs.List.{list_any, find}
 use Rattle.abs_lexer.specs.declared.lexeme.Keyword.{Keyword}
 use Rattle.abs_lexer.specs.declared.lexeme.Keyword.TheVariants as keyword
 use Rattle.abs_lexer.specs.declared.lexeme.Punctuator.{Punctuator}
 use Rattle.abs_lexer.specs.declared.lexeme.Punctuator.TheVariants as punctuator
-use Rattle.abs_parser.specs.Kinds.{Kind, LowerName, LocalName, UpperName, AbsName, StdLibName, Number, Text, Word, Sign, End, fits}
+use Rattle.abs_parser.specs.TokenKinds.{TokenKind, LowerName, LocalName, UpperName, AbsName, StdLibName, Number, Text, KeywordKind, PunctuatorKind, End, fits}
 
-pub data Symbol : Type 0 where
-  Program : Symbol
-  Module : Symbol
-  Import : Symbol
-  Path : Symbol
-  DotName : Symbol
-  Decl : Symbol
-  Constructor : Symbol
-  NextConstructor : Symbol
-  ConstructorTypes : Symbol
-  TypeParameters : Symbol
-  CommaUpper : Symbol
-  Params : Symbol
-  Param : Symbol
-  CommaParam : Symbol
-  Extends : Symbol
-  Implements : Symbol
-  ClassParameters : Symbol
-  Signature : Symbol
-  Member : Symbol
-  MemberTail : Symbol
-  Type' : Symbol
-  TypeArguments : Symbol
-  Types : Symbol
-  CommaType : Symbol
-  Block : Symbol
-  Stmt : Symbol
-  Else : Symbol
-  Initial : Symbol
-  AfterName : Symbol
-  AfterThis : Symbol
-  Rest : Symbol
-  Guard : Symbol
-  AndTest : Symbol
-  Test : Symbol
-  Question : Symbol
-  Rhs : Symbol
-  Where : Symbol
-  RhsTail : Symbol
-  Selected : Symbol
-  Arguments : Symbol
-  Args : Symbol
-  CommaExpr : Symbol
-  Expr : Symbol
-  Or : Symbol
-  OrTail : Symbol
-  And : Symbol
-  AndTail : Symbol
-  Equal : Symbol
-  EqualTail : Symbol
-  Compare : Symbol
-  CompareTail : Symbol
-  Sum : Symbol
-  SumTail : Symbol
-  Mul : Symbol
-  MulTail : Symbol
-  Unary : Symbol
-  Primary : Symbol
-  ThisTail : Symbol
-  Branch : Symbol
-  Pattern : Symbol
-  PatternArguments : Symbol
-  Patterns : Symbol
-  CommaPattern : Symbol
+pub data Nonterminal : Type 0 where
+  Program : Nonterminal
+  Module : Nonterminal
+  Import : Nonterminal
+  Path : Nonterminal
+  DotName : Nonterminal
+  Decl : Nonterminal
+  Constructor : Nonterminal
+  NextConstructor : Nonterminal
+  ConstructorTypes : Nonterminal
+  TypeParameters : Nonterminal
+  CommaUpper : Nonterminal
+  Params : Nonterminal
+  Param : Nonterminal
+  CommaParam : Nonterminal
+  Extends : Nonterminal
+  Implements : Nonterminal
+  ClassParameters : Nonterminal
+  Signature : Nonterminal
+  Member : Nonterminal
+  MemberTail : Nonterminal
+  Type' : Nonterminal
+  TypeArguments : Nonterminal
+  Types : Nonterminal
+  CommaType : Nonterminal
+  Block : Nonterminal
+  Stmt : Nonterminal
+  Else : Nonterminal
+  Initial : Nonterminal
+  AfterName : Nonterminal
+  AfterThis : Nonterminal
+  Rest : Nonterminal
+  Guard : Nonterminal
+  AndTest : Nonterminal
+  Test : Nonterminal
+  Question : Nonterminal
+  Rhs : Nonterminal
+  Where : Nonterminal
+  RhsTail : Nonterminal
+  Selected : Nonterminal
+  Arguments : Nonterminal
+  Args : Nonterminal
+  CommaExpr : Nonterminal
+  Expr : Nonterminal
+  Or : Nonterminal
+  OrTail : Nonterminal
+  And : Nonterminal
+  AndTail : Nonterminal
+  Equal : Nonterminal
+  EqualTail : Nonterminal
+  Compare : Nonterminal
+  CompareTail : Nonterminal
+  Sum : Nonterminal
+  SumTail : Nonterminal
+  Mul : Nonterminal
+  MulTail : Nonterminal
+  Unary : Nonterminal
+  Primary : Nonterminal
+  ThisTail : Nonterminal
+  Branch : Nonterminal
+  Pattern : Nonterminal
+  PatternArguments : Nonterminal
+  Patterns : Nonterminal
+  CommaPattern : Nonterminal
 
--- what stands in an alternative: a token of a kind; a symbol, which may also be left out or stand any number of times; or one of
--- these that stands in so many more of the counted symbols than the alternative does
+-- what stands in an alternative: a token of a kind; a nonterminal, which may also be left out or stand any number of times; or one of
+-- these that stands in so many more of the counted nonterminals than the alternative does
 pub data Item : Type 0 where
-  Of : Kind → Item
-  Part : Symbol → Item
-  Opt : Symbol → Item
-  Many : Symbol → Item
+  Of : TokenKind → Item
+  Part : Nonterminal → Item
+  Opt : Nonterminal → Item
+  Many : Nonterminal → Item
   Inside : ℕ → Item → Item
 
 abbrev pub word : Keyword → Item
-word keyword = Of (Word keyword)
+word keyword = Of (KeywordKind keyword)
 
 abbrev pub sign : Punctuator → Item
-sign punctuator = Of (Sign punctuator)
+sign punctuator = Of (PunctuatorKind punctuator)
 
 abbrev pub lower : Item
 lower = Of LowerName
@@ -126,7 +126,7 @@ open_brace = sign punctuator.OpenBrace
 abbrev pub close_brace : Item
 close_brace = sign punctuator.CloseBrace
 
-abbrev pub rule : Symbol → List (List Item)
+abbrev pub rule : Nonterminal → List (List Item)
 -- Program = [Module] [Import] {Decl} Block End
 rule Program = (Opt Module ∷ Opt Import ∷ Many Decl ∷ Part Block ∷ Of End ∷ []) ∷ []
 -- Module = "module" Path ";"
@@ -304,8 +304,8 @@ rule PatternArguments = (open_paren ∷ Opt Patterns ∷ close_paren ∷ []) ∷
 rule Patterns = (Part Pattern ∷ Many CommaPattern ∷ []) ∷ []
 rule CommaPattern = (comma ∷ Part Pattern ∷ []) ∷ []
 
--- the symbols of which at most 100 may be open at once, one inside another
-abbrev pub counts : Symbol → Bool
+-- the nonterminals of which at most 100 may be open at once, one inside another
+abbrev pub counts : Nonterminal → Bool
 counts Stmt = true
 counts Expr = true
 counts Unary = true
@@ -313,27 +313,27 @@ counts Type' = true
 counts Pattern = true
 counts _ = false
 
--- whether an item may begin with a token of a kind, given which symbols may, and whether what stands behind the item may
-abbrev item_begins : (Symbol → Kind → Bool) → Item → Kind → Bool → Bool
+-- whether an item may begin with a token of a kind, given which nonterminals may, and whether what stands behind the item may
+abbrev item_begins : (Nonterminal → TokenKind → Bool) → Item → TokenKind → Bool → Bool
 item_begins first (Of asked) kind behind = fits asked kind
-item_begins first (Part symbol) kind behind = first symbol kind
-item_begins first (Opt symbol) kind behind = first symbol kind || behind
-item_begins first (Many symbol) kind behind = first symbol kind || behind
+item_begins first (Part nonterminal) kind behind = first nonterminal kind
+item_begins first (Opt nonterminal) kind behind = first nonterminal kind || behind
+item_begins first (Many nonterminal) kind behind = first nonterminal kind || behind
 item_begins first (Inside more item) kind behind = item_begins first item kind behind
 
-abbrev pub items_begin : (Symbol → Kind → Bool) → List Item → Kind → Bool
+abbrev pub items_begin : (Nonterminal → TokenKind → Bool) → List Item → TokenKind → Bool
 items_begin first [] kind = false
 items_begin first (item ∷ others) kind = item_begins first item kind (items_begin first others kind)
 
--- whether a symbol may begin with a token of a kind: some alternative of it may. Of the symbols that begin with one another there
+-- whether a nonterminal may begin with a token of a kind: some alternative of it may. Of the nonterminals that begin with one another there
 -- are no more than 12 in a row, from Stmt over Rhs to Primary.
-unfoldable pub begins_within : ℕ → Symbol → Kind → Bool
-begins_within zero symbol kind = false
-begins_within (suc rounds) symbol kind = list_any (λ (items : List Item). items_begin (begins_within rounds) items kind) (rule symbol)
+unfoldable pub begins_within : ℕ → Nonterminal → TokenKind → Bool
+begins_within zero nonterminal kind = false
+begins_within (suc rounds) nonterminal kind = list_any (λ (items : List Item). items_begin (begins_within rounds) items kind) (rule nonterminal)
 
-unfoldable pub begins : Symbol → Kind → Bool
-begins symbol kind = begins_within 12 symbol kind
+unfoldable pub begins : Nonterminal → TokenKind → Bool
+begins nonterminal kind = begins_within 12 nonterminal kind
 
 -- the alternative that is read: the first that may begin with the next token
-unfoldable pub chosen : Symbol → Kind → Option (List Item)
-chosen symbol kind = find (λ (items : List Item). items_begin begins items kind) (rule symbol)
+unfoldable pub chosen : Nonterminal → TokenKind → Option (List Item)
+chosen nonterminal kind = find (λ (items : List Item). items_begin begins items kind) (rule nonterminal)

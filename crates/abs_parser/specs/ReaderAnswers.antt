@@ -24,7 +24,7 @@ use Rattle.abs_lexer.specs.declared.lexeme.Lexeme.TheVariants as lexeme
 use Rattle.abs_lexer.specs.Tokens.{Lexed}
 use Rattle.abs_parser.specs.declared.cursor.FixedName.{FixedName}
 use Rattle.abs_parser.specs.declared.cursor.FixedName.TheVariants as fixed
-use Rattle.abs_parser.specs.Kinds.{Mark, Token, TextEnd, Kind, LowerName, LocalName, UpperName, AbsName, StdLibName, Number, Text, Word, Foreign, Sign, place_of_mark, kind_of, next}
+use Rattle.abs_parser.specs.TokenKinds.{Mark, Token, TextEnd, TokenKind, LowerName, LocalName, UpperName, AbsName, StdLibName, Number, Text, KeywordKind, Foreign, PunctuatorKind, place_of_mark, token_kind, next}
 use Rattle.abs_parser.specs.Readings.{Goal, Wanted, opened, Forest, Empty, Leaf, Node, Reads, depths}
 use Rattle.abs_parser.specs.Refusing.{Refuses, AllWithin}
 use Rattle.abs_parser.specs.Stops.{wrong_code}
@@ -37,7 +37,7 @@ abbrev pub left_at : Spot → List Mark
 left_at spot = map Token spot.rest ++ TextEnd spot.end ∷ []
 
 -- a name that stands in front of others, where a token is one
-abbrev pub name_first : Kind → List ℕ → List (List ℕ) → List (List ℕ)
+abbrev pub name_first : TokenKind → List ℕ → List (List ℕ) → List (List ℕ)
 name_first LowerName name others = name ∷ others
 name_first LocalName name others = name ∷ others
 name_first UpperName name others = name ∷ others
@@ -48,18 +48,18 @@ name_first _ name others = others
 -- the names in what was read, in their order, in front of others
 abbrev pub names_before : Forest → List (List ℕ) → List (List ℕ)
 names_before Empty others = others
-names_before (Leaf mark depth behind) others = name_first (kind_of mark) (written mark) (names_before behind others)
+names_before (Leaf mark depth behind) others = name_first (token_kind mark) (written mark) (names_before behind others)
 names_before (Node goal inside behind) others = names_before inside (names_before behind others)
 
 -- the kind of the grammar that a kind of token is asked for by
-abbrev pub asked : Lexeme → Kind
+abbrev pub asked : Lexeme → TokenKind
 asked lexeme.LowerName = LowerName
 asked lexeme.UpperName = UpperName
 asked lexeme.Number = Number
 asked lexeme.Text = Text
-asked (lexeme.Word keyword) = Word keyword
+asked (lexeme.Keyword keyword) = KeywordKind keyword
 asked lexeme.Foreign = Foreign
-asked (lexeme.Sign punctuator) = Sign punctuator
+asked (lexeme.Punctuator punctuator) = PunctuatorKind punctuator
 
 -- whether the grammar asks for tokens of this kind: words outside the profile stand nowhere
 abbrev pub is_asked : Lexeme → Bool
@@ -67,7 +67,7 @@ is_asked lexeme.Foreign = false
 is_asked _ = true
 
 -- the kind of a name with a text of its own
-abbrev pub fixed_kind : FixedName → Kind
+abbrev pub fixed_kind : FixedName → TokenKind
 fixed_kind fixed.Local = LocalName
 fixed_kind fixed.Abs = AbsName
 fixed_kind fixed.StdLib = StdLibName
@@ -87,7 +87,7 @@ pub record TakesKind (kind : Lexeme) (token : Lexed) (from to : Spot) : Type 0 w
 
 -- This token, which is this name with a text of its own, is the next one at `from`, and behind it is `to`.
 pub record TakesFixed (name : FixedName) (token : Lexed) (from to : Spot) : Type 0 where
-  pub kind_is : kind_of (Token token) ≡ fixed_kind name
+  pub kind_is : token_kind (Token token) ≡ fixed_kind name
   pub takes : TakesToken token from to
 
 -- some token of this kind is

@@ -1,5 +1,5 @@
--- Which tokens are read as which symbol, and with what rest: a family over the productions, with no bound on nesting. What is read is
--- a forest, which has each token with the number of counted symbols that it stands in, one inside another.
+-- Which tokens are read as which nonterminal, and with what rest: a family over the productions, with no bound on nesting. What is read is
+-- a forest, which has each token with the number of counted nonterminals that it stands in, one inside another.
 --
 --   `Goal`, `Wanted`                                   what is to be read, and how deep it stands
 --   `opened`                                           what a part consists of, by the next token
@@ -7,43 +7,43 @@
 --   `Reads`                                            which tokens are read as what is wanted, and which are left
 --   `IsProgram`                                        a whole list that is read as a program
 use Rattle.std.specs.Prelude.{◌≡◌, ℕ, ◌+◌, true, List, [], ◌∷◌, ◌++◌, Option, Some, option_map, map, if◌then◌else◌}
-use Rattle.abs_parser.specs.Kinds.{Mark, Kind, kind_of, fits, next}
-use Rattle.abs_parser.specs.Productions.{Symbol, Program, Item, Of, Part, Opt, Many, Inside, counts, begins, chosen}
+use Rattle.abs_parser.specs.TokenKinds.{Mark, TokenKind, token_kind, fits, next}
+use Rattle.abs_parser.specs.Productions.{Nonterminal, Program, Item, Of, Part, Opt, Many, Inside, counts, begins, chosen}
 
--- a part that is to be read: a symbol, one that may be left out, or one that may stand any number of times
+-- a part that is to be read: a nonterminal, one that may be left out, or one that may stand any number of times
 pub data Goal : Type 0 where
-  One : Symbol → Goal
-  Optional : Symbol → Goal
-  Repeated : Symbol → Goal
+  One : Nonterminal → Goal
+  Optional : Nonterminal → Goal
+  Repeated : Nonterminal → Goal
 
--- what is to be read: a token of a kind, or a part, and in how many counted symbols it stands
+-- what is to be read: a token of a kind, or a part, and in how many counted nonterminals it stands
 pub data Wanted : Type 0 where
-  Terminal : Kind → ℕ → Wanted
-  Nonterminal : Goal → ℕ → Wanted
+  Terminal : TokenKind → ℕ → Wanted
+  Subgoal : Goal → ℕ → Wanted
 
 -- an item in an alternative that stands in so many
 abbrev pub place_item : ℕ → Item → Wanted
 place_item depth (Of kind) = Terminal kind depth
-place_item depth (Part symbol) = Nonterminal (One symbol) depth
-place_item depth (Opt symbol) = Nonterminal (Optional symbol) depth
-place_item depth (Many symbol) = Nonterminal (Repeated symbol) depth
+place_item depth (Part nonterminal) = Subgoal (One nonterminal) depth
+place_item depth (Opt nonterminal) = Subgoal (Optional nonterminal) depth
+place_item depth (Many nonterminal) = Subgoal (Repeated nonterminal) depth
 place_item depth (Inside more item) = place_item (depth + more) item
 
 abbrev pub place : ℕ → List Item → List Wanted
 place depth items = map (place_item depth) items
 
--- inside a counted symbol everything stands in one more
-abbrev pub inner_depth : Symbol → ℕ → ℕ
-inner_depth symbol depth = if counts symbol then depth + 1 else depth
+-- inside a counted nonterminal everything stands in one more
+abbrev pub inner_depth : Nonterminal → ℕ → ℕ
+inner_depth nonterminal depth = if counts nonterminal then depth + 1 else depth
 
--- what a part that stands in so many counted symbols consists of, by the next token
-abbrev pub opened : Goal → Kind → ℕ → Option (List Wanted)
-opened (One symbol) kind depth = option_map (place (inner_depth symbol depth)) (chosen symbol kind)
-opened (Optional symbol) kind depth = if begins symbol kind then Some (Nonterminal (One symbol) depth ∷ []) else Some []
-opened (Repeated symbol) kind depth =
-    if begins symbol kind then Some (Nonterminal (One symbol) depth ∷ Nonterminal (Repeated symbol) depth ∷ []) else Some []
+-- what a part that stands in so many counted nonterminals consists of, by the next token
+abbrev pub opened : Goal → TokenKind → ℕ → Option (List Wanted)
+opened (One nonterminal) kind depth = option_map (place (inner_depth nonterminal depth)) (chosen nonterminal kind)
+opened (Optional nonterminal) kind depth = if begins nonterminal kind then Some (Subgoal (One nonterminal) depth ∷ []) else Some []
+opened (Repeated nonterminal) kind depth =
+    if begins nonterminal kind then Some (Subgoal (One nonterminal) depth ∷ Subgoal (Repeated nonterminal) depth ∷ []) else Some []
 
--- Trees side by side: nothing more; a token, in so many counted symbols, and others; or a part with what is inside, and others.
+-- Trees side by side: nothing more; a token, in so many counted nonterminals, and others; or a part with what is inside, and others.
 pub data Forest : Type 0 where
   Empty : Forest
   Leaf : Mark → ℕ → Forest → Forest
@@ -51,13 +51,13 @@ pub data Forest : Type 0 where
 
 pub data Reads : List Wanted → List Mark → Forest → List Mark → Type 0 where
   Nothing : {ts : List Mark} → Reads [] ts Empty ts
-  Taken : {kind : Kind} {depth : ℕ} {items : List Wanted} {mark : Mark} {ts rest : List Mark} {forest : Forest}
-      → fits kind (kind_of mark) ≡ true → Reads items ts forest rest → Reads (Terminal kind depth ∷ items) (mark ∷ ts) (Leaf mark depth forest) rest
+  Taken : {kind : TokenKind} {depth : ℕ} {items : List Wanted} {mark : Mark} {ts rest : List Mark} {forest : Forest}
+      → fits kind (token_kind mark) ≡ true → Reads items ts forest rest → Reads (Terminal kind depth ∷ items) (mark ∷ ts) (Leaf mark depth forest) rest
   Opened : {goal : Goal} {depth : ℕ} {inner items : List Wanted} {ts middle rest : List Mark} {inside forest : Forest}
       → opened goal (next ts) depth ≡ Some inner → Reads inner ts inside middle → Reads items middle forest rest
-      → Reads (Nonterminal goal depth ∷ items) ts (Node goal inside forest) rest
+      → Reads (Subgoal goal depth ∷ items) ts (Node goal inside forest) rest
 
--- in how many counted symbols each token stands
+-- in how many counted nonterminals each token stands
 abbrev pub depths : Forest → List ℕ
 depths Empty = []
 depths (Leaf mark depth others) = depth ∷ depths others
@@ -65,4 +65,4 @@ depths (Node goal inside others) = depths inside ++ depths others
 
 -- the whole list is read as a program
 pub record IsProgram (ts : List Mark) (forest : Forest) : Type 0 where
-  pub reads : Reads (Nonterminal (One Program) 0 ∷ []) ts forest []
+  pub reads : Reads (Subgoal (One Program) 0 ∷ []) ts forest []

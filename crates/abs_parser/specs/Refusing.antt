@@ -5,23 +5,23 @@
 use Rattle.std.specs.Prelude.{◌≡◌, ⊤, ◌≤◌, ◌<◌, ℕ, true, false, List, [], ◌∷◌, ◌++◌, Some, None}
 use Rattle.abs_tree.specs.declared.refusal.Code.{Code}
 use Rattle.abs_tree.specs.declared.refusal.Code.TheVariants.{S1, S2}
-use Rattle.abs_parser.specs.Kinds.{Mark, Kind, kind_of, fits, next}
-use Rattle.abs_parser.specs.Readings.{Goal, Wanted, Terminal, Nonterminal, opened}
+use Rattle.abs_parser.specs.TokenKinds.{Mark, TokenKind, token_kind, fits, next}
+use Rattle.abs_parser.specs.Readings.{Goal, Wanted, Terminal, Subgoal, opened}
 use Rattle.abs_parser.specs.Stops.{limit, wrong_code}
 
 -- What is wanted, at these tokens, is refused where the other list begins. That list is empty where the first one was cut off.
 pub data Refuses : List Wanted → List Mark → List Mark → Code → Type 0 where
-  Behind : {mark : Mark} {ts : List Mark} {code : Code} → code ≡ wrong_code (kind_of mark) → Refuses [] (mark ∷ ts) (mark ∷ ts) code
-  Other : {kind : Kind} {depth : ℕ} {items : List Wanted} {mark : Mark} {ts : List Mark} {code : Code}
-      → fits kind (kind_of mark) ≡ false → code ≡ wrong_code (kind_of mark) → Refuses (Terminal kind depth ∷ items) (mark ∷ ts) (mark ∷ ts) code
-  Below : {kind : Kind} {depth : ℕ} {items : List Wanted} {mark : Mark} {ts : List Mark}
-      → fits kind (kind_of mark) ≡ true → limit < depth → Refuses (Terminal kind depth ∷ items) (mark ∷ ts) (mark ∷ ts) S2
-  Past : {kind : Kind} {depth : ℕ} {items : List Wanted} {mark : Mark} {ts rest : List Mark} {code : Code}
-      → fits kind (kind_of mark) ≡ true → depth ≤ limit → Refuses items ts rest code → Refuses (Terminal kind depth ∷ items) (mark ∷ ts) rest code
+  Behind : {mark : Mark} {ts : List Mark} {code : Code} → code ≡ wrong_code (token_kind mark) → Refuses [] (mark ∷ ts) (mark ∷ ts) code
+  Other : {kind : TokenKind} {depth : ℕ} {items : List Wanted} {mark : Mark} {ts : List Mark} {code : Code}
+      → fits kind (token_kind mark) ≡ false → code ≡ wrong_code (token_kind mark) → Refuses (Terminal kind depth ∷ items) (mark ∷ ts) (mark ∷ ts) code
+  Below : {kind : TokenKind} {depth : ℕ} {items : List Wanted} {mark : Mark} {ts : List Mark}
+      → fits kind (token_kind mark) ≡ true → limit < depth → Refuses (Terminal kind depth ∷ items) (mark ∷ ts) (mark ∷ ts) S2
+  Past : {kind : TokenKind} {depth : ℕ} {items : List Wanted} {mark : Mark} {ts rest : List Mark} {code : Code}
+      → fits kind (token_kind mark) ≡ true → depth ≤ limit → Refuses items ts rest code → Refuses (Terminal kind depth ∷ items) (mark ∷ ts) rest code
   Shut : {goal : Goal} {depth : ℕ} {items : List Wanted} {mark : Mark} {ts : List Mark} {code : Code}
-      → opened goal (kind_of mark) depth ≡ None → code ≡ wrong_code (kind_of mark) → Refuses (Nonterminal goal depth ∷ items) (mark ∷ ts) (mark ∷ ts) code
+      → opened goal (token_kind mark) depth ≡ None → code ≡ wrong_code (token_kind mark) → Refuses (Subgoal goal depth ∷ items) (mark ∷ ts) (mark ∷ ts) code
   Open : {goal : Goal} {depth : ℕ} {inner items : List Wanted} {ts rest : List Mark} {code : Code}
-      → opened goal (next ts) depth ≡ Some inner → Refuses (inner ++ items) ts rest code → Refuses (Nonterminal goal depth ∷ items) ts rest code
+      → opened goal (next ts) depth ≡ Some inner → Refuses (inner ++ items) ts rest code → Refuses (Subgoal goal depth ∷ items) ts rest code
   Cut : {item : Wanted} {items : List Wanted} {code : Code} → code ≡ S1 → Refuses (item ∷ items) [] [] code
 
 -- each of these tokens may stand where it stands

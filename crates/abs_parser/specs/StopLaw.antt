@@ -6,7 +6,7 @@
 use Rattle.std.specs.Prelude.{◌≡◌, List}
 use Rattle.abs_tree.specs.declared.refusal.Code.{Code}
 use Rattle.abs_lexer.specs.Tokens.{TokenList}
-use Rattle.abs_parser.specs.Kinds.{Mark, marks}
+use Rattle.abs_parser.specs.TokenKinds.{Mark, marks}
 use Rattle.abs_parser.specs.Readings.{Forest, IsProgram}
 use Rattle.abs_parser.specs.Stops.{StopsAt, IsAccepted}
 use Rattle.abs_parser.specs.TreesOf.{tree_of}

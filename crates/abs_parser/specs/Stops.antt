@@ -9,7 +9,7 @@ use Rattle.std.specs.Prelude.{◌≡◌, ℕ, ◌<◌, List, ◌∷◌, ◌++◌
 use Rattle.abs_tree.specs.Limits.{nesting_limit}
 use Rattle.abs_tree.specs.declared.refusal.Code.{Code}
 use Rattle.abs_tree.specs.declared.refusal.Code.TheVariants.{S1, S2, S3}
-use Rattle.abs_parser.specs.Kinds.{Mark, Kind, Foreign, kind_of}
+use Rattle.abs_parser.specs.TokenKinds.{Mark, TokenKind, Foreign, token_kind}
 use Rattle.abs_parser.specs.Readings.{Forest, depths, IsProgram}
 
 -- how many counted symbols may be open at once
@@ -33,14 +33,14 @@ abbrev pub IsWrong : List Mark → Mark → Type 0
 IsWrong before mark = (behind : List Mark) (forest : Forest) → IsProgram (before ++ mark ∷ behind) forest → ⊥
 
 -- the code of a wrong token: a word outside the profile has its own
-abbrev pub wrong_code : Kind → Code
+abbrev pub wrong_code : TokenKind → Code
 wrong_code Foreign = S3
 wrong_code _ = S1
 
 -- a token is refused by this code
 pub data RefusedBy (before : List Mark) (mark : Mark) : Code → Type 0 where
   deep : IsDeep before mark → RefusedBy before mark S2
-  wrong : (code : Code) → IsWrong before mark → code ≡ wrong_code (kind_of mark) → RefusedBy before mark code
+  wrong : (code : Code) → IsWrong before mark → code ≡ wrong_code (token_kind mark) → RefusedBy before mark code
 
 -- the list stops at a token, with this code: it is the first that is deep or wrong
 pub record StopsAt (ts before : List Mark) (mark : Mark) (code : Code) : Type 0 where

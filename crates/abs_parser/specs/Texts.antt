@@ -11,7 +11,7 @@ use Rattle.abs_tree.specs.Names.{by_first_appearance}
 use Rattle.abs_tree.specs.Syntax.{Name, SourceTree}
 use Rattle.abs_tree.specs.declared.refusal.Code.{Code}
 use Rattle.abs_tree.specs.declared.refusal.Refusal.{Refusal}
-use Rattle.abs_parser.specs.Kinds.{Mark, marks, place_of_mark}
+use Rattle.abs_parser.specs.TokenKinds.{Mark, marks, place_of_mark}
 use Rattle.abs_parser.specs.Readings.{Forest}
 use Rattle.abs_parser.specs.ReaderAnswers.{names_before}
 use Rattle.abs_parser.specs.Stops.{StopsAt, IsAccepted}

@@ -3,7 +3,7 @@
 --
 --   `type_in`                                          types
 --   `pattern_in`                                       patterns
---   `expr_in`, `or_in` .. `mul_in`, `unary_in`, `primary_in`  expressions, by the levels of their operators
+--   `expr_in`, `or_in` .. `mul_in`, `unary_in`, `primary_in`  expressions, by the precedences of their operators
 --   `named`, `member`, `built`                         names with the arguments behind them, or without
 --   `rhs_in`, `rest_in`                                right sides, from their beginning or behind the first operand
 --   `guard_in`                                         guards
@@ -24,7 +24,7 @@ use Rattle.abs_tree.specs.declared.syntax.statement.Mode.{Mode}
 use Rattle.abs_tree.specs.declared.syntax.statement.Mode.TheVariants as mode
 use Rattle.abs_lexer.specs.declared.lexeme.Keyword.TheVariants as keyword
 use Rattle.abs_lexer.specs.declared.lexeme.Punctuator.TheVariants as punctuator
-use Rattle.abs_parser.specs.Kinds.{Mark, Token, TextEnd, Kind, LowerName, LocalName, UpperName, AbsName, StdLibName, Number, Text, Word, Sign, place_of_mark, kind_of}
+use Rattle.abs_parser.specs.TokenKinds.{Mark, Token, TextEnd, TokenKind, LowerName, LocalName, UpperName, AbsName, StdLibName, Number, Text, KeywordKind, PunctuatorKind, place_of_mark, token_kind}
 use Rattle.abs_parser.specs.Readings.{Forest, Empty, Leaf, Node}
 
 -- how a token is written
@@ -80,15 +80,15 @@ abbrev mutual
 -- Patterns
 abbrev mutual
   pub pattern_in : Forest → PatternTree
-  pattern_in (Leaf mark _ others) = pattern_by (kind_of mark) mark others
+  pattern_in (Leaf mark _ others) = pattern_by (token_kind mark) mark others
   pattern_in _ = AnyValue start
 
   -- by the first token
-  pub pattern_by : Kind → Mark → Forest → PatternTree
+  pub pattern_by : TokenKind → Mark → Forest → PatternTree
   pattern_by LowerName mark others = Binds (place_of_mark mark) (Unresolved (written mark))
   pattern_by LocalName mark others = Binds (place_of_mark mark) (Unresolved (written mark))
   pattern_by Number mark others = SameNumber (place_of_mark mark) (pos (number_of mark))
-  pattern_by (Sign punctuator.Minus) mark (Leaf number _ _) = SameNumber (place_of_mark mark) (neg_ℤ (pos (number_of number)))
+  pattern_by (PunctuatorKind punctuator.Minus) mark (Leaf number _ _) = SameNumber (place_of_mark mark) (neg_ℤ (pos (number_of number)))
   pattern_by Text mark others = SameString (place_of_mark mark) (text_of mark)
   pattern_by UpperName mark (Node _ arguments _) = Built (place_of_mark mark) (written mark) (pattern_arguments arguments)
   pattern_by AbsName mark (Node _ arguments _) = Built (place_of_mark mark) (written mark) (pattern_arguments arguments)
@@ -120,26 +120,26 @@ with_operators place first NoOperands = first
 with_operators place first (NextOperand operator right others) = OperatorsOf place first (NextOperand operator right others)
 
 -- the operator that a sign stands for
-abbrev pub operator_of : Kind → Operator
-operator_of (Sign punctuator.Or) = operator.Or
-operator_of (Sign punctuator.And) = operator.And
-operator_of (Sign punctuator.Equal) = operator.Equal
-operator_of (Sign punctuator.NotEqual) = operator.NotEqual
-operator_of (Sign punctuator.Less) = operator.Less
-operator_of (Sign punctuator.LessEqual) = operator.LessEqual
-operator_of (Sign punctuator.Greater) = operator.Greater
-operator_of (Sign punctuator.GreaterEqual) = operator.GreaterEqual
-operator_of (Sign punctuator.Plus) = operator.Plus
-operator_of (Sign punctuator.Minus) = operator.Minus
-operator_of (Sign punctuator.Star) = operator.Times
-operator_of (Sign punctuator.Slash) = operator.Divide
-operator_of (Sign punctuator.Percent) = operator.Remainder
+abbrev pub operator_of : TokenKind → Operator
+operator_of (PunctuatorKind punctuator.Or) = operator.Or
+operator_of (PunctuatorKind punctuator.And) = operator.And
+operator_of (PunctuatorKind punctuator.Equal) = operator.Equal
+operator_of (PunctuatorKind punctuator.NotEqual) = operator.NotEqual
+operator_of (PunctuatorKind punctuator.Less) = operator.Less
+operator_of (PunctuatorKind punctuator.LessEqual) = operator.LessEqual
+operator_of (PunctuatorKind punctuator.Greater) = operator.Greater
+operator_of (PunctuatorKind punctuator.GreaterEqual) = operator.GreaterEqual
+operator_of (PunctuatorKind punctuator.Plus) = operator.Plus
+operator_of (PunctuatorKind punctuator.Minus) = operator.Minus
+operator_of (PunctuatorKind punctuator.Star) = operator.Times
+operator_of (PunctuatorKind punctuator.Slash) = operator.Divide
+operator_of (PunctuatorKind punctuator.Percent) = operator.Remainder
 operator_of _ = operator.Equal
 
-abbrev pub prefix_of : Kind → Prefix
-prefix_of (Sign punctuator.Not) = prefix.Not
-prefix_of (Sign punctuator.Tilde) = prefix.Tilde
-prefix_of (Sign punctuator.Minus) = prefix.Minus
+abbrev pub prefix_of : TokenKind → Prefix
+prefix_of (PunctuatorKind punctuator.Not) = prefix.Not
+prefix_of (PunctuatorKind punctuator.Tilde) = prefix.Tilde
+prefix_of (PunctuatorKind punctuator.Minus) = prefix.Minus
 prefix_of _ = prefix.Not
 
 -- a name that begins with a lower-case letter: with arguments a function, without a variable
@@ -173,7 +173,7 @@ abbrev mutual
   or_in _ = NullOf start
 
   pub or_operands : Forest → Operands
-  or_operands (Node _ (Leaf mark _ (Node _ right _)) (Node _ others _)) = NextOperand (operator_of (kind_of mark)) (and_in right) (or_operands others)
+  or_operands (Node _ (Leaf mark _ (Node _ right _)) (Node _ others _)) = NextOperand (operator_of (token_kind mark)) (and_in right) (or_operands others)
   or_operands _ = NoOperands
 
   pub and_in : Forest → Phrase
@@ -181,7 +181,7 @@ abbrev mutual
   and_in _ = NullOf start
 
   pub and_operands : Forest → Operands
-  and_operands (Node _ (Leaf mark _ (Node _ right _)) (Node _ others _)) = NextOperand (operator_of (kind_of mark)) (equal_in right) (and_operands others)
+  and_operands (Node _ (Leaf mark _ (Node _ right _)) (Node _ others _)) = NextOperand (operator_of (token_kind mark)) (equal_in right) (and_operands others)
   and_operands _ = NoOperands
 
   pub equal_in : Forest → Phrase
@@ -189,7 +189,7 @@ abbrev mutual
   equal_in _ = NullOf start
 
   pub equal_operand : Forest → Operands
-  equal_operand (Node _ (Leaf mark _ (Node _ right _)) _) = NextOperand (operator_of (kind_of mark)) (compare_in right) NoOperands
+  equal_operand (Node _ (Leaf mark _ (Node _ right _)) _) = NextOperand (operator_of (token_kind mark)) (compare_in right) NoOperands
   equal_operand _ = NoOperands
 
   pub compare_in : Forest → Phrase
@@ -197,7 +197,7 @@ abbrev mutual
   compare_in _ = NullOf start
 
   pub compare_operand : Forest → Operands
-  compare_operand (Node _ (Leaf mark _ (Node _ right _)) _) = NextOperand (operator_of (kind_of mark)) (sum_in right) NoOperands
+  compare_operand (Node _ (Leaf mark _ (Node _ right _)) _) = NextOperand (operator_of (token_kind mark)) (sum_in right) NoOperands
   compare_operand _ = NoOperands
 
   pub sum_in : Forest → Phrase
@@ -205,7 +205,7 @@ abbrev mutual
   sum_in _ = NullOf start
 
   pub sum_operands : Forest → Operands
-  sum_operands (Node _ (Leaf mark _ (Node _ right _)) (Node _ others _)) = NextOperand (operator_of (kind_of mark)) (mul_in right) (sum_operands others)
+  sum_operands (Node _ (Leaf mark _ (Node _ right _)) (Node _ others _)) = NextOperand (operator_of (token_kind mark)) (mul_in right) (sum_operands others)
   sum_operands _ = NoOperands
 
   pub mul_in : Forest → Phrase
@@ -213,34 +213,34 @@ abbrev mutual
   mul_in _ = NullOf start
 
   pub mul_operands : Forest → Operands
-  mul_operands (Node _ (Leaf mark _ (Node _ right _)) (Node _ others _)) = NextOperand (operator_of (kind_of mark)) (unary_in right) (mul_operands others)
+  mul_operands (Node _ (Leaf mark _ (Node _ right _)) (Node _ others _)) = NextOperand (operator_of (token_kind mark)) (unary_in right) (mul_operands others)
   mul_operands _ = NoOperands
 
   -- Unary
   pub unary_in : Forest → Phrase
-  unary_in (Leaf mark _ (Node _ operand _)) = Prefixed (place_of_mark mark) (prefix_of (kind_of mark)) (unary_in operand)
+  unary_in (Leaf mark _ (Node _ operand _)) = Prefixed (place_of_mark mark) (prefix_of (token_kind mark)) (unary_in operand)
   unary_in (Node _ primary _) = primary_in primary
   unary_in _ = NullOf start
 
   -- Primary, by its first token
   pub primary_in : Forest → Phrase
-  primary_in (Leaf mark _ others) = primary_by (kind_of mark) mark others
+  primary_in (Leaf mark _ others) = primary_by (token_kind mark) mark others
   primary_in _ = NullOf start
 
-  pub primary_by : Kind → Mark → Forest → Phrase
+  pub primary_by : TokenKind → Mark → Forest → Phrase
   primary_by Number mark others = NumberOf (place_of_mark mark) (pos (number_of mark))
   primary_by Text mark others = StringOf (place_of_mark mark) (text_of mark)
-  primary_by (Word keyword.Null) mark others = NullOf (place_of_mark mark)
-  primary_by (Word keyword.Destiny) mark others = DestinyOf (place_of_mark mark)
-  primary_by (Word keyword.This) mark (Node _ tail _) = this_in (place_of_mark mark) tail
+  primary_by (KeywordKind keyword.Null) mark others = NullOf (place_of_mark mark)
+  primary_by (KeywordKind keyword.Destiny) mark others = DestinyOf (place_of_mark mark)
+  primary_by (KeywordKind keyword.This) mark (Node _ tail _) = this_in (place_of_mark mark) tail
   primary_by LowerName mark (Node _ arguments _) = named (place_of_mark mark) (written mark) (arguments_maybe arguments)
   primary_by LocalName mark (Node _ arguments _) = named (place_of_mark mark) (written mark) (arguments_maybe arguments)
   primary_by UpperName mark (Node _ arguments _) = built (place_of_mark mark) (written mark) (arguments_maybe arguments)
   primary_by AbsName mark (Node _ arguments _) = built (place_of_mark mark) (written mark) (arguments_maybe arguments)
   primary_by StdLibName mark (Node _ arguments _) = built (place_of_mark mark) (written mark) (arguments_maybe arguments)
-  primary_by (Word keyword.Case) mark (Node _ subject (Leaf opening _ (Node _ first (Node _ others (Leaf closing _ _))))) =
+  primary_by (KeywordKind keyword.Case) mark (Node _ subject (Leaf opening _ (Node _ first (Node _ others (Leaf closing _ _))))) =
       CaseOf (place_of_mark mark) (expr_in subject) (branch_in first (branches_in others))
-  primary_by (Sign punctuator.OpenParen) mark (Node _ inside _) = expr_in inside
+  primary_by (PunctuatorKind punctuator.OpenParen) mark (Node _ inside _) = expr_in inside
   primary_by _ mark others = NullOf (place_of_mark mark)
 
   -- behind "this": perhaps ".", a name, and perhaps arguments
@@ -282,13 +282,13 @@ abbrev mutual
 -- Right sides
 
 -- perhaps "cog" or "local"
-abbrev pub mode_by : Kind → Place → Mode
-mode_by (Word keyword.Cog) place = mode.Cog
+abbrev pub mode_by : TokenKind → Place → Mode
+mode_by (KeywordKind keyword.Cog) place = mode.Cog
 mode_by LocalName place = mode.Local place
 mode_by _ place = mode.Plain
 
 abbrev pub mode_in : Forest → Mode
-mode_in (Node _ (Leaf mark _ _) _) = mode_by (kind_of mark) (place_of_mark mark)
+mode_in (Node _ (Leaf mark _ _) _) = mode_by (token_kind mark) (place_of_mark mark)
 mode_in _ = mode.Plain
 
 -- behind the ".": "get", or a name and arguments, whose call has its receiver in front of them
@@ -372,7 +372,7 @@ branch_of statement = NextStatement statement NoStatement
 -- a statement whose first index is this one
 abbrev mutual
   pub statement_in : ℕ → Forest → Statement
-  statement_in index (Leaf mark _ others) = statement_by index (kind_of mark) mark others
+  statement_in index (Leaf mark _ others) = statement_by index (token_kind mark) mark others
   statement_in index (Node _ block Empty) = BlockOf (place_in block) (block_in index block)
   statement_in index (Node _ type (Leaf name _ (Node _ initial _))) =
       DeclareOf index (place_in type) (type_in type) (place_of_mark name) (Unresolved (written name)) (initial_in initial)
@@ -380,18 +380,18 @@ abbrev mutual
   statement_in index Empty = SkipOf index start
 
   -- by the first token
-  pub statement_by : ℕ → Kind → Mark → Forest → Statement
-  statement_by index (Word keyword.Skip) mark others = SkipOf index (place_of_mark mark)
-  statement_by index (Word keyword.Suspend) mark others = SuspendOf index (place_of_mark mark)
-  statement_by index (Word keyword.Await) mark (Node _ guard _) = AwaitOf index (place_of_mark mark) (guard_in guard)
-  statement_by index (Word keyword.Return) mark (Node _ expr _) = ReturnOf index (place_of_mark mark) (expr_in expr)
-  statement_by index (Word keyword.Println) mark (Leaf opening _ (Node _ expr _)) = PrintOf index (place_of_mark mark) (expr_in expr)
-  statement_by index (Word keyword.If) mark (Leaf opening _ (Node _ test (Leaf closing _ (Node _ first (Node _ other _))))) =
+  pub statement_by : ℕ → TokenKind → Mark → Forest → Statement
+  statement_by index (KeywordKind keyword.Skip) mark others = SkipOf index (place_of_mark mark)
+  statement_by index (KeywordKind keyword.Suspend) mark others = SuspendOf index (place_of_mark mark)
+  statement_by index (KeywordKind keyword.Await) mark (Node _ guard _) = AwaitOf index (place_of_mark mark) (guard_in guard)
+  statement_by index (KeywordKind keyword.Return) mark (Node _ expr _) = ReturnOf index (place_of_mark mark) (expr_in expr)
+  statement_by index (KeywordKind keyword.Println) mark (Leaf opening _ (Node _ expr _)) = PrintOf index (place_of_mark mark) (expr_in expr)
+  statement_by index (KeywordKind keyword.If) mark (Leaf opening _ (Node _ test (Leaf closing _ (Node _ first (Node _ other _))))) =
       let branch = branch_of (statement_in (index + 1) first) in
       IfOf index (place_of_mark mark) (expr_in test) branch (else_in (index + 1 + statement_count branch) other)
-  statement_by index (Word keyword.While) mark (Leaf opening _ (Node _ test (Leaf closing _ (Node _ body _)))) =
+  statement_by index (KeywordKind keyword.While) mark (Leaf opening _ (Node _ test (Leaf closing _ (Node _ body _)))) =
       WhileOf index (place_of_mark mark) (expr_in test) (branch_of (statement_in (index + 1) body))
-  statement_by index (Word keyword.This) mark (Node _ after _) = after_this index (place_of_mark mark) after
+  statement_by index (KeywordKind keyword.This) mark (Node _ after _) = after_this index (place_of_mark mark) after
   statement_by index LowerName mark (Node _ after _) = after_variable index (place_of_mark mark) (written mark) after
   statement_by index LocalName mark (Node _ after _) = after_variable index (place_of_mark mark) (written mark) after
   statement_by index _ mark others = SkipOf index (place_of_mark mark)
@@ -502,20 +502,20 @@ members_in index (Node _ member (Node _ others _)) =
 members_in index _ = []
 
 -- a declaration by its first token, in front of others
-abbrev pub decl_by : ℕ → Kind → Place → Forest → List DeclTree → List DeclTree
-decl_by index (Word keyword.Data) place (Leaf name _ (Node _ parameters (Leaf equals _ (Node _ first (Node _ more _))))) others =
+abbrev pub decl_by : ℕ → TokenKind → Place → Forest → List DeclTree → List DeclTree
+decl_by index (KeywordKind keyword.Data) place (Leaf name _ (Node _ parameters (Leaf equals _ (Node _ first (Node _ more _))))) others =
     DataTree place (declared name) (names_maybe parameters) (constructor_in first (more_constructors more)) ∷ others
-decl_by index (Word keyword.Def) place (Node _ type (Leaf name _ (Node _ parameters (Leaf opening _ (Node _ params (Leaf closing _ (Leaf equals _ (Node _ expr _)))))))) others =
+decl_by index (KeywordKind keyword.Def) place (Node _ type (Leaf name _ (Node _ parameters (Leaf opening _ (Node _ params (Leaf closing _ (Leaf equals _ (Node _ expr _)))))))) others =
     FunctionTree place (type_in type) (declared name) (names_maybe parameters) (params_maybe params) (expr_in expr) ∷ others
-decl_by index (Word keyword.Interface) place (Leaf name _ (Node _ extended (Leaf opening _ (Node _ signatures _)))) others =
+decl_by index (KeywordKind keyword.Interface) place (Leaf name _ (Node _ extended (Leaf opening _ (Node _ signatures _)))) others =
     InterfaceTree place (declared name) (names_maybe extended) (signatures_in signatures) ∷ others
-decl_by index (Word keyword.Class) place (Leaf name _ (Node _ params (Node _ implemented (Leaf opening _ (Node _ members _))))) others =
+decl_by index (KeywordKind keyword.Class) place (Leaf name _ (Node _ params (Node _ implemented (Leaf opening _ (Node _ members _))))) others =
     ClassTree place (declared name) (class_params_maybe params) (names_maybe implemented) (members_in index members) ∷ others
 decl_by index _ place forest others = others
 
 -- a declaration, in front of others
 abbrev pub decl_in : ℕ → Forest → List DeclTree → List DeclTree
-decl_in index (Leaf mark _ inside) others = decl_by index (kind_of mark) (place_of_mark mark) inside others
+decl_in index (Leaf mark _ inside) others = decl_by index (token_kind mark) (place_of_mark mark) inside others
 decl_in index _ others = others
 
 abbrev pub decls_in : ℕ → Forest → List DeclTree

@@ -2,7 +2,7 @@
 ghost use Rattle.std.specs.Prelude.{◌≡◌, ◌+◌, ◌<◌, ◌≤◌, ◌^◌, length, IfOk, IfErr};
 ghost use Rattle.abs_tree.specs.SyntaxViews.{phrases};
 ghost use Rattle.abs_parser.specs.Productions.{Arguments, Args};
-ghost use Rattle.abs_parser.specs.Readings.{One, Optional, Nonterminal};
+ghost use Rattle.abs_parser.specs.Readings.{One, Optional, Subgoal};
 ghost use Rattle.abs_parser.specs.ReaderAnswers.{FoundAs, IsRefused, maybe_phrases};
 ghost use Rattle.abs_parser.specs.Stops.{limit};
 ghost use Rattle.abs_parser.specs.TreesOf.{arguments_in, arguments_maybe as maybe_arguments_in, args_in};
@@ -16,10 +16,10 @@ use abs_tree::Symbols;
 use abs_tree::syntax::Expr;
 use std::alloc::Global;
 
-/// The expressions between `(` and `)`, where there are parentheses, and the cursor behind them.
+/// The expressions between `(` and `)`, where there are parentheses, and the cursor after them.
 ///
 /// # Errors
-/// The refusal of the first token that no arguments have there, or that stands too deep.
+/// The refusal of the first token that no arguments have there, or that is too deeply nested.
 #[cycle(phrases)]
 pub(crate) fn arguments_maybe<'a, 'b>(
     alloc: Global,
@@ -32,20 +32,20 @@ pub(crate) fn arguments_maybe<'a, 'b>(
     ensures found { IfOk result (λ found. FoundAs (Optional Arguments) depth symbols.old symbols.new (spot from.entry)
         (spot found.1)
         (λ names inside. maybe_phrases names found.0 ≡ maybe_arguments_in inside)) }
-    ensures refused { IfErr result (λ error. IsRefused (Nonterminal (Optional Arguments) depth)
+    ensures refused { IfErr result (λ error. IsRefused (Subgoal (Optional Arguments) depth)
         (spot from.entry) error) }
 {
-    if !from.is(Lexeme::Sign(Punctuator::OpenParen)) {
+    if !from.is(Lexeme::Punctuator(Punctuator::OpenParen)) {
         return Ok((None, from));
     }
     let (expressions, end) = arguments(alloc, symbols, depth, from)?;
     Ok((Some(expressions), end))
 }
 
-/// The expressions between `(` and `)`, and the cursor behind them.
+/// The expressions between `(` and `)`, and the cursor after them.
 ///
 /// # Errors
-/// The refusal of the first token that no arguments have there, or that stands too deep.
+/// The refusal of the first token that no arguments have there, or that is too deeply nested.
 #[cycle(phrases)]
 pub(crate) fn arguments<'a, 'b>(
     alloc: Global,
@@ -58,18 +58,18 @@ pub(crate) fn arguments<'a, 'b>(
     ensures found { IfOk result (λ found. FoundAs (One Arguments) depth symbols.old symbols.new (spot from.entry)
         (spot found.1)
         (λ names inside. phrases names found.0.items ≡ arguments_in inside)) }
-    ensures refused { IfErr result (λ error. IsRefused (Nonterminal (One Arguments) depth) (spot from.entry) error) }
+    ensures refused { IfErr result (λ error. IsRefused (Subgoal (One Arguments) depth) (spot from.entry) error) }
 {
-    let (_, behind) = from.take(Lexeme::Sign(Punctuator::OpenParen), depth)?;
-    if let Some((_, end)) = behind.accept(Lexeme::Sign(Punctuator::CloseParen)) {
+    let (_, behind) = from.take(Lexeme::Punctuator(Punctuator::OpenParen), depth)?;
+    if let Some((_, end)) = behind.accept(Lexeme::Punctuator(Punctuator::CloseParen)) {
         return Ok((Vec::new(alloc), end));
     }
     let (expressions, close) = expressions(alloc, symbols, depth, behind)?;
-    let (_, end) = close.take(Lexeme::Sign(Punctuator::CloseParen), depth)?;
+    let (_, end) = close.take(Lexeme::Punctuator(Punctuator::CloseParen), depth)?;
     Ok((expressions, end))
 }
 
-/// An expression, and others behind commas, and the cursor behind them.
+/// An expression, and others after commas, and the cursor after them.
 #[cycle(phrases)]
 fn expressions<'a, 'b>(
     alloc: Global,
@@ -82,11 +82,11 @@ fn expressions<'a, 'b>(
     ensures found { IfOk result (λ found. FoundAs (One Args) depth symbols.old symbols.new (spot from.entry)
         (spot found.1)
         (λ names inside. phrases names found.0.items ≡ args_in inside)) }
-    ensures refused { IfErr result (λ error. IsRefused (Nonterminal (One Args) depth) (spot from.entry) error) }
+    ensures refused { IfErr result (λ error. IsRefused (Subgoal (One Args) depth) (spot from.entry) error) }
 {
     let (first, mut here) = expression(alloc, symbols, depth, from)?;
     let mut expressions = vec![in alloc; first]?;
-    while let Some((_, behind)) = here.accept(Lexeme::Sign(Punctuator::Comma)) {
+    while let Some((_, behind)) = here.accept(Lexeme::Punctuator(Punctuator::Comma)) {
         let (next, end) = expression(alloc, symbols, depth, behind)?;
         expressions.push(next)?;
         here = end;

@@ -3,9 +3,9 @@ ghost use Rattle.std.specs.Prelude.{◌≡◌, true, ◌+◌, ◌<◌, ◌≤◌
 ghost use Rattle.abs_lexer.specs.declared.lexeme.Keyword.TheVariants as keyword;
 ghost use Rattle.abs_tree.specs.Syntax.{Branches, NextBranch};
 ghost use Rattle.abs_tree.specs.SyntaxViews.{phrase, pattern_tree};
-ghost use Rattle.abs_parser.specs.Kinds.{Word, fits, next};
+ghost use Rattle.abs_parser.specs.TokenKinds.{KeywordKind, fits, next};
 ghost use Rattle.abs_parser.specs.Productions.{Primary, Branch as BranchSymbol};
-ghost use Rattle.abs_parser.specs.Readings.{One, Nonterminal};
+ghost use Rattle.abs_parser.specs.Readings.{One, Subgoal};
 ghost use Rattle.abs_parser.specs.ReaderAnswers.{FoundAs, IsRefused, left_at};
 ghost use Rattle.abs_parser.specs.Stops.{limit};
 ghost use Rattle.abs_parser.specs.TreesOf.{primary_in, branch_in};
@@ -20,10 +20,10 @@ use abs_tree::Symbols;
 use abs_tree::syntax::{Branch, Expr};
 use std::alloc::Global;
 
-/// `case e { p => e; .. }`, and the cursor behind it.
+/// `case e { p => e; .. }`, and the cursor after it.
 ///
 /// # Errors
-/// The refusal of the first token that no `case` has there, or that stands too deep.
+/// The refusal of the first token that no `case` has there, or that is too deeply nested.
 #[cycle(phrases)]
 pub(crate) fn case_of<'a, 'b>(
     alloc: Global,
@@ -31,25 +31,25 @@ pub(crate) fn case_of<'a, 'b>(
     depth: u32,
     from: Cursor<'a, 'b>,
 ) -> Result<(Expr, Cursor<'a, 'b>), ParseError>
-    requires begins { fits (Word keyword.Case) (next (left_at (spot from))) ≡ true }
+    requires begins { fits (KeywordKind keyword.Case) (next (left_at (spot from))) ≡ true }
     requires names { length symbols.old + length (spot from).rest < 2 ^ 31 }
     requires depth { depth ≤ limit + 3 }
     ensures found { IfOk result (λ found. FoundAs (One Primary) depth symbols.old symbols.new (spot from.entry)
         (spot found.1)
         (λ names inside. phrase names found.0 ≡ primary_in inside)) }
-    ensures refused { IfErr result (λ error. IsRefused (Nonterminal (One Primary) depth) (spot from.entry) error) }
+    ensures refused { IfErr result (λ error. IsRefused (Subgoal (One Primary) depth) (spot from.entry) error) }
 {
-    let (word, subject_at) = from.take(Lexeme::Word(Keyword::Case), depth)?;
+    let (word, subject_at) = from.take(Lexeme::Keyword(Keyword::Case), depth)?;
     let (subject, open) = expression(alloc, symbols, depth, subject_at)?;
-    let (_, first_at) = open.take(Lexeme::Sign(Punctuator::OpenBrace), depth)?;
+    let (_, first_at) = open.take(Lexeme::Punctuator(Punctuator::OpenBrace), depth)?;
     let (first, mut here) = branch(alloc, symbols, depth, first_at)?;
     let mut branches = vec![in alloc; first]?;
-    while !here.is(Lexeme::Sign(Punctuator::CloseBrace)) {
+    while !here.is(Lexeme::Punctuator(Punctuator::CloseBrace)) {
         let (next, end) = branch(alloc, symbols, depth, here)?;
         branches.push(next)?;
         here = end;
     }
-    let (_, end) = here.take(Lexeme::Sign(Punctuator::CloseBrace), depth)?;
+    let (_, end) = here.take(Lexeme::Punctuator(Punctuator::CloseBrace), depth)?;
     let subject = Box::new(alloc, subject)?;
     let expr = Expr::Case {
         place: word.place,
@@ -59,7 +59,7 @@ pub(crate) fn case_of<'a, 'b>(
     Ok((expr, end))
 }
 
-/// `p => e;`, and the cursor behind it.
+/// `p => e;`, and the cursor after it.
 #[cycle(phrases)]
 fn branch<'a, 'b>(
     alloc: Global,
@@ -73,11 +73,11 @@ fn branch<'a, 'b>(
         (spot found.1)
         (λ names inside. (others : Branches) → NextBranch (pattern_tree names found.0.pattern)
         (phrase names found.0.value) others ≡ branch_in inside others)) }
-    ensures refused { IfErr result (λ error. IsRefused (Nonterminal (One BranchSymbol) depth) (spot from.entry) error) }
+    ensures refused { IfErr result (λ error. IsRefused (Subgoal (One BranchSymbol) depth) (spot from.entry) error) }
 {
     let (pattern, arrow) = pattern(alloc, symbols, depth, from)?;
-    let (_, value_at) = arrow.take(Lexeme::Sign(Punctuator::Arrow), depth)?;
+    let (_, value_at) = arrow.take(Lexeme::Punctuator(Punctuator::Arrow), depth)?;
     let (value, close) = expression(alloc, symbols, depth, value_at)?;
-    let (_, end) = close.take(Lexeme::Sign(Punctuator::Semicolon), depth)?;
+    let (_, end) = close.take(Lexeme::Punctuator(Punctuator::Semicolon), depth)?;
     Ok((Branch { pattern, value }, end))
 }

@@ -4,9 +4,9 @@ ghost use Rattle.abs_lexer.specs.declared.lexeme.Keyword.TheVariants as keyword;
 ghost use Rattle.abs_tree.specs.Syntax.{Name, MemberTree, DeclTree};
 ghost use Rattle.abs_tree.specs.SyntaxSizes.{member_statements, decl_statements};
 ghost use Rattle.abs_tree.specs.SyntaxViews.{type_tree, declared as declared_tree, member_tree, decl_tree};
-ghost use Rattle.abs_parser.specs.Kinds.{Word, fits, next};
+ghost use Rattle.abs_parser.specs.TokenKinds.{KeywordKind, fits, next};
 ghost use Rattle.abs_parser.specs.Productions.{Decl as DeclSymbol, Member as MemberSymbol, MemberTail};
-ghost use Rattle.abs_parser.specs.Readings.{One, Nonterminal};
+ghost use Rattle.abs_parser.specs.Readings.{One, Subgoal};
 ghost use Rattle.abs_parser.specs.ReaderAnswers.{FoundAs, IsRefused, left_at};
 ghost use Rattle.abs_parser.specs.TreesOf.{decl_in, member_in, member_by};
 ghost use Rattle.abs_parser.specs.Views.{spot};
@@ -24,18 +24,18 @@ use abs_tree::syntax::{Decl, Declared, Member, Signature, TypeTerm};
 use std::alloc::Global;
 use std::sync::Arc;
 
-/// A declaration of a class, whose first statement has the free index; the index that is free after it; and
-/// the cursor behind it.
+/// A declaration of a class, whose first statement has the free index; the index that is free after it; and the cursor
+/// after it.
 ///
 /// # Errors
-/// The refusal of the first token that no such declaration has there, or that stands too deep.
+/// The refusal of the first token that no such declaration has there, or that is too deeply nested.
 pub(crate) fn class<'a, 'b>(
     alloc: Global,
     symbols: &mut Symbols<'a>,
     index: u32,
     from: Cursor<'a, 'b>,
 ) -> Result<(Decl, u32, Cursor<'a, 'b>), ParseError>
-    requires begins { fits (Word keyword.Class) (next (left_at (spot from))) ≡ true }
+    requires begins { fits (KeywordKind keyword.Class) (next (left_at (spot from))) ≡ true }
     requires names { length symbols.old + length (spot from).rest < 2 ^ 31 }
     requires few { index + length (spot from).rest < 2 ^ 31 }
     ensures found { IfOk result (λ found. FoundAs (One DeclSymbol) 0 symbols.old symbols.new (spot from.entry)
@@ -44,9 +44,9 @@ pub(crate) fn class<'a, 'b>(
     ensures free { IfOk result (λ found. (names : List Name)
         → found.1 ≡ index + decl_statements (decl_tree names found.0 ∷ [])) }
     ensures few { IfOk result (λ found. found.1 + length (spot found.2).rest ≤ index + length (spot from.entry).rest) }
-    ensures refused { IfErr result (λ error. IsRefused (Nonterminal (One DeclSymbol) 0) (spot from.entry) error) }
+    ensures refused { IfErr result (λ error. IsRefused (Subgoal (One DeclSymbol) 0) (spot from.entry) error) }
 {
-    let (word, name_at) = from.take(Lexeme::Word(Keyword::Class), 0)?;
+    let (word, name_at) = from.take(Lexeme::Keyword(Keyword::Class), 0)?;
     let (name, behind) = name_at.take(Lexeme::UpperName, 0)?;
     let declared = Declared {
         place: name.place,
@@ -54,16 +54,16 @@ pub(crate) fn class<'a, 'b>(
     };
     let (params, heading) = class_parameters(alloc, symbols, behind)?;
     let (implemented, open) = names_behind(alloc, symbols, Heading::Implements, heading)?;
-    let (_, mut here) = open.take(Lexeme::Sign(Punctuator::OpenBrace), 0)?;
+    let (_, mut here) = open.take(Lexeme::Punctuator(Punctuator::OpenBrace), 0)?;
     let mut members = Vec::new(alloc);
     let mut free = index;
-    while !here.is(Lexeme::Sign(Punctuator::CloseBrace)) {
+    while !here.is(Lexeme::Punctuator(Punctuator::CloseBrace)) {
         let (next, behind, end) = member(alloc, symbols, free, here)?;
         members.push(next)?;
         free = behind;
         here = end;
     }
-    let (_, end) = here.take(Lexeme::Sign(Punctuator::CloseBrace), 0)?;
+    let (_, end) = here.take(Lexeme::Punctuator(Punctuator::CloseBrace), 0)?;
     let decl = Decl::Class {
         place: word.place,
         name: declared,
@@ -74,8 +74,8 @@ pub(crate) fn class<'a, 'b>(
     Ok((decl, free, end))
 }
 
-/// A member of a class, whose first statement has the free index; the index that is free after it; and the
-/// cursor behind it.
+/// A member of a class, whose first statement has the free index; the index that is free after it; and the cursor
+/// after it.
 fn member<'a, 'b>(
     alloc: Global,
     symbols: &mut Symbols<'a>,
@@ -91,7 +91,7 @@ fn member<'a, 'b>(
     ensures free { IfOk result (λ found. (names : List Name)
         → found.1 ≡ index + member_statements (member_tree names found.0 ∷ [])) }
     ensures few { IfOk result (λ found. found.1 + length (spot found.2).rest ≤ index + length (spot from.entry).rest) }
-    ensures refused { IfErr result (λ error. IsRefused (Nonterminal (One MemberSymbol) 0) (spot from.entry) error) }
+    ensures refused { IfErr result (λ error. IsRefused (Subgoal (One MemberSymbol) 0) (spot from.entry) error) }
 {
     let (type_of, name_at) = type_term(alloc, symbols, 0, from)?;
     let (name, behind) = name_at.take(Lexeme::LowerName, 0)?;
@@ -102,7 +102,7 @@ fn member<'a, 'b>(
     member_behind(alloc, symbols, index, type_of, declared, behind)
 }
 
-/// What stands behind the type and the name of a member: `;`, a value, or parameters and a block.
+/// What follows the type and the name of a member: `;`, a value, or parameters and a block.
 fn member_behind<'a, 'b>(
     alloc: Global,
     symbols: &mut Symbols<'a>,
@@ -120,9 +120,9 @@ fn member_behind<'a, 'b>(
     ensures free { IfOk result (λ found. (names : List Name)
         → found.1 ≡ index + member_statements (member_tree names found.0 ∷ [])) }
     ensures few { IfOk result (λ found. found.1 + length (spot found.2).rest ≤ index + length (spot from.entry).rest) }
-    ensures refused { IfErr result (λ error. IsRefused (Nonterminal (One MemberTail) 0) (spot from.entry) error) }
+    ensures refused { IfErr result (λ error. IsRefused (Subgoal (One MemberTail) 0) (spot from.entry) error) }
 {
-    if let Some((_, end)) = from.accept(Lexeme::Sign(Punctuator::Semicolon)) {
+    if let Some((_, end)) = from.accept(Lexeme::Punctuator(Punctuator::Semicolon)) {
         let field = Member::Field {
             type_of,
             name,
@@ -130,9 +130,9 @@ fn member_behind<'a, 'b>(
         };
         return Ok((field, index, end));
     }
-    if let Some((_, value_at)) = from.accept(Lexeme::Sign(Punctuator::Assign)) {
+    if let Some((_, value_at)) = from.accept(Lexeme::Punctuator(Punctuator::Assign)) {
         let (value, last) = expression(alloc, symbols, 0, value_at)?;
-        let (_, end) = last.take(Lexeme::Sign(Punctuator::Semicolon), 0)?;
+        let (_, end) = last.take(Lexeme::Punctuator(Punctuator::Semicolon), 0)?;
         let initial = Some(Arc::new(alloc, value)?);
         let field = Member::Field {
             type_of,
@@ -141,9 +141,9 @@ fn member_behind<'a, 'b>(
         };
         return Ok((field, index, end));
     }
-    let (_, inside) = from.take(Lexeme::Sign(Punctuator::OpenParen), 0)?;
+    let (_, inside) = from.take(Lexeme::Punctuator(Punctuator::OpenParen), 0)?;
     let (params, close) = params_maybe(alloc, symbols, inside)?;
-    let (_, block_at) = close.take(Lexeme::Sign(Punctuator::CloseParen), 0)?;
+    let (_, block_at) = close.take(Lexeme::Punctuator(Punctuator::CloseParen), 0)?;
     let (body, behind, end) = block(alloc, symbols, index, 0, block_at)?;
     let signature = Signature {
         result: type_of,

@@ -1,4 +1,4 @@
-//! A cursor over the tokens of a text: which of them are left, and what the next one is.
+//! A cursor over the tokens of a source: which of them are left, and what the next one is.
 ghost use Rattle.std.specs.Prelude.{◌≡◌, true, false, ◌^◌, ◌<◌, ◌≤◌, [], length, IfOk, OnOk, IfErr, IfSome, IfNone, pos, List};
 ghost use Rattle.abs_tree.specs.Limits.{source_limit};
 
@@ -8,10 +8,10 @@ use abs_lexer::{Lexeme, Token};
 use abs_tree::limits::{NESTING_LIMIT, SOURCE_LIMIT};
 use abs_tree::{Code, Offence, Place, Refusal};
 
-/// How many of the nonterminals that count may be open at once.
+/// How many counted nonterminals may be open at once.
 const LIMIT: u32 = NESTING_LIMIT;
 
-/// A name with a text of its own, for which the grammar asks in one place.
+/// A name with a spelling of its own, for which the grammar asks in one place.
 #[derive(Clone, Copy, Debug, PartialEq, Eq)]
 pub(crate) enum FixedName {
     /// `local`
@@ -36,7 +36,7 @@ impl<'a, 'b> Cursor<'a, 'b> {
     ghost use Rattle.abs_lexer.specs.Views.{lexed};
     ghost use Rattle.abs_parser.specs.Tokens.{whole, place_of, TakesToken};
     ghost use Rattle.abs_parser.specs.Views.{spot};
-    ghost use Rattle.abs_parser.specs.Kinds.{End, fits, next};
+    ghost use Rattle.abs_parser.specs.TokenKinds.{End, fits, next};
     ghost use Rattle.abs_parser.specs.Readings.{Terminal};
     ghost use Rattle.abs_parser.specs.Stops.{limit};
     ghost use Rattle.abs_parser.specs.ReaderAnswers.{asked, is_asked, fixed_kind, left_at, refusal_at, wrong_at, TakesKind, TakesFixed, IsRefused};
@@ -53,7 +53,7 @@ impl<'a, 'b> Cursor<'a, 'b> {
         Cursor { tokens, index: 0 }
     }
 
-    /// The next token, and the cursor behind it.
+    /// The next token, and the cursor after it.
     pub fn next(self) -> Option<(Token<'a>, Cursor<'a, 'b>)>
         ensures some { IfSome result (λ found. TakesToken (lexed found.0) (spot self.entry) (spot found.1)) }
         ensures well_formed { IfSome result (λ found. IsWellFormed (lexed found.0)) }
@@ -70,7 +70,7 @@ impl<'a, 'b> Cursor<'a, 'b> {
         Some((token, behind))
     }
 
-    /// The place of the next token; the end of the text counts as one.
+    /// The place of the next token; the end of the source counts as one.
     pub fn place(self) -> Place
         ensures { result ≡ place_of (spot self.entry) }
     {
@@ -130,7 +130,7 @@ impl<'a, 'b> Cursor<'a, 'b> {
     }
 
     /// The next token, which has to be of this kind and within the nesting limit, and the cursor after it. It is
-    /// nested in `depth` of the nonterminals that count.
+    /// nested in `depth` counted nonterminals.
     ///
     /// # Errors
     /// The refusal of the next token, if it is of another kind or too deeply nested.

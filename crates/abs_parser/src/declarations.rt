@@ -4,9 +4,9 @@ ghost use Rattle.abs_lexer.specs.declared.lexeme.Keyword.TheVariants as keyword;
 ghost use Rattle.abs_tree.specs.Syntax.{Name, ConstructorTree, SignatureTree, DeclTree};
 ghost use Rattle.abs_tree.specs.SyntaxSizes.{decl_statements};
 ghost use Rattle.abs_tree.specs.SyntaxViews.{constructor_tree, signature_tree, decl_tree};
-ghost use Rattle.abs_parser.specs.Kinds.{Word, fits, next};
+ghost use Rattle.abs_parser.specs.TokenKinds.{KeywordKind, fits, next};
 ghost use Rattle.abs_parser.specs.Productions.{Decl as DeclSymbol, Constructor as ConstructorSymbol, Signature as SignatureSymbol};
-ghost use Rattle.abs_parser.specs.Readings.{One, Nonterminal};
+ghost use Rattle.abs_parser.specs.Readings.{One, Subgoal};
 ghost use Rattle.abs_parser.specs.ReaderAnswers.{FoundAs, IsRefused, left_at};
 ghost use Rattle.abs_parser.specs.TreesOf.{decl_in, constructor_in, signature_in};
 ghost use Rattle.abs_parser.specs.Views.{spot};
@@ -23,7 +23,7 @@ use abs_tree::syntax::{Constructor, Decl, Declared, Signature};
 use std::alloc::Global;
 use std::sync::Arc;
 
-/// A constructor with the types of its arguments, and the cursor behind it.
+/// A constructor with the types of its arguments, and the cursor after it.
 fn constructor<'a, 'b>(
     alloc: Global,
     symbols: &mut Symbols<'a>,
@@ -34,7 +34,7 @@ fn constructor<'a, 'b>(
         (spot from.entry) (spot found.1)
         (λ names inside. (others : List ConstructorTree)
         → constructor_tree names found.0 ∷ others ≡ constructor_in inside others)) }
-    ensures refused { IfErr result (λ error. IsRefused (Nonterminal (One ConstructorSymbol) 0)
+    ensures refused { IfErr result (λ error. IsRefused (Subgoal (One ConstructorSymbol) 0)
         (spot from.entry) error) }
 {
     let (name, open) = from.take(Lexeme::UpperName, 0)?;
@@ -45,40 +45,40 @@ fn constructor<'a, 'b>(
     Ok((Constructor { name, types }, end))
 }
 
-/// A declaration of data, and the cursor behind it.
+/// A declaration of data, and the cursor after it.
 ///
 /// # Errors
-/// The refusal of the first token that no such declaration has there, or that stands too deep.
+/// The refusal of the first token that no such declaration has there, or that is too deeply nested.
 pub(crate) fn data<'a, 'b>(
     alloc: Global,
     symbols: &mut Symbols<'a>,
     from: Cursor<'a, 'b>,
 ) -> Result<(Decl, Cursor<'a, 'b>), ParseError>
-    requires begins { fits (Word keyword.Data) (next (left_at (spot from))) ≡ true }
+    requires begins { fits (KeywordKind keyword.Data) (next (left_at (spot from))) ≡ true }
     requires names { length symbols.old + length (spot from).rest < 2 ^ 31 }
     ensures found { IfOk result (λ found. FoundAs (One DeclSymbol) 0 symbols.old symbols.new (spot from.entry)
         (spot found.1)
         (λ names inside. (index : ℕ) (others : List DeclTree)
         → decl_tree names found.0 ∷ others ≡ decl_in index inside others)) }
     ensures none { IfOk result (λ found. (names : List Name) → decl_statements (decl_tree names found.0 ∷ []) ≡ 0) }
-    ensures refused { IfErr result (λ error. IsRefused (Nonterminal (One DeclSymbol) 0) (spot from.entry) error) }
+    ensures refused { IfErr result (λ error. IsRefused (Subgoal (One DeclSymbol) 0) (spot from.entry) error) }
 {
-    let (word, name_at) = from.take(Lexeme::Word(Keyword::Data), 0)?;
+    let (word, name_at) = from.take(Lexeme::Keyword(Keyword::Data), 0)?;
     let (name, behind) = name_at.take(Lexeme::UpperName, 0)?;
     let declared = Declared {
         place: name.place,
         name: symbols.intern(name.slice)?,
     };
     let (parameters, equals) = type_parameters(alloc, symbols, behind)?;
-    let (_, first_at) = equals.take(Lexeme::Sign(Punctuator::Assign), 0)?;
+    let (_, first_at) = equals.take(Lexeme::Punctuator(Punctuator::Assign), 0)?;
     let (first, mut here) = constructor(alloc, symbols, first_at)?;
     let mut constructors = vec![in alloc; first]?;
-    while let Some((_, next_at)) = here.accept(Lexeme::Sign(Punctuator::Bar)) {
+    while let Some((_, next_at)) = here.accept(Lexeme::Punctuator(Punctuator::Bar)) {
         let (next, behind) = constructor(alloc, symbols, next_at)?;
         constructors.push(next)?;
         here = behind;
     }
-    let (_, end) = here.take(Lexeme::Sign(Punctuator::Semicolon), 0)?;
+    let (_, end) = here.take(Lexeme::Punctuator(Punctuator::Semicolon), 0)?;
     let decl = Decl::Data {
         place: word.place,
         name: declared,
@@ -88,25 +88,25 @@ pub(crate) fn data<'a, 'b>(
     Ok((decl, end))
 }
 
-/// A declaration of a function, and the cursor behind it.
+/// A declaration of a function, and the cursor after it.
 ///
 /// # Errors
-/// The refusal of the first token that no such declaration has there, or that stands too deep.
+/// The refusal of the first token that no such declaration has there, or that is too deeply nested.
 pub(crate) fn function<'a, 'b>(
     alloc: Global,
     symbols: &mut Symbols<'a>,
     from: Cursor<'a, 'b>,
 ) -> Result<(Decl, Cursor<'a, 'b>), ParseError>
-    requires begins { fits (Word keyword.Def) (next (left_at (spot from))) ≡ true }
+    requires begins { fits (KeywordKind keyword.Def) (next (left_at (spot from))) ≡ true }
     requires names { length symbols.old + length (spot from).rest < 2 ^ 31 }
     ensures found { IfOk result (λ found. FoundAs (One DeclSymbol) 0 symbols.old symbols.new (spot from.entry)
         (spot found.1)
         (λ names inside. (index : ℕ) (others : List DeclTree)
         → decl_tree names found.0 ∷ others ≡ decl_in index inside others)) }
     ensures none { IfOk result (λ found. (names : List Name) → decl_statements (decl_tree names found.0 ∷ []) ≡ 0) }
-    ensures refused { IfErr result (λ error. IsRefused (Nonterminal (One DeclSymbol) 0) (spot from.entry) error) }
+    ensures refused { IfErr result (λ error. IsRefused (Subgoal (One DeclSymbol) 0) (spot from.entry) error) }
 {
-    let (word, type_at) = from.take(Lexeme::Word(Keyword::Def), 0)?;
+    let (word, type_at) = from.take(Lexeme::Keyword(Keyword::Def), 0)?;
     let (result, name_at) = type_term(alloc, symbols, 0, type_at)?;
     let (name, behind) = name_at.take(Lexeme::LowerName, 0)?;
     let declared = Declared {
@@ -114,12 +114,12 @@ pub(crate) fn function<'a, 'b>(
         name: symbols.intern(name.slice)?,
     };
     let (parameters, open) = type_parameters(alloc, symbols, behind)?;
-    let (_, inside) = open.take(Lexeme::Sign(Punctuator::OpenParen), 0)?;
+    let (_, inside) = open.take(Lexeme::Punctuator(Punctuator::OpenParen), 0)?;
     let (params, close) = params_maybe(alloc, symbols, inside)?;
-    let (_, equals) = close.take(Lexeme::Sign(Punctuator::CloseParen), 0)?;
-    let (_, value_at) = equals.take(Lexeme::Sign(Punctuator::Assign), 0)?;
+    let (_, equals) = close.take(Lexeme::Punctuator(Punctuator::CloseParen), 0)?;
+    let (_, value_at) = equals.take(Lexeme::Punctuator(Punctuator::Assign), 0)?;
     let (value, last) = expression(alloc, symbols, 0, value_at)?;
-    let (_, end) = last.take(Lexeme::Sign(Punctuator::Semicolon), 0)?;
+    let (_, end) = last.take(Lexeme::Punctuator(Punctuator::Semicolon), 0)?;
     let value = Arc::new(alloc, value)?;
     let decl = Decl::Function {
         place: word.place,
@@ -132,39 +132,39 @@ pub(crate) fn function<'a, 'b>(
     Ok((decl, end))
 }
 
-/// A declaration of an interface, and the cursor behind it.
+/// A declaration of an interface, and the cursor after it.
 ///
 /// # Errors
-/// The refusal of the first token that no such declaration has there, or that stands too deep.
+/// The refusal of the first token that no such declaration has there, or that is too deeply nested.
 pub(crate) fn interface<'a, 'b>(
     alloc: Global,
     symbols: &mut Symbols<'a>,
     from: Cursor<'a, 'b>,
 ) -> Result<(Decl, Cursor<'a, 'b>), ParseError>
-    requires begins { fits (Word keyword.Interface) (next (left_at (spot from))) ≡ true }
+    requires begins { fits (KeywordKind keyword.Interface) (next (left_at (spot from))) ≡ true }
     requires names { length symbols.old + length (spot from).rest < 2 ^ 31 }
     ensures found { IfOk result (λ found. FoundAs (One DeclSymbol) 0 symbols.old symbols.new (spot from.entry)
         (spot found.1)
         (λ names inside. (index : ℕ) (others : List DeclTree)
         → decl_tree names found.0 ∷ others ≡ decl_in index inside others)) }
     ensures none { IfOk result (λ found. (names : List Name) → decl_statements (decl_tree names found.0 ∷ []) ≡ 0) }
-    ensures refused { IfErr result (λ error. IsRefused (Nonterminal (One DeclSymbol) 0) (spot from.entry) error) }
+    ensures refused { IfErr result (λ error. IsRefused (Subgoal (One DeclSymbol) 0) (spot from.entry) error) }
 {
-    let (word, name_at) = from.take(Lexeme::Word(Keyword::Interface), 0)?;
+    let (word, name_at) = from.take(Lexeme::Keyword(Keyword::Interface), 0)?;
     let (name, behind) = name_at.take(Lexeme::UpperName, 0)?;
     let declared = Declared {
         place: name.place,
         name: symbols.intern(name.slice)?,
     };
     let (extended, open) = names_behind(alloc, symbols, Heading::Extends, behind)?;
-    let (_, mut here) = open.take(Lexeme::Sign(Punctuator::OpenBrace), 0)?;
+    let (_, mut here) = open.take(Lexeme::Punctuator(Punctuator::OpenBrace), 0)?;
     let mut signatures = Vec::new(alloc);
-    while !here.is(Lexeme::Sign(Punctuator::CloseBrace)) {
+    while !here.is(Lexeme::Punctuator(Punctuator::CloseBrace)) {
         let (next, behind) = signature(alloc, symbols, here)?;
         signatures.push(next)?;
         here = behind;
     }
-    let (_, end) = here.take(Lexeme::Sign(Punctuator::CloseBrace), 0)?;
+    let (_, end) = here.take(Lexeme::Punctuator(Punctuator::CloseBrace), 0)?;
     let decl = Decl::Interface {
         place: word.place,
         name: declared,
@@ -174,7 +174,7 @@ pub(crate) fn interface<'a, 'b>(
     Ok((decl, end))
 }
 
-/// A method of an interface, `T m(T x, ..);`, and the cursor behind it.
+/// A method of an interface, `T m(T x, ..);`, and the cursor after it.
 fn signature<'a, 'b>(
     alloc: Global,
     symbols: &mut Symbols<'a>,
@@ -185,17 +185,17 @@ fn signature<'a, 'b>(
         (spot from.entry) (spot found.1)
         (λ names inside. (others : List SignatureTree)
         → signature_tree names found.0 ∷ others ≡ signature_in inside others)) }
-    ensures refused { IfErr result (λ error. IsRefused (Nonterminal (One SignatureSymbol) 0)
+    ensures refused { IfErr result (λ error. IsRefused (Subgoal (One SignatureSymbol) 0)
         (spot from.entry) error) }
 {
     let (result, name_at) = type_term(alloc, symbols, 0, from)?;
     let (name, open) = name_at.take(Lexeme::LowerName, 0)?;
     let place = name.place;
     let name = symbols.intern(name.slice)?;
-    let (_, inside) = open.take(Lexeme::Sign(Punctuator::OpenParen), 0)?;
+    let (_, inside) = open.take(Lexeme::Punctuator(Punctuator::OpenParen), 0)?;
     let (params, close) = params_maybe(alloc, symbols, inside)?;
-    let (_, last) = close.take(Lexeme::Sign(Punctuator::CloseParen), 0)?;
-    let (_, end) = last.take(Lexeme::Sign(Punctuator::Semicolon), 0)?;
+    let (_, last) = close.take(Lexeme::Punctuator(Punctuator::CloseParen), 0)?;
+    let (_, end) = last.take(Lexeme::Punctuator(Punctuator::Semicolon), 0)?;
     let name = Declared { place, name };
     let signature = Signature {
         result,

@@ -1,10 +1,10 @@
-//! Reads expressions: `let`, `if`, and what else there is by the levels of its operators.
+//! Reads expressions: `let`, `if`, and what else there is by the precedences of its operators.
 ghost use Rattle.std.specs.Prelude.{◌≡◌, true, ◌+◌, ◌<◌, ◌≤◌, ◌^◌, length, IfOk, IfErr};
 ghost use Rattle.abs_lexer.specs.declared.lexeme.Keyword.TheVariants as keyword;
 ghost use Rattle.abs_tree.specs.SyntaxViews.{phrase};
-ghost use Rattle.abs_parser.specs.Kinds.{Word, fits, next};
+ghost use Rattle.abs_parser.specs.TokenKinds.{KeywordKind, fits, next};
 ghost use Rattle.abs_parser.specs.Productions.{Expr as ExprSymbol};
-ghost use Rattle.abs_parser.specs.Readings.{One, Nonterminal};
+ghost use Rattle.abs_parser.specs.Readings.{One, Subgoal};
 ghost use Rattle.abs_parser.specs.ReaderAnswers.{FoundAs, IsRefused, left_at};
 ghost use Rattle.abs_parser.specs.Stops.{limit};
 ghost use Rattle.abs_parser.specs.TreesOf.{expr_in};
@@ -12,17 +12,17 @@ ghost use Rattle.abs_parser.specs.Views.{spot};
 
 use crate::ParseError;
 use crate::cursor::Cursor;
-use crate::operators::{Level, operators};
+use crate::operators::{Precedence, operators};
 use crate::types::type_term;
 use abs_lexer::{Keyword, Lexeme, Punctuator};
 use abs_tree::Symbols;
 use abs_tree::syntax::{Expr, Variable};
 use std::alloc::Global;
 
-/// An expression that stands in so many counted symbols, and the cursor behind it.
+/// An expression nested in `depth` counted nonterminals, and the cursor after it.
 ///
 /// # Errors
-/// The refusal of the first token that no expression has there, or that stands too deep.
+/// The refusal of the first token that no expression has there, or that is too deeply nested.
 #[cycle(phrases)]
 pub(crate) fn expression<'a, 'b>(
     alloc: Global,
@@ -35,18 +35,18 @@ pub(crate) fn expression<'a, 'b>(
     ensures found { IfOk result (λ found. FoundAs (One ExprSymbol) depth symbols.old symbols.new (spot from.entry)
         (spot found.1)
         (λ names inside. phrase names found.0 ≡ expr_in inside)) }
-    ensures refused { IfErr result (λ error. IsRefused (Nonterminal (One ExprSymbol) depth) (spot from.entry) error) }
+    ensures refused { IfErr result (λ error. IsRefused (Subgoal (One ExprSymbol) depth) (spot from.entry) error) }
 {
-    if from.is(Lexeme::Word(Keyword::Let)) {
+    if from.is(Lexeme::Keyword(Keyword::Let)) {
         return let_in(alloc, symbols, depth, from);
     }
-    if from.is(Lexeme::Word(Keyword::If)) {
+    if from.is(Lexeme::Keyword(Keyword::If)) {
         return if_else(alloc, symbols, depth, from);
     }
-    operators(alloc, symbols, Level::Or, depth + 1, from)
+    operators(alloc, symbols, Precedence::Or, depth + 1, from)
 }
 
-/// `let (T x) = e in e`, and the cursor behind it.
+/// `let (T x) = e in e`, and the cursor after it.
 #[cycle(phrases)]
 fn let_in<'a, 'b>(
     alloc: Global,
@@ -54,23 +54,23 @@ fn let_in<'a, 'b>(
     depth: u32,
     from: Cursor<'a, 'b>,
 ) -> Result<(Expr, Cursor<'a, 'b>), ParseError>
-    requires begins { fits (Word keyword.Let) (next (left_at (spot from))) ≡ true }
+    requires begins { fits (KeywordKind keyword.Let) (next (left_at (spot from))) ≡ true }
     requires names { length symbols.old + length (spot from).rest < 2 ^ 31 }
     requires depth { depth ≤ limit + 1 }
     ensures found { IfOk result (λ found. FoundAs (One ExprSymbol) depth symbols.old symbols.new (spot from.entry)
         (spot found.1)
         (λ names inside. phrase names found.0 ≡ expr_in inside)) }
-    ensures refused { IfErr result (λ error. IsRefused (Nonterminal (One ExprSymbol) depth) (spot from.entry) error) }
+    ensures refused { IfErr result (λ error. IsRefused (Subgoal (One ExprSymbol) depth) (spot from.entry) error) }
 {
-    let (word, open) = from.take(Lexeme::Word(Keyword::Let), depth + 1)?;
-    let (_, type_at) = open.take(Lexeme::Sign(Punctuator::OpenParen), depth + 1)?;
+    let (word, open) = from.take(Lexeme::Keyword(Keyword::Let), depth + 1)?;
+    let (_, type_at) = open.take(Lexeme::Punctuator(Punctuator::OpenParen), depth + 1)?;
     let (type_of, name_at) = type_term(alloc, symbols, depth + 1, type_at)?;
     let (name, close) = name_at.take(Lexeme::LowerName, depth + 1)?;
     let variable = Variable::Unresolved(symbols.intern(name.slice)?);
-    let (_, equals) = close.take(Lexeme::Sign(Punctuator::CloseParen), depth + 1)?;
-    let (_, value_at) = equals.take(Lexeme::Sign(Punctuator::Assign), depth + 1)?;
+    let (_, equals) = close.take(Lexeme::Punctuator(Punctuator::CloseParen), depth + 1)?;
+    let (_, value_at) = equals.take(Lexeme::Punctuator(Punctuator::Assign), depth + 1)?;
     let (value, in_at) = expression(alloc, symbols, depth + 1, value_at)?;
-    let (_, body_at) = in_at.take(Lexeme::Word(Keyword::In), depth + 1)?;
+    let (_, body_at) = in_at.take(Lexeme::Keyword(Keyword::In), depth + 1)?;
     let (body, end) = expression(alloc, symbols, depth + 1, body_at)?;
     let value = Box::new(alloc, value)?;
     let body = Box::new(alloc, body)?;
@@ -85,7 +85,7 @@ fn let_in<'a, 'b>(
     Ok((expr, end))
 }
 
-/// `if e then e else e`, and the cursor behind it.
+/// `if e then e else e`, and the cursor after it.
 #[cycle(phrases)]
 fn if_else<'a, 'b>(
     alloc: Global,
@@ -93,19 +93,19 @@ fn if_else<'a, 'b>(
     depth: u32,
     from: Cursor<'a, 'b>,
 ) -> Result<(Expr, Cursor<'a, 'b>), ParseError>
-    requires begins { fits (Word keyword.If) (next (left_at (spot from))) ≡ true }
+    requires begins { fits (KeywordKind keyword.If) (next (left_at (spot from))) ≡ true }
     requires names { length symbols.old + length (spot from).rest < 2 ^ 31 }
     requires depth { depth ≤ limit + 1 }
     ensures found { IfOk result (λ found. FoundAs (One ExprSymbol) depth symbols.old symbols.new (spot from.entry)
         (spot found.1)
         (λ names inside. phrase names found.0 ≡ expr_in inside)) }
-    ensures refused { IfErr result (λ error. IsRefused (Nonterminal (One ExprSymbol) depth) (spot from.entry) error) }
+    ensures refused { IfErr result (λ error. IsRefused (Subgoal (One ExprSymbol) depth) (spot from.entry) error) }
 {
-    let (word, test_at) = from.take(Lexeme::Word(Keyword::If), depth + 1)?;
+    let (word, test_at) = from.take(Lexeme::Keyword(Keyword::If), depth + 1)?;
     let (test, then_at) = expression(alloc, symbols, depth + 1, test_at)?;
-    let (_, first_at) = then_at.take(Lexeme::Word(Keyword::Then), depth + 1)?;
+    let (_, first_at) = then_at.take(Lexeme::Keyword(Keyword::Then), depth + 1)?;
     let (first, else_at) = expression(alloc, symbols, depth + 1, first_at)?;
-    let (_, second_at) = else_at.take(Lexeme::Word(Keyword::Else), depth + 1)?;
+    let (_, second_at) = else_at.take(Lexeme::Keyword(Keyword::Else), depth + 1)?;
     let (second, end) = expression(alloc, symbols, depth + 1, second_at)?;
     let condition = Box::new(alloc, test)?;
     let first = Box::new(alloc, first)?;

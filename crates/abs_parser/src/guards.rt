@@ -3,7 +3,7 @@ ghost use Rattle.std.specs.Prelude.{◌≡◌, ◌+◌, ◌<◌, ◌≤◌, ◌^
 ghost use Rattle.abs_tree.specs.Syntax.{Tests, NextTest};
 ghost use Rattle.abs_tree.specs.SyntaxViews.{phrase, tests as test_trees};
 ghost use Rattle.abs_parser.specs.Productions.{Guard, Test as TestSymbol};
-ghost use Rattle.abs_parser.specs.Readings.{One, Nonterminal};
+ghost use Rattle.abs_parser.specs.Readings.{One, Subgoal};
 ghost use Rattle.abs_parser.specs.ReaderAnswers.{FoundAs, IsRefused};
 ghost use Rattle.abs_parser.specs.Stops.{limit};
 ghost use Rattle.abs_parser.specs.TreesOf.{guard_in, test_in};
@@ -11,17 +11,17 @@ ghost use Rattle.abs_parser.specs.Views.{spot};
 
 use crate::ParseError;
 use crate::cursor::Cursor;
-use crate::operators::{Level, operators};
+use crate::operators::{Precedence, operators};
 use abs_lexer::{Lexeme, Punctuator};
 use abs_tree::Symbols;
 use abs_tree::syntax::Test;
 use std::alloc::Global;
 use std::sync::Arc;
 
-/// Tests with `&&` between them, and the cursor behind them.
+/// Tests with `&&` between them, and the cursor after them.
 ///
 /// # Errors
-/// The refusal of the first token that no guard has there, or that stands too deep.
+/// The refusal of the first token that no guard has there, or that is too deeply nested.
 pub(crate) fn guard<'a, 'b>(
     alloc: Global,
     symbols: &mut Symbols<'a>,
@@ -33,11 +33,11 @@ pub(crate) fn guard<'a, 'b>(
     ensures found { IfOk result (λ found. FoundAs (One Guard) depth symbols.old symbols.new (spot from.entry)
         (spot found.1)
         (λ names inside. test_trees names found.0.items ≡ guard_in inside)) }
-    ensures refused { IfErr result (λ error. IsRefused (Nonterminal (One Guard) depth) (spot from.entry) error) }
+    ensures refused { IfErr result (λ error. IsRefused (Subgoal (One Guard) depth) (spot from.entry) error) }
 {
     let (first, mut here) = test(alloc, symbols, depth, from)?;
     let mut tests = vec![in alloc; first]?;
-    while let Some((_, behind)) = here.accept(Lexeme::Sign(Punctuator::And)) {
+    while let Some((_, behind)) = here.accept(Lexeme::Punctuator(Punctuator::And)) {
         let (next, end) = test(alloc, symbols, depth, behind)?;
         tests.push(next)?;
         here = end;
@@ -45,7 +45,7 @@ pub(crate) fn guard<'a, 'b>(
     Ok((tests, here))
 }
 
-/// An expression in front of `&&`, perhaps with `?` behind it, and the cursor behind it.
+/// An expression before `&&`, perhaps with `?` after it, and the cursor after it.
 fn test<'a, 'b>(
     alloc: Global,
     symbols: &mut Symbols<'a>,
@@ -58,17 +58,17 @@ fn test<'a, 'b>(
         (spot found.1)
         (λ names inside. (others : Tests) → NextTest found.0.place
         (phrase names found.0.value.value) found.0.asks others ≡ test_in inside others)) }
-    ensures refused { IfErr result (λ error. IsRefused (Nonterminal (One TestSymbol) depth) (spot from.entry) error) }
+    ensures refused { IfErr result (λ error. IsRefused (Subgoal (One TestSymbol) depth) (spot from.entry) error) }
 {
     let place = from.place();
-    let (value, behind) = operators(alloc, symbols, Level::Equal, depth, from)?;
+    let (value, behind) = operators(alloc, symbols, Precedence::Equal, depth, from)?;
     let value = Arc::new(alloc, value)?;
     let mut test = Test {
         place,
         value,
         asks: false,
     };
-    let Some((_, end)) = behind.accept(Lexeme::Sign(Punctuator::Question)) else {
+    let Some((_, end)) = behind.accept(Lexeme::Punctuator(Punctuator::Question)) else {
         return Ok((test, behind));
     };
     test.asks = true;

@@ -1,4 +1,4 @@
-//! What numbers and texts stand for.
+//! The values of the literals of numbers and strings.
 ghost use Rattle.std.specs.Prelude.{◌≡◌, ◌<◌, ◌^◌, drop, IfOk, pos};
 ghost use Rattle.std.specs.Str.Parse.{digits_value};
 ghost use Rattle.abs_lexer.specs.Forms.{IsNumber};
@@ -22,7 +22,7 @@ pub(crate) fn numeral(digits: &[u8]) -> i128
     }
 }
 
-/// What the literal of a text stands for: its bytes between the quotes, with a byte for each escape.
+/// The string of a literal: its bytes between the quotes, with one byte for each escape.
 pub(crate) fn text(alloc: Global, literal: &[u8]) -> Result<Text, AllocError>
     ensures { IfOk result (λ text. text ≡ unescaped (drop 1 literal.now)) }
 {
@@ -43,7 +43,7 @@ pub(crate) fn text(alloc: Global, literal: &[u8]) -> Result<Text, AllocError>
     Text::new(alloc, bytes)
 }
 
-/// The byte that an escape stands for, by the byte behind its backslash.
+/// The byte of an escape, by the byte after its backslash.
 fn escaped_byte(escape: u8) -> u8
     ensures { result ≡ byte_of_escape escape }
 {

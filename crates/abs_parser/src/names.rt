@@ -2,9 +2,9 @@
 //! implements.
 ghost use Rattle.std.specs.Prelude.{◌≡◌, ◌+◌, ◌<◌, ◌^◌, ◌∷◌, length, map, IfOk, IfErr};
 ghost use Rattle.abs_tree.specs.SyntaxViews.{declared as declared_tree};
-ghost use Rattle.abs_parser.specs.Headings.{symbol_of};
+ghost use Rattle.abs_parser.specs.Headings.{nonterminal_of};
 ghost use Rattle.abs_parser.specs.Productions.{CommaUpper, TypeParameters};
-ghost use Rattle.abs_parser.specs.Readings.{Optional, Repeated, Nonterminal};
+ghost use Rattle.abs_parser.specs.Readings.{Optional, Repeated, Subgoal};
 ghost use Rattle.abs_parser.specs.ReaderAnswers.{FoundAs, IsRefused};
 ghost use Rattle.abs_parser.specs.TreesOf.{names_maybe, more_names as more_names_in};
 ghost use Rattle.abs_parser.specs.Views.{spot};
@@ -16,7 +16,7 @@ use abs_tree::Symbols;
 use abs_tree::syntax::Declared;
 use std::alloc::Global;
 
-/// The word in front of a list of interfaces.
+/// The keyword before a list of interfaces.
 #[derive(Clone, Copy, Debug, PartialEq, Eq)]
 pub(crate) enum Heading {
     /// `extends`
@@ -25,7 +25,7 @@ pub(crate) enum Heading {
     Implements,
 }
 
-/// Names behind a word, where the word stands here, and the cursor behind them.
+/// Names after a keyword, if the keyword is next, and the cursor after them.
 ///
 /// # Errors
 /// The refusal of the first token that no such list has there.
@@ -36,17 +36,17 @@ pub(crate) fn names_behind<'a, 'b>(
     from: Cursor<'a, 'b>,
 ) -> Result<(Vec<Declared>, Cursor<'a, 'b>), ParseError>
     requires names { length symbols.old + length (spot from).rest < 2 ^ 31 }
-    ensures found { IfOk result (λ found. FoundAs (Optional (symbol_of heading)) 0 symbols.old symbols.new
+    ensures found { IfOk result (λ found. FoundAs (Optional (nonterminal_of heading)) 0 symbols.old symbols.new
         (spot from.entry) (spot found.1)
         (λ names inside. map (declared_tree names) found.0.items ≡ names_maybe inside)) }
-    ensures refused { IfErr result (λ error. IsRefused (Nonterminal (Optional (symbol_of heading)) 0)
+    ensures refused { IfErr result (λ error. IsRefused (Subgoal (Optional (nonterminal_of heading)) 0)
         (spot from.entry) error) }
 {
     let word = match heading {
         Heading::Extends => Keyword::Extends,
         Heading::Implements => Keyword::Implements,
     };
-    let Some((_, name_at)) = from.accept(Lexeme::Word(word)) else {
+    let Some((_, name_at)) = from.accept(Lexeme::Keyword(word)) else {
         return Ok((Vec::new(alloc), from));
     };
     let (name, behind) = name_at.take(Lexeme::UpperName, 0)?;
@@ -57,7 +57,7 @@ pub(crate) fn names_behind<'a, 'b>(
     more_names(alloc, symbols, first, behind)
 }
 
-/// The parameters of a type between `<` and `>`, where there are any, and the cursor behind them.
+/// The parameters of a type between `<` and `>`, where there are any, and the cursor after them.
 ///
 /// # Errors
 /// The refusal of the first token that no such list has there.
@@ -70,10 +70,10 @@ pub(crate) fn type_parameters<'a, 'b>(
     ensures found { IfOk result (λ found. FoundAs (Optional TypeParameters) 0 symbols.old symbols.new
         (spot from.entry) (spot found.1)
         (λ names inside. map (declared_tree names) found.0.items ≡ names_maybe inside)) }
-    ensures refused { IfErr result (λ error. IsRefused (Nonterminal (Optional TypeParameters) 0)
+    ensures refused { IfErr result (λ error. IsRefused (Subgoal (Optional TypeParameters) 0)
         (spot from.entry) error) }
 {
-    let Some((_, name_at)) = from.accept(Lexeme::Sign(Punctuator::Less)) else {
+    let Some((_, name_at)) = from.accept(Lexeme::Punctuator(Punctuator::Less)) else {
         return Ok((Vec::new(alloc), from));
     };
     let (name, behind) = name_at.take(Lexeme::UpperName, 0)?;
@@ -82,11 +82,11 @@ pub(crate) fn type_parameters<'a, 'b>(
         name: symbols.intern(name.slice)?,
     };
     let (parameters, close) = more_names(alloc, symbols, first, behind)?;
-    let (_, end) = close.take(Lexeme::Sign(Punctuator::Greater), 0)?;
+    let (_, end) = close.take(Lexeme::Punctuator(Punctuator::Greater), 0)?;
     Ok((parameters, end))
 }
 
-/// A first name with those behind commas, from behind the first one, and the cursor behind them.
+/// A first name with those after commas, from after the first one, and the cursor after them.
 fn more_names<'a, 'b>(
     alloc: Global,
     symbols: &mut Symbols<'a>,
@@ -97,12 +97,12 @@ fn more_names<'a, 'b>(
     ensures found { IfOk result (λ found. FoundAs (Repeated CommaUpper) 0 symbols.old symbols.new
         (spot from.entry) (spot found.1)
         (λ names inside. map (declared_tree names) found.0.items ≡ declared_tree names first ∷ more_names_in inside)) }
-    ensures refused { IfErr result (λ error. IsRefused (Nonterminal (Repeated CommaUpper) 0)
+    ensures refused { IfErr result (λ error. IsRefused (Subgoal (Repeated CommaUpper) 0)
         (spot from.entry) error) }
 {
     let mut listed = vec![in alloc; first]?;
     let mut here = from;
-    while let Some((_, name_at)) = here.accept(Lexeme::Sign(Punctuator::Comma)) {
+    while let Some((_, name_at)) = here.accept(Lexeme::Punctuator(Punctuator::Comma)) {
         let (name, behind) = name_at.take(Lexeme::UpperName, 0)?;
         let place = name.place;
         let name = symbols.intern(name.slice)?;

@@ -1,13 +1,13 @@
-//! Reads operators between operands: a unary once, and then the operators that follow it, level by level, from the one
-//! that binds most.
+//! Reads lists of operators with their operands: a unary once, and then the operators after it, one precedence after
+//! another, from the one that binds most.
 ghost use Rattle.std.specs.Prelude.{◌≡◌, ℕ, List, false, ◌+◌, ◌<◌, ◌≤◌, ◌^◌, length, IfOk, IfErr, IfSome, IfNone};
 ghost use Rattle.abs_tree.specs.SyntaxViews.{phrase, operand_trees};
 ghost use Rattle.abs_lexer.specs.declared.lexeme.Lexeme.TheVariants as lexeme;
 ghost use Rattle.abs_tree.specs.declared.syntax.expression.Operator as operator_type;
-ghost use Rattle.abs_parser.specs.Kinds.{Sign, fits, next};
-ghost use Rattle.abs_parser.specs.Levels.{rank, looser as looser_of, symbol_of, operand_symbol, rest_of, level_in, operand_in, operands_in, level_of as on_level, sign_of, repeats as may_repeat};
+ghost use Rattle.abs_parser.specs.TokenKinds.{PunctuatorKind, fits, next};
+ghost use Rattle.abs_parser.specs.Precedences.{rank, looser as looser_of, nonterminal_of, operand_nonterminal, rest_of, precedence_in, operand_in, operands_in, precedence_of as on_precedence, sign_of, repeats as may_repeat};
 ghost use Rattle.abs_parser.specs.Climbing.{Climbs, FailsToClimb};
-ghost use Rattle.abs_parser.specs.Readings.{One, Nonterminal};
+ghost use Rattle.abs_parser.specs.Readings.{One, Subgoal};
 ghost use Rattle.abs_parser.specs.ReaderAnswers.{FoundAs, IsRefused, Passes, left_at};
 ghost use Rattle.abs_parser.specs.Stops.{limit};
 ghost use Rattle.abs_parser.specs.TreesOf.{with_operators};
@@ -21,9 +21,9 @@ use abs_tree::syntax::{Expr, Operand, Operator};
 use abs_tree::{Place, Symbols};
 use std::alloc::{AllocError, Global};
 
-/// A level of operators, from the one that binds least.
+/// The precedences of operators, from the one that binds least.
 #[derive(Clone, Copy, Debug, PartialEq, Eq)]
-pub(crate) enum Level {
+pub(crate) enum Precedence {
     /// `||`
     Or,
     /// `&&`
@@ -38,44 +38,44 @@ pub(crate) enum Level {
     Mul,
 }
 
-impl Level {
-    /// Whether a further operator of the level may follow.
+impl Precedence {
+    /// Whether a further operator of the precedence may follow.
     fn repeats(self) -> bool
         ensures { result ≡ may_repeat self }
     {
         match self {
-            Level::Equal | Level::Compare => false,
-            Level::Or | Level::And | Level::Sum | Level::Mul => true,
+            Precedence::Equal | Precedence::Compare => false,
+            Precedence::Or | Precedence::And | Precedence::Sum | Precedence::Mul => true,
         }
     }
 
-    /// The next level that binds less; below `||` there is none.
-    fn looser(self) -> Level
+    /// The next precedence that binds less; below `||` there is none.
+    fn looser(self) -> Precedence
         ensures { result ≡ looser_of self }
     {
         match self {
-            Level::Or | Level::And => Level::Or,
-            Level::Equal => Level::And,
-            Level::Compare => Level::Equal,
-            Level::Sum => Level::Compare,
-            Level::Mul => Level::Sum,
+            Precedence::Or | Precedence::And => Precedence::Or,
+            Precedence::Equal => Precedence::And,
+            Precedence::Compare => Precedence::Equal,
+            Precedence::Sum => Precedence::Compare,
+            Precedence::Mul => Precedence::Sum,
         }
     }
 }
 
-/// The level of an operator.
-fn level_of(operator: Operator) -> Level
-    ensures { result ≡ on_level operator }
+/// The precedence of an operator.
+fn precedence_of(operator: Operator) -> Precedence
+    ensures { result ≡ on_precedence operator }
 {
     match operator {
-        Operator::Or => Level::Or,
-        Operator::And => Level::And,
-        Operator::Equal | Operator::NotEqual => Level::Equal,
+        Operator::Or => Precedence::Or,
+        Operator::And => Precedence::And,
+        Operator::Equal | Operator::NotEqual => Precedence::Equal,
         Operator::Less | Operator::LessEqual | Operator::Greater | Operator::GreaterEqual => {
-            Level::Compare
+            Precedence::Compare
         }
-        Operator::Plus | Operator::Minus => Level::Sum,
-        Operator::Times | Operator::Divide | Operator::Remainder => Level::Mul,
+        Operator::Plus | Operator::Minus => Precedence::Sum,
+        Operator::Times | Operator::Divide | Operator::Remainder => Precedence::Mul,
     }
 }
 
@@ -102,19 +102,23 @@ fn operator_of(sign: Punctuator) -> Option<Operator>
     }
 }
 
-/// The operator of a level that stands here, where one does, and the cursor behind it.
-fn operator_at<'a, 'b>(level: Level, from: Cursor<'a, 'b>) -> Option<(Operator, Cursor<'a, 'b>)>
-    ensures level { IfSome result (λ found. on_level found.0 ≡ level) }
-    ensures some { IfSome result (λ found. Passes (lexeme.Sign (sign_of found.0)) (spot from.entry) (spot found.1)) }
-    ensures none { IfNone result ((operator : operator_type.Operator) → on_level operator ≡ level
-        → fits (Sign (sign_of operator)) (next (left_at (spot from.entry))) ≡ false) }
+/// The operator of a precedence that is next, if there is one, and the cursor after it.
+fn operator_at<'a, 'b>(
+    precedence: Precedence,
+    from: Cursor<'a, 'b>,
+) -> Option<(Operator, Cursor<'a, 'b>)>
+    ensures precedence { IfSome result (λ found. on_precedence found.0 ≡ precedence) }
+    ensures some { IfSome result (λ found. Passes (lexeme.Punctuator (sign_of found.0)) (spot from.entry)
+        (spot found.1)) }
+    ensures none { IfNone result ((operator : operator_type.Operator) → on_precedence operator ≡ precedence
+        → fits (PunctuatorKind (sign_of operator)) (next (left_at (spot from.entry))) ≡ false) }
 {
     let (token, behind) = from.next()?;
-    let Lexeme::Sign(sign) = token.kind else {
+    let Lexeme::Punctuator(sign) = token.kind else {
         return None;
     };
     let operator = operator_of(sign)?;
-    if level_of(operator) != level {
+    if precedence_of(operator) != precedence {
         return None;
     }
     Some((operator, behind))
@@ -123,44 +127,44 @@ fn operator_at<'a, 'b>(level: Level, from: Cursor<'a, 'b>) -> Option<(Operator, 
 /// Whether an operator between operands is the next token.
 fn operator_follows(from: Cursor<'_, '_>) -> bool
     ensures { result ≡ false → (operator : operator_type.Operator)
-        → fits (Sign (sign_of operator)) (next (left_at (spot from.entry))) ≡ false }
+        → fits (PunctuatorKind (sign_of operator)) (next (left_at (spot from.entry))) ≡ false }
 {
     let Some((token, _)) = from.next() else {
         return false;
     };
-    let Lexeme::Sign(sign) = token.kind else {
+    let Lexeme::Punctuator(sign) = token.kind else {
         return false;
     };
     operator_of(sign).is_some()
 }
 
-/// Operands of a level with its operators between them, and the cursor behind them. Its first unary is read once, and
-/// then the operators that follow it, level by level.
+/// An operator list of a precedence, and the cursor after it. Its first unary is read once, and then the operators
+/// after it, one precedence after another.
 ///
 /// # Errors
-/// The refusal of the first token that stands in nothing of this form, or that stands too deep.
+/// The refusal of the first token that no such list has there, or that is too deeply nested.
 #[cycle(phrases)]
 pub(crate) fn operators<'a, 'b>(
     alloc: Global,
     symbols: &mut Symbols<'a>,
-    level: Level,
+    precedence: Precedence,
     depth: u32,
     from: Cursor<'a, 'b>,
 ) -> Result<(Expr, Cursor<'a, 'b>), ParseError>
     requires names { length symbols.old + length (spot from).rest < 2 ^ 31 }
     requires depth { depth ≤ limit + 2 }
-    ensures found { IfOk result (λ found. FoundAs (One (symbol_of level)) depth symbols.old symbols.new
+    ensures found { IfOk result (λ found. FoundAs (One (nonterminal_of precedence)) depth symbols.old symbols.new
         (spot from.entry) (spot found.1)
-        (λ names inside. phrase names found.0 ≡ level_in level inside)) }
-    ensures refused { IfErr result (λ error. IsRefused (Nonterminal (One (symbol_of level)) depth)
+        (λ names inside. phrase names found.0 ≡ precedence_in precedence inside)) }
+    ensures refused { IfErr result (λ error. IsRefused (Subgoal (One (nonterminal_of precedence)) depth)
         (spot from.entry) error) }
 {
     let (first, here) = unary(alloc, symbols, depth, from)?;
     climb(
         alloc,
         symbols,
-        Level::Mul,
-        level,
+        Precedence::Mul,
+        precedence,
         depth,
         from.place(),
         first,
@@ -168,14 +172,14 @@ pub(crate) fn operators<'a, 'b>(
     )
 }
 
-/// A first operand of the level `at`, which begins at `place`, with the operators and operands that follow it, up to
-/// the level `to`; and the cursor behind them.
+/// A first operand of the precedence `at`, which begins at `place`, with the operators and operands after it, up to
+/// the precedence `to`; and the cursor after them.
 #[cycle(phrases)]
 fn climb<'a, 'b>(
     alloc: Global,
     symbols: &mut Symbols<'a>,
-    at: Level,
-    to: Level,
+    at: Precedence,
+    to: Precedence,
     depth: u32,
     place: Place,
     first: Expr,
@@ -198,16 +202,16 @@ fn climb<'a, 'b>(
     climb(alloc, symbols, at.looser(), to, depth, place, left, here)
 }
 
-/// A first operand of a level, which begins at `place`, with the operators and operands that stand behind it; and the
-/// cursor behind them.
+/// A first operand of a precedence, which begins at `place`, with the operators of this precedence and the operands
+/// after it; and the cursor after them.
 ///
 /// # Errors
-/// The refusal of the first token that stands in nothing of this form, or that stands too deep.
+/// The refusal of the first token that no such list has there, or that is too deeply nested.
 #[cycle(phrases)]
 pub(crate) fn operators_behind<'a, 'b>(
     alloc: Global,
     symbols: &mut Symbols<'a>,
-    level: Level,
+    precedence: Precedence,
     depth: u32,
     place: Place,
     first: Expr,
@@ -215,48 +219,49 @@ pub(crate) fn operators_behind<'a, 'b>(
 ) -> Result<(Expr, Cursor<'a, 'b>), ParseError>
     requires names { length symbols.old + length (spot from).rest < 2 ^ 31 }
     requires depth { depth ≤ limit }
-    ensures found { IfOk result (λ found. FoundAs (rest_of level) depth symbols.old symbols.new (spot from.entry)
+    ensures found { IfOk result (λ found. FoundAs (rest_of precedence) depth symbols.old symbols.new (spot from.entry)
         (spot found.1)
-        (λ names inside. phrase names found.0 ≡ with_operators place (phrase names first) (operands_in level inside))) }
-    ensures refused { IfErr result (λ error. IsRefused (Nonterminal (rest_of level) depth) (spot from.entry) error) }
+        (λ names inside. phrase names found.0
+        ≡ with_operators place (phrase names first) (operands_in precedence inside))) }
+    ensures refused { IfErr result (λ error. IsRefused (Subgoal (rest_of precedence) depth) (spot from.entry) error) }
 {
     let mut operands = Vec::new(alloc);
     let mut here = from;
-    while let Some((operator, behind)) = operator_at(level, here) {
-        let (right, end) = operand(alloc, symbols, level, depth, behind)?;
+    while let Some((operator, behind)) = operator_at(precedence, here) {
+        let (right, end) = operand(alloc, symbols, precedence, depth, behind)?;
         operands.push(Operand { operator, right })?;
         here = end;
-        if !level.repeats() {
+        if !precedence.repeats() {
             break;
         }
     }
     Ok((node(alloc, place, first, operands)?, here))
 }
 
-/// An operand of a level, and the cursor behind it.
+/// An operand of a precedence, and the cursor after it.
 #[cycle(phrases)]
 fn operand<'a, 'b>(
     alloc: Global,
     symbols: &mut Symbols<'a>,
-    level: Level,
+    precedence: Precedence,
     depth: u32,
     from: Cursor<'a, 'b>,
 ) -> Result<(Expr, Cursor<'a, 'b>), ParseError>
     requires names { length symbols.old + length (spot from).rest < 2 ^ 31 }
     requires depth { depth ≤ limit + 2 }
-    ensures found { IfOk result (λ found. FoundAs (One (operand_symbol level)) depth symbols.old symbols.new
+    ensures found { IfOk result (λ found. FoundAs (One (operand_nonterminal precedence)) depth symbols.old symbols.new
         (spot from.entry) (spot found.1)
-        (λ names inside. phrase names found.0 ≡ operand_in level inside)) }
-    ensures refused { IfErr result (λ error. IsRefused (Nonterminal (One (operand_symbol level)) depth)
+        (λ names inside. phrase names found.0 ≡ operand_in precedence inside)) }
+    ensures refused { IfErr result (λ error. IsRefused (Subgoal (One (operand_nonterminal precedence)) depth)
         (spot from.entry) error) }
 {
-    match level {
-        Level::Or => operators(alloc, symbols, Level::And, depth, from),
-        Level::And => operators(alloc, symbols, Level::Equal, depth, from),
-        Level::Equal => operators(alloc, symbols, Level::Compare, depth, from),
-        Level::Compare => operators(alloc, symbols, Level::Sum, depth, from),
-        Level::Sum => operators(alloc, symbols, Level::Mul, depth, from),
-        Level::Mul => unary(alloc, symbols, depth, from),
+    match precedence {
+        Precedence::Or => operators(alloc, symbols, Precedence::And, depth, from),
+        Precedence::And => operators(alloc, symbols, Precedence::Equal, depth, from),
+        Precedence::Equal => operators(alloc, symbols, Precedence::Compare, depth, from),
+        Precedence::Compare => operators(alloc, symbols, Precedence::Sum, depth, from),
+        Precedence::Sum => operators(alloc, symbols, Precedence::Mul, depth, from),
+        Precedence::Mul => unary(alloc, symbols, depth, from),
     }
 }
 

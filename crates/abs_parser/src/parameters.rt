@@ -3,7 +3,7 @@ ghost use Rattle.std.specs.Prelude.{◌≡◌, List, ◌∷◌, ◌+◌, ◌<◌
 ghost use Rattle.abs_tree.specs.Syntax.{ParamTree};
 ghost use Rattle.abs_tree.specs.SyntaxViews.{param_tree, type_trees};
 ghost use Rattle.abs_parser.specs.Productions.{Param as ParamSymbol, Params, ClassParameters, ConstructorTypes};
-ghost use Rattle.abs_parser.specs.Readings.{One, Optional, Nonterminal};
+ghost use Rattle.abs_parser.specs.Readings.{One, Optional, Subgoal};
 ghost use Rattle.abs_parser.specs.ReaderAnswers.{FoundAs, IsRefused};
 ghost use Rattle.abs_parser.specs.TreesOf.{param_in, params_in, params_maybe as maybe_params_in, class_params_maybe, constructor_types as types_of_constructor};
 ghost use Rattle.abs_parser.specs.Views.{spot};
@@ -16,7 +16,7 @@ use abs_tree::Symbols;
 use abs_tree::syntax::{Param, TypeTerm, Variable};
 use std::alloc::Global;
 
-/// A parameter, `T x`, and the cursor behind it.
+/// A parameter, `T x`, and the cursor after it.
 fn param<'a, 'b>(
     alloc: Global,
     symbols: &mut Symbols<'a>,
@@ -26,7 +26,7 @@ fn param<'a, 'b>(
     ensures found { IfOk result (λ found. FoundAs (One ParamSymbol) 0 symbols.old symbols.new (spot from.entry)
         (spot found.1)
         (λ names inside. (others : List ParamTree) → param_tree names found.0 ∷ others ≡ param_in inside others)) }
-    ensures refused { IfErr result (λ error. IsRefused (Nonterminal (One ParamSymbol) 0) (spot from.entry) error) }
+    ensures refused { IfErr result (λ error. IsRefused (Subgoal (One ParamSymbol) 0) (spot from.entry) error) }
 {
     let (type_of, name_at) = type_term(alloc, symbols, 0, from)?;
     let (name, end) = name_at.take(Lexeme::LowerName, 0)?;
@@ -39,7 +39,7 @@ fn param<'a, 'b>(
     Ok((param, end))
 }
 
-/// Parameters with commas between them, and the cursor behind them.
+/// Parameters with commas between them, and the cursor after them.
 fn params<'a, 'b>(
     alloc: Global,
     symbols: &mut Symbols<'a>,
@@ -49,11 +49,11 @@ fn params<'a, 'b>(
     ensures found { IfOk result (λ found. FoundAs (One Params) 0 symbols.old symbols.new (spot from.entry)
         (spot found.1)
         (λ names inside. map (param_tree names) found.0.items ≡ params_in inside)) }
-    ensures refused { IfErr result (λ error. IsRefused (Nonterminal (One Params) 0) (spot from.entry) error) }
+    ensures refused { IfErr result (λ error. IsRefused (Subgoal (One Params) 0) (spot from.entry) error) }
 {
     let (first, mut here) = param(alloc, symbols, from)?;
     let mut params = vec![in alloc; first]?;
-    while let Some((_, behind)) = here.accept(Lexeme::Sign(Punctuator::Comma)) {
+    while let Some((_, behind)) = here.accept(Lexeme::Punctuator(Punctuator::Comma)) {
         let (next, end) = param(alloc, symbols, behind)?;
         params.push(next)?;
         here = end;
@@ -61,10 +61,10 @@ fn params<'a, 'b>(
     Ok((params, here))
 }
 
-/// Parameters, where any stand here, and the cursor behind them.
+/// Parameters, if there are any, and the cursor after them.
 ///
 /// # Errors
-/// The refusal of the first token that no parameters have there, or that stands too deep.
+/// The refusal of the first token that no parameters have there, or that is too deeply nested.
 pub(crate) fn params_maybe<'a, 'b>(
     alloc: Global,
     symbols: &mut Symbols<'a>,
@@ -74,7 +74,7 @@ pub(crate) fn params_maybe<'a, 'b>(
     ensures found { IfOk result (λ found. FoundAs (Optional Params) 0 symbols.old symbols.new (spot from.entry)
         (spot found.1)
         (λ names inside. map (param_tree names) found.0.items ≡ maybe_params_in inside)) }
-    ensures refused { IfErr result (λ error. IsRefused (Nonterminal (Optional Params) 0) (spot from.entry) error) }
+    ensures refused { IfErr result (λ error. IsRefused (Subgoal (Optional Params) 0) (spot from.entry) error) }
 {
     if !from.is(Lexeme::UpperName) {
         return Ok((Vec::new(alloc), from));
@@ -82,10 +82,10 @@ pub(crate) fn params_maybe<'a, 'b>(
     params(alloc, symbols, from)
 }
 
-/// The parameters of a class between parentheses, where these stand here, and the cursor behind them.
+/// The parameters of a class between parentheses, if these are next, and the cursor after them.
 ///
 /// # Errors
-/// The refusal of the first token that no such parameters have there, or that stands too deep.
+/// The refusal of the first token that no such parameters have there, or that is too deeply nested.
 pub(crate) fn class_parameters<'a, 'b>(
     alloc: Global,
     symbols: &mut Symbols<'a>,
@@ -95,21 +95,21 @@ pub(crate) fn class_parameters<'a, 'b>(
     ensures found { IfOk result (λ found. FoundAs (Optional ClassParameters) 0 symbols.old symbols.new
         (spot from.entry) (spot found.1)
         (λ names inside. map (param_tree names) found.0.items ≡ class_params_maybe inside)) }
-    ensures refused { IfErr result (λ error. IsRefused (Nonterminal (Optional ClassParameters) 0)
+    ensures refused { IfErr result (λ error. IsRefused (Subgoal (Optional ClassParameters) 0)
         (spot from.entry) error) }
 {
-    let Some((_, behind)) = from.accept(Lexeme::Sign(Punctuator::OpenParen)) else {
+    let Some((_, behind)) = from.accept(Lexeme::Punctuator(Punctuator::OpenParen)) else {
         return Ok((Vec::new(alloc), from));
     };
     let (params, close) = params_maybe(alloc, symbols, behind)?;
-    let (_, end) = close.take(Lexeme::Sign(Punctuator::CloseParen), 0)?;
+    let (_, end) = close.take(Lexeme::Punctuator(Punctuator::CloseParen), 0)?;
     Ok((params, end))
 }
 
-/// The types of a constructor's arguments between parentheses, where these stand here, and the cursor behind them.
+/// The types of a constructor's arguments between parentheses, if these are next, and the cursor after them.
 ///
 /// # Errors
-/// The refusal of the first token that no such types have there, or that stands too deep.
+/// The refusal of the first token that no such types have there, or that is too deeply nested.
 pub(crate) fn constructor_types<'a, 'b>(
     alloc: Global,
     symbols: &mut Symbols<'a>,
@@ -119,16 +119,16 @@ pub(crate) fn constructor_types<'a, 'b>(
     ensures found { IfOk result (λ found. FoundAs (Optional ConstructorTypes) 0 symbols.old symbols.new
         (spot from.entry) (spot found.1)
         (λ names inside. type_trees names found.0.items ≡ types_of_constructor inside)) }
-    ensures refused { IfErr result (λ error. IsRefused (Nonterminal (Optional ConstructorTypes) 0)
+    ensures refused { IfErr result (λ error. IsRefused (Subgoal (Optional ConstructorTypes) 0)
         (spot from.entry) error) }
 {
-    let Some((_, behind)) = from.accept(Lexeme::Sign(Punctuator::OpenParen)) else {
+    let Some((_, behind)) = from.accept(Lexeme::Punctuator(Punctuator::OpenParen)) else {
         return Ok((Vec::new(alloc), from));
     };
-    if let Some((_, end)) = behind.accept(Lexeme::Sign(Punctuator::CloseParen)) {
+    if let Some((_, end)) = behind.accept(Lexeme::Punctuator(Punctuator::CloseParen)) {
         return Ok((Vec::new(alloc), end));
     }
     let (types, close) = types(alloc, symbols, 0, behind)?;
-    let (_, end) = close.take(Lexeme::Sign(Punctuator::CloseParen), 0)?;
+    let (_, end) = close.take(Lexeme::Punctuator(Punctuator::CloseParen), 0)?;
     Ok((types, end))
 }

@@ -1,4 +1,4 @@
-//! Reads a whole text: its declarations and its main block, and nothing behind it.
+//! Reads a whole source: its declarations and its main block, and nothing after it.
 ghost use Rattle.std.specs.Prelude.{◌≡◌, ◌≤◌, length, All, IfOk, IfErr};
 ghost use Rattle.abs_tree.specs.Limits.{parsed_table_limit};
 ghost use Rattle.abs_tree.specs.SyntaxSizes.{all_statements};
@@ -18,13 +18,14 @@ use abs_tree::Symbols;
 use abs_tree::syntax::Program;
 use std::alloc::Global;
 
-/// The tree of the text of these tokens, where the text is accepted. Its statements that are no blocks are numbered
+/// The tree of the source of these tokens, if the source is accepted. Its statements that are no blocks are numbered
 /// from 0, in the order in which they begin.
 ///
 /// # Errors
-/// [`ParseError::Refused`] where the text stops, with the code and the place of the token at which it does (the end
-/// of the text counts as one): S2 for one that would stand in more than 100 of the symbols that count, S3 for a word
-/// outside the profile, and S1 for any other; and [`ParseError::Memory`] where memory runs out.
+/// [`ParseError::Refused`] if the source has a syntax error or a token that is too deeply nested, with the code and the
+/// place of the first such token (the end of the source counts as one): S2 for one that is nested in more than 100
+/// counted nonterminals, S3 for a word outside the profile, and S1 for any other; and [`ParseError::Memory`] if an
+/// allocation fails.
 pub fn parse<'a>(alloc: Global, list: &Tokens<'a>) -> Result<Program<'a>, ParseError>
     ensures found { IfOk result (λ program. IsTextOf list.now program.symbols (source_tree program)) }
     ensures numbered { IfOk result (λ program. IsNumberedWhole (source_tree program)) }

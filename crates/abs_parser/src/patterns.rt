@@ -2,9 +2,9 @@
 ghost use Rattle.std.specs.Prelude.{◌≡◌, true, List, ◌+◌, ◌<◌, ◌≤◌, ◌^◌, length, IfOk, IfErr};
 ghost use Rattle.abs_tree.specs.Syntax.{Name};
 ghost use Rattle.abs_tree.specs.SyntaxViews.{pattern_tree, pattern_trees};
-ghost use Rattle.abs_parser.specs.Kinds.{Sign, UpperName, fits, next};
+ghost use Rattle.abs_parser.specs.TokenKinds.{PunctuatorKind, UpperName, fits, next};
 ghost use Rattle.abs_parser.specs.Productions.{Pattern as PatternSymbol, PatternArguments, Patterns};
-ghost use Rattle.abs_parser.specs.Readings.{One, Optional, Nonterminal};
+ghost use Rattle.abs_parser.specs.Readings.{One, Optional, Subgoal};
 ghost use Rattle.abs_parser.specs.ReaderAnswers.{FoundAs, IsRefused, left_at};
 ghost use Rattle.abs_parser.specs.Stops.{limit};
 ghost use Rattle.abs_parser.specs.TreesOf.{pattern_in, pattern_arguments as arguments_in, patterns_in};
@@ -18,10 +18,10 @@ use abs_tree::Symbols;
 use abs_tree::syntax::{Pattern, Variable};
 use std::alloc::Global;
 
-/// A pattern that stands in so many counted symbols, and the cursor behind it.
+/// A pattern nested in `depth` counted nonterminals, and the cursor after it.
 ///
 /// # Errors
-/// The refusal of the first token that no pattern has there, or that stands too deep.
+/// The refusal of the first token that no pattern has there, or that is too deeply nested.
 #[cycle(patterns)]
 pub(crate) fn pattern<'a, 'b>(
     alloc: Global,
@@ -34,7 +34,7 @@ pub(crate) fn pattern<'a, 'b>(
     ensures found { IfOk result (λ found. FoundAs (One PatternSymbol) depth symbols.old symbols.new (spot from.entry)
         (spot found.1)
         (λ names inside. pattern_tree names found.0 ≡ pattern_in inside)) }
-    ensures refused { IfErr result (λ error. IsRefused (Nonterminal (One PatternSymbol) depth)
+    ensures refused { IfErr result (λ error. IsRefused (Subgoal (One PatternSymbol) depth)
         (spot from.entry) error) }
 {
     let Some((first, _)) = from.next() else {
@@ -58,8 +58,8 @@ pub(crate) fn pattern<'a, 'b>(
                 end,
             ))
         }
-        Lexeme::Sign(sign) => signed(depth, sign, from),
-        Lexeme::Word(_) | Lexeme::Foreign => Err(from.wrong()),
+        Lexeme::Punctuator(sign) => signed(depth, sign, from),
+        Lexeme::Keyword(_) | Lexeme::Foreign => Err(from.wrong()),
     }
 }
 
@@ -77,7 +77,7 @@ fn built<'a, 'b>(
     ensures found { IfOk result (λ found. FoundAs (One PatternSymbol) depth symbols.old symbols.new (spot from.entry)
         (spot found.1)
         (λ names inside. pattern_tree names found.0 ≡ pattern_in inside)) }
-    ensures refused { IfErr result (λ error. IsRefused (Nonterminal (One PatternSymbol) depth)
+    ensures refused { IfErr result (λ error. IsRefused (Subgoal (One PatternSymbol) depth)
         (spot from.entry) error) }
 {
     let (name, open) = from.take(Lexeme::UpperName, depth + 1)?;
@@ -97,24 +97,24 @@ fn signed<'a, 'b>(
     sign: Punctuator,
     from: Cursor<'a, 'b>,
 ) -> Result<(Pattern, Cursor<'a, 'b>), ParseError>
-    requires begins { next (left_at (spot from)) ≡ Sign sign }
+    requires begins { next (left_at (spot from)) ≡ PunctuatorKind sign }
     requires depth { depth ≤ limit }
     ensures found { IfOk result (λ found. (table : List Name) → FoundAs (One PatternSymbol) depth table table
         (spot from.entry) (spot found.1)
         (λ names inside. pattern_tree names found.0 ≡ pattern_in inside)) }
-    ensures refused { IfErr result (λ error. IsRefused (Nonterminal (One PatternSymbol) depth)
+    ensures refused { IfErr result (λ error. IsRefused (Subgoal (One PatternSymbol) depth)
         (spot from.entry) error) }
 {
     if sign == Punctuator::Underscore {
-        let (any, end) = from.take(Lexeme::Sign(Punctuator::Underscore), depth + 1)?;
+        let (any, end) = from.take(Lexeme::Punctuator(Punctuator::Underscore), depth + 1)?;
         return Ok((Pattern::Any(any.place), end));
     }
-    let (minus, digits_at) = from.take(Lexeme::Sign(Punctuator::Minus), depth + 1)?;
+    let (minus, digits_at) = from.take(Lexeme::Punctuator(Punctuator::Minus), depth + 1)?;
     let (digits, end) = digits_at.take(Lexeme::Number, depth + 1)?;
     Ok((Pattern::Number(minus.place, -numeral(digits.slice)), end))
 }
 
-/// The patterns between `(` and `)`, where there are parentheses, and the cursor behind them.
+/// The patterns between `(` and `)`, where there are parentheses, and the cursor after them.
 #[cycle(patterns)]
 fn pattern_arguments<'a, 'b>(
     alloc: Global,
@@ -127,21 +127,21 @@ fn pattern_arguments<'a, 'b>(
     ensures found { IfOk result (λ found. FoundAs (Optional PatternArguments) depth symbols.old symbols.new
         (spot from.entry) (spot found.1)
         (λ names inside. pattern_trees names found.0.items ≡ arguments_in inside)) }
-    ensures refused { IfErr result (λ error. IsRefused (Nonterminal (Optional PatternArguments) depth)
+    ensures refused { IfErr result (λ error. IsRefused (Subgoal (Optional PatternArguments) depth)
         (spot from.entry) error) }
 {
-    let Some((_, behind)) = from.accept(Lexeme::Sign(Punctuator::OpenParen)) else {
+    let Some((_, behind)) = from.accept(Lexeme::Punctuator(Punctuator::OpenParen)) else {
         return Ok((Vec::new(alloc), from));
     };
-    if let Some((_, end)) = behind.accept(Lexeme::Sign(Punctuator::CloseParen)) {
+    if let Some((_, end)) = behind.accept(Lexeme::Punctuator(Punctuator::CloseParen)) {
         return Ok((Vec::new(alloc), end));
     }
     let (patterns, close) = patterns(alloc, symbols, depth, behind)?;
-    let (_, end) = close.take(Lexeme::Sign(Punctuator::CloseParen), depth)?;
+    let (_, end) = close.take(Lexeme::Punctuator(Punctuator::CloseParen), depth)?;
     Ok((patterns, end))
 }
 
-/// A pattern, and others behind commas, and the cursor behind them.
+/// A pattern, and others after commas, and the cursor after them.
 #[cycle(patterns)]
 fn patterns<'a, 'b>(
     alloc: Global,
@@ -154,11 +154,11 @@ fn patterns<'a, 'b>(
     ensures found { IfOk result (λ found. FoundAs (One Patterns) depth symbols.old symbols.new (spot from.entry)
         (spot found.1)
         (λ names inside. pattern_trees names found.0.items ≡ patterns_in inside)) }
-    ensures refused { IfErr result (λ error. IsRefused (Nonterminal (One Patterns) depth) (spot from.entry) error) }
+    ensures refused { IfErr result (λ error. IsRefused (Subgoal (One Patterns) depth) (spot from.entry) error) }
 {
     let (first, mut here) = pattern(alloc, symbols, depth, from)?;
     let mut patterns = vec![in alloc; first]?;
-    while let Some((_, behind)) = here.accept(Lexeme::Sign(Punctuator::Comma)) {
+    while let Some((_, behind)) = here.accept(Lexeme::Punctuator(Punctuator::Comma)) {
         let (next, end) = pattern(alloc, symbols, depth, behind)?;
         patterns.push(next)?;
         here = end;

@@ -1,7 +1,7 @@
-//! Reads the `module` and the `import` line that may stand in front of a program. They leave nothing in its tree.
+//! Reads the `module` and the `import` line that may be before a program. They leave nothing in its tree.
 ghost use Rattle.std.specs.Prelude.{◌≡◌, ⊤, ◌+◌, ◌<◌, ◌^◌, length, IfOk, IfErr};
 ghost use Rattle.abs_parser.specs.Productions.{Module, Import, Path};
-ghost use Rattle.abs_parser.specs.Readings.{One, Optional, Nonterminal};
+ghost use Rattle.abs_parser.specs.Readings.{One, Optional, Subgoal};
 ghost use Rattle.abs_parser.specs.ReaderAnswers.{FoundAs, IsRefused};
 ghost use Rattle.abs_parser.specs.Views.{spot};
 
@@ -10,7 +10,7 @@ use crate::cursor::{Cursor, FixedName};
 use abs_lexer::{Keyword, Lexeme, Punctuator};
 use abs_tree::Symbols;
 
-/// The cursor behind a `module` line, where one stands here.
+/// The cursor after a `module` line, if one is next.
 ///
 /// # Errors
 /// The refusal of the first token that no such line has there.
@@ -21,17 +21,17 @@ pub(crate) fn module_line<'a, 'b>(
     requires names { length symbols.old + length (spot from).rest < 2 ^ 31 }
     ensures found { IfOk result (λ to. FoundAs (Optional Module) 0 symbols.old symbols.new (spot from.entry) (spot to)
         (λ names inside. ⊤)) }
-    ensures refused { IfErr result (λ error. IsRefused (Nonterminal (Optional Module) 0) (spot from.entry) error) }
+    ensures refused { IfErr result (λ error. IsRefused (Subgoal (Optional Module) 0) (spot from.entry) error) }
 {
-    let Some((_, path_at)) = from.accept(Lexeme::Word(Keyword::Module)) else {
+    let Some((_, path_at)) = from.accept(Lexeme::Keyword(Keyword::Module)) else {
         return Ok(from);
     };
     let last = path(symbols, path_at)?;
-    let (_, end) = last.take(Lexeme::Sign(Punctuator::Semicolon), 0)?;
+    let (_, end) = last.take(Lexeme::Punctuator(Punctuator::Semicolon), 0)?;
     Ok(end)
 }
 
-/// The cursor behind names with dots between them.
+/// The cursor after names with dots between them.
 fn path<'a, 'b>(
     symbols: &mut Symbols<'a>,
     from: Cursor<'a, 'b>,
@@ -39,11 +39,11 @@ fn path<'a, 'b>(
     requires names { length symbols.old + length (spot from).rest < 2 ^ 31 }
     ensures found { IfOk result (λ to. FoundAs (One Path) 0 symbols.old symbols.new (spot from.entry) (spot to)
         (λ names inside. ⊤)) }
-    ensures refused { IfErr result (λ error. IsRefused (Nonterminal (One Path) 0) (spot from.entry) error) }
+    ensures refused { IfErr result (λ error. IsRefused (Subgoal (One Path) 0) (spot from.entry) error) }
 {
     let (first, mut here) = from.take(Lexeme::UpperName, 0)?;
     symbols.intern(first.slice)?;
-    while let Some((_, name_at)) = here.accept(Lexeme::Sign(Punctuator::Dot)) {
+    while let Some((_, name_at)) = here.accept(Lexeme::Punctuator(Punctuator::Dot)) {
         let (name, behind) = name_at.take(Lexeme::UpperName, 0)?;
         symbols.intern(name.slice)?;
         here = behind;
@@ -51,7 +51,7 @@ fn path<'a, 'b>(
     Ok(here)
 }
 
-/// The cursor behind the `import` line, where it stands here.
+/// The cursor after the `import` line, if it is next.
 ///
 /// # Errors
 /// The refusal of the first token that this line does not have there.
@@ -62,18 +62,18 @@ pub(crate) fn import_line<'a, 'b>(
     requires names { length symbols.old + length (spot from).rest < 2 ^ 31 }
     ensures found { IfOk result (λ to. FoundAs (Optional Import) 0 symbols.old symbols.new (spot from.entry) (spot to)
         (λ names inside. ⊤)) }
-    ensures refused { IfErr result (λ error. IsRefused (Nonterminal (Optional Import) 0) (spot from.entry) error) }
+    ensures refused { IfErr result (λ error. IsRefused (Subgoal (Optional Import) 0) (spot from.entry) error) }
 {
-    let Some((_, star)) = from.accept(Lexeme::Word(Keyword::Import)) else {
+    let Some((_, star)) = from.accept(Lexeme::Keyword(Keyword::Import)) else {
         return Ok(from);
     };
-    let (_, word) = star.take(Lexeme::Sign(Punctuator::Star), 0)?;
-    let (_, abs_at) = word.take(Lexeme::Word(Keyword::From), 0)?;
+    let (_, word) = star.take(Lexeme::Punctuator(Punctuator::Star), 0)?;
+    let (_, abs_at) = word.take(Lexeme::Keyword(Keyword::From), 0)?;
     let (abs, dot) = abs_at.take_name(FixedName::Abs)?;
     symbols.intern(abs.slice)?;
-    let (_, library_at) = dot.take(Lexeme::Sign(Punctuator::Dot), 0)?;
+    let (_, library_at) = dot.take(Lexeme::Punctuator(Punctuator::Dot), 0)?;
     let (library, last) = library_at.take_name(FixedName::StdLib)?;
     symbols.intern(library.slice)?;
-    let (_, end) = last.take(Lexeme::Sign(Punctuator::Semicolon), 0)?;
+    let (_, end) = last.take(Lexeme::Punctuator(Punctuator::Semicolon), 0)?;
     Ok(end)
 }

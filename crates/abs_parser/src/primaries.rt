@@ -1,5 +1,5 @@
 //! Reads unaries and primaries: an operator before its operand, numbers and texts, names with their arguments, `this`
-//! with what stands behind it, and what stands in parentheses.
+//! with what follows it, and what is in parentheses.
 ghost use Rattle.std.specs.Prelude.{◌≡◌, ℕ, List, true, ◌+◌, ◌<◌, ◌≤◌, ◌^◌, length, IfOk, IfErr, IfSome, IfNone};
 ghost use Rattle.abs_lexer.specs.declared.lexeme.Keyword.TheVariants as keyword;
 ghost use Rattle.abs_lexer.specs.declared.lexeme.Lexeme.TheVariants as lexeme;
@@ -7,10 +7,10 @@ ghost use Rattle.abs_tree.specs.declared.syntax.expression.Prefix as prefix_type
 ghost use Rattle.abs_tree.specs.Syntax.{Name};
 ghost use Rattle.abs_tree.specs.SyntaxViews.{phrase};
 ghost use Rattle.abs_tree.specs.Trees.{name_of};
-ghost use Rattle.abs_parser.specs.Kinds.{LowerName, UpperName, Word, Sign, fits, next, kind_of_lexeme};
-ghost use Rattle.abs_parser.specs.Levels.{prefix_sign};
+ghost use Rattle.abs_parser.specs.TokenKinds.{LowerName, UpperName, KeywordKind, PunctuatorKind, fits, next, token_kind_of};
+ghost use Rattle.abs_parser.specs.Precedences.{prefix_sign};
 ghost use Rattle.abs_parser.specs.Productions.{begins, Unary, Primary};
-ghost use Rattle.abs_parser.specs.Readings.{One, Nonterminal};
+ghost use Rattle.abs_parser.specs.Readings.{One, Subgoal};
 ghost use Rattle.abs_parser.specs.ReaderAnswers.{FoundAs, IsRefused, left_at, maybe_phrases};
 ghost use Rattle.abs_parser.specs.Stops.{limit};
 ghost use Rattle.abs_parser.specs.TreesOf.{unary_in, primary_in, named as named_tree, member as member_tree};
@@ -30,10 +30,10 @@ use std::sync::Arc;
 
 /// The operator before an operand that a token of this kind is, where it is one.
 fn prefix_of(kind: Lexeme) -> Option<Prefix>
-    ensures some { IfSome result (λ prefix. kind ≡ lexeme.Sign (prefix_sign prefix)) }
-    ensures none { IfNone result ((prefix : prefix_type.Prefix) → kind ≡ lexeme.Sign (prefix_sign prefix) → ⊥) }
+    ensures some { IfSome result (λ prefix. kind ≡ lexeme.Punctuator (prefix_sign prefix)) }
+    ensures none { IfNone result ((prefix : prefix_type.Prefix) → kind ≡ lexeme.Punctuator (prefix_sign prefix) → ⊥) }
 {
-    let Lexeme::Sign(sign) = kind else {
+    let Lexeme::Punctuator(sign) = kind else {
         return None;
     };
     match sign {
@@ -44,10 +44,10 @@ fn prefix_of(kind: Lexeme) -> Option<Prefix>
     }
 }
 
-/// A unary that stands in so many counted symbols, and the cursor behind it.
+/// A unary nested in `depth` counted nonterminals, and the cursor after it.
 ///
 /// # Errors
-/// The refusal of the first token that no unary has there, or that stands too deep.
+/// The refusal of the first token that no unary has there, or that is too deeply nested.
 #[cycle(phrases)]
 pub(crate) fn unary<'a, 'b>(
     alloc: Global,
@@ -60,7 +60,7 @@ pub(crate) fn unary<'a, 'b>(
     ensures found { IfOk result (λ found. FoundAs (One Unary) depth symbols.old symbols.new (spot from.entry)
         (spot found.1)
         (λ names inside. phrase names found.0 ≡ unary_in inside)) }
-    ensures refused { IfErr result (λ error. IsRefused (Nonterminal (One Unary) depth) (spot from.entry) error) }
+    ensures refused { IfErr result (λ error. IsRefused (Subgoal (One Unary) depth) (spot from.entry) error) }
 {
     let Some((first, _)) = from.next() else {
         return Err(from.wrong());
@@ -79,7 +79,7 @@ pub(crate) fn unary<'a, 'b>(
     Ok((prefixed, end))
 }
 
-/// A primary that stands in so many counted symbols, and the cursor behind it.
+/// A primary nested in `depth` counted nonterminals, and the cursor after it.
 #[cycle(phrases)]
 fn primary<'a, 'b>(
     alloc: Global,
@@ -92,7 +92,7 @@ fn primary<'a, 'b>(
     ensures found { IfOk result (λ found. FoundAs (One Primary) depth symbols.old symbols.new (spot from.entry)
         (spot found.1)
         (λ names inside. phrase names found.0 ≡ primary_in inside)) }
-    ensures refused { IfErr result (λ error. IsRefused (Nonterminal (One Primary) depth) (spot from.entry) error) }
+    ensures refused { IfErr result (λ error. IsRefused (Subgoal (One Primary) depth) (spot from.entry) error) }
 {
     let Some((first, _)) = from.next() else {
         return Err(from.wrong());
@@ -108,13 +108,13 @@ fn primary<'a, 'b>(
         }
         Lexeme::LowerName => lower_primary(alloc, symbols, depth, from),
         Lexeme::UpperName => built(alloc, symbols, depth, from),
-        Lexeme::Word(word) => worded(alloc, symbols, depth, word, from),
-        Lexeme::Sign(sign) => group(alloc, symbols, depth, sign, from),
+        Lexeme::Keyword(word) => worded(alloc, symbols, depth, word, from),
+        Lexeme::Punctuator(sign) => group(alloc, symbols, depth, sign, from),
         Lexeme::Foreign => Err(from.wrong()),
     }
 }
 
-/// A variable, or a function with its arguments, and the cursor behind it.
+/// A variable, or a function with its arguments, and the cursor after it.
 #[cycle(phrases)]
 fn lower_primary<'a, 'b>(
     alloc: Global,
@@ -128,7 +128,7 @@ fn lower_primary<'a, 'b>(
     ensures found { IfOk result (λ found. FoundAs (One Primary) depth symbols.old symbols.new (spot from.entry)
         (spot found.1)
         (λ names inside. phrase names found.0 ≡ primary_in inside)) }
-    ensures refused { IfErr result (λ error. IsRefused (Nonterminal (One Primary) depth) (spot from.entry) error) }
+    ensures refused { IfErr result (λ error. IsRefused (Subgoal (One Primary) depth) (spot from.entry) error) }
 {
     let (name, behind) = from.take(Lexeme::LowerName, depth)?;
     let symbol = symbols.intern(name.slice)?;
@@ -151,7 +151,7 @@ pub(crate) fn named(place: Place, name: Symbol, arguments: Option<Vec<Expr>>) ->
     }
 }
 
-/// A constructor with its arguments, where it has any, and the cursor behind it.
+/// A constructor with its arguments, where it has any, and the cursor after it.
 #[cycle(phrases)]
 fn built<'a, 'b>(
     alloc: Global,
@@ -165,7 +165,7 @@ fn built<'a, 'b>(
     ensures found { IfOk result (λ found. FoundAs (One Primary) depth symbols.old symbols.new (spot from.entry)
         (spot found.1)
         (λ names inside. phrase names found.0 ≡ primary_in inside)) }
-    ensures refused { IfErr result (λ error. IsRefused (Nonterminal (One Primary) depth) (spot from.entry) error) }
+    ensures refused { IfErr result (λ error. IsRefused (Subgoal (One Primary) depth) (spot from.entry) error) }
 {
     let (name, behind) = from.take(Lexeme::UpperName, depth)?;
     let symbol = symbols.intern(name.slice)?;
@@ -182,7 +182,7 @@ fn built<'a, 'b>(
     Ok((build, end))
 }
 
-/// A primary that begins with a word, and the cursor behind it.
+/// A primary that begins with a keyword, and the cursor after it.
 #[cycle(phrases)]
 fn worded<'a, 'b>(
     alloc: Global,
@@ -191,21 +191,21 @@ fn worded<'a, 'b>(
     word: Keyword,
     from: Cursor<'a, 'b>,
 ) -> Result<(Expr, Cursor<'a, 'b>), ParseError>
-    requires begins { next (left_at (spot from)) ≡ Word word }
+    requires begins { next (left_at (spot from)) ≡ KeywordKind word }
     requires names { length symbols.old + length (spot from).rest < 2 ^ 31 }
     requires depth { depth ≤ limit + 3 }
     ensures found { IfOk result (λ found. FoundAs (One Primary) depth symbols.old symbols.new (spot from.entry)
         (spot found.1)
         (λ names inside. phrase names found.0 ≡ primary_in inside)) }
-    ensures refused { IfErr result (λ error. IsRefused (Nonterminal (One Primary) depth) (spot from.entry) error) }
+    ensures refused { IfErr result (λ error. IsRefused (Subgoal (One Primary) depth) (spot from.entry) error) }
 {
     match word {
         Keyword::Null => {
-            let (token, end) = from.take(Lexeme::Word(Keyword::Null), depth)?;
+            let (token, end) = from.take(Lexeme::Keyword(Keyword::Null), depth)?;
             Ok((Expr::Null(token.place), end))
         }
         Keyword::Destiny => {
-            let (token, end) = from.take(Lexeme::Word(Keyword::Destiny), depth)?;
+            let (token, end) = from.take(Lexeme::Keyword(Keyword::Destiny), depth)?;
             Ok((Expr::Destiny(token.place), end))
         }
         Keyword::This => this_of(alloc, symbols, depth, from),
@@ -214,7 +214,7 @@ fn worded<'a, 'b>(
     }
 }
 
-/// `this`, a field of it, or a call on it, and the cursor behind it.
+/// `this`, a field of it, or a call on it, and the cursor after it.
 #[cycle(phrases)]
 fn this_of<'a, 'b>(
     alloc: Global,
@@ -222,16 +222,16 @@ fn this_of<'a, 'b>(
     depth: u32,
     from: Cursor<'a, 'b>,
 ) -> Result<(Expr, Cursor<'a, 'b>), ParseError>
-    requires begins { fits (Word keyword.This) (next (left_at (spot from))) ≡ true }
+    requires begins { fits (KeywordKind keyword.This) (next (left_at (spot from))) ≡ true }
     requires names { length symbols.old + length (spot from).rest < 2 ^ 31 }
     requires depth { depth ≤ limit + 3 }
     ensures found { IfOk result (λ found. FoundAs (One Primary) depth symbols.old symbols.new (spot from.entry)
         (spot found.1)
         (λ names inside. phrase names found.0 ≡ primary_in inside)) }
-    ensures refused { IfErr result (λ error. IsRefused (Nonterminal (One Primary) depth) (spot from.entry) error) }
+    ensures refused { IfErr result (λ error. IsRefused (Subgoal (One Primary) depth) (spot from.entry) error) }
 {
-    let (this, behind) = from.take(Lexeme::Word(Keyword::This), depth)?;
-    let Some((_, name_at)) = behind.accept(Lexeme::Sign(Punctuator::Dot)) else {
+    let (this, behind) = from.take(Lexeme::Keyword(Keyword::This), depth)?;
+    let Some((_, name_at)) = behind.accept(Lexeme::Punctuator(Punctuator::Dot)) else {
         return Ok((Expr::This(this.place), behind));
     };
     let (name, open) = name_at.take(Lexeme::LowerName, depth)?;
@@ -266,7 +266,7 @@ pub(crate) fn member(
     }
 }
 
-/// An expression in parentheses, which leave no node, and the cursor behind it.
+/// An expression in parentheses, which leave no node, and the cursor after it.
 #[cycle(phrases)]
 fn group<'a, 'b>(
     alloc: Global,
@@ -275,16 +275,16 @@ fn group<'a, 'b>(
     sign: Punctuator,
     from: Cursor<'a, 'b>,
 ) -> Result<(Expr, Cursor<'a, 'b>), ParseError>
-    requires begins { next (left_at (spot from)) ≡ Sign sign }
+    requires begins { next (left_at (spot from)) ≡ PunctuatorKind sign }
     requires names { length symbols.old + length (spot from).rest < 2 ^ 31 }
     requires depth { depth ≤ limit + 3 }
     ensures found { IfOk result (λ found. FoundAs (One Primary) depth symbols.old symbols.new (spot from.entry)
         (spot found.1)
         (λ names inside. phrase names found.0 ≡ primary_in inside)) }
-    ensures refused { IfErr result (λ error. IsRefused (Nonterminal (One Primary) depth) (spot from.entry) error) }
+    ensures refused { IfErr result (λ error. IsRefused (Subgoal (One Primary) depth) (spot from.entry) error) }
 {
-    let (_, inside) = from.take(Lexeme::Sign(Punctuator::OpenParen), depth)?;
+    let (_, inside) = from.take(Lexeme::Punctuator(Punctuator::OpenParen), depth)?;
     let (expr, close) = expression(alloc, symbols, depth, inside)?;
-    let (_, end) = close.take(Lexeme::Sign(Punctuator::CloseParen), depth)?;
+    let (_, end) = close.take(Lexeme::Punctuator(Punctuator::CloseParen), depth)?;
     Ok((expr, end))
 }

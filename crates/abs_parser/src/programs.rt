@@ -1,10 +1,10 @@
-//! Reads declarations of every kind, one behind another.
+//! Reads declarations of every kind, one after another.
 ghost use Rattle.std.specs.Prelude.{◌≡◌, List, [], ◌∷◌, ◌+◌, ◌<◌, ◌≤◌, ◌^◌, length, map, IfOk, IfErr};
 ghost use Rattle.abs_tree.specs.Syntax.{Name, DeclTree};
 ghost use Rattle.abs_tree.specs.SyntaxViews.{decl_tree};
 ghost use Rattle.abs_tree.specs.SyntaxSizes.{decl_statements};
 ghost use Rattle.abs_parser.specs.Productions.{Block, Decl as DeclSymbol};
-ghost use Rattle.abs_parser.specs.Readings.{One, Repeated, Nonterminal};
+ghost use Rattle.abs_parser.specs.Readings.{One, Repeated, Subgoal};
 ghost use Rattle.abs_parser.specs.ReaderAnswers.{FoundAs, IsRefused, IsRefusedWith};
 ghost use Rattle.abs_parser.specs.TreesOf.{decl_in, decls_in};
 ghost use Rattle.abs_parser.specs.Views.{spot};
@@ -38,13 +38,13 @@ pub(crate) fn declarations<'a, 'b>(
     ensures free { IfOk result (λ found. (names : List Name)
         → found.1 ≡ index + decl_statements (map (decl_tree names) found.0.items)) }
     ensures few { IfOk result (λ found. found.1 + length (spot found.2).rest ≤ index + length (spot from.entry).rest) }
-    ensures refused { IfErr result (λ error. IsRefusedWith (Nonterminal (Repeated DeclSymbol) 0)
-        (Nonterminal (One Block) 0) (spot from.entry) error) }
+    ensures refused { IfErr result (λ error. IsRefusedWith (Subgoal (Repeated DeclSymbol) 0)
+        (Subgoal (One Block) 0) (spot from.entry) error) }
 {
     let mut declarations = Vec::new(alloc);
     let mut free = index;
     let mut here = from;
-    while !here.is(Lexeme::Sign(Punctuator::OpenBrace)) {
+    while !here.is(Lexeme::Punctuator(Punctuator::OpenBrace)) {
         let (next, behind, end) = declaration(alloc, symbols, free, here)?;
         declarations.push(next)?;
         free = behind;
@@ -53,8 +53,7 @@ pub(crate) fn declarations<'a, 'b>(
     Ok((declarations, free, here))
 }
 
-/// A declaration, whose first statement has the free index; the index that is free after it; and the cursor
-/// behind it.
+/// A declaration, whose first statement has the free index; the index that is free after it; and the cursor after it.
 fn declaration<'a, 'b>(
     alloc: Global,
     symbols: &mut Symbols<'a>,
@@ -69,12 +68,12 @@ fn declaration<'a, 'b>(
     ensures free { IfOk result (λ found. (names : List Name)
         → found.1 ≡ index + decl_statements (decl_tree names found.0 ∷ [])) }
     ensures few { IfOk result (λ found. found.1 + length (spot found.2).rest ≤ index + length (spot from.entry).rest) }
-    ensures refused { IfErr result (λ error. IsRefused (Nonterminal (One DeclSymbol) 0) (spot from.entry) error) }
+    ensures refused { IfErr result (λ error. IsRefused (Subgoal (One DeclSymbol) 0) (spot from.entry) error) }
 {
     let Some((token, _)) = from.next() else {
         return Err(from.wrong());
     };
-    let Lexeme::Word(word) = token.kind else {
+    let Lexeme::Keyword(word) = token.kind else {
         return Err(from.wrong());
     };
     let (decl, end) = match word {

@@ -1,11 +1,11 @@
-//! Reads right sides: a new object, or an expression with what stands behind it.
+//! Reads right sides: a new object, or an expression with what follows it.
 ghost use Rattle.std.specs.Prelude.{◌≡◌, ℕ, List, true, false, ◌+◌, ◌<◌, ◌≤◌, ◌^◌, length, IfOk, IfErr, OnErr};
 ghost use Rattle.abs_lexer.specs.declared.lexeme.Keyword.TheVariants as keyword;
 ghost use Rattle.abs_tree.specs.Syntax.{Name, NextPhrase};
 ghost use Rattle.abs_tree.specs.SyntaxViews.{phrase, phrases, side_tree};
-ghost use Rattle.abs_parser.specs.Kinds.{Word, fits, next};
+ghost use Rattle.abs_parser.specs.TokenKinds.{KeywordKind, fits, next};
 ghost use Rattle.abs_parser.specs.Productions.{Rhs, RhsTail, Selected, Where};
-ghost use Rattle.abs_parser.specs.Readings.{One, Optional, Nonterminal};
+ghost use Rattle.abs_parser.specs.Readings.{One, Optional, Subgoal};
 ghost use Rattle.abs_parser.specs.ReaderAnswers.{FoundAs, IsRefused, left_at};
 ghost use Rattle.abs_parser.specs.Stops.{limit};
 ghost use Rattle.abs_parser.specs.TreesOf.{rhs_in, tail_in, selected_in, mode_in};
@@ -21,10 +21,10 @@ use abs_tree::{Place, Symbols};
 use std::alloc::{AllocError, Global};
 use std::sync::Arc;
 
-/// A right side that stands in so many counted symbols, and the cursor behind it.
+/// A right side nested in `depth` counted nonterminals, and the cursor after it.
 ///
 /// # Errors
-/// The refusal of the first token that no right side has there, or that stands too deep.
+/// The refusal of the first token that no right side has there, or that is too deeply nested.
 pub(crate) fn right_side<'a, 'b>(
     alloc: Global,
     symbols: &mut Symbols<'a>,
@@ -36,31 +36,31 @@ pub(crate) fn right_side<'a, 'b>(
     ensures found { IfOk result (λ found. FoundAs (One Rhs) depth symbols.old symbols.new (spot from.entry)
         (spot found.1)
         (λ names inside. side_tree names found.0 ≡ rhs_in inside)) }
-    ensures refused { IfErr result (λ error. IsRefused (Nonterminal (One Rhs) depth) (spot from.entry) error) }
+    ensures refused { IfErr result (λ error. IsRefused (Subgoal (One Rhs) depth) (spot from.entry) error) }
 {
-    if from.is(Lexeme::Word(Keyword::New)) {
+    if from.is(Lexeme::Keyword(Keyword::New)) {
         return new_object(alloc, symbols, depth, from);
     }
     let (first, behind) = expression(alloc, symbols, depth, from)?;
     side_behind(alloc, symbols, depth, from.place(), first, behind)
 }
 
-/// `new C(es)`, perhaps with `cog` or `local`, and the cursor behind it.
+/// `new C(es)`, perhaps with `cog` or `local`, and the cursor after it.
 fn new_object<'a, 'b>(
     alloc: Global,
     symbols: &mut Symbols<'a>,
     depth: u32,
     from: Cursor<'a, 'b>,
 ) -> Result<(RightSide, Cursor<'a, 'b>), ParseError>
-    requires begins { fits (Word keyword.New) (next (left_at (spot from))) ≡ true }
+    requires begins { fits (KeywordKind keyword.New) (next (left_at (spot from))) ≡ true }
     requires names { length symbols.old + length (spot from).rest < 2 ^ 31 }
     requires depth { depth ≤ limit + 1 }
     ensures found { IfOk result (λ found. FoundAs (One Rhs) depth symbols.old symbols.new (spot from.entry)
         (spot found.1)
         (λ names inside. side_tree names found.0 ≡ rhs_in inside)) }
-    ensures refused { IfErr result (λ error. IsRefused (Nonterminal (One Rhs) depth) (spot from.entry) error) }
+    ensures refused { IfErr result (λ error. IsRefused (Subgoal (One Rhs) depth) (spot from.entry) error) }
 {
-    let (word, here) = from.take(Lexeme::Word(Keyword::New), depth)?;
+    let (word, here) = from.take(Lexeme::Keyword(Keyword::New), depth)?;
     let (mode, name_at) = mode(symbols, here)?;
     let (name, open) = name_at.take(Lexeme::UpperName, depth)?;
     let class = symbols.intern(name.slice)?;
@@ -75,7 +75,7 @@ fn new_object<'a, 'b>(
     Ok((side, end))
 }
 
-/// Where a new object is to live, by the word behind `new`, and the cursor behind that word. `local` is a name like
+/// Where a new object is to live, by the keyword after `new`, and the cursor after that word. `local` is a name like
 /// others, so the table has it then.
 fn mode<'a, 'b>(
     symbols: &mut Symbols<'a>,
@@ -86,7 +86,7 @@ fn mode<'a, 'b>(
         → FoundAs (Optional Where) depth symbols.old symbols.new (spot from.entry) (spot found.1)
         (λ names inside. found.0 ≡ mode_in inside)) }
 {
-    if let Some((_, behind)) = from.accept(Lexeme::Word(Keyword::Cog)) {
+    if let Some((_, behind)) = from.accept(Lexeme::Keyword(Keyword::Cog)) {
         return Ok((Mode::Cog, behind));
     }
     if let Some((name, behind)) = from.accept_name(FixedName::Local) {
@@ -96,11 +96,11 @@ fn mode<'a, 'b>(
     Ok((Mode::Plain, from))
 }
 
-/// An expression, which begins at `place`, with what stands behind it: `!` and a call, `.get`, `.` and a call, or
-/// nothing; and the cursor behind that.
+/// An expression, which begins at `place`, with what follows it: `!` and a call, `.get`, `.` and a call, or nothing;
+/// and the cursor after that.
 ///
 /// # Errors
-/// The refusal of the first token that is nothing of this form, or that stands too deep.
+/// The refusal of the first token that is nothing of this form, or that is too deeply nested.
 pub(crate) fn side_behind<'a, 'b>(
     alloc: Global,
     symbols: &mut Symbols<'a>,
@@ -114,22 +114,22 @@ pub(crate) fn side_behind<'a, 'b>(
     ensures found { IfOk result (λ found. FoundAs (Optional RhsTail) depth symbols.old symbols.new (spot from.entry)
         (spot found.1)
         (λ names inside. side_tree names found.0 ≡ tail_in place (phrase names first) inside)) }
-    ensures refused { IfErr result (λ error. IsRefused (Nonterminal (Optional RhsTail) depth) (spot from.entry) error) }
+    ensures refused { IfErr result (λ error. IsRefused (Subgoal (Optional RhsTail) depth) (spot from.entry) error) }
 {
-    if let Some((_, behind)) = from.accept(Lexeme::Sign(Punctuator::Not)) {
+    if let Some((_, behind)) = from.accept(Lexeme::Punctuator(Punctuator::Not)) {
         let (name, open) = behind.take(Lexeme::LowerName, depth)?;
         let method = symbols.intern(name.slice)?;
         let (arguments, end) = arguments(alloc, symbols, depth, open)?;
         let row = row_of(alloc, first, arguments)?;
         return Ok((RightSide::Send { place, method, row }, end));
     }
-    let Some((_, behind)) = from.accept(Lexeme::Sign(Punctuator::Dot)) else {
+    let Some((_, behind)) = from.accept(Lexeme::Punctuator(Punctuator::Dot)) else {
         return Ok((RightSide::Value(place, Arc::new(alloc, first)?), from));
     };
     selected(alloc, symbols, depth, place, first, behind)
 }
 
-/// What stands behind an expression and `.`: `get`, or a method with its arguments; and the cursor behind it.
+/// What follows an expression and `.`: `get`, or a method with its arguments; and the cursor after it.
 fn selected<'a, 'b>(
     alloc: Global,
     symbols: &mut Symbols<'a>,
@@ -143,9 +143,9 @@ fn selected<'a, 'b>(
     ensures found { IfOk result (λ found. FoundAs (One Selected) depth symbols.old symbols.new (spot from.entry)
         (spot found.1)
         (λ names inside. side_tree names found.0 ≡ selected_in place (phrase names first) inside)) }
-    ensures refused { IfErr result (λ error. IsRefused (Nonterminal (One Selected) depth) (spot from.entry) error) }
+    ensures refused { IfErr result (λ error. IsRefused (Subgoal (One Selected) depth) (spot from.entry) error) }
 {
-    if let Some((word, end)) = from.accept(Lexeme::Word(Keyword::Get)) {
+    if let Some((word, end)) = from.accept(Lexeme::Keyword(Keyword::Get)) {
         let side = RightSide::Get {
             place,
             get_place: word.place,

@@ -4,9 +4,9 @@ ghost use Rattle.abs_lexer.specs.declared.lexeme.Keyword.TheVariants as keyword;
 ghost use Rattle.abs_tree.specs.Syntax.{Name};
 ghost use Rattle.abs_tree.specs.SyntaxSizes.{count_of};
 ghost use Rattle.abs_tree.specs.SyntaxViews.{phrase, side_tree, target_tree, statement as statement_tree, maybe_side};
-ghost use Rattle.abs_parser.specs.Kinds.{LowerName, UpperName, Word, fits, next};
+ghost use Rattle.abs_parser.specs.TokenKinds.{LowerName, UpperName, KeywordKind, fits, next};
 ghost use Rattle.abs_parser.specs.Productions.{begins, Stmt as StmtSymbol, Rhs, Initial, Rest, AfterName};
-ghost use Rattle.abs_parser.specs.Readings.{One, Optional, Nonterminal};
+ghost use Rattle.abs_parser.specs.Readings.{One, Optional, Subgoal};
 ghost use Rattle.abs_parser.specs.ReaderAnswers.{FoundAs, IsRefused, left_at, maybe_phrases};
 ghost use Rattle.abs_parser.specs.Stops.{limit};
 ghost use Rattle.abs_parser.specs.Firsts.{place_of_first, target_of, phrase_of, after_first, begins_another};
@@ -18,7 +18,7 @@ use crate::arguments::arguments_maybe;
 use crate::cursor::Cursor;
 use crate::expressions::expression;
 use crate::guards::guard;
-use crate::operators::{Level, operators_behind};
+use crate::operators::{Precedence, operators_behind};
 use crate::primaries::{member, named};
 use crate::right_sides::{right_side, side_behind};
 use crate::types::type_term;
@@ -61,7 +61,7 @@ impl First {
         }
     }
 
-    /// The same as an expression, with arguments behind it or without.
+    /// The same as an expression, with arguments after it or without.
     ///
     /// # Errors
     /// [`AllocError`] if an allocation fails.
@@ -78,7 +78,7 @@ impl First {
     }
 }
 
-/// `skip;`, and the cursor behind it.
+/// `skip;`, and the cursor after it.
 pub(crate) fn skip<'a, 'b>(
     alloc: Global,
     symbols: &mut Symbols<'a>,
@@ -86,7 +86,7 @@ pub(crate) fn skip<'a, 'b>(
     depth: u32,
     from: Cursor<'a, 'b>,
 ) -> Result<(Stmt, Cursor<'a, 'b>), ParseError>
-    requires begins { fits (Word keyword.Skip) (next (left_at (spot from))) ≡ true }
+    requires begins { fits (KeywordKind keyword.Skip) (next (left_at (spot from))) ≡ true }
     requires names { length symbols.old + length (spot from).rest < 2 ^ 31 }
     requires depth { depth ≤ limit }
     ensures found { IfOk result (λ found. FoundAs (One StmtSymbol) depth symbols.old symbols.new (spot from.entry)
@@ -94,10 +94,10 @@ pub(crate) fn skip<'a, 'b>(
         (λ names inside. statement_tree names found.0 ≡ statement_in index inside)) }
     ensures one { IfOk result (λ found. (names : List Name) → count_of (statement_tree names found.0) ≡ 1) }
     ensures shorter { IfOk result (λ found. length (spot found.1).rest < length (spot from.entry).rest) }
-    ensures refused { IfErr result (λ error. IsRefused (Nonterminal (One StmtSymbol) depth) (spot from.entry) error) }
+    ensures refused { IfErr result (λ error. IsRefused (Subgoal (One StmtSymbol) depth) (spot from.entry) error) }
 {
-    let (word, last) = from.take(Lexeme::Word(Keyword::Skip), depth + 1)?;
-    let (_, end) = last.take(Lexeme::Sign(Punctuator::Semicolon), depth + 1)?;
+    let (word, last) = from.take(Lexeme::Keyword(Keyword::Skip), depth + 1)?;
+    let (_, end) = last.take(Lexeme::Punctuator(Punctuator::Semicolon), depth + 1)?;
     Ok((
         Stmt::Skip {
             index,
@@ -107,7 +107,7 @@ pub(crate) fn skip<'a, 'b>(
     ))
 }
 
-/// `suspend;`, and the cursor behind it.
+/// `suspend;`, and the cursor after it.
 pub(crate) fn suspend<'a, 'b>(
     alloc: Global,
     symbols: &mut Symbols<'a>,
@@ -115,7 +115,7 @@ pub(crate) fn suspend<'a, 'b>(
     depth: u32,
     from: Cursor<'a, 'b>,
 ) -> Result<(Stmt, Cursor<'a, 'b>), ParseError>
-    requires begins { fits (Word keyword.Suspend) (next (left_at (spot from))) ≡ true }
+    requires begins { fits (KeywordKind keyword.Suspend) (next (left_at (spot from))) ≡ true }
     requires names { length symbols.old + length (spot from).rest < 2 ^ 31 }
     requires depth { depth ≤ limit }
     ensures found { IfOk result (λ found. FoundAs (One StmtSymbol) depth symbols.old symbols.new (spot from.entry)
@@ -123,10 +123,10 @@ pub(crate) fn suspend<'a, 'b>(
         (λ names inside. statement_tree names found.0 ≡ statement_in index inside)) }
     ensures one { IfOk result (λ found. (names : List Name) → count_of (statement_tree names found.0) ≡ 1) }
     ensures shorter { IfOk result (λ found. length (spot found.1).rest < length (spot from.entry).rest) }
-    ensures refused { IfErr result (λ error. IsRefused (Nonterminal (One StmtSymbol) depth) (spot from.entry) error) }
+    ensures refused { IfErr result (λ error. IsRefused (Subgoal (One StmtSymbol) depth) (spot from.entry) error) }
 {
-    let (word, last) = from.take(Lexeme::Word(Keyword::Suspend), depth + 1)?;
-    let (_, end) = last.take(Lexeme::Sign(Punctuator::Semicolon), depth + 1)?;
+    let (word, last) = from.take(Lexeme::Keyword(Keyword::Suspend), depth + 1)?;
+    let (_, end) = last.take(Lexeme::Punctuator(Punctuator::Semicolon), depth + 1)?;
     Ok((
         Stmt::Suspend {
             index,
@@ -136,7 +136,7 @@ pub(crate) fn suspend<'a, 'b>(
     ))
 }
 
-/// `await g;`, and the cursor behind it.
+/// `await g;`, and the cursor after it.
 pub(crate) fn awaiting<'a, 'b>(
     alloc: Global,
     symbols: &mut Symbols<'a>,
@@ -144,7 +144,7 @@ pub(crate) fn awaiting<'a, 'b>(
     depth: u32,
     from: Cursor<'a, 'b>,
 ) -> Result<(Stmt, Cursor<'a, 'b>), ParseError>
-    requires begins { fits (Word keyword.Await) (next (left_at (spot from))) ≡ true }
+    requires begins { fits (KeywordKind keyword.Await) (next (left_at (spot from))) ≡ true }
     requires names { length symbols.old + length (spot from).rest < 2 ^ 31 }
     requires depth { depth ≤ limit }
     ensures found { IfOk result (λ found. FoundAs (One StmtSymbol) depth symbols.old symbols.new (spot from.entry)
@@ -152,11 +152,11 @@ pub(crate) fn awaiting<'a, 'b>(
         (λ names inside. statement_tree names found.0 ≡ statement_in index inside)) }
     ensures one { IfOk result (λ found. (names : List Name) → count_of (statement_tree names found.0) ≡ 1) }
     ensures shorter { IfOk result (λ found. length (spot found.1).rest < length (spot from.entry).rest) }
-    ensures refused { IfErr result (λ error. IsRefused (Nonterminal (One StmtSymbol) depth) (spot from.entry) error) }
+    ensures refused { IfErr result (λ error. IsRefused (Subgoal (One StmtSymbol) depth) (spot from.entry) error) }
 {
-    let (word, guard_at) = from.take(Lexeme::Word(Keyword::Await), depth + 1)?;
+    let (word, guard_at) = from.take(Lexeme::Keyword(Keyword::Await), depth + 1)?;
     let (guard, last) = guard(alloc, symbols, depth + 1, guard_at)?;
-    let (_, end) = last.take(Lexeme::Sign(Punctuator::Semicolon), depth + 1)?;
+    let (_, end) = last.take(Lexeme::Punctuator(Punctuator::Semicolon), depth + 1)?;
     let stmt = Stmt::Await {
         index,
         place: word.place,
@@ -165,7 +165,7 @@ pub(crate) fn awaiting<'a, 'b>(
     Ok((stmt, end))
 }
 
-/// `return e;`, and the cursor behind it.
+/// `return e;`, and the cursor after it.
 pub(crate) fn returning<'a, 'b>(
     alloc: Global,
     symbols: &mut Symbols<'a>,
@@ -173,7 +173,7 @@ pub(crate) fn returning<'a, 'b>(
     depth: u32,
     from: Cursor<'a, 'b>,
 ) -> Result<(Stmt, Cursor<'a, 'b>), ParseError>
-    requires begins { fits (Word keyword.Return) (next (left_at (spot from))) ≡ true }
+    requires begins { fits (KeywordKind keyword.Return) (next (left_at (spot from))) ≡ true }
     requires names { length symbols.old + length (spot from).rest < 2 ^ 31 }
     requires depth { depth ≤ limit }
     ensures found { IfOk result (λ found. FoundAs (One StmtSymbol) depth symbols.old symbols.new (spot from.entry)
@@ -181,11 +181,11 @@ pub(crate) fn returning<'a, 'b>(
         (λ names inside. statement_tree names found.0 ≡ statement_in index inside)) }
     ensures one { IfOk result (λ found. (names : List Name) → count_of (statement_tree names found.0) ≡ 1) }
     ensures shorter { IfOk result (λ found. length (spot found.1).rest < length (spot from.entry).rest) }
-    ensures refused { IfErr result (λ error. IsRefused (Nonterminal (One StmtSymbol) depth) (spot from.entry) error) }
+    ensures refused { IfErr result (λ error. IsRefused (Subgoal (One StmtSymbol) depth) (spot from.entry) error) }
 {
-    let (word, value_at) = from.take(Lexeme::Word(Keyword::Return), depth + 1)?;
+    let (word, value_at) = from.take(Lexeme::Keyword(Keyword::Return), depth + 1)?;
     let (value, last) = expression(alloc, symbols, depth + 1, value_at)?;
-    let (_, end) = last.take(Lexeme::Sign(Punctuator::Semicolon), depth + 1)?;
+    let (_, end) = last.take(Lexeme::Punctuator(Punctuator::Semicolon), depth + 1)?;
     let value = Arc::new(alloc, value)?;
     let stmt = Stmt::Return {
         index,
@@ -195,7 +195,7 @@ pub(crate) fn returning<'a, 'b>(
     Ok((stmt, end))
 }
 
-/// `println(e);`, and the cursor behind it.
+/// `println(e);`, and the cursor after it.
 pub(crate) fn printing<'a, 'b>(
     alloc: Global,
     symbols: &mut Symbols<'a>,
@@ -203,7 +203,7 @@ pub(crate) fn printing<'a, 'b>(
     depth: u32,
     from: Cursor<'a, 'b>,
 ) -> Result<(Stmt, Cursor<'a, 'b>), ParseError>
-    requires begins { fits (Word keyword.Println) (next (left_at (spot from))) ≡ true }
+    requires begins { fits (KeywordKind keyword.Println) (next (left_at (spot from))) ≡ true }
     requires names { length symbols.old + length (spot from).rest < 2 ^ 31 }
     requires depth { depth ≤ limit }
     ensures found { IfOk result (λ found. FoundAs (One StmtSymbol) depth symbols.old symbols.new (spot from.entry)
@@ -211,13 +211,13 @@ pub(crate) fn printing<'a, 'b>(
         (λ names inside. statement_tree names found.0 ≡ statement_in index inside)) }
     ensures one { IfOk result (λ found. (names : List Name) → count_of (statement_tree names found.0) ≡ 1) }
     ensures shorter { IfOk result (λ found. length (spot found.1).rest < length (spot from.entry).rest) }
-    ensures refused { IfErr result (λ error. IsRefused (Nonterminal (One StmtSymbol) depth) (spot from.entry) error) }
+    ensures refused { IfErr result (λ error. IsRefused (Subgoal (One StmtSymbol) depth) (spot from.entry) error) }
 {
-    let (word, open) = from.take(Lexeme::Word(Keyword::Println), depth + 1)?;
-    let (_, text_at) = open.take(Lexeme::Sign(Punctuator::OpenParen), depth + 1)?;
+    let (word, open) = from.take(Lexeme::Keyword(Keyword::Println), depth + 1)?;
+    let (_, text_at) = open.take(Lexeme::Punctuator(Punctuator::OpenParen), depth + 1)?;
     let (text, close) = expression(alloc, symbols, depth + 1, text_at)?;
-    let (_, last) = close.take(Lexeme::Sign(Punctuator::CloseParen), depth + 1)?;
-    let (_, end) = last.take(Lexeme::Sign(Punctuator::Semicolon), depth + 1)?;
+    let (_, last) = close.take(Lexeme::Punctuator(Punctuator::CloseParen), depth + 1)?;
+    let (_, end) = last.take(Lexeme::Punctuator(Punctuator::Semicolon), depth + 1)?;
     let value = Arc::new(alloc, text)?;
     let stmt = Stmt::Print {
         index,
@@ -227,7 +227,7 @@ pub(crate) fn printing<'a, 'b>(
     Ok((stmt, end))
 }
 
-/// `T x;` or `T x = r;`, and the cursor behind it.
+/// `T x;` or `T x = r;`, and the cursor after it.
 pub(crate) fn declaration<'a, 'b>(
     alloc: Global,
     symbols: &mut Symbols<'a>,
@@ -243,13 +243,13 @@ pub(crate) fn declaration<'a, 'b>(
         (λ names inside. statement_tree names found.0 ≡ statement_in index inside)) }
     ensures one { IfOk result (λ found. (names : List Name) → count_of (statement_tree names found.0) ≡ 1) }
     ensures shorter { IfOk result (λ found. length (spot found.1).rest < length (spot from.entry).rest) }
-    ensures refused { IfErr result (λ error. IsRefused (Nonterminal (One StmtSymbol) depth) (spot from.entry) error) }
+    ensures refused { IfErr result (λ error. IsRefused (Subgoal (One StmtSymbol) depth) (spot from.entry) error) }
 {
     let (type_of, name_at) = type_term(alloc, symbols, depth + 1, from)?;
     let (name, behind) = name_at.take(Lexeme::LowerName, depth + 1)?;
     let variable = Variable::Unresolved(symbols.intern(name.slice)?);
     let (initial, last) = initial(alloc, symbols, depth + 1, behind)?;
-    let (_, end) = last.take(Lexeme::Sign(Punctuator::Semicolon), depth + 1)?;
+    let (_, end) = last.take(Lexeme::Punctuator(Punctuator::Semicolon), depth + 1)?;
     let stmt = Stmt::Declare {
         index,
         place: from.place(),
@@ -261,7 +261,7 @@ pub(crate) fn declaration<'a, 'b>(
     Ok((stmt, end))
 }
 
-/// `= r`, where it stands here, and the cursor behind it.
+/// `= r`, if it is next, and the cursor after it.
 fn initial<'a, 'b>(
     alloc: Global,
     symbols: &mut Symbols<'a>,
@@ -273,16 +273,16 @@ fn initial<'a, 'b>(
     ensures found { IfOk result (λ found. FoundAs (Optional Initial) depth symbols.old symbols.new (spot from.entry)
         (spot found.1)
         (λ names inside. maybe_side names found.0 ≡ initial_in inside)) }
-    ensures refused { IfErr result (λ error. IsRefused (Nonterminal (Optional Initial) depth) (spot from.entry) error) }
+    ensures refused { IfErr result (λ error. IsRefused (Subgoal (Optional Initial) depth) (spot from.entry) error) }
 {
-    let Some((_, behind)) = from.accept(Lexeme::Sign(Punctuator::Assign)) else {
+    let Some((_, behind)) = from.accept(Lexeme::Punctuator(Punctuator::Assign)) else {
         return Ok((None, from));
     };
     let (side, end) = right_side(alloc, symbols, depth, behind)?;
     Ok((Some(side), end))
 }
 
-/// A statement that begins with a name: `x = r;`, or a right side; and the cursor behind it.
+/// A statement that begins with a name: `x = r;`, or a right side; and the cursor after it.
 pub(crate) fn from_variable<'a, 'b>(
     alloc: Global,
     symbols: &mut Symbols<'a>,
@@ -298,7 +298,7 @@ pub(crate) fn from_variable<'a, 'b>(
         (λ names inside. statement_tree names found.0 ≡ statement_in index inside)) }
     ensures one { IfOk result (λ found. (names : List Name) → count_of (statement_tree names found.0) ≡ 1) }
     ensures shorter { IfOk result (λ found. length (spot found.1).rest < length (spot from.entry).rest) }
-    ensures refused { IfErr result (λ error. IsRefused (Nonterminal (One StmtSymbol) depth) (spot from.entry) error) }
+    ensures refused { IfErr result (λ error. IsRefused (Subgoal (One StmtSymbol) depth) (spot from.entry) error) }
 {
     // the name is part of a right side, and so nested in an expression and a unary too
     let side = depth + 1;
@@ -308,7 +308,7 @@ pub(crate) fn from_variable<'a, 'b>(
     behind_first(alloc, symbols, index, side, first, behind)
 }
 
-/// A statement that begins with `this`: `this.x = r;`, or a right side; and the cursor behind it.
+/// A statement that begins with `this`: `this.x = r;`, or a right side; and the cursor after it.
 pub(crate) fn from_this<'a, 'b>(
     alloc: Global,
     symbols: &mut Symbols<'a>,
@@ -316,7 +316,7 @@ pub(crate) fn from_this<'a, 'b>(
     depth: u32,
     from: Cursor<'a, 'b>,
 ) -> Result<(Stmt, Cursor<'a, 'b>), ParseError>
-    requires begins { fits (Word keyword.This) (next (left_at (spot from))) ≡ true }
+    requires begins { fits (KeywordKind keyword.This) (next (left_at (spot from))) ≡ true }
     requires names { length symbols.old + length (spot from).rest < 2 ^ 31 }
     requires depth { depth ≤ limit }
     ensures found { IfOk result (λ found. FoundAs (One StmtSymbol) depth symbols.old symbols.new (spot from.entry)
@@ -324,12 +324,12 @@ pub(crate) fn from_this<'a, 'b>(
         (λ names inside. statement_tree names found.0 ≡ statement_in index inside)) }
     ensures one { IfOk result (λ found. (names : List Name) → count_of (statement_tree names found.0) ≡ 1) }
     ensures shorter { IfOk result (λ found. length (spot found.1).rest < length (spot from.entry).rest) }
-    ensures refused { IfErr result (λ error. IsRefused (Nonterminal (One StmtSymbol) depth) (spot from.entry) error) }
+    ensures refused { IfErr result (λ error. IsRefused (Subgoal (One StmtSymbol) depth) (spot from.entry) error) }
 {
     // `this` is part of a right side, and so nested in an expression and a unary too
     let side = depth + 1;
-    let (this, behind) = from.take(Lexeme::Word(Keyword::This), side + 2)?;
-    let Some((_, name_at)) = behind.accept(Lexeme::Sign(Punctuator::Dot)) else {
+    let (this, behind) = from.take(Lexeme::Keyword(Keyword::This), side + 2)?;
+    let Some((_, name_at)) = behind.accept(Lexeme::Punctuator(Punctuator::Dot)) else {
         let expr = Expr::This(this.place);
         let (side, end) = rest(alloc, symbols, side, this.place, expr, behind)?;
         let stmt = Stmt::Do {
@@ -345,8 +345,8 @@ pub(crate) fn from_this<'a, 'b>(
     behind_first(alloc, symbols, index, side, first, last)
 }
 
-/// What stands behind the variable or the field with which a statement begins: `= r;`, or the rest of a right side;
-/// and the cursor behind it.
+/// What follows the variable or the field with which a statement begins: `= r;`, or the rest of a right side; and the
+/// cursor after it.
 fn behind_first<'a, 'b>(
     alloc: Global,
     symbols: &mut Symbols<'a>,
@@ -361,12 +361,12 @@ fn behind_first<'a, 'b>(
         (spot found.1)
         (λ names inside. statement_tree names found.0 ≡ after_first index names first inside)) }
     ensures one { IfOk result (λ found. (names : List Name) → count_of (statement_tree names found.0) ≡ 1) }
-    ensures refused { IfErr result (λ error. IsRefused (Nonterminal (One AfterName) depth) (spot from.entry) error) }
+    ensures refused { IfErr result (λ error. IsRefused (Subgoal (One AfterName) depth) (spot from.entry) error) }
 {
     let place = first.place();
-    if let Some((_, side_at)) = from.accept(Lexeme::Sign(Punctuator::Assign)) {
+    if let Some((_, side_at)) = from.accept(Lexeme::Punctuator(Punctuator::Assign)) {
         let (side, last) = right_side(alloc, symbols, depth, side_at)?;
-        let (_, end) = last.take(Lexeme::Sign(Punctuator::Semicolon), depth)?;
+        let (_, end) = last.take(Lexeme::Punctuator(Punctuator::Semicolon), depth)?;
         let stmt = Stmt::Assign {
             index,
             place,
@@ -381,7 +381,7 @@ fn behind_first<'a, 'b>(
     Ok((Stmt::Do { index, place, side }, end))
 }
 
-/// The rest of a right side, behind its first operand, which begins at `place`; `;`; and the cursor behind it.
+/// The rest of a right side, after its first operand, which begins at `place`; `;`; and the cursor after it.
 fn rest<'a, 'b>(
     alloc: Global,
     symbols: &mut Symbols<'a>,
@@ -395,16 +395,32 @@ fn rest<'a, 'b>(
     ensures found { IfOk result (λ found. FoundAs (One Rest) depth symbols.old symbols.new (spot from.entry)
         (spot found.1)
         (λ names inside. side_tree names found.0 ≡ rest_in place (phrase names first) inside)) }
-    ensures refused { IfErr result (λ error. IsRefused (Nonterminal (One Rest) depth) (spot from.entry) error) }
+    ensures refused { IfErr result (λ error. IsRefused (Subgoal (One Rest) depth) (spot from.entry) error) }
 {
-    let level = depth + 1;
-    let (product, here) = operators_behind(alloc, symbols, Level::Mul, level, place, first, from)?;
-    let (sum, here) = operators_behind(alloc, symbols, Level::Sum, level, place, product, here)?;
+    let precedence = depth + 1;
+    let (product, here) = operators_behind(
+        alloc,
+        symbols,
+        Precedence::Mul,
+        precedence,
+        place,
+        first,
+        from,
+    )?;
+    let (sum, here) = operators_behind(
+        alloc,
+        symbols,
+        Precedence::Sum,
+        precedence,
+        place,
+        product,
+        here,
+    )?;
     let (comparison, here) = operators_behind(
         alloc,
         symbols,
-        Level::Compare,
-        level,
+        Precedence::Compare,
+        precedence,
         place,
         sum,
         here,
@@ -412,8 +428,8 @@ fn rest<'a, 'b>(
     let (equality, here) = operators_behind(
         alloc,
         symbols,
-        Level::Equal,
-        level,
+        Precedence::Equal,
+        precedence,
         place,
         comparison,
         here,
@@ -421,8 +437,8 @@ fn rest<'a, 'b>(
     let (conjunction, here) = operators_behind(
         alloc,
         symbols,
-        Level::And,
-        level,
+        Precedence::And,
+        precedence,
         place,
         equality,
         here,
@@ -430,18 +446,18 @@ fn rest<'a, 'b>(
     let (disjunction, here) = operators_behind(
         alloc,
         symbols,
-        Level::Or,
-        level,
+        Precedence::Or,
+        precedence,
         place,
         conjunction,
         here,
     )?;
     let (side, last) = side_behind(alloc, symbols, depth, place, disjunction, here)?;
-    let (_, end) = last.take(Lexeme::Sign(Punctuator::Semicolon), depth)?;
+    let (_, end) = last.take(Lexeme::Punctuator(Punctuator::Semicolon), depth)?;
     Ok((side, end))
 }
 
-/// A right side as a statement, `r;`, where the next token begins no other statement; and the cursor behind it.
+/// A right side as a statement, `r;`, where the next token begins no other statement; and the cursor after it.
 pub(crate) fn plain<'a, 'b>(
     alloc: Global,
     symbols: &mut Symbols<'a>,
@@ -457,10 +473,10 @@ pub(crate) fn plain<'a, 'b>(
         (λ names inside. statement_tree names found.0 ≡ statement_in index inside)) }
     ensures one { IfOk result (λ found. (names : List Name) → count_of (statement_tree names found.0) ≡ 1) }
     ensures shorter { IfOk result (λ found. length (spot found.1).rest < length (spot from.entry).rest) }
-    ensures refused { IfErr result (λ error. IsRefused (Nonterminal (One StmtSymbol) depth) (spot from.entry) error) }
+    ensures refused { IfErr result (λ error. IsRefused (Subgoal (One StmtSymbol) depth) (spot from.entry) error) }
 {
     let (side, last) = right_side(alloc, symbols, depth + 1, from)?;
-    let (_, end) = last.take(Lexeme::Sign(Punctuator::Semicolon), depth + 1)?;
+    let (_, end) = last.take(Lexeme::Punctuator(Punctuator::Semicolon), depth + 1)?;
     let stmt = Stmt::Do {
         index,
         place: from.place(),

@@ -5,9 +5,9 @@ ghost use Rattle.abs_lexer.specs.declared.lexeme.Punctuator.TheVariants as punct
 ghost use Rattle.abs_tree.specs.Syntax.{Name};
 ghost use Rattle.abs_tree.specs.SyntaxSizes.{count_of, count_of_else, statement_count};
 ghost use Rattle.abs_tree.specs.SyntaxViews.{statement as statement_tree, statements as statement_trees, maybe_statements};
-ghost use Rattle.abs_parser.specs.Kinds.{Sign, Word, fits, next};
+ghost use Rattle.abs_parser.specs.TokenKinds.{PunctuatorKind, KeywordKind, fits, next};
 ghost use Rattle.abs_parser.specs.Productions.{Stmt as StmtSymbol, Block as BlockSymbol, Else};
-ghost use Rattle.abs_parser.specs.Readings.{One, Optional, Nonterminal};
+ghost use Rattle.abs_parser.specs.Readings.{One, Optional, Subgoal};
 ghost use Rattle.abs_parser.specs.ReaderAnswers.{FoundAs, IsRefused, left_at};
 ghost use Rattle.abs_parser.specs.Stops.{limit};
 ghost use Rattle.abs_parser.specs.Firsts.{IsBlock};
@@ -26,11 +26,11 @@ use abs_tree::syntax::{Body, Stmt};
 use std::alloc::{AllocError, Global};
 use std::sync::Arc;
 
-/// A statement that stands in so many counted symbols, whose first index is free; the index that is free after it;
-/// and the cursor behind it.
+/// A statement nested in `depth` counted nonterminals, with `index` as its first index; the index that is
+/// free after it; and the cursor after it.
 ///
 /// # Errors
-/// The refusal of the first token that no statement has there, or that stands too deep.
+/// The refusal of the first token that no statement has there, or that is too deeply nested.
 #[cycle(statements)]
 pub(crate) fn statement<'a, 'b>(
     alloc: Global,
@@ -48,16 +48,16 @@ pub(crate) fn statement<'a, 'b>(
     ensures free { IfOk result (λ found. (names : List Name)
         → found.1 ≡ index + count_of (statement_tree names found.0)) }
     ensures few { IfOk result (λ found. found.1 + length (spot found.2).rest ≤ index + length (spot from.entry).rest) }
-    ensures refused { IfErr result (λ error. IsRefused (Nonterminal (One StmtSymbol) depth) (spot from.entry) error) }
+    ensures refused { IfErr result (λ error. IsRefused (Subgoal (One StmtSymbol) depth) (spot from.entry) error) }
 {
     let Some((token, _)) = from.next() else {
         return Err(from.wrong());
     };
     let (stmt, end) = match token.kind {
-        Lexeme::Word(word) => return worded(alloc, symbols, index, depth, word, from),
+        Lexeme::Keyword(word) => return worded(alloc, symbols, index, depth, word, from),
         Lexeme::UpperName => declaration(alloc, symbols, index, depth, from)?,
         Lexeme::LowerName => from_variable(alloc, symbols, index, depth, from)?,
-        Lexeme::Sign(sign) => {
+        Lexeme::Punctuator(sign) => {
             if sign == Punctuator::OpenBrace {
                 return nested(alloc, symbols, index, depth, from);
             }
@@ -70,7 +70,7 @@ pub(crate) fn statement<'a, 'b>(
     Ok((stmt, index + 1, end))
 }
 
-/// A statement that begins with a word.
+/// A statement that begins with a keyword.
 #[cycle(statements)]
 fn worded<'a, 'b>(
     alloc: Global,
@@ -80,7 +80,7 @@ fn worded<'a, 'b>(
     word: Keyword,
     from: Cursor<'a, 'b>,
 ) -> Result<(Stmt, u32, Cursor<'a, 'b>), ParseError>
-    requires begins { next (left_at (spot from)) ≡ Word word }
+    requires begins { next (left_at (spot from)) ≡ KeywordKind word }
     requires names { length symbols.old + length (spot from).rest < 2 ^ 31 }
     requires few { index + length (spot from).rest < 2 ^ 31 }
     requires depth { depth ≤ limit }
@@ -90,7 +90,7 @@ fn worded<'a, 'b>(
     ensures free { IfOk result (λ found. (names : List Name)
         → found.1 ≡ index + count_of (statement_tree names found.0)) }
     ensures few { IfOk result (λ found. found.1 + length (spot found.2).rest ≤ index + length (spot from.entry).rest) }
-    ensures refused { IfErr result (λ error. IsRefused (Nonterminal (One StmtSymbol) depth) (spot from.entry) error) }
+    ensures refused { IfErr result (λ error. IsRefused (Subgoal (One StmtSymbol) depth) (spot from.entry) error) }
 {
     let (stmt, end) = match word {
         Keyword::If => return conditional(alloc, symbols, index, depth, from),
@@ -115,7 +115,7 @@ fn nested<'a, 'b>(
     depth: u32,
     from: Cursor<'a, 'b>,
 ) -> Result<(Stmt, u32, Cursor<'a, 'b>), ParseError>
-    requires begins { fits (Sign punctuator.OpenBrace) (next (left_at (spot from))) ≡ true }
+    requires begins { fits (PunctuatorKind punctuator.OpenBrace) (next (left_at (spot from))) ≡ true }
     requires names { length symbols.old + length (spot from).rest < 2 ^ 31 }
     requires few { index + length (spot from).rest < 2 ^ 31 }
     requires depth { depth ≤ limit }
@@ -125,7 +125,7 @@ fn nested<'a, 'b>(
     ensures free { IfOk result (λ found. (names : List Name)
         → found.1 ≡ index + count_of (statement_tree names found.0)) }
     ensures few { IfOk result (λ found. found.1 + length (spot found.2).rest ≤ index + length (spot from.entry).rest) }
-    ensures refused { IfErr result (λ error. IsRefused (Nonterminal (One StmtSymbol) depth) (spot from.entry) error) }
+    ensures refused { IfErr result (λ error. IsRefused (Subgoal (One StmtSymbol) depth) (spot from.entry) error) }
 {
     let place = from.place();
     let (body, behind, end) = block(alloc, symbols, index, depth + 1, from)?;
@@ -141,7 +141,7 @@ fn conditional<'a, 'b>(
     depth: u32,
     from: Cursor<'a, 'b>,
 ) -> Result<(Stmt, u32, Cursor<'a, 'b>), ParseError>
-    requires begins { fits (Word keyword.If) (next (left_at (spot from))) ≡ true }
+    requires begins { fits (KeywordKind keyword.If) (next (left_at (spot from))) ≡ true }
     requires names { length symbols.old + length (spot from).rest < 2 ^ 31 }
     requires few { index + length (spot from).rest < 2 ^ 31 }
     requires depth { depth ≤ limit }
@@ -151,12 +151,12 @@ fn conditional<'a, 'b>(
     ensures free { IfOk result (λ found. (names : List Name)
         → found.1 ≡ index + count_of (statement_tree names found.0)) }
     ensures few { IfOk result (λ found. found.1 + length (spot found.2).rest ≤ index + length (spot from.entry).rest) }
-    ensures refused { IfErr result (λ error. IsRefused (Nonterminal (One StmtSymbol) depth) (spot from.entry) error) }
+    ensures refused { IfErr result (λ error. IsRefused (Subgoal (One StmtSymbol) depth) (spot from.entry) error) }
 {
-    let (word, open) = from.take(Lexeme::Word(Keyword::If), depth + 1)?;
-    let (_, test_at) = open.take(Lexeme::Sign(Punctuator::OpenParen), depth + 1)?;
+    let (word, open) = from.take(Lexeme::Keyword(Keyword::If), depth + 1)?;
+    let (_, test_at) = open.take(Lexeme::Punctuator(Punctuator::OpenParen), depth + 1)?;
     let (test, close) = expression(alloc, symbols, depth + 1, test_at)?;
-    let (_, first_at) = close.take(Lexeme::Sign(Punctuator::CloseParen), depth + 1)?;
+    let (_, first_at) = close.take(Lexeme::Punctuator(Punctuator::CloseParen), depth + 1)?;
     let (first, middle, here) = statement(alloc, symbols, index + 1, depth + 1, first_at)?;
     let condition = Arc::new(alloc, test)?;
     let first = branch(alloc, first)?;
@@ -171,7 +171,7 @@ fn conditional<'a, 'b>(
     Ok((stmt, behind, end))
 }
 
-/// `else s`, where it stands here.
+/// `else s`, if it is next.
 #[cycle(statements)]
 fn otherwise<'a, 'b>(
     alloc: Global,
@@ -189,9 +189,9 @@ fn otherwise<'a, 'b>(
     ensures free { IfOk result (λ found. (names : List Name)
         → found.1 ≡ index + count_of_else (maybe_statements names found.0)) }
     ensures few { IfOk result (λ found. found.1 + length (spot found.2).rest ≤ index + length (spot from.entry).rest) }
-    ensures refused { IfErr result (λ error. IsRefused (Nonterminal (Optional Else) depth) (spot from.entry) error) }
+    ensures refused { IfErr result (λ error. IsRefused (Subgoal (Optional Else) depth) (spot from.entry) error) }
 {
-    let Some((_, other_at)) = from.accept(Lexeme::Word(Keyword::Else)) else {
+    let Some((_, other_at)) = from.accept(Lexeme::Keyword(Keyword::Else)) else {
         return Ok((None, index, from));
     };
     let (other, behind, end) = statement(alloc, symbols, index, depth, other_at)?;
@@ -207,7 +207,7 @@ fn looping<'a, 'b>(
     depth: u32,
     from: Cursor<'a, 'b>,
 ) -> Result<(Stmt, u32, Cursor<'a, 'b>), ParseError>
-    requires begins { fits (Word keyword.While) (next (left_at (spot from))) ≡ true }
+    requires begins { fits (KeywordKind keyword.While) (next (left_at (spot from))) ≡ true }
     requires names { length symbols.old + length (spot from).rest < 2 ^ 31 }
     requires few { index + length (spot from).rest < 2 ^ 31 }
     requires depth { depth ≤ limit }
@@ -217,12 +217,12 @@ fn looping<'a, 'b>(
     ensures free { IfOk result (λ found. (names : List Name)
         → found.1 ≡ index + count_of (statement_tree names found.0)) }
     ensures few { IfOk result (λ found. found.1 + length (spot found.2).rest ≤ index + length (spot from.entry).rest) }
-    ensures refused { IfErr result (λ error. IsRefused (Nonterminal (One StmtSymbol) depth) (spot from.entry) error) }
+    ensures refused { IfErr result (λ error. IsRefused (Subgoal (One StmtSymbol) depth) (spot from.entry) error) }
 {
-    let (word, open) = from.take(Lexeme::Word(Keyword::While), depth + 1)?;
-    let (_, test_at) = open.take(Lexeme::Sign(Punctuator::OpenParen), depth + 1)?;
+    let (word, open) = from.take(Lexeme::Keyword(Keyword::While), depth + 1)?;
+    let (_, test_at) = open.take(Lexeme::Punctuator(Punctuator::OpenParen), depth + 1)?;
     let (test, close) = expression(alloc, symbols, depth + 1, test_at)?;
-    let (_, body_at) = close.take(Lexeme::Sign(Punctuator::CloseParen), depth + 1)?;
+    let (_, body_at) = close.take(Lexeme::Punctuator(Punctuator::CloseParen), depth + 1)?;
     let (body, behind, end) = statement(alloc, symbols, index + 1, depth + 1, body_at)?;
     let condition = Arc::new(alloc, test)?;
     let body = branch(alloc, body)?;
@@ -236,10 +236,10 @@ fn looping<'a, 'b>(
 }
 
 /// The statements between `{` and `}`, with the place of the `}`; the index that is free after them; and the cursor
-/// behind it.
+/// after it.
 ///
 /// # Errors
-/// The refusal of the first token that no block has there, or that stands too deep.
+/// The refusal of the first token that no block has there, or that is too deeply nested.
 #[cycle(statements)]
 pub(crate) fn block<'a, 'b>(
     alloc: Global,
@@ -257,18 +257,18 @@ pub(crate) fn block<'a, 'b>(
     ensures free { IfOk result (λ found. (names : List Name)
         → found.1 ≡ index + statement_count (statement_trees names found.0.statements.items)) }
     ensures few { IfOk result (λ found. found.1 + length (spot found.2).rest ≤ index + length (spot from.entry).rest) }
-    ensures refused { IfErr result (λ error. IsRefused (Nonterminal (One BlockSymbol) depth) (spot from.entry) error) }
+    ensures refused { IfErr result (λ error. IsRefused (Subgoal (One BlockSymbol) depth) (spot from.entry) error) }
 {
-    let (_, mut here) = from.take(Lexeme::Sign(Punctuator::OpenBrace), depth)?;
+    let (_, mut here) = from.take(Lexeme::Punctuator(Punctuator::OpenBrace), depth)?;
     let mut statements = Vec::new(alloc);
     let mut free = index;
-    while !here.is(Lexeme::Sign(Punctuator::CloseBrace)) {
+    while !here.is(Lexeme::Punctuator(Punctuator::CloseBrace)) {
         let (next, behind, end) = statement(alloc, symbols, free, depth, here)?;
         statements.push(next)?;
         free = behind;
         here = end;
     }
-    let (close, end) = here.take(Lexeme::Sign(Punctuator::CloseBrace), depth)?;
+    let (close, end) = here.take(Lexeme::Punctuator(Punctuator::CloseBrace), depth)?;
     let body = Body {
         statements,
         end: close.place,

@@ -2,7 +2,7 @@
 ghost use Rattle.std.specs.Prelude.{◌≡◌, ◌+◌, ◌<◌, ◌≤◌, ◌^◌, length, IfOk, IfErr};
 ghost use Rattle.abs_tree.specs.SyntaxViews.{type_tree, type_trees};
 ghost use Rattle.abs_parser.specs.Productions.{Type', TypeArguments as ArgumentsOfType, Types};
-ghost use Rattle.abs_parser.specs.Readings.{One, Optional, Nonterminal};
+ghost use Rattle.abs_parser.specs.Readings.{One, Optional, Subgoal};
 ghost use Rattle.abs_parser.specs.ReaderAnswers.{FoundAs, IsRefused};
 ghost use Rattle.abs_parser.specs.Stops.{limit};
 ghost use Rattle.abs_parser.specs.TreesOf.{type_in, type_arguments as arguments_in, types_in};
@@ -16,10 +16,10 @@ use abs_tree::syntax::TypeTerm;
 use std::alloc::Global;
 use std::sync::Arc;
 
-/// A type that stands in so many counted symbols, and the cursor behind it.
+/// A type nested in `depth` counted nonterminals, and the cursor after it.
 ///
 /// # Errors
-/// The refusal of the first token that no type has there, or that stands too deep.
+/// The refusal of the first token that no type has there, or that is too deeply nested.
 #[cycle(types)]
 pub(crate) fn type_term<'a, 'b>(
     alloc: Global,
@@ -32,7 +32,7 @@ pub(crate) fn type_term<'a, 'b>(
     ensures found { IfOk result (λ found. FoundAs (One Type') depth symbols.old symbols.new (spot from.entry)
         (spot found.1)
         (λ names inside. type_tree names found.0 ≡ type_in inside)) }
-    ensures refused { IfErr result (λ error. IsRefused (Nonterminal (One Type') depth) (spot from.entry) error) }
+    ensures refused { IfErr result (λ error. IsRefused (Subgoal (One Type') depth) (spot from.entry) error) }
 {
     let (name, behind) = from.take(Lexeme::UpperName, depth + 1)?;
     let symbol = symbols.intern(name.slice)?;
@@ -45,7 +45,7 @@ pub(crate) fn type_term<'a, 'b>(
     Ok((term, end))
 }
 
-/// The types between `<` and `>`, where there are any, and the cursor behind them.
+/// The types between `<` and `>`, where there are any, and the cursor after them.
 #[cycle(types)]
 fn type_arguments<'a, 'b>(
     alloc: Global,
@@ -58,18 +58,18 @@ fn type_arguments<'a, 'b>(
     ensures found { IfOk result (λ found. FoundAs (Optional ArgumentsOfType) depth symbols.old symbols.new
         (spot from.entry) (spot found.1)
         (λ names inside. type_trees names found.0.items ≡ arguments_in inside)) }
-    ensures refused { IfErr result (λ error. IsRefused (Nonterminal (Optional ArgumentsOfType) depth)
+    ensures refused { IfErr result (λ error. IsRefused (Subgoal (Optional ArgumentsOfType) depth)
         (spot from.entry) error) }
 {
-    let Some((_, behind)) = from.accept(Lexeme::Sign(Punctuator::Less)) else {
+    let Some((_, behind)) = from.accept(Lexeme::Punctuator(Punctuator::Less)) else {
         return Ok((Vec::new(alloc), from));
     };
     let (types, close) = types(alloc, symbols, depth, behind)?;
-    let (_, end) = close.take(Lexeme::Sign(Punctuator::Greater), depth)?;
+    let (_, end) = close.take(Lexeme::Punctuator(Punctuator::Greater), depth)?;
     Ok((types, end))
 }
 
-/// A type, and others behind commas, and the cursor behind them.
+/// A type, and others after commas, and the cursor after them.
 #[cycle(types)]
 pub(crate) fn types<'a, 'b>(
     alloc: Global,
@@ -82,11 +82,11 @@ pub(crate) fn types<'a, 'b>(
     ensures found { IfOk result (λ found. FoundAs (One Types) depth symbols.old symbols.new (spot from.entry)
         (spot found.1)
         (λ names inside. type_trees names found.0.items ≡ types_in inside)) }
-    ensures refused { IfErr result (λ error. IsRefused (Nonterminal (One Types) depth) (spot from.entry) error) }
+    ensures refused { IfErr result (λ error. IsRefused (Subgoal (One Types) depth) (spot from.entry) error) }
 {
     let (first, mut here) = type_term(alloc, symbols, depth, from)?;
     let mut types = vec![in alloc; first]?;
-    while let Some((_, behind)) = here.accept(Lexeme::Sign(Punctuator::Comma)) {
+    while let Some((_, behind)) = here.accept(Lexeme::Punctuator(Punctuator::Comma)) {
         let (next, end) = type_term(alloc, symbols, depth, behind)?;
         types.push(next)?;
         here = end;

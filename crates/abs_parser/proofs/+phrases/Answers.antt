@@ -6,24 +6,24 @@ use Rattle.abs_parser.proofs.ExpressionSteps.{or_found, or_refused, if_opened, i
 use Rattle.abs_parser.proofs.FirstPlaceLemmas.{found_within}
 use Rattle.abs_parser.proofs.ListLemmas.{list_of_expressions, trees_of_expressions, arguments}
 use Rattle.abs_parser.proofs.ListSteps.{first_so_far, next_so_far, all_so_far, refused_first, refused_next, maybe_found, refused_between, parentheses_left_out, parentheses_follow, parentheses_opened, parentheses_shut, parenthesis_read, nothing_between}
-use Rattle.abs_parser.proofs.OperatorLemmas.{no_operand_read, next_operand_refused, next_operand_read, last_operand_found, operators_end, first_operand_read, level_found}
-use Rattle.abs_parser.proofs.ClimbingLemmas.{unary_refused, level_refused, nothing_follows, same_level, other_level, last_level, next_order, next_operand}
+use Rattle.abs_parser.proofs.OperatorLemmas.{no_operand_read, next_operand_refused, next_operand_read, last_operand_found, operators_end, first_operand_read, precedence_found}
+use Rattle.abs_parser.proofs.ClimbingLemmas.{unary_refused, precedence_refused, nothing_follows, same_precedence, other_precedence, last_precedence, next_order, next_operand}
 use Rattle.abs_parser.proofs.PatternSteps.{next_taken}
 use Rattle.abs_parser.proofs.PrimaryLemmas.{other_word, no_tail, tree_by, named_tree, built_tree, member_tree, this_tree, group_tree, prefixed_tree, build_phrase, constant_phrase}
 use Rattle.abs_parser.proofs.PrimarySteps.{stands, first_read, name_read, member_begins, call_found, prefix_read, prefix_refused, operand_found, operand_refused, refused_primary, refused_lower, refused_upper, refused_group, refused_word, unary_refused_at_end, primary_refused_at_end, refused_no_primary}
 use Rattle.abs_parser.proofs.WordSteps.{word_refused}
-use Rattle.abs_parser.proofs.StepLemmas.{token_shorter, found_shorter, opens, over_token, over_name, over_part, into_last, all_read, refused_inside, refused_first_token, fits_next, found_few, passed_on}
-use Rattle.abs_parser.specs.Kinds.{Kind, Sign, fits, Word}
-use Rattle.abs_parser.specs.Productions.{Primary, ThisTail, Expr, Arguments}
+use Rattle.abs_parser.proofs.StepLemmas.{token_shorter, found_shorter, opens, over_token, over_name, over_part, into_last, all_read, refused_inside, refused_first_token, found_few, passed_on}
+use Rattle.abs_parser.specs.TokenKinds.{PunctuatorKind, fits, KeywordKind}
+use Rattle.abs_parser.specs.Productions.{ThisTail, Expr, Arguments}
 use Rattle.abs_parser.specs.ReaderAnswers.{is_asked, maybe_phrases}
-use Rattle.abs_parser.specs.Readings.{One, Optional, Empty, opened}
+use Rattle.abs_parser.specs.Readings.{One, Optional, Empty}
 use Rattle.abs_parser.specs.TreesOf.{args_maybe, named, member}
 use Rattle.abs_parser.specs.Views.{spot}
 use Rattle.abs_tree.specs.Syntax.{NumberOf, StringOf}
 use Rattle.abs_tree.specs.SyntaxViews.{phrase, phrases}
 use Rattle.abs_tree.specs.declared.syntax.expression.Branch.{Branch}
 use Rattle.abs_tree.specs.declared.syntax.expression.Operand.{Operand}
-use Rattle.std.proofs.Common.{◌∙◌, ℕ, ap, sym, arith, rules, ◌+◌, Some, [], refl, ◌∷◌, ◌++◌, List}
+use Rattle.std.proofs.Common.{◌∙◌, ℕ, ap, sym, arith, rules, ◌+◌, Some, [], refl, List}
 use Rattle.std.proofs.lemmas.Result.{IfOk-weaker, IfErr-weaker}
 use Rattle.std.specs.declared.alloc.Global.{Global}
 use Rattle.std.specs.declared.vec.Vec.{Vec}
@@ -97,12 +97,12 @@ expressions::let_in-returns-in_err-type_at-clause-refused t c =
 
 pub expressions::let_in-returns-in_err-type_of-clause-refused : goal.expressions::let_in-returns-in_err-type_of-clause-refused
 expressions::let_in-returns-in_err-type_of-clause-refused t c =
-    let paren = over_token {kind = lexeme.Sign punctuator.OpenParen} (let_begins c.args.depth c.args.symbols.now c.in_ok-word.ensures.found c.in_ok-word.ensures.within) c.in_ok-type_at.ensures.found refl refl c.in_ok-word.ensures.within in
+    let paren = over_token {kind = lexeme.Punctuator punctuator.OpenParen} (let_begins c.args.depth c.args.symbols.now c.in_ok-word.ensures.found c.in_ok-word.ensures.within) c.in_ok-type_at.ensures.found refl refl c.in_ok-word.ensures.within in
     passed_on _ c.from_residual-in_err-type_of.result c.from_residual-in_err-type_of.ensures.1 (refused_inside paren _ c.in_err-type_of.ensures.refused)
 
 pub expressions::let_in-returns-in_err-name-clause-refused : goal.expressions::let_in-returns-in_err-name-clause-refused
 expressions::let_in-returns-in_err-name-clause-refused t c =
-    let paren = over_token {kind = lexeme.Sign punctuator.OpenParen} (let_begins c.args.depth c.args.symbols.now c.in_ok-word.ensures.found c.in_ok-word.ensures.within) c.in_ok-type_at.ensures.found refl refl c.in_ok-word.ensures.within in
+    let paren = over_token {kind = lexeme.Punctuator punctuator.OpenParen} (let_begins c.args.depth c.args.symbols.now c.in_ok-word.ensures.found c.in_ok-word.ensures.within) c.in_ok-type_at.ensures.found refl refl c.in_ok-word.ensures.within in
     passed_on _ c.from_residual-in_err-name.result c.from_residual-in_err-name.ensures.1 (refused_inside (over_part paren c.in_ok-type_of.ensures.found) _ c.in_err-name.ensures.refused)
 
 pub expressions::let_in-intern-requires : goal.expressions::let_in-intern-requires
@@ -120,7 +120,7 @@ expressions::let_in-returns-in_err-equals-clause-refused t c =
 pub expressions::let_in-returns-in_err-value_at-clause-refused : goal.expressions::let_in-returns-in_err-value_at-clause-refused
 expressions::let_in-returns-in_err-value_at-clause-refused t c =
     let named = let_named c.in_ok-word.ensures.found c.in_ok-type_at.ensures.found c.in_ok-type_of.ensures.found c.in_ok-name.ensures.found c.in_ok-intern.ensures.names c.in_ok-word.ensures.within in
-    let close = over_token {kind = lexeme.Sign punctuator.CloseParen} named c.in_ok-equals.ensures.found refl refl c.in_ok-word.ensures.within in
+    let close = over_token {kind = lexeme.Punctuator punctuator.CloseParen} named c.in_ok-equals.ensures.found refl refl c.in_ok-word.ensures.within in
     passed_on _ c.from_residual-in_err-value_at.result c.from_residual-in_err-value_at.ensures.1 (refused_inside close _ c.in_err-value_at.ensures.refused)
 
 pub expressions::let_in-expression-requires : goal.expressions::let_in-expression-requires
@@ -167,7 +167,7 @@ expressions::let_in-returns-clause-found t c =
 
 pub operators::operators-returns-in_err-first-clause-refused : goal.operators::operators-returns-in_err-first-clause-refused
 operators::operators-returns-in_err-first-clause-refused t c =
-    passed_on _ c.from_residual.result c.from_residual.ensures.1 (unary_refused c.args.level c.args.depth (spot c.args.from) _ c.in_err-first.ensures.refused)
+    passed_on _ c.from_residual.result c.from_residual.ensures.1 (unary_refused c.args.precedence c.args.depth (spot c.args.from) _ c.in_err-first.ensures.refused)
 
 pub operators::operators-climb-requires : goal.operators::operators-climb-requires
 operators::operators-climb-requires t c =
@@ -189,36 +189,36 @@ operators::climb-returns-then-not-operator_follows-clause-found t c = λ older b
 
 pub operators::climb-returns-in_err-left-clause-refused : goal.operators::climb-returns-in_err-left-clause-refused
 operators::climb-returns-in_err-left-clause-refused t c =
-    passed_on _ c.from_residual.result c.from_residual.ensures.1 (λ older begin is found. level_refused c.args.at c.args.to c.args.depth begin _ c.requires.order (refused_inside (first_operand_read c.args.at found) _ c.in_err-left.ensures.refused))
+    passed_on _ c.from_residual.result c.from_residual.ensures.1 (λ older begin is found. precedence_refused c.args.at c.args.to c.args.depth begin _ c.requires.order (refused_inside (first_operand_read c.args.at found) _ c.in_err-left.ensures.refused))
 
 pub operators::climb-returns-then-eq-clause-found : goal.operators::climb-returns-then-eq-clause-found
 operators::climb-returns-then-eq-clause-found t c = λ older begin is found.
-    let here = level_found c.args.at c.args.place c.args.first c.in_ok-left.left found is c.in_ok-left.ensures.found in
-    last_level c.in_ok-left.left (same_level c.args.at c.args.to (sym c.eq.ensures ∙ c.if-eq.true)) here
+    let here = precedence_found c.args.at c.args.place c.args.first c.in_ok-left.left found is c.in_ok-left.ensures.found in
+    last_precedence c.in_ok-left.left (same_precedence c.args.at c.args.to (sym c.eq.ensures ∙ c.if-eq.true)) here
 
 pub operators::climb-climb-requires : goal.operators::climb-climb-requires
 operators::climb-climb-requires t c =
     let few = found_few c.in_ok-left.ensures.found in
     let shorter = found_shorter c.in_ok-left.ensures.found in
-    let other = other_level c.args.at c.args.to (sym c.eq.ensures ∙ c.if-eq.false) in
+    let other = other_precedence c.args.at c.args.to (sym c.eq.ensures ∙ c.if-eq.false) in
     (search rules, (rw c.looser.ensures (next_order c.args.at c.args.to c.requires.order other), (omega arith, c.requires.depth)))
 
 pub operators::climb-returns-clause-found : goal.operators::climb-returns-clause-found
 operators::climb-returns-clause-found t c =
-    let other = other_level c.args.at c.args.to (sym c.eq.ensures ∙ c.if-eq.false) in
+    let other = other_precedence c.args.at c.args.to (sym c.eq.ensures ∙ c.if-eq.false) in
     IfOk-weaker c.climb.result _ _ (λ found climbs older begin is operand.
-    let here = level_found c.args.at c.args.place c.args.first c.in_ok-left.left operand is c.in_ok-left.ensures.found in
+    let here = precedence_found c.args.at c.args.place c.args.first c.in_ok-left.left operand is c.in_ok-left.ensures.found in
     climbs older begin is (rw c.looser.ensures (next_operand c.args.at c.args.to c.in_ok-left.left c.requires.order other here))) c.climb.ensures.found
 
 pub operators::climb-returns-clause-refused : goal.operators::climb-returns-clause-refused
 operators::climb-returns-clause-refused t c =
-    let other = other_level c.args.at c.args.to (sym c.eq.ensures ∙ c.if-eq.false) in
+    let other = other_precedence c.args.at c.args.to (sym c.eq.ensures ∙ c.if-eq.false) in
     IfErr-weaker c.climb.result _ _ (λ error fails older begin is operand.
-    let here = level_found c.args.at c.args.place c.args.first c.in_ok-left.left operand is c.in_ok-left.ensures.found in
+    let here = precedence_found c.args.at c.args.place c.args.first c.in_ok-left.left operand is c.in_ok-left.ensures.found in
     fails older begin is (rw c.looser.ensures (next_operand c.args.at c.args.to c.in_ok-left.left c.requires.order other here))) c.climb.ensures.refused
 
 pub operators::operators_behind-loop-operator-init : goal.operators::operators_behind-loop-operator-init
-operators::operators_behind-loop-operator-init t c = record { read = no_operand_read c.args.level c.args.depth c.args.symbols.now (spot c.args.from) c.new-operands.ensures.items; first_is = refl }
+operators::operators_behind-loop-operator-init t c = record { read = no_operand_read c.args.precedence c.args.depth c.args.symbols.now (spot c.args.from) c.new-operands.ensures.items; first_is = refl }
 
 pub operators::operators_behind-operand-requires : goal.operators::operators_behind-operand-requires
 operators::operators_behind-operand-requires t c =
@@ -230,7 +230,7 @@ operators::operators_behind-operand-requires t c =
 
 pub operators::operators_behind-returns-in_err-right-clause-refused : goal.operators::operators_behind-returns-in_err-right-clause-refused
 operators::operators_behind-returns-in_err-right-clause-refused t c =
-    passed_on _ c.from_residual.result c.from_residual.ensures.1 (next_operand_refused c.in-Some.operator _ c.loop-operator.invariant.read c.in-Some.ensures.level c.in-Some.ensures.some.takes c.requires.depth c.in_err-right.ensures.refused)
+    passed_on _ c.from_residual.result c.from_residual.ensures.1 (next_operand_refused c.in-Some.operator _ c.loop-operator.invariant.read c.in-Some.ensures.precedence c.in-Some.ensures.some.takes c.requires.depth c.in_err-right.ensures.refused)
 
 pub operators::operators_behind-loop-operator-smaller : goal.operators::operators_behind-loop-operator-smaller
 operators::operators_behind-loop-operator-smaller t c =
@@ -241,7 +241,7 @@ operators::operators_behind-loop-operator-smaller t c =
 pub operators::operators_behind-loop-operator-preserved : goal.operators::operators_behind-loop-operator-preserved
 operators::operators_behind-loop-operator-preserved t c =
     let operand : Operand = record { operator = c.in-Some.operator; right = c.in_ok-right.right } in
-    let more = next_operand_read c.loop-operator.operands.items operand c.loop-operator.invariant.read c.in-Some.ensures.level c.in-Some.ensures.some.takes c.requires.depth c.in_ok-right.ensures.found in
+    let more = next_operand_read c.loop-operator.operands.items operand c.loop-operator.invariant.read c.in-Some.ensures.precedence c.in-Some.ensures.some.takes c.requires.depth c.in_ok-right.ensures.found in
     record { read = rw c.in_ok-push.ensures.items (more (sym c.repeats.ensures ∙ c.if-not-repeats.false)); first_is = c.loop-operator.invariant.first_is }
 
 pub operators::operators_behind-returns-clause-found : goal.operators::operators_behind-returns-clause-found
@@ -249,7 +249,7 @@ operators::operators_behind-returns-clause-found t c =
     elim c.match-operator_at.branch [
       | operators::operators_behind-in-Some+in_ok-right+in_ok-push+then-not-repeats w ↦
           let operand : Operand = record { operator = w.in-Some.operator; right = w.in_ok-right.right } in
-          let last = last_operand_found c.args.place _ _ operand c.loop-operator.invariant.read w.in-Some.ensures.level w.in-Some.ensures.some.takes c.requires.depth w.in_ok-right.ensures.found (sym w.repeats.ensures ∙ w.if-not-repeats.true) in
+          let last = last_operand_found c.args.place _ _ operand c.loop-operator.invariant.read w.in-Some.ensures.precedence w.in-Some.ensures.some.takes c.requires.depth w.in_ok-right.ensures.found (sym w.repeats.ensures ∙ w.if-not-repeats.true) in
           rw (w.symbols-is, w.here-is, ← c.loop-operator.invariant.first_is) (last (ap (λ (operands : Vec Operand Global). operands.items) w.operands-is ∙ w.in_ok-push.ensures.items) c.in_ok-node.ensures)
       | operators::operators_behind-in_default w ↦
           let ended = operators_end c.args.place _ _ c.loop-operator.invariant.read w.in_default.ensures.none in
@@ -291,7 +291,7 @@ primaries::group-returns-clause-found t c =
     let opening = c.in_ok-inside.ensures.found in
     let expr = c.in_ok-expr.ensures.found in
     let so = over_part (first_read c.args.depth c.args.symbols.now opening refl refl c.in_ok-inside.ensures.within) expr in
-    all_read (over_token {kind = lexeme.Sign punctuator.CloseParen} so c.in_ok-end.ensures.found refl refl c.in_ok-inside.ensures.within)
+    all_read (over_token {kind = lexeme.Punctuator punctuator.CloseParen} so c.in_ok-end.ensures.found refl refl c.in_ok-inside.ensures.within)
     (λ names more. group_tree (lexed c.in_ok-inside.field-0-0) (lexed c.in_ok-end.field-0-0) c.args.depth expr.inside opening.kind_is (expr.is names more))
 
 pub primaries::lower_primary-returns-in_err-name-clause-refused : goal.primaries::lower_primary-returns-in_err-name-clause-refused
@@ -405,7 +405,7 @@ primaries::unary-returns-clause-found t c =
 
 pub primaries::worded-returns-in_err-token-in-Null-clause-refused : goal.primaries::worded-returns-in_err-token-in-Null-clause-refused
 primaries::worded-returns-in_err-token-in-Null-clause-refused t c =
-    passed_on _ c.from_residual.result c.from_residual.ensures.1 (refused_word keyword.Null c.args.depth (spot c.args.from) _ refl (ap (fits (Word keyword.Null)) (c.requires.begins ∙ ap Word c.in-Null.is)) c.in_err-token-in-Null.ensures.refused)
+    passed_on _ c.from_residual.result c.from_residual.ensures.1 (refused_word keyword.Null c.args.depth (spot c.args.from) _ refl (ap (fits (KeywordKind keyword.Null)) (c.requires.begins ∙ ap KeywordKind c.in-Null.is)) c.in_err-token-in-Null.ensures.refused)
 
 pub primaries::worded-returns-in_ok-token-in-Null-clause-found : goal.primaries::worded-returns-in_ok-token-in-Null-clause-found
 primaries::worded-returns-in_ok-token-in-Null-clause-found t c =
@@ -414,7 +414,7 @@ primaries::worded-returns-in_ok-token-in-Null-clause-found t c =
 
 pub primaries::worded-returns-in_err-token-in-Destiny-clause-refused : goal.primaries::worded-returns-in_err-token-in-Destiny-clause-refused
 primaries::worded-returns-in_err-token-in-Destiny-clause-refused t c =
-    passed_on _ c.from_residual-in_err-token-in-Destiny.result c.from_residual-in_err-token-in-Destiny.ensures.1 (refused_word keyword.Destiny c.args.depth (spot c.args.from) _ refl (ap (fits (Word keyword.Destiny)) (c.requires.begins ∙ ap Word c.in-Destiny.is)) c.in_err-token-in-Destiny.ensures.refused)
+    passed_on _ c.from_residual-in_err-token-in-Destiny.result c.from_residual-in_err-token-in-Destiny.ensures.1 (refused_word keyword.Destiny c.args.depth (spot c.args.from) _ refl (ap (fits (KeywordKind keyword.Destiny)) (c.requires.begins ∙ ap KeywordKind c.in-Destiny.is)) c.in_err-token-in-Destiny.ensures.refused)
 
 pub primaries::worded-returns-in_ok-token-in-Destiny-clause-found : goal.primaries::worded-returns-in_ok-token-in-Destiny-clause-found
 primaries::worded-returns-in_ok-token-in-Destiny-clause-found t c =
@@ -424,7 +424,7 @@ primaries::worded-returns-in_ok-token-in-Destiny-clause-found t c =
 pub primaries::worded-returns-in_default : goal.primaries::worded-returns-in_default
 primaries::worded-returns-in_default t c = record {
   found = tt;
-  refused = refused_no_primary (lexeme.Word c.args.word) [] c.args.depth (spot c.args.from) _ c.wrong.ensures c.requires.begins
+  refused = refused_no_primary (lexeme.Keyword c.args.word) [] c.args.depth (spot c.args.from) _ c.wrong.ensures c.requires.begins
       (sym (other_word c.args.word c.in_default.not-Null c.in_default.not-Destiny c.in_default.not-This c.in_default.not-Case));
 }
 
@@ -445,12 +445,12 @@ cases::branch-expression-requires t c =
 
 pub cases::branch-returns-in_err-value-clause-refused : goal.cases::branch-returns-in_err-value-clause-refused
 cases::branch-returns-in_err-value-clause-refused t c =
-    let arrow = over_token {kind = lexeme.Sign punctuator.Arrow} (pattern_read c.in_ok-pattern.ensures.found) c.in_ok-value_at.ensures.found refl refl c.requires.depth in
+    let arrow = over_token {kind = lexeme.Punctuator punctuator.Arrow} (pattern_read c.in_ok-pattern.ensures.found) c.in_ok-value_at.ensures.found refl refl c.requires.depth in
     passed_on _ c.from_residual-in_err-value.result c.from_residual-in_err-value.ensures.1 (refused_inside arrow _ c.in_err-value.ensures.refused)
 
 pub cases::branch-returns-in_err-end-clause-refused : goal.cases::branch-returns-in_err-end-clause-refused
 cases::branch-returns-in_err-end-clause-refused t c =
-    let arrow = over_token {kind = lexeme.Sign punctuator.Arrow} (pattern_read c.in_ok-pattern.ensures.found) c.in_ok-value_at.ensures.found refl refl c.requires.depth in
+    let arrow = over_token {kind = lexeme.Punctuator punctuator.Arrow} (pattern_read c.in_ok-pattern.ensures.found) c.in_ok-value_at.ensures.found refl refl c.requires.depth in
     passed_on _ c.from_residual-in_err-end.result c.from_residual-in_err-end.ensures.1 (refused_inside (over_part arrow c.in_ok-value.ensures.found) _ c.in_err-end.ensures.refused)
 
 pub cases::branch-returns-clause-found : goal.cases::branch-returns-clause-found
@@ -516,7 +516,7 @@ cases::case_of-returns-clause-found t c =
 
 pub arguments::arguments-returns-in_err-behind-clause-refused : goal.arguments::arguments-returns-in_err-behind-clause-refused
 arguments::arguments-returns-in_err-behind-clause-refused t c =
-    passed_on _ c.from_residual.result c.from_residual.ensures.1 (refused_first_token (Sign punctuator.OpenParen) c.args.depth (One Arguments) c.args.depth (spot c.args.from) _
+    passed_on _ c.from_residual.result c.from_residual.ensures.1 (refused_first_token (PunctuatorKind punctuator.OpenParen) c.args.depth (One Arguments) c.args.depth (spot c.args.from) _
     (parentheses_opened arguments _ c.args.depth) (parentheses_shut arguments _ c.args.depth) c.in_err-behind.ensures.refused)
 
 pub arguments::arguments-returns-in-Some-clause-found : goal.arguments::arguments-returns-in-Some-clause-found
@@ -524,7 +524,7 @@ arguments::arguments-returns-in-Some-clause-found t c =
     let close = c.in-Some.ensures.found in
     let none = nothing_between arguments c.args.depth c.args.symbols.now close in
     let so = over_part (parenthesis_read arguments c.args.depth c.args.symbols.now c.in_ok-behind.ensures.found c.in_ok-behind.ensures.within) none in
-    all_read (over_token {kind = lexeme.Sign punctuator.CloseParen} so close refl refl c.in_ok-behind.ensures.within) (λ names more. ap (phrases names) c.new.ensures.items ∙ sym (ap args_maybe (none.is names more)))
+    all_read (over_token {kind = lexeme.Punctuator punctuator.CloseParen} so close refl refl c.in_ok-behind.ensures.within) (λ names more. ap (phrases names) c.new.ensures.items ∙ sym (ap args_maybe (none.is names more)))
 
 pub arguments::arguments-returns-in_err-expressions-clause-refused : goal.arguments::arguments-returns-in_err-expressions-clause-refused
 arguments::arguments-returns-in_err-expressions-clause-refused t c =
@@ -542,7 +542,7 @@ arguments::arguments-returns-clause-found t c =
     let found = c.in_ok-expressions.ensures.found in
     let maybe = maybe_found list_of_expressions found in
     let so = over_part (parenthesis_read arguments c.args.depth c.args.symbols.now c.in_ok-behind.ensures.found c.in_ok-behind.ensures.within) maybe in
-    all_read (over_token {kind = lexeme.Sign punctuator.CloseParen} so c.in_ok-end.ensures.found refl refl c.in_ok-behind.ensures.within) (λ names more. found.is names more ∙ sym (ap args_maybe (maybe.is names more)))
+    all_read (over_token {kind = lexeme.Punctuator punctuator.CloseParen} so c.in_ok-end.ensures.found refl refl c.in_ok-behind.ensures.within) (λ names more. found.is names more ∙ sym (ap args_maybe (maybe.is names more)))
 
 pub arguments::arguments_maybe-returns-then-not-is-clause-found : goal.arguments::arguments_maybe-returns-then-not-is-clause-found
 arguments::arguments_maybe-returns-then-not-is-clause-found t c =

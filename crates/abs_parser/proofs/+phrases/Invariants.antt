@@ -1,6 +1,6 @@
 use Rattle.std.proofs.Common.{◌≡◌, ◌+◌, ◌-◌, ◌*◌, length}
 use Rattle.abs_parser.specs.Views.{spot}
-use Rattle.abs_parser.specs.Levels.{rank}
+use Rattle.abs_parser.specs.Precedences.{rank}
 use Rattle.abs_parser.proofs.OperatorLemmas.{OperatorsSoFar}
 use Rattle.abs_parser.proofs.CaseSteps.{ReadsCase}
 use Rattle.abs_parser.proofs.ListLemmas.{list_of_expressions, trees_of_expressions}
@@ -18,7 +18,7 @@ abbrev pub decreases-expressions::if_else : goal.decreases-expressions::if_else
 decreases-expressions::if_else l = 40 * length (spot l.from).rest + 31
 
 abbrev pub decreases-operators::operators : goal.decreases-operators::operators
-decreases-operators::operators l = 40 * length (spot l.from).rest + (2 * rank l.level + 20)
+decreases-operators::operators l = 40 * length (spot l.from).rest + (2 * rank l.precedence + 20)
 
 abbrev pub decreases-operators::climb : goal.decreases-operators::climb
 decreases-operators::climb l = 40 * length (spot l.from).rest + (2 * (rank l.to - rank l.at) + 8)
@@ -27,7 +27,7 @@ abbrev pub decreases-operators::operators_behind : goal.decreases-operators::ope
 decreases-operators::operators_behind l = 40 * length (spot l.from).rest + 7
 
 abbrev pub decreases-operators::operand : goal.decreases-operators::operand
-decreases-operators::operand l = 40 * length (spot l.from).rest + (2 * rank l.level + 19)
+decreases-operators::operand l = 40 * length (spot l.from).rest + (2 * rank l.precedence + 19)
 
 abbrev pub decreases-primaries::unary : goal.decreases-primaries::unary
 decreases-primaries::unary l = 40 * length (spot l.from).rest + 5
@@ -68,7 +68,7 @@ decreases-arguments::expressions l = 40 * length (spot l.from).rest + 33
 -- what was read so far
 abbrev pub invariant-operators::operators_behind-loop-operator : goal.invariant-operators::operators_behind-loop-operator
 invariant-operators::operators_behind-loop-operator l = record {
-  read : OperatorsSoFar l.level l.depth l.fn.symbols l.symbols (spot l.from) (spot l.here) l.operands.items;
+  read : OperatorsSoFar l.precedence l.depth l.fn.symbols l.symbols (spot l.from) (spot l.here) l.operands.items;
   first_is : l.first ≡ l.fn.first;
 }
 

@@ -1,6 +1,6 @@
 use Rattle.std.proofs.Common.{refl, arith}
 use Rattle.abs_tree.specs.declared.syntax.declaration.Constructor.{Constructor as CodeConstructor}
-use Rattle.abs_parser.specs.Kinds.{UpperName}
+use Rattle.abs_parser.specs.TokenKinds.{UpperName}
 use Rattle.abs_parser.specs.Productions.{Constructor}
 use Rattle.abs_parser.specs.Readings.{One}
 use Rattle.abs_parser.specs.Views.{spot}

@@ -56,14 +56,14 @@ pub returns-in_err-params-clause-refused : goal.returns-in_err-params-clause-ref
 returns-in_err-params-clause-refused c =
     let named = function_named c.in_ok-word.ensures.found c.in_ok-result.ensures.found c.in_ok-name.ensures.found c.in_ok-intern.ensures.names (omega arith) in
     let listed = over_part named c.in_ok-parameters.ensures.found in
-    let inside = over_token {kind = lexeme.Sign punctuator.OpenParen} listed c.in_ok-inside.ensures.found refl refl (omega arith) in
+    let inside = over_token {kind = lexeme.Punctuator punctuator.OpenParen} listed c.in_ok-inside.ensures.found refl refl (omega arith) in
     passed_on _ c.from_residual-in_err-params.result c.from_residual-in_err-params.ensures.1 (refused_inside inside _ c.in_err-params.ensures.refused)
 
 pub returns-in_err-equals-clause-refused : goal.returns-in_err-equals-clause-refused
 returns-in_err-equals-clause-refused c =
     let named = function_named c.in_ok-word.ensures.found c.in_ok-result.ensures.found c.in_ok-name.ensures.found c.in_ok-intern.ensures.names (omega arith) in
     let listed = over_part named c.in_ok-parameters.ensures.found in
-    let inside = over_token {kind = lexeme.Sign punctuator.OpenParen} listed c.in_ok-inside.ensures.found refl refl (omega arith) in
+    let inside = over_token {kind = lexeme.Punctuator punctuator.OpenParen} listed c.in_ok-inside.ensures.found refl refl (omega arith) in
     passed_on _ c.from_residual-in_err-equals.result c.from_residual-in_err-equals.ensures.1 (refused_inside (over_part inside c.in_ok-params.ensures.found) _ c.in_err-equals.ensures.refused)
 
 pub returns-in_err-value_at-clause-refused : goal.returns-in_err-value_at-clause-refused

@@ -1,4 +1,4 @@
-use Rattle.std.proofs.Common.{◌∙◌, arith, refl, sym}
+use Rattle.std.proofs.Common.{◌∙◌, arith, sym}
 use Rattle.abs_parser.specs.Productions.{Decl}
 use Rattle.abs_parser.specs.Readings.{One}
 use Rattle.abs_parser.specs.Views.{spot}

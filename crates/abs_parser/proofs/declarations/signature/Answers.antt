@@ -35,13 +35,13 @@ params_maybe-requires c =
 pub returns-in_err-params-clause-refused : goal.returns-in_err-params-clause-refused
 returns-in_err-params-clause-refused c =
     let named = signature_named c.in_ok-result.ensures.found c.in_ok-name.ensures.found c.in_ok-name-2.ensures.names (omega arith) in
-    let inside = over_token {kind = lexeme.Sign punctuator.OpenParen} named c.in_ok-inside.ensures.found refl refl (omega arith) in
+    let inside = over_token {kind = lexeme.Punctuator punctuator.OpenParen} named c.in_ok-inside.ensures.found refl refl (omega arith) in
     passed_on _ c.from_residual-in_err-params.result c.from_residual-in_err-params.ensures.1 (refused_inside inside _ c.in_err-params.ensures.refused)
 
 pub returns-in_err-last-clause-refused : goal.returns-in_err-last-clause-refused
 returns-in_err-last-clause-refused c =
     let named = signature_named c.in_ok-result.ensures.found c.in_ok-name.ensures.found c.in_ok-name-2.ensures.names (omega arith) in
-    let inside = over_token {kind = lexeme.Sign punctuator.OpenParen} named c.in_ok-inside.ensures.found refl refl (omega arith) in
+    let inside = over_token {kind = lexeme.Punctuator punctuator.OpenParen} named c.in_ok-inside.ensures.found refl refl (omega arith) in
     passed_on _ c.from_residual-in_err-last.result c.from_residual-in_err-last.ensures.1 (refused_inside (over_part inside c.in_ok-params.ensures.found) _ c.in_err-last.ensures.refused)
 
 pub returns-in_err-end-clause-refused : goal.returns-in_err-end-clause-refused

@@ -1,5 +1,4 @@
-use Rattle.std.proofs.Common.{List, [], ◌∷◌, ◌++◌, ◌∙◌, ap, arith}
-use Rattle.abs_tree.specs.declared.syntax.statement.Test.{Test}
+use Rattle.std.proofs.Common.{arith}
 use Rattle.abs_parser.specs.Views.{spot}
 use Rattle.abs_parser.proofs.GuardSteps.{one_test}
 use Rattle.abs_parser.proofs.ListLemmas.{list_of_tests, trees_of_tests}

@@ -31,4 +31,4 @@ pub returns-clause-found : goal.returns-clause-found
 returns-clause-found c =
     let read = names_read c.in_ok-intern.field-0 (λ names. map (declared_tree names) c.in_ok-parameters.parameters.items) type_parameter_names c.in-Some.ensures.found c.in_ok-name.ensures.found
     c.in_ok-intern.ensures.symbol c.in_ok-intern.ensures.names (omega arith) c.in_ok-parameters.ensures.found in
-    all_read (over_token {kind = lexeme.Sign punctuator.Greater} read.read c.in_ok-end.ensures.found refl refl (omega arith)) (λ names more. read.is names more _)
+    all_read (over_token {kind = lexeme.Punctuator punctuator.Greater} read.read c.in_ok-end.ensures.found refl refl (omega arith)) (λ names more. read.is names more _)

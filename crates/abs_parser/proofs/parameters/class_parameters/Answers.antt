@@ -27,4 +27,4 @@ returns-in_err-end-clause-refused c =
 pub returns-clause-found : goal.returns-clause-found
 returns-clause-found c =
     let so = parenthesis_read_maybe class_parameters 0 c.args.symbols.now c.in-Some.ensures.found (omega arith) in
-    all_read (over_token {kind = lexeme.Sign punctuator.CloseParen} (over_part so c.in_ok-params.ensures.found) c.in_ok-end.ensures.found refl refl (omega arith)) c.in_ok-params.ensures.found.is
+    all_read (over_token {kind = lexeme.Punctuator punctuator.CloseParen} (over_part so c.in_ok-params.ensures.found) c.in_ok-end.ensures.found refl refl (omega arith)) c.in_ok-params.ensures.found.is

@@ -22,7 +22,7 @@ returns-in-Some-accept-clause-found c =
     let close = c.in-Some-accept.ensures.found in
     let none = nothing_between constructor_types 0 c.args.symbols.now close in
     let so = over_part (parenthesis_read_maybe constructor_types 0 c.args.symbols.now c.in-Some.ensures.found (omega arith)) none in
-    all_read (over_token {kind = lexeme.Sign punctuator.CloseParen} so close refl refl (omega arith)) (λ names more. ap (type_trees names) c.new-in-Some-accept.ensures.items ∙ sym (ap types_maybe (none.is names more)))
+    all_read (over_token {kind = lexeme.Punctuator punctuator.CloseParen} so close refl refl (omega arith)) (λ names more. ap (type_trees names) c.new-in-Some-accept.ensures.items ∙ sym (ap types_maybe (none.is names more)))
 
 pub returns-in_err-types-clause-refused : goal.returns-in_err-types-clause-refused
 returns-in_err-types-clause-refused c =
@@ -39,4 +39,4 @@ returns-clause-found c =
     let found = c.in_ok-types.ensures.found in
     let maybe = maybe_found list_of_types found in
     let so = over_part (parenthesis_read_maybe constructor_types 0 c.args.symbols.now c.in-Some.ensures.found (omega arith)) maybe in
-    all_read (over_token {kind = lexeme.Sign punctuator.CloseParen} so c.in_ok-end.ensures.found refl refl (omega arith)) (λ names more. found.is names more ∙ sym (ap types_maybe (maybe.is names more)))
+    all_read (over_token {kind = lexeme.Punctuator punctuator.CloseParen} so c.in_ok-end.ensures.found refl refl (omega arith)) (λ names more. found.is names more ∙ sym (ap types_maybe (maybe.is names more)))

@@ -1,5 +1,4 @@
-use Rattle.std.proofs.Common.{◌∙◌, ◌∷◌, ◌++◌, [], List, ap, arith}
-use Rattle.abs_tree.specs.declared.syntax.declaration.Param.{Param}
+use Rattle.std.proofs.Common.{arith}
 use Rattle.abs_parser.specs.Views.{spot}
 use Rattle.abs_parser.proofs.ListSteps.{first_so_far, next_so_far, all_so_far, refused_first, refused_next}
 use Rattle.abs_parser.proofs.ParameterSteps.{list_of_params, trees_of_params, param_in_front}

@@ -1,4 +1,4 @@
-use Rattle.std.proofs.Common.{◌∙◌, ap, sym, map, refl}
+use Rattle.std.proofs.Common.{◌∙◌, ap, sym, map}
 use Rattle.std.proofs.lemmas.Result.{IfOk-weaker, IfErr-weaker}
 use Rattle.abs_tree.specs.SyntaxViews.{param_tree}
 use Rattle.abs_parser.specs.Productions.{Params}
@@ -8,7 +8,7 @@ use Rattle.abs_parser.specs.Views.{spot}
 use Rattle.abs_parser.proofs.ListSteps.{maybe_found}
 use Rattle.abs_parser.proofs.ParameterSteps.{list_of_params, params_begin}
 use Rattle.abs_parser.proofs.StepLemmas.{opens, all_read, refused_inside, found_weaker}
-use Rattle.abs_parser.proofs.SymbolLemmas.{optional_opened, optional_left_out}
+use Rattle.abs_parser.proofs.NonterminalLemmas.{optional_opened, optional_left_out}
 use Rattle.abs_parser.proofs.parameters.params_maybe.Goals as goal
 
 pub returns-then-not-is-clause-found : goal.returns-then-not-is-clause-found

@@ -1,10 +1,9 @@
-use Rattle.std.proofs.Common.{ℕ, ◌∙◌, ◌+◌, ◌∷◌, ◌++◌, [], List, refl, ap, sym, arith, rules}
+use Rattle.std.proofs.Common.{ℕ, ◌∙◌, ◌+◌, List, refl, ap, sym, arith, rules}
 use Rattle.abs_lexer.specs.declared.lexeme.Lexeme.TheVariants as lexeme
 use Rattle.abs_lexer.specs.declared.lexeme.Punctuator.TheVariants as punctuator
 use Rattle.abs_lexer.specs.Views.{lexed}
 use Rattle.abs_tree.specs.Syntax.{Unresolved, Binds, SameNumber, SameString, Built}
 use Rattle.abs_tree.specs.SyntaxViews.{pattern_trees}
-use Rattle.abs_tree.specs.declared.syntax.pattern.Pattern as code
 use Rattle.abs_parser.specs.Readings.{One, Optional}
 use Rattle.abs_parser.specs.TreesOf.{patterns_maybe}
 use Rattle.abs_parser.specs.Productions.{Pattern, PatternArguments}
@@ -62,9 +61,9 @@ pattern-returns-in_ok-text-in-Text-clause-found t c =
     all_read (over_token {kind = lexeme.Text} (pattern_begins c.args.depth c.args.symbols.now takes refl) takes refl refl c.in_ok-literal-in-Text.ensures.within)
     (λ names more. ap (SameString c.in_ok-literal-in-Text.literal.place) c.in_ok-text-in-Text.ensures ∙ sym (text_tree (lexed c.in_ok-literal-in-Text.literal) (c.args.depth + 1) takes.kind_is))
 
-pub pattern-returns-in-Word-clause-refused : goal.pattern-returns-in-Word-clause-refused
-pattern-returns-in-Word-clause-refused t c =
-    refused_no_pattern c.args.depth _ c.wrong-in-Word.ensures c.in-Some.ensures.some (sym (words_do_not c.in-Word.is c.in-Some.first.slice.now))
+pub pattern-returns-in-Keyword-clause-refused : goal.pattern-returns-in-Keyword-clause-refused
+pattern-returns-in-Keyword-clause-refused t c =
+    refused_no_pattern c.args.depth _ c.wrong-in-Keyword.ensures c.in-Some.ensures.some (sym (words_do_not c.in-Keyword.is c.in-Some.first.slice.now))
 
 pub built-returns-in_err-name-clause-refused : goal.built-returns-in_err-name-clause-refused
 built-returns-in_err-name-clause-refused t c =
@@ -99,7 +98,7 @@ pattern_arguments-returns-in-Some-accept-clause-found t c =
     let close = c.in-Some-accept.ensures.found in
     let none = nothing_between pattern_arguments c.args.depth c.args.symbols.now close in
     let so = over_part (parenthesis_read_maybe pattern_arguments c.args.depth c.args.symbols.now c.in-Some.ensures.found c.requires.depth) none in
-    all_read (over_token {kind = lexeme.Sign punctuator.CloseParen} so close refl refl c.requires.depth)
+    all_read (over_token {kind = lexeme.Punctuator punctuator.CloseParen} so close refl refl c.requires.depth)
     (λ names more. ap (pattern_trees names) c.new-in-Some-accept.ensures.items ∙ sym (ap patterns_maybe (none.is names more)))
 
 pub pattern_arguments-returns-in_err-patterns-clause-refused : goal.pattern_arguments-returns-in_err-patterns-clause-refused
@@ -117,7 +116,7 @@ pattern_arguments-returns-clause-found t c =
     let patterns = c.in_ok-patterns.ensures.found in
     let maybe = maybe_found list_of_patterns patterns in
     let so = over_part (parenthesis_read_maybe pattern_arguments c.args.depth c.args.symbols.now c.in-Some.ensures.found c.requires.depth) maybe in
-    all_read (over_token {kind = lexeme.Sign punctuator.CloseParen} so c.in_ok-end.ensures.found refl refl c.requires.depth)
+    all_read (over_token {kind = lexeme.Punctuator punctuator.CloseParen} so c.in_ok-end.ensures.found refl refl c.requires.depth)
     (λ names more. patterns.is names more ∙ sym (ap patterns_maybe (maybe.is names more)))
 
 pub patterns-returns-in_err-first-clause-refused : goal.patterns-returns-in_err-first-clause-refused

@@ -8,7 +8,7 @@ use Rattle.abs_parser.proofs.PreambleSteps.{past_token, read_whole, refused_left
 use Rattle.abs_parser.proofs.preamble.import_line.Goals as goal
 
 pub returns-in_default-clause-found : goal.returns-in_default-clause-found
-returns-in_default-clause-found c = line_left_out {symbol = Import} c.args.symbols.now (spot c.args.from) refl c.in_default.ensures.other
+returns-in_default-clause-found c = line_left_out {nonterminal = Import} c.args.symbols.now (spot c.args.from) refl c.in_default.ensures.other
 
 pub returns-in_err-word-clause-refused : goal.returns-in_err-word-clause-refused
 returns-in_err-word-clause-refused c =
@@ -32,7 +32,7 @@ pub returns-in_err-library-clause-refused : goal.returns-in_err-library-clause-r
 returns-in_err-library-clause-refused c =
     let begun = import_from c.args.symbols.now c.in-Some.ensures.found c.in_ok-word.ensures.found c.in_ok-abs_at.ensures.found in
     let named = import_abs begun c.in_ok-abs.ensures.found c.in_ok-intern.ensures.names in
-    passed_on _ c.from_residual-in_err-library.result c.from_residual-in_err-library.ensures.1 (refused_left _ (past_token (lexeme.Sign punctuator.Dot) named c.in_ok-library_at.ensures.found refl refl) c.in_err-library.ensures.refused)
+    passed_on _ c.from_residual-in_err-library.result c.from_residual-in_err-library.ensures.1 (refused_left _ (past_token (lexeme.Punctuator punctuator.Dot) named c.in_ok-library_at.ensures.found refl refl) c.in_err-library.ensures.refused)
 
 pub returns-in_err-end-clause-refused : goal.returns-in_err-end-clause-refused
 returns-in_err-end-clause-refused c =
@@ -46,4 +46,4 @@ returns-clause-found c =
     let begun = import_from c.args.symbols.now c.in-Some.ensures.found c.in_ok-word.ensures.found c.in_ok-abs_at.ensures.found in
     let named = import_abs begun c.in_ok-abs.ensures.found c.in_ok-intern.ensures.names in
     let last = import_library named c.in_ok-library_at.ensures.found c.in_ok-library.ensures.found c.in_ok-intern-2.ensures.names in
-    read_whole (past_token (lexeme.Sign punctuator.Semicolon) last c.in_ok-end.ensures.found refl refl)
+    read_whole (past_token (lexeme.Punctuator punctuator.Semicolon) last c.in_ok-end.ensures.found refl refl)

@@ -8,7 +8,7 @@ use Rattle.abs_parser.proofs.PreambleSteps.{past_token, past_part, read_whole, r
 use Rattle.abs_parser.proofs.preamble.module_line.Goals as goal
 
 pub returns-in_default-clause-found : goal.returns-in_default-clause-found
-returns-in_default-clause-found c = line_left_out {symbol = Module} c.args.symbols.now (spot c.args.from) refl c.in_default.ensures.other
+returns-in_default-clause-found c = line_left_out {nonterminal = Module} c.args.symbols.now (spot c.args.from) refl c.in_default.ensures.other
 
 pub returns-in_err-last-clause-refused : goal.returns-in_err-last-clause-refused
 returns-in_err-last-clause-refused c =
@@ -21,4 +21,4 @@ returns-in_err-end-clause-refused c =
 pub returns-clause-found : goal.returns-clause-found
 returns-clause-found c =
     let named = past_part (module_begins c.args.symbols.now c.in-Some.ensures.found) c.in_ok-last.ensures.found in
-    read_whole (past_token (lexeme.Sign punctuator.Semicolon) named c.in_ok-end.ensures.found refl refl)
+    read_whole (past_token (lexeme.Punctuator punctuator.Semicolon) named c.in_ok-end.ensures.found refl refl)

@@ -10,13 +10,13 @@ returns-in_default-clause-refused c = refused_no_declaration (spot c.args.from) 
 
 pub returns-in_default-kind-clause-refused : goal.returns-in_default-kind-clause-refused
 returns-in_default-kind-clause-refused c =
-    let none = no_declaration_kind c.in-Some.ensures.some c.in_default-kind.not-Word in
+    let none = no_declaration_kind c.in-Some.ensures.some c.in_default-kind.not-Keyword in
     refused_no_declaration (spot c.args.from) _ c.wrong-in_default-kind.ensures none
 
 pub returns-in_default-word-clause-refused : goal.returns-in_default-word-clause-refused
 returns-in_default-word-clause-refused c =
     let other = c.in_default-word in
-    let none = no_declaration_word c.in-Word.word c.in-Some.ensures.some c.in-Word.is (other.not-Data, (other.not-Def, (other.not-Interface, (other.not-Class, tt)))) in
+    let none = no_declaration_word c.in-Keyword.word c.in-Some.ensures.some c.in-Keyword.is (other.not-Data, (other.not-Def, (other.not-Interface, (other.not-Class, tt)))) in
     refused_no_declaration (spot c.args.from) _ c.wrong-in_default-word.ensures none
 
 pub returns-clause-found : goal.returns-clause-found

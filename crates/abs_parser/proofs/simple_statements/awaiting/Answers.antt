@@ -1,4 +1,4 @@
-use Rattle.std.proofs.Common.{◌+◌, ap, arith}
+use Rattle.std.proofs.Common.{ap, arith}
 use Rattle.abs_tree.specs.Syntax.{AwaitOf}
 use Rattle.abs_tree.specs.SyntaxViews.{tests}
 use Rattle.abs_parser.specs.Productions.{Stmt}

@@ -1,4 +1,4 @@
-use Rattle.std.proofs.Common.{◌+◌, arith}
+use Rattle.std.proofs.Common.{arith}
 use Rattle.abs_parser.specs.Views.{spot}
 use Rattle.abs_parser.proofs.LocalSteps.{local_begins, local_typed, local_named, local_found}
 use Rattle.abs_parser.proofs.StepLemmas.{over_part, refused_inside, token_shorter, found_shorter, found_few, passed_on}

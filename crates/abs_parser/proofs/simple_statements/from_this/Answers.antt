@@ -1,4 +1,4 @@
-use Rattle.std.proofs.Common.{arith, refl, ◌+◌}
+use Rattle.std.proofs.Common.{arith, refl}
 use Rattle.std.proofs.lemmas.Result.{IfOk-weaker, IfErr-weaker}
 use Rattle.abs_tree.specs.SyntaxViews.{statement as statement_tree}
 use Rattle.abs_tree.specs.declared.syntax.expression.Expr as code_expr

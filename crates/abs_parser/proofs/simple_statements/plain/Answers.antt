@@ -1,4 +1,4 @@
-use Rattle.std.proofs.Common.{◌+◌, arith}
+use Rattle.std.proofs.Common.{arith}
 use Rattle.abs_parser.specs.Views.{spot}
 use Rattle.abs_parser.proofs.PlainSteps.{plain_refused, plain_begins, plain_found}
 use Rattle.abs_parser.proofs.StepLemmas.{token_shorter, found_shorter, refused_inside, passed_on}

@@ -1,4 +1,4 @@
-use Rattle.std.proofs.Common.{◌+◌, ◌∙◌, refl, ap, arith}
+use Rattle.std.proofs.Common.{◌∙◌, refl, ap, arith}
 use Rattle.abs_lexer.specs.declared.lexeme.Lexeme.TheVariants as lexeme
 use Rattle.abs_lexer.specs.declared.lexeme.Punctuator.TheVariants as punctuator
 use Rattle.abs_tree.specs.Syntax.{PrintOf}
@@ -23,7 +23,7 @@ returns-in_err-text_at-clause-refused c =
 pub returns-in_err-text-clause-refused : goal.returns-in_err-text-clause-refused
 returns-in_err-text-clause-refused c =
     let read = word_read c.args.depth c.args.symbols.now (print_opened c.args.depth) c.in_ok-word.ensures.found c.in_ok-word.ensures.within in
-    passed_on _ c.from_residual-in_err-text.result c.from_residual-in_err-text.ensures.1 (refused_inside (over_token {kind = lexeme.Sign punctuator.OpenParen} read c.in_ok-text_at.ensures.found refl refl c.in_ok-word.ensures.within) _ c.in_err-text.ensures.refused)
+    passed_on _ c.from_residual-in_err-text.result c.from_residual-in_err-text.ensures.1 (refused_inside (over_token {kind = lexeme.Punctuator punctuator.OpenParen} read c.in_ok-text_at.ensures.found refl refl c.in_ok-word.ensures.within) _ c.in_err-text.ensures.refused)
 
 pub returns-in_err-last-clause-refused : goal.returns-in_err-last-clause-refused
 returns-in_err-last-clause-refused c =
@@ -33,7 +33,7 @@ returns-in_err-last-clause-refused c =
 pub returns-in_err-end-clause-refused : goal.returns-in_err-end-clause-refused
 returns-in_err-end-clause-refused c =
     let read = print_valued c.in_ok-word.ensures.found c.in_ok-text_at.ensures.found c.in_ok-text.ensures.found c.in_ok-word.ensures.within in
-    let closed = over_token {kind = lexeme.Sign punctuator.CloseParen} read c.in_ok-last.ensures.found refl refl c.in_ok-word.ensures.within in
+    let closed = over_token {kind = lexeme.Punctuator punctuator.CloseParen} read c.in_ok-last.ensures.found refl refl c.in_ok-word.ensures.within in
     passed_on _ c.from_residual-in_err-end.result c.from_residual-in_err-end.ensures.1 (refused_inside closed _ c.in_err-end.ensures.refused)
 
 pub returns-clause-found : goal.returns-clause-found
@@ -41,7 +41,7 @@ returns-clause-found c =
     let word = c.in_ok-word.ensures.found in
     let found = c.in_ok-text.ensures.found in
     let read = print_valued word c.in_ok-text_at.ensures.found found c.in_ok-word.ensures.within in
-    let closed = over_token {kind = lexeme.Sign punctuator.CloseParen} read c.in_ok-last.ensures.found refl refl c.in_ok-word.ensures.within in
+    let closed = over_token {kind = lexeme.Punctuator punctuator.CloseParen} read c.in_ok-last.ensures.found refl refl c.in_ok-word.ensures.within in
     worded_found c.args.index (λ names. PrintOf c.args.index c.in_ok-word.word.place (phrase names c.in_ok-value.value.value)) closed word c.in_ok-end.ensures.found c.in_ok-word.ensures.within
     (λ names more. ap (PrintOf c.args.index c.in_ok-word.word.place) (ap (phrase names) c.in_ok-value.ensures.ok ∙ found.is names more))
 

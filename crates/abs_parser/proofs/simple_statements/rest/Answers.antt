@@ -1,14 +1,14 @@
 use Rattle.std.proofs.Common.{arith}
 use Rattle.abs_parser.specs.Views.{spot}
-use Rattle.abs_parser.specs.declared.operators.Level.TheVariants as level
-use Rattle.abs_parser.proofs.RestSteps.{rest_begins, over_level, level_refused, over_tail, tail_refused, semicolon_refused, rest_found}
+use Rattle.abs_parser.specs.declared.operators.Precedence.TheVariants as precedence
+use Rattle.abs_parser.proofs.RestSteps.{rest_begins, over_precedence, precedence_refused, over_tail, tail_refused, semicolon_refused, rest_found}
 use Rattle.abs_parser.proofs.StepLemmas.{found_few, passed_on}
 use Rattle.abs_parser.proofs.simple_statements.rest.Goals as goal
 
 pub returns-in_err-product-clause-refused : goal.returns-in_err-product-clause-refused
 returns-in_err-product-clause-refused c =
     let start = rest_begins c.args.depth c.args.symbols.now (spot c.args.from) in
-    passed_on _ c.from_residual.result c.from_residual.ensures.1 (level_refused level.Mul _ start c.in_err-product.ensures.refused)
+    passed_on _ c.from_residual.result c.from_residual.ensures.1 (precedence_refused precedence.Mul _ start c.in_err-product.ensures.refused)
 
 pub operators_behind-requires-2-clause-names : goal.operators_behind-requires-2-clause-names
 operators_behind-requires-2-clause-names c = omega (arith, found_few c.in_ok-product.ensures.found)
@@ -16,8 +16,8 @@ operators_behind-requires-2-clause-names c = omega (arith, found_few c.in_ok-pro
 pub returns-in_err-sum-clause-refused : goal.returns-in_err-sum-clause-refused
 returns-in_err-sum-clause-refused c =
     let start = rest_begins c.args.depth c.args.symbols.now (spot c.args.from) in
-    let product = over_level level.Mul start c.in_ok-product.ensures.found in
-    passed_on _ c.from_residual-in_err-sum.result c.from_residual-in_err-sum.ensures.1 (level_refused level.Sum _ product c.in_err-sum.ensures.refused)
+    let product = over_precedence precedence.Mul start c.in_ok-product.ensures.found in
+    passed_on _ c.from_residual-in_err-sum.result c.from_residual-in_err-sum.ensures.1 (precedence_refused precedence.Sum _ product c.in_err-sum.ensures.refused)
 
 pub operators_behind-requires-3-clause-names : goal.operators_behind-requires-3-clause-names
 operators_behind-requires-3-clause-names c = omega (arith, found_few c.in_ok-product.ensures.found, found_few c.in_ok-sum.ensures.found)
@@ -25,9 +25,9 @@ operators_behind-requires-3-clause-names c = omega (arith, found_few c.in_ok-pro
 pub returns-in_err-comparison-clause-refused : goal.returns-in_err-comparison-clause-refused
 returns-in_err-comparison-clause-refused c =
     let start = rest_begins c.args.depth c.args.symbols.now (spot c.args.from) in
-    let product = over_level level.Mul start c.in_ok-product.ensures.found in
-    let sum = over_level level.Sum product c.in_ok-sum.ensures.found in
-    passed_on _ c.from_residual-in_err-comparison.result c.from_residual-in_err-comparison.ensures.1 (level_refused level.Compare _ sum c.in_err-comparison.ensures.refused)
+    let product = over_precedence precedence.Mul start c.in_ok-product.ensures.found in
+    let sum = over_precedence precedence.Sum product c.in_ok-sum.ensures.found in
+    passed_on _ c.from_residual-in_err-comparison.result c.from_residual-in_err-comparison.ensures.1 (precedence_refused precedence.Compare _ sum c.in_err-comparison.ensures.refused)
 
 pub operators_behind-requires-4-clause-names : goal.operators_behind-requires-4-clause-names
 operators_behind-requires-4-clause-names c = omega (arith, found_few c.in_ok-product.ensures.found, found_few c.in_ok-sum.ensures.found, found_few c.in_ok-comparison.ensures.found)
@@ -35,10 +35,10 @@ operators_behind-requires-4-clause-names c = omega (arith, found_few c.in_ok-pro
 pub returns-in_err-equality-clause-refused : goal.returns-in_err-equality-clause-refused
 returns-in_err-equality-clause-refused c =
     let start = rest_begins c.args.depth c.args.symbols.now (spot c.args.from) in
-    let product = over_level level.Mul start c.in_ok-product.ensures.found in
-    let sum = over_level level.Sum product c.in_ok-sum.ensures.found in
-    let comparison = over_level level.Compare sum c.in_ok-comparison.ensures.found in
-    passed_on _ c.from_residual-in_err-equality.result c.from_residual-in_err-equality.ensures.1 (level_refused level.Equal _ comparison c.in_err-equality.ensures.refused)
+    let product = over_precedence precedence.Mul start c.in_ok-product.ensures.found in
+    let sum = over_precedence precedence.Sum product c.in_ok-sum.ensures.found in
+    let comparison = over_precedence precedence.Compare sum c.in_ok-comparison.ensures.found in
+    passed_on _ c.from_residual-in_err-equality.result c.from_residual-in_err-equality.ensures.1 (precedence_refused precedence.Equal _ comparison c.in_err-equality.ensures.refused)
 
 pub operators_behind-requires-5-clause-names : goal.operators_behind-requires-5-clause-names
 operators_behind-requires-5-clause-names c =
@@ -53,11 +53,11 @@ operators_behind-requires-5-clause-names c =
 pub returns-in_err-conjunction-clause-refused : goal.returns-in_err-conjunction-clause-refused
 returns-in_err-conjunction-clause-refused c =
     let start = rest_begins c.args.depth c.args.symbols.now (spot c.args.from) in
-    let product = over_level level.Mul start c.in_ok-product.ensures.found in
-    let sum = over_level level.Sum product c.in_ok-sum.ensures.found in
-    let comparison = over_level level.Compare sum c.in_ok-comparison.ensures.found in
-    let equality = over_level level.Equal comparison c.in_ok-equality.ensures.found in
-    passed_on _ c.from_residual-in_err-conjunction.result c.from_residual-in_err-conjunction.ensures.1 (level_refused level.And _ equality c.in_err-conjunction.ensures.refused)
+    let product = over_precedence precedence.Mul start c.in_ok-product.ensures.found in
+    let sum = over_precedence precedence.Sum product c.in_ok-sum.ensures.found in
+    let comparison = over_precedence precedence.Compare sum c.in_ok-comparison.ensures.found in
+    let equality = over_precedence precedence.Equal comparison c.in_ok-equality.ensures.found in
+    passed_on _ c.from_residual-in_err-conjunction.result c.from_residual-in_err-conjunction.ensures.1 (precedence_refused precedence.And _ equality c.in_err-conjunction.ensures.refused)
 
 pub operators_behind-requires-6-clause-names : goal.operators_behind-requires-6-clause-names
 operators_behind-requires-6-clause-names c =
@@ -73,12 +73,12 @@ operators_behind-requires-6-clause-names c =
 pub returns-in_err-disjunction-clause-refused : goal.returns-in_err-disjunction-clause-refused
 returns-in_err-disjunction-clause-refused c =
     let start = rest_begins c.args.depth c.args.symbols.now (spot c.args.from) in
-    let product = over_level level.Mul start c.in_ok-product.ensures.found in
-    let sum = over_level level.Sum product c.in_ok-sum.ensures.found in
-    let comparison = over_level level.Compare sum c.in_ok-comparison.ensures.found in
-    let equality = over_level level.Equal comparison c.in_ok-equality.ensures.found in
-    let conjunction = over_level level.And equality c.in_ok-conjunction.ensures.found in
-    passed_on _ c.from_residual-in_err-disjunction.result c.from_residual-in_err-disjunction.ensures.1 (level_refused level.Or _ conjunction c.in_err-disjunction.ensures.refused)
+    let product = over_precedence precedence.Mul start c.in_ok-product.ensures.found in
+    let sum = over_precedence precedence.Sum product c.in_ok-sum.ensures.found in
+    let comparison = over_precedence precedence.Compare sum c.in_ok-comparison.ensures.found in
+    let equality = over_precedence precedence.Equal comparison c.in_ok-equality.ensures.found in
+    let conjunction = over_precedence precedence.And equality c.in_ok-conjunction.ensures.found in
+    passed_on _ c.from_residual-in_err-disjunction.result c.from_residual-in_err-disjunction.ensures.1 (precedence_refused precedence.Or _ conjunction c.in_err-disjunction.ensures.refused)
 
 pub side_behind-requires-clause-names : goal.side_behind-requires-clause-names
 side_behind-requires-clause-names c =
@@ -95,23 +95,23 @@ side_behind-requires-clause-names c =
 pub returns-in_err-side-clause-refused : goal.returns-in_err-side-clause-refused
 returns-in_err-side-clause-refused c =
     let start = rest_begins c.args.depth c.args.symbols.now (spot c.args.from) in
-    let product = over_level level.Mul start c.in_ok-product.ensures.found in
-    let sum = over_level level.Sum product c.in_ok-sum.ensures.found in
-    let comparison = over_level level.Compare sum c.in_ok-comparison.ensures.found in
-    let equality = over_level level.Equal comparison c.in_ok-equality.ensures.found in
-    let conjunction = over_level level.And equality c.in_ok-conjunction.ensures.found in
-    let disjunction = over_level level.Or conjunction c.in_ok-disjunction.ensures.found in
+    let product = over_precedence precedence.Mul start c.in_ok-product.ensures.found in
+    let sum = over_precedence precedence.Sum product c.in_ok-sum.ensures.found in
+    let comparison = over_precedence precedence.Compare sum c.in_ok-comparison.ensures.found in
+    let equality = over_precedence precedence.Equal comparison c.in_ok-equality.ensures.found in
+    let conjunction = over_precedence precedence.And equality c.in_ok-conjunction.ensures.found in
+    let disjunction = over_precedence precedence.Or conjunction c.in_ok-disjunction.ensures.found in
     passed_on _ c.from_residual-in_err-side.result c.from_residual-in_err-side.ensures.1 (tail_refused _ disjunction c.in_err-side.ensures.refused)
 
 pub returns-in_err-end-clause-refused : goal.returns-in_err-end-clause-refused
 returns-in_err-end-clause-refused c =
     let start = rest_begins c.args.depth c.args.symbols.now (spot c.args.from) in
-    let product = over_level level.Mul start c.in_ok-product.ensures.found in
-    let sum = over_level level.Sum product c.in_ok-sum.ensures.found in
-    let comparison = over_level level.Compare sum c.in_ok-comparison.ensures.found in
-    let equality = over_level level.Equal comparison c.in_ok-equality.ensures.found in
-    let conjunction = over_level level.And equality c.in_ok-conjunction.ensures.found in
-    let disjunction = over_level level.Or conjunction c.in_ok-disjunction.ensures.found in
+    let product = over_precedence precedence.Mul start c.in_ok-product.ensures.found in
+    let sum = over_precedence precedence.Sum product c.in_ok-sum.ensures.found in
+    let comparison = over_precedence precedence.Compare sum c.in_ok-comparison.ensures.found in
+    let equality = over_precedence precedence.Equal comparison c.in_ok-equality.ensures.found in
+    let conjunction = over_precedence precedence.And equality c.in_ok-conjunction.ensures.found in
+    let disjunction = over_precedence precedence.Or conjunction c.in_ok-disjunction.ensures.found in
     passed_on _ c.from_residual-in_err-end.result c.from_residual-in_err-end.ensures.1 (semicolon_refused _ (over_tail disjunction c.in_ok-side.ensures.found) c.in_err-end.ensures.refused)
 
 pub returns-clause-found : goal.returns-clause-found

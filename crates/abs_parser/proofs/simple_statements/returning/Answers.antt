@@ -1,4 +1,4 @@
-use Rattle.std.proofs.Common.{◌+◌, ◌∙◌, ap, arith}
+use Rattle.std.proofs.Common.{◌∙◌, ap, arith}
 use Rattle.abs_tree.specs.Syntax.{ReturnOf}
 use Rattle.abs_tree.specs.SyntaxViews.{phrase}
 use Rattle.abs_parser.specs.Productions.{Stmt}

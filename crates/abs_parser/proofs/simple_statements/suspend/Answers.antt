@@ -1,4 +1,4 @@
-use Rattle.std.proofs.Common.{◌+◌, refl, arith}
+use Rattle.std.proofs.Common.{refl}
 use Rattle.abs_tree.specs.Syntax.{SuspendOf}
 use Rattle.abs_parser.specs.Productions.{Stmt}
 use Rattle.abs_parser.specs.Readings.{One}

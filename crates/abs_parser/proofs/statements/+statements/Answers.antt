@@ -1,10 +1,10 @@
-use Rattle.std.proofs.Common.{◌∙◌, ap, refl, sym, arith, rules, ◌+◌}
+use Rattle.std.proofs.Common.{◌∙◌, ap, refl, sym, arith, rules}
 use Rattle.abs_tree.proofs.StatementLemmas.{statement-block, statement-if, statement-while}
 use Rattle.abs_tree.specs.SyntaxSizes.{count_of}
 use Rattle.abs_tree.specs.declared.syntax.declaration.Body.{Body}
 use Rattle.abs_lexer.specs.declared.lexeme.Keyword.TheVariants as keyword
 use Rattle.abs_lexer.specs.declared.lexeme.Punctuator.TheVariants as punctuator
-use Rattle.abs_parser.specs.Kinds.{Word, Sign, fits}
+use Rattle.abs_parser.specs.TokenKinds.{KeywordKind, PunctuatorKind, fits}
 use Rattle.abs_parser.specs.Productions.{Block}
 use Rattle.abs_parser.specs.Readings.{One}
 use Rattle.abs_parser.specs.Views.{spot}
@@ -16,12 +16,12 @@ use Rattle.abs_parser.proofs.PrimarySteps.{stands}
 use Rattle.abs_parser.proofs.WordSteps.{word_read, word_refused}
 use Rattle.abs_parser.proofs.StatementSteps.{block_shut, block_opened, nested_begins, nested_found, test_begins, test_read, while_opened, while_found, if_opened, if_chosen, if_found, else_read, else_found, else_left_out, statement_refused_at_end}
 use Rattle.abs_parser.proofs.StepLemmas.{over_part, refused_inside, refused_first_token, token_shorter, found_few, found_shorter, fits_next, passed_on}
-use Rattle.abs_parser.proofs.statements.+statements.Goals.{statement-in-UpperName+in_ok-declaration-in-UpperName, statement-in-LowerName+in_ok-from_variable-in-LowerName, statement-in-Sign+else-eq+in_ok-plain-in-Sign, statement-in-Number+in_ok-stmt-in-Number, worded-in-Skip+in_ok-skip-in-Skip, worded-in-Suspend+in_ok-suspend-in-Suspend, worded-in-Await+in_ok-awaiting-in-Await, worded-in-Return+in_ok-returning-in-Return, worded-in-Println+in_ok-printing-in-Println, worded-in-This+in_ok-from_this-in-This, worded-in_default+in_ok-stmt-in_default}
+use Rattle.abs_parser.proofs.statements.+statements.Goals.{statement-in-UpperName+in_ok-declaration-in-UpperName, statement-in-LowerName+in_ok-from_variable-in-LowerName, statement-in-Punctuator+else-eq+in_ok-plain-in-Punctuator, statement-in-Number+in_ok-stmt-in-Number, worded-in-Skip+in_ok-skip-in-Skip, worded-in-Suspend+in_ok-suspend-in-Suspend, worded-in-Await+in_ok-awaiting-in-Await, worded-in-Return+in_ok-returning-in-Return, worded-in-Println+in_ok-printing-in-Println, worded-in-This+in_ok-from_this-in-This, worded-in_default+in_ok-stmt-in_default}
 use Rattle.abs_parser.proofs.statements.+statements.Goals as goal
 
 pub block-returns-in_err-here-clause-refused : goal.block-returns-in_err-here-clause-refused
 block-returns-in_err-here-clause-refused t c =
-    passed_on _ c.from_residual.result c.from_residual.ensures.1 (refused_first_token (Sign punctuator.OpenBrace) c.args.depth (One Block) c.args.depth (spot c.args.from) _ (block_opened _ c.args.depth) (block_shut _ c.args.depth) c.in_err-here.ensures.refused)
+    passed_on _ c.from_residual.result c.from_residual.ensures.1 (refused_first_token (PunctuatorKind punctuator.OpenBrace) c.args.depth (One Block) c.args.depth (spot c.args.from) _ (block_opened _ c.args.depth) (block_shut _ c.args.depth) c.in_err-here.ensures.refused)
 
 pub block-loop-alloc-init : goal.block-loop-alloc-init
 block-loop-alloc-init t c = record {
@@ -224,29 +224,29 @@ pub statement-returns-in_default-clause-refused : goal.statement-returns-in_defa
 statement-returns-in_default-clause-refused t c = statement_refused_at_end c.args.depth (spot c.args.from) _ c.wrong.ensures c.in_default.ensures.none
 
 pub statement-worded-requires : goal.statement-worded-requires
-statement-worded-requires t c = (search rules, (next_taken (stands c.in-Some.ensures.some c.in-Word.is), (c.requires.names, (c.requires.few, c.requires.depth))))
+statement-worded-requires t c = (search rules, (next_taken (stands c.in-Some.ensures.some c.in-Keyword.is), (c.requires.names, (c.requires.few, c.requires.depth))))
 
 pub statement-nested-requires : goal.statement-nested-requires
 statement-nested-requires t c =
-    let brace = sign_is c.in-Sign.sign punctuator.OpenBrace c.in-Sign.is c.eq.ensures c.if-eq.true in
+    let brace = sign_is c.in-Punctuator.sign punctuator.OpenBrace c.in-Punctuator.is c.eq.ensures c.if-eq.true in
     (search rules, (fits_next refl (stands c.in-Some.ensures.some brace), (c.requires.names, (c.requires.few, c.requires.depth))))
 
 pub worded-conditional-requires : goal.worded-conditional-requires
 worded-conditional-requires t c =
-    let stands_if = c.requires.begins ∙ ap Word c.in-If.is in
-    (search rules, (ap (fits (Word keyword.If)) stands_if, (c.requires.names, (c.requires.few, c.requires.depth))))
+    let stands_if = c.requires.begins ∙ ap KeywordKind c.in-If.is in
+    (search rules, (ap (fits (KeywordKind keyword.If)) stands_if, (c.requires.names, (c.requires.few, c.requires.depth))))
 
 pub worded-looping-requires : goal.worded-looping-requires
 worded-looping-requires t c =
-    let stands_while = c.requires.begins ∙ ap Word c.in-While.is in
-    (search rules, (ap (fits (Word keyword.While)) stands_while, (c.requires.names, (c.requires.few, c.requires.depth))))
+    let stands_while = c.requires.begins ∙ ap KeywordKind c.in-While.is in
+    (search rules, (ap (fits (KeywordKind keyword.While)) stands_while, (c.requires.names, (c.requires.few, c.requires.depth))))
 
 pub statement-returns-clause-found : goal.statement-returns-clause-found
 statement-returns-clause-found t c =
     elim c.match-token.branch [
       | statement-in-UpperName+in_ok-declaration-in-UpperName w ↦ rw (w.symbols-is, w.stmt-is) w.in_ok-declaration-in-UpperName.ensures.found
       | statement-in-LowerName+in_ok-from_variable-in-LowerName w ↦ rw (w.symbols-is, w.stmt-is) w.in_ok-from_variable-in-LowerName.ensures.found
-      | statement-in-Sign+else-eq+in_ok-plain-in-Sign w ↦ rw (w.symbols-is, w.stmt-is) w.in_ok-plain-in-Sign.ensures.found
+      | statement-in-Punctuator+else-eq+in_ok-plain-in-Punctuator w ↦ rw (w.symbols-is, w.stmt-is) w.in_ok-plain-in-Punctuator.ensures.found
       | statement-in-Number+in_ok-stmt-in-Number w ↦ rw (w.symbols-is, w.stmt-is) w.in_ok-stmt-in-Number.ensures.found
     ]
 

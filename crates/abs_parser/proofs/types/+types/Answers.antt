@@ -1,11 +1,11 @@
-use Rattle.std.proofs.Common.{◌∙◌, ◌+◌, ◌∷◌, ◌++◌, [], List, refl, ap, arith, rules}
+use Rattle.std.proofs.Common.{◌+◌, refl, ap, arith, rules}
 use Rattle.abs_lexer.specs.declared.lexeme.Lexeme.TheVariants as lexeme
 use Rattle.abs_lexer.specs.declared.lexeme.Punctuator.TheVariants as punctuator
 use Rattle.std.specs.declared.alloc.Global.{Global}
 use Rattle.std.specs.declared.vec.Vec.{Vec}
 use Rattle.abs_tree.specs.SyntaxViews.{type_trees}
 use Rattle.abs_tree.specs.declared.syntax.types.TypeTerm.{TypeTerm}
-use Rattle.abs_parser.specs.Kinds.{UpperName}
+use Rattle.abs_parser.specs.TokenKinds.{UpperName}
 use Rattle.abs_parser.specs.Productions.{Type', TypeArguments}
 use Rattle.abs_parser.specs.Readings.{One, Optional}
 use Rattle.abs_parser.specs.Views.{spot}
@@ -27,7 +27,7 @@ type_arguments-returns-in_err-types-clause-refused t c =
     let fit = fits_next refl less in
     let outer = opens (Optional TypeArguments) c.args.depth c.args.symbols.now (spot c.args.from) _ (arguments_follow c.args.depth _ fit) in
     let inner = opens (One TypeArguments) c.args.depth c.args.symbols.now (spot c.args.from) _ (arguments_opened c.args.depth _ fit) in
-    passed_on _ c.from_residual.result c.from_residual.ensures.1 (refused_inside (into_last outer (over_token {kind = lexeme.Sign punctuator.Less} inner less refl refl c.requires.depth)) _ c.in_err-types.ensures.refused)
+    passed_on _ c.from_residual.result c.from_residual.ensures.1 (refused_inside (into_last outer (over_token {kind = lexeme.Punctuator punctuator.Less} inner less refl refl c.requires.depth)) _ c.in_err-types.ensures.refused)
 
 pub type_arguments-returns-in_err-end-clause-refused : goal.type_arguments-returns-in_err-end-clause-refused
 type_arguments-returns-in_err-end-clause-refused t c =
@@ -35,7 +35,7 @@ type_arguments-returns-in_err-end-clause-refused t c =
     let fit = fits_next refl less in
     let outer = opens (Optional TypeArguments) c.args.depth c.args.symbols.now (spot c.args.from) _ (arguments_follow c.args.depth _ fit) in
     let inner = opens (One TypeArguments) c.args.depth c.args.symbols.now (spot c.args.from) _ (arguments_opened c.args.depth _ fit) in
-    let types = over_part (over_token {kind = lexeme.Sign punctuator.Less} inner less refl refl c.requires.depth) c.in_ok-types.ensures.found in
+    let types = over_part (over_token {kind = lexeme.Punctuator punctuator.Less} inner less refl refl c.requires.depth) c.in_ok-types.ensures.found in
     passed_on _ c.from_residual-in_err-end.result c.from_residual-in_err-end.ensures.1 (refused_inside (into_last outer types) _ c.in_err-end.ensures.refused)
 
 pub type_arguments-returns-clause-found : goal.type_arguments-returns-clause-found
@@ -44,8 +44,8 @@ type_arguments-returns-clause-found t c =
     let fit = fits_next refl less in
     let outer = opens (Optional TypeArguments) c.args.depth c.args.symbols.now (spot c.args.from) _ (arguments_follow c.args.depth _ fit) in
     let inner = opens (One TypeArguments) c.args.depth c.args.symbols.now (spot c.args.from) _ (arguments_opened c.args.depth _ fit) in
-    let types = over_part (over_token {kind = lexeme.Sign punctuator.Less} inner less refl refl c.requires.depth) c.in_ok-types.ensures.found in
-    let end = over_token {kind = lexeme.Sign punctuator.Greater} types c.in_ok-end.ensures.found refl refl c.requires.depth in
+    let types = over_part (over_token {kind = lexeme.Punctuator punctuator.Less} inner less refl refl c.requires.depth) c.in_ok-types.ensures.found in
+    let end = over_token {kind = lexeme.Punctuator punctuator.Greater} types c.in_ok-end.ensures.found refl refl c.requires.depth in
     all_read (into_last outer end) c.in_ok-types.ensures.found.is
 
 pub type_term-returns-in_err-name-clause-refused : goal.type_term-returns-in_err-name-clause-refused

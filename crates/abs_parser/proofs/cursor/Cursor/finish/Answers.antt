@@ -1,4 +1,4 @@
-use Rattle.abs_parser.specs.Kinds.{End}
+use Rattle.abs_parser.specs.TokenKinds.{End}
 use Rattle.abs_parser.specs.Views.{spot}
 use Rattle.abs_parser.proofs.AskedLemmas.{other_refused, unfit_for_end}
 use Rattle.abs_parser.proofs.cursor.Cursor.finish.Goals as goal

@@ -3,7 +3,7 @@
 --
 --   `Mark`, `marks`                                    the tokens of a text, and its end behind them
 --   `place_of_mark`                                    where a token stands
---   `Kind`, `kind_of`                                  what the grammar tells apart, and which of it a token is
+--   `TokenKind`, `token_kind`                                  what the grammar tells apart, and which of it a token is
 --   `fits`                                             which kind may stand where one is asked for
 --   `next`                                             the kind of the next token
 use Rattle.std.specs.Prelude.{ℕ, ◌++◌, Bool, true, false, List, [], ◌∷◌, map, codes, if◌then◌else◌}
@@ -32,34 +32,34 @@ place_of_mark (TextEnd place) = place
 
 -- what the grammar asks for: names, the names with a text of their own, numbers, texts, words, signs, and the end; a word outside
 -- the profile stands nowhere
-pub data Kind : Type 0 where
-  LowerName : Kind
-  LocalName : Kind
-  UpperName : Kind
-  AbsName : Kind
-  StdLibName : Kind
-  Number : Kind
-  Text : Kind
-  Word : Keyword → Kind
-  Foreign : Kind
-  Sign : Punctuator → Kind
-  End : Kind
+pub data TokenKind : Type 0 where
+  LowerName : TokenKind
+  LocalName : TokenKind
+  UpperName : TokenKind
+  AbsName : TokenKind
+  StdLibName : TokenKind
+  Number : TokenKind
+  Text : TokenKind
+  KeywordKind : Keyword → TokenKind
+  Foreign : TokenKind
+  PunctuatorKind : Punctuator → TokenKind
+  End : TokenKind
 
-abbrev pub kind_of_lexeme : Lexeme → List ℕ → Kind
-kind_of_lexeme lexeme.LowerName bytes = if bytes_eq bytes (codes "local") then LocalName else LowerName
-kind_of_lexeme lexeme.UpperName bytes = if bytes_eq bytes (codes "ABS") then AbsName else (if bytes_eq bytes (codes "StdLib") then StdLibName else UpperName)
-kind_of_lexeme lexeme.Number bytes = Number
-kind_of_lexeme lexeme.Text bytes = Text
-kind_of_lexeme (lexeme.Word keyword) bytes = Word keyword
-kind_of_lexeme lexeme.Foreign bytes = Foreign
-kind_of_lexeme (lexeme.Sign punctuator) bytes = Sign punctuator
+abbrev pub token_kind_of : Lexeme → List ℕ → TokenKind
+token_kind_of lexeme.LowerName bytes = if bytes_eq bytes (codes "local") then LocalName else LowerName
+token_kind_of lexeme.UpperName bytes = if bytes_eq bytes (codes "ABS") then AbsName else (if bytes_eq bytes (codes "StdLib") then StdLibName else UpperName)
+token_kind_of lexeme.Number bytes = Number
+token_kind_of lexeme.Text bytes = Text
+token_kind_of (lexeme.Keyword keyword) bytes = KeywordKind keyword
+token_kind_of lexeme.Foreign bytes = Foreign
+token_kind_of (lexeme.Punctuator punctuator) bytes = PunctuatorKind punctuator
 
-abbrev pub kind_of : Mark → Kind
-kind_of (Token token) = kind_of_lexeme token.kind token.bytes
-kind_of (TextEnd place) = End
+abbrev pub token_kind : Mark → TokenKind
+token_kind (Token token) = token_kind_of token.kind token.bytes
+token_kind (TextEnd place) = End
 
 -- whether a token of the second kind may stand where one of the first is asked for
-abbrev pub fits : Kind → Kind → Bool
+abbrev pub fits : TokenKind → TokenKind → Bool
 fits LowerName LowerName = true
 fits LowerName LocalName = true
 fits LocalName LocalName = true
@@ -70,12 +70,12 @@ fits AbsName AbsName = true
 fits StdLibName StdLibName = true
 fits Number Number = true
 fits Text Text = true
-fits (Word asked) (Word keyword) = bytes_eq (spelling asked) (spelling keyword)
-fits (Sign asked) (Sign punctuator) = bytes_eq (punctuator_bytes asked) (punctuator_bytes punctuator)
+fits (KeywordKind asked) (KeywordKind keyword) = bytes_eq (spelling asked) (spelling keyword)
+fits (PunctuatorKind asked) (PunctuatorKind punctuator) = bytes_eq (punctuator_bytes asked) (punctuator_bytes punctuator)
 fits End End = true
 fits _ _ = false
 
 -- the kind of the next token; behind the end there is none, which no alternative asks for
-abbrev pub next : List Mark → Kind
+abbrev pub next : List Mark → TokenKind
 next [] = Foreign
-next (mark ∷ others) = kind_of mark
+next (mark ∷ others) = token_kind mark
