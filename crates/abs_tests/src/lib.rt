@@ -1,10 +1,8 @@
-//! Tests of what no clause says and no call of the built program shows: that calls succeed where memory is ample, what
-//! the command hands back, sources and sinks that fail midway, and real files. They are one crate above the others,
-//! since a crate with tests is proved once more with them.
+//! Tests of what no clause of the crates below the parser says and no call of the built program shows: sources and
+//! sinks that fail, real files, and values where memory is ample. They are a crate above those, since a crate with
+//! tests is proved once more with them, and need not wait for the parser and the command.
 #![tactic(auto)]
 
-#[cfg(test)]
-mod command;
 #[cfg(test)]
 mod lexer;
 #[cfg(test)]
