@@ -1,4 +1,3 @@
-pub mod CursorLemmas
 pub mod NumberLemmas
 pub mod SpanLemmas
 pub mod WordLemmas

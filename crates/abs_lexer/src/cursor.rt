@@ -1,6 +1,7 @@
 //! A cursor over a source: the bytes that are left, and their place, which is updated byte by byte.
 ghost use Rattle.std.specs.Prelude.{◌≡◌, ◌+◌, ◌<◌, ◌≤◌, length};
 ghost use Rattle.abs_tree.specs.Limits.{source_limit};
+ghost use Rattle.abs_tree.specs.Places.{place_after_byte};
 
 use abs_tree::Place;
 
@@ -35,46 +36,45 @@ impl<'a> Cursor<'a> {
         }
     }
 
-    /// The cursor after the next byte.
-    fn step(self) -> Cursor<'a>
-        requires { 0 < length self.rest.now }
-        ensures rest { result.rest.now ≡ drop 1 self.entry.rest.now }
-        ensures place { result.place ≡ place_after self.entry.place (take 1 self.entry.rest.now) }
-    {
-        let Place {
-            offset,
-            line,
-            column,
-        } = self.place;
-        let place = if self.rest[0] == b'\n' {
-            Place {
-                offset: offset + 1,
-                line: line + 1,
-                column: 1,
-            }
-        } else {
-            Place {
-                offset: offset + 1,
-                line,
-                column: column + 1,
-            }
-        };
-        Cursor {
-            rest: &self.rest[1..],
-            place,
-        }
-    }
-
     /// The cursor after the next `count` bytes.
     pub fn advance(self, count: usize) -> Cursor<'a>
         requires { count ≤ length self.rest.now }
         ensures rest { result.rest.now ≡ drop count self.entry.rest.now }
         ensures place { result.place ≡ place_after self.entry.place (take count self.entry.rest.now) }
     {
-        let mut cursor = self;
-        for _ in 0..count {
-            cursor = cursor.step();
+        // The slice is split once, so that the loop carries the place alone.
+        let (piece, rest) = self.rest.split_at(count);
+        let mut place = self.place;
+        for byte in piece {
+            place = after_byte(place, *byte);
         }
-        cursor
+        Cursor { rest, place }
+    }
+}
+
+/// The place after the byte at this place.
+fn after_byte(place: Place, byte: u8) -> Place
+    requires offset { place.offset < source_limit }
+    requires line { place.line ≤ place.offset + 1 }
+    requires column { place.column ≤ place.offset + 1 }
+    ensures { result ≡ place_after_byte place byte }
+{
+    let Place {
+        offset,
+        line,
+        column,
+    } = place;
+    if byte == b'\n' {
+        Place {
+            offset: offset + 1,
+            line: line + 1,
+            column: 1,
+        }
+    } else {
+        Place {
+            offset: offset + 1,
+            line,
+            column: column + 1,
+        }
     }
 }
