@@ -25,7 +25,7 @@ use Rattle.abs_names.specs.Scopes.{is_declared, scope_after_statement}
 use Rattle.abs_command.specs.Runnable.{made_of, made_of_both, runnable_operator, runnable_variable, runnable_expr, runnable_operands, runnable_side, runnable_text, is_int, runnable_statement, runnable_statements, runnable_main, runnable}
 use Rattle.abs_tree.proofs.Subsequences.{IsPartOf, part_both, part_of_part, PlacesRise, rise_from, part_rises}
 use Rattle.abs_tree.proofs.Subsequences.IsPartOf.{none, kept}
-use Rattle.abs_parser.proofs.LeafPlaces.{phrase_uses, link_uses, side_uses, statement_uses, statements_uses, leaf_places, tree_part, places_taken}
+use Rattle.abs_parser.proofs.sizes.LeafPlaces.{phrase_uses, link_uses, side_uses, statement_uses, statements_uses, leaf_places, tree_part, places_taken}
 
 -- where offences stand
 abbrev places : List Offence → List Place

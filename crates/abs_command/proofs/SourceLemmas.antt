@@ -16,8 +16,8 @@ use Rattle.abs_lexer.proofs.LawLemmas.{list_once, first_once, list_or_first}
 use Rattle.abs_lexer.proofs.LeadLemmas.{rising}
 use Rattle.abs_lexer.specs.Answers.{RefusesLexing}
 use Rattle.abs_lexer.specs.Tokens.{Lexed, TokenList, TokensOf, IsPieceAt}
-use Rattle.abs_parser.proofs.ReadingLemmas.{one_reading}
-use Rattle.abs_parser.proofs.OutcomeLemmas.{one_stop}
+use Rattle.abs_parser.proofs.grammar.ReadingLemmas.{one_reading}
+use Rattle.abs_parser.proofs.stop.OutcomeLemmas.{one_stop}
 use Rattle.abs_parser.specs.Answers.{IsWritten}
 use Rattle.abs_parser.specs.TokenKinds.{Mark, place_of_mark}
 use Rattle.abs_parser.specs.ReaderAnswers.{names_before}

@@ -1,4 +1,4 @@
--- What is said of the names of a text: a table of them that goes on, and names that are written by tokens.
+-- What is said of the names of a source: a table of them that goes on, and names that are written by tokens.
 use Rattle.std.specs.Prelude.{◌≡◌, ℕ, List, ◌++◌, Contains}
 use Rattle.abs_lexer.specs.Tokens.{Lexed}
 

@@ -2,7 +2,7 @@
 --
 --   `left_at`, `names_before`                          the tokens that are left, and the names in what was read
 --   `asked`, `is_asked`, `TakesKind`, `Passes`         the next token, where its kind is asked for
---   `fixed_kind`, `TakesFixed`                         the next token, where a name with a text of its own is asked for
+--   `fixed_kind`, `TakesFixed`                         the next token, where a name with a spelling of its own is asked for
 --   `maybe_phrases`                                    the trees of arguments that may be left out
 --   `refusal_at`, `wrong_at`                           the refusal of the next token
 --   `FoundAs`                                          what a reader found
@@ -36,7 +36,7 @@ use Rattle.abs_tree.specs.declared.source_error.SourceError.{SourceError}
 abbrev pub left_at : Spot → List Mark
 left_at spot = map Token spot.rest ++ TextEnd spot.end ∷ []
 
--- a name that stands in front of others, where a token is one
+-- a name that stands before others, where a token is one
 abbrev pub name_first : TokenKind → List ℕ → List (List ℕ) → List (List ℕ)
 name_first LowerName name others = name ∷ others
 name_first LocalName name others = name ∷ others
@@ -45,7 +45,7 @@ name_first AbsName name others = name ∷ others
 name_first StdLibName name others = name ∷ others
 name_first _ name others = others
 
--- the names in what was read, in their order, in front of others
+-- the names in what was read, in their order, before others
 abbrev pub names_before : Forest → List (List ℕ) → List (List ℕ)
 names_before Empty others = others
 names_before (Leaf mark depth behind) others = name_first (token_kind mark) (written mark) (names_before behind others)
@@ -66,7 +66,7 @@ abbrev pub is_asked : Lexeme → Bool
 is_asked lexeme.Foreign = false
 is_asked _ = true
 
--- the kind of a name with a text of its own
+-- the kind of a name with a spelling of its own
 abbrev pub fixed_kind : FixedName → TokenKind
 fixed_kind fixed.Local = LocalName
 fixed_kind fixed.Abs = AbsName
@@ -85,7 +85,7 @@ pub record TakesKind (kind : Lexeme) (token : Lexed) (from to : Spot) : Type 0 w
   pub kind_is : token.kind ≡ kind
   pub takes : TakesToken token from to
 
--- This token, which is this name with a text of its own, is the next one at `from`, and behind it is `to`.
+-- This token, which is this name with a spelling of its own, is the next one at `from`, and behind it is `to`.
 pub record TakesFixed (name : FixedName) (token : Lexed) (from to : Spot) : Type 0 where
   pub kind_is : token_kind (Token token) ≡ fixed_kind name
   pub takes : TakesToken token from to
@@ -100,7 +100,7 @@ abbrev pub maybe_phrases : List Name → Option (Vec Expr Global) → Option Phr
 maybe_phrases names None = None
 maybe_phrases names (Some arguments) = Some (phrases names arguments.items)
 
--- A part that stands in so many counted symbols was read, no token in it is too deep, the table of names goes on with its names, and
+-- A part that stands in this number of counted nonterminals was read, no token in it is too deep, the table of names goes on with its names, and
 -- what was read is so, whatever names come to the table behind them.
 pub record FoundAs (goal : Goal) (depth : ℕ) (old new : List (List ℕ)) (from to : Spot) (is_read : List (List ℕ) → Forest → Type 0) : Type 0 where
   pub inside : Forest

@@ -36,14 +36,14 @@ place depth items = map (place_item depth) items
 abbrev pub inner_depth : Nonterminal → ℕ → ℕ
 inner_depth nonterminal depth = if counts nonterminal then depth + 1 else depth
 
--- what a part that stands in so many counted nonterminals consists of, by the next token
+-- what a part that stands in this number of counted nonterminals consists of, by the next token
 abbrev pub opened : Goal → TokenKind → ℕ → Option (List Wanted)
 opened (One nonterminal) kind depth = option_map (place (inner_depth nonterminal depth)) (chosen nonterminal kind)
 opened (Optional nonterminal) kind depth = if begins nonterminal kind then Some (Subgoal (One nonterminal) depth ∷ []) else Some []
 opened (Repeated nonterminal) kind depth =
     if begins nonterminal kind then Some (Subgoal (One nonterminal) depth ∷ Subgoal (Repeated nonterminal) depth ∷ []) else Some []
 
--- Trees side by side: nothing more; a token, in so many counted nonterminals, and others; or a part with what is inside, and others.
+-- Trees side by side: nothing more; a token, in this number of counted nonterminals, and others; or a part with what is inside, and others.
 pub data Forest : Type 0 where
   Empty : Forest
   Leaf : Mark → ℕ → Forest → Forest

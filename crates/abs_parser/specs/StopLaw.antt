@@ -1,4 +1,4 @@
--- The law of the stop: each text is accepted with just one reading and one tree, or it stops at just one token with one code, and never both.
+-- The law of the stop: each source is accepted with just one reading and one tree, or it stops at just one token with one code, and never both.
 --
 --   `IsTreeOf`                                         a tree of a list
 --   `Outcome`                                          one reading and one tree, or one stop

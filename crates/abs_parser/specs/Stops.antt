@@ -1,6 +1,6 @@
 -- Where a list of tokens stops, in terms of all lists that begin as it does.
 --
---   `limit`                                            how many counted symbols may be open
+--   `limit`                                            how many counted nonterminals may be open
 --   `IsDeep`, `IsWrong`                                why a token is refused, by all lists that begin so
 --   `wrong_code`, `RefusedBy`                          the code by which it is refused
 --   `StopsAt`                                          the first token that is refused
@@ -12,7 +12,7 @@ use Rattle.abs_tree.specs.declared.refusal.Code.TheVariants.{S1, S2, S3}
 use Rattle.abs_parser.specs.TokenKinds.{Mark, TokenKind, Foreign, token_kind}
 use Rattle.abs_parser.specs.Readings.{Forest, depths, IsProgram}
 
--- how many counted symbols may be open at once
+-- how many counted nonterminals may be open at once
 abbrev pub limit : ℕ
 limit = nesting_limit
 

@@ -1,7 +1,7 @@
--- What the reader of a text answers: the tree of a text that is accepted, or where one stops.
+-- What the reader of a source answers: the tree of a source that is accepted, or where one stops.
 --
---   `IsTextOf`                                         a text is accepted, and these are its names and its tree
---   `StopsWith`                                        a text stops with this refusal
+--   `IsTextOf`                                         a source is accepted, and these are its names and its tree
+--   `StopsWith`                                        a source stops with this refusal
 --   `RefusesText`                                      why there is no tree
 use Rattle.std.specs.Prelude.{◌≡◌, List, []}
 use Rattle.abs_lexer.specs.Tokens.{TokenList}
@@ -18,7 +18,7 @@ use Rattle.abs_parser.specs.Stops.{StopsAt, IsAccepted}
 use Rattle.abs_parser.specs.TreesOf.{tree_of}
 use Rattle.abs_tree.specs.declared.source_error.SourceError.{SourceError}
 
--- the text of these tokens is accepted; these are its names, each once, in the order of first appearance, and this is its tree
+-- the source of these tokens is accepted; these are its names, each once, in the order of first appearance, and this is its tree
 pub record IsTextOf (list : TokenList) (names : List Name) (tree : SourceTree) : Type 0 where
   pub forest : Forest
   pub accepted : IsAccepted (marks list) forest
@@ -33,6 +33,6 @@ pub record StopsWith (list : TokenList) (refusal : Refusal) : Type 0 where
   pub stops : StopsAt (marks list) before mark code
   pub refusal_is : refusal ≡ refusal_of (record { code = code; place = place_of_mark mark })
 
--- why there is no tree: the text stops; want of memory needs no cause
+-- why there is no tree: the source stops; want of memory needs no cause
 abbrev pub RefusesText : SourceError → TokenList → Type 0
 RefusesText error list = HasCause (StopsWith list) error

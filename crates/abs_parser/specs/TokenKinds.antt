@@ -1,7 +1,7 @@
--- What the grammar tells apart in a text: its tokens by their kinds, and its end, which is a token behind the last byte.
--- Three words are names with a text of their own: `local`, `ABS` and `StdLib`. Each is a kind, and stands where a name may, too.
+-- What the grammar tells apart in a source: its tokens by their kinds, and its end, which is a token behind the last byte.
+-- Three words are names with a source of their own: `local`, `ABS` and `StdLib`. Each is a kind, and stands where a name may, too.
 --
---   `Mark`, `marks`                                    the tokens of a text, and its end behind them
+--   `Mark`, `marks`                                    the tokens of a source, and its end behind them
 --   `place_of_mark`                                    where a token stands
 --   `TokenKind`, `token_kind`                                  what the grammar tells apart, and which of it a token is
 --   `fits`                                             which kind may stand where one is asked for
@@ -16,12 +16,12 @@ use Rattle.abs_lexer.specs.declared.lexeme.Punctuator.{Punctuator}
 use Rattle.abs_lexer.specs.Tokens.{Lexed, TokenList}
 use Rattle.abs_lexer.specs.Words.{spelling, punctuator_bytes}
 
--- a token of the text, or its end
+-- a token of the source, or its end
 pub data Mark : Type 0 where
   Token : Lexed → Mark
   TextEnd : Place → Mark
 
--- the tokens of a text, and its end behind them
+-- the tokens of a source, and its end behind them
 abbrev pub marks : TokenList → List Mark
 marks list = map Token list.tokens ++ TextEnd list.end ∷ []
 
@@ -30,7 +30,7 @@ abbrev pub place_of_mark : Mark → Place
 place_of_mark (Token token) = token.place
 place_of_mark (TextEnd place) = place
 
--- what the grammar asks for: names, the names with a text of their own, numbers, texts, words, signs, and the end; a word outside
+-- what the grammar asks for: names, the names with a source of their own, numbers, texts, words, signs, and the end; a word outside
 -- the profile stands nowhere
 pub data TokenKind : Type 0 where
   LowerName : TokenKind

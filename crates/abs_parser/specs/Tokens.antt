@@ -1,18 +1,18 @@
--- The next token of what is left of a text's tokens.
+-- The next token of what is left of a source's tokens.
 use Rattle.std.specs.Prelude.{◌≡◌, List, [], ◌∷◌}
 use Rattle.abs_tree.specs.declared.place.Place.{Place}
 use Rattle.abs_lexer.specs.Tokens.{Lexed, TokenList}
 
--- the tokens that are left, and the place behind the text
+-- the tokens that are left, and the place behind the source
 pub record Spot : Type 0 where
   pub rest : List Lexed
   pub end : Place
 
--- all the tokens of a text
+-- all the tokens of a source
 abbrev pub whole : TokenList → Spot
 whole list = record { rest = list.tokens; end = list.end }
 
--- the place of the next token; the end of the text counts as one
+-- the place of the next token; the end of the source counts as one
 abbrev pub place_in : List Lexed → Place → Place
 place_in [] end = end
 place_in (token ∷ others) end = token.place

@@ -32,7 +32,7 @@ abbrev pub written : Mark → List ℕ
 written (Token token) = token.bytes
 written (TextEnd place) = []
 
--- what a text stands for: an escape for its byte, and all else for itself, up to the quote that closes it
+-- what a string literal stands for: an escape for its byte, and all else for itself, up to the quote that closes it
 abbrev pub escaped_byte : ℕ → ℕ
 escaped_byte byte = if byte == 110 then 10 else (if byte == 116 then 9 else (if byte == 114 then 13 else byte))
 
@@ -270,7 +270,7 @@ abbrev mutual
   more_args (Node _ (Leaf comma _ (Node _ expr _)) (Node _ others _)) = NextPhrase (expr_in expr) (more_args others)
   more_args _ = NoPhrase
 
-  -- Branch, in front of others
+  -- Branch, before others
   pub branch_in : Forest → Branches → Branches
   branch_in (Node _ pattern (Leaf arrow _ (Node _ expr (Leaf semicolon _ _)))) others = NextBranch (pattern_in pattern) (expr_in expr) others
   branch_in _ others = others
@@ -291,7 +291,7 @@ abbrev pub mode_in : Forest → Mode
 mode_in (Node _ (Leaf mark _ _) _) = mode_by (token_kind mark) (place_of_mark mark)
 mode_in _ = mode.Plain
 
--- behind the ".": "get", or a name and arguments, whose call has its receiver in front of them
+-- behind the ".": "get", or a name and arguments, whose call has its receiver before them
 abbrev pub selected_in : Place → Phrase → Forest → SideTree
 selected_in place first (Leaf name _ (Node _ arguments _)) = CallOf place (written name) (NextPhrase first (arguments_in arguments)) None
 selected_in place first (Leaf get _ _) = GetOf place (place_of_mark get) first
@@ -431,7 +431,7 @@ abbrev pub names_maybe : Forest → List DeclaredTree
 names_maybe (Node _ (Leaf first _ (Leaf name _ (Node _ others _))) _) = declared name ∷ more_names others
 names_maybe _ = []
 
--- a parameter, in front of others
+-- a parameter, before others
 abbrev pub param_in : Forest → List ParamTree → List ParamTree
 param_in (Node _ type (Leaf name _ _)) others = record { type_of = type_in type; place = place_of_mark name; variable = Unresolved (written name) } ∷ others
 param_in _ others = others
@@ -465,7 +465,7 @@ abbrev pub constructor_types : Forest → TypeTrees
 constructor_types (Node _ (Leaf opening _ (Node _ types _)) _) = types_maybe types
 constructor_types _ = NoType
 
--- a constructor, in front of others
+-- a constructor, before others
 abbrev pub constructor_in : Forest → List ConstructorTree → List ConstructorTree
 constructor_in (Leaf name _ (Node _ types _)) others = record { name = declared name; types = constructor_types types } ∷ others
 constructor_in _ others = others
@@ -474,7 +474,7 @@ abbrev pub more_constructors : Forest → List ConstructorTree
 more_constructors (Node _ (Leaf bar _ (Node _ constructor _)) (Node _ others _)) = constructor_in constructor (more_constructors others)
 more_constructors _ = []
 
--- a method of an interface, in front of others
+-- a method of an interface, before others
 abbrev pub signature_in : Forest → List SignatureTree → List SignatureTree
 signature_in (Node _ type (Leaf name _ (Leaf opening _ (Node _ params _)))) others =
     record { result = type_in type; name = declared name; params = params_maybe params } ∷ others
@@ -491,7 +491,7 @@ member_by index type name (Leaf opening _ (Node _ params (Leaf closing _ (Node _
 member_by index type name (Leaf equals _ (Node _ expr (Leaf semicolon _ _))) = FieldTree type name (Value (expr_in expr))
 member_by index type name _ = FieldTree type name NoValue
 
--- a member, in front of others
+-- a member, before others
 abbrev pub member_in : ℕ → Forest → List MemberTree → List MemberTree
 member_in index (Node _ type (Leaf name _ (Node _ tail _))) others = member_by index (type_in type) (declared name) tail ∷ others
 member_in index _ others = others
@@ -501,7 +501,7 @@ members_in index (Node _ member (Node _ others _)) =
     member_in index member (members_in (index + member_statements (member_in index member [])) others)
 members_in index _ = []
 
--- a declaration by its first token, in front of others
+-- a declaration by its first token, before others
 abbrev pub decl_by : ℕ → TokenKind → Place → Forest → List DeclTree → List DeclTree
 decl_by index (KeywordKind keyword.Data) place (Leaf name _ (Node _ parameters (Leaf equals _ (Node _ first (Node _ more _))))) others =
     DataTree place (declared name) (names_maybe parameters) (constructor_in first (more_constructors more)) ∷ others
@@ -513,7 +513,7 @@ decl_by index (KeywordKind keyword.Class) place (Leaf name _ (Node _ params (Nod
     ClassTree place (declared name) (class_params_maybe params) (names_maybe implemented) (members_in index members) ∷ others
 decl_by index _ place forest others = others
 
--- a declaration, in front of others
+-- a declaration, before others
 abbrev pub decl_in : ℕ → Forest → List DeclTree → List DeclTree
 decl_in index (Leaf mark _ inside) others = decl_by index (token_kind mark) (place_of_mark mark) inside others
 decl_in index _ others = others
@@ -529,7 +529,7 @@ text_in (Node _ heading (Node _ imported (Node _ decls (Node _ block _)))) =
     record { declarations = declarations; main = block_in (decl_statements declarations) block; end = block_end block }
 text_in _ = record { declarations = []; main = NoStatement; end = start }
 
--- the tree of a text, from its one reading
+-- the tree of a source, from its one reading
 abbrev pub tree_of : Forest → SourceTree
 tree_of (Node _ program _) = text_in program
 tree_of _ = text_in Empty

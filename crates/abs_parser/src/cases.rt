@@ -25,7 +25,7 @@ use std::alloc::Global;
 /// # Errors
 /// The refusal of the first token that no `case` has there, or that is too deeply nested.
 #[cycle(phrases)]
-pub(crate) fn case_of<'a, 'b>(
+pub(crate) fn case_primary<'a, 'b>(
     alloc: Global,
     symbols: &mut Symbols<'a>,
     depth: u32,

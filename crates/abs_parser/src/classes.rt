@@ -14,7 +14,7 @@ ghost use Rattle.abs_parser.specs.Views.{spot};
 use crate::ParseError;
 use crate::cursor::Cursor;
 use crate::expressions::expression;
-use crate::names::{Heading, names_behind};
+use crate::names::{Heading, interface_names};
 use crate::parameters::{class_parameters, params_maybe};
 use crate::statements::block;
 use crate::types::type_term;
@@ -53,7 +53,7 @@ pub(crate) fn class<'a, 'b>(
         name: symbols.intern(name.slice)?,
     };
     let (params, heading) = class_parameters(alloc, symbols, behind)?;
-    let (implemented, open) = names_behind(alloc, symbols, Heading::Implements, heading)?;
+    let (implemented, open) = interface_names(alloc, symbols, Heading::Implements, heading)?;
     let (_, mut here) = open.take(Lexeme::Punctuator(Punctuator::OpenBrace), 0)?;
     let mut members = Vec::new(alloc);
     let mut free = index;
@@ -99,11 +99,11 @@ fn member<'a, 'b>(
         place: name.place,
         name: symbols.intern(name.slice)?,
     };
-    member_behind(alloc, symbols, index, type_of, declared, behind)
+    member_tail(alloc, symbols, index, type_of, declared, behind)
 }
 
 /// What follows the type and the name of a member: `;`, a value, or parameters and a block.
-fn member_behind<'a, 'b>(
+fn member_tail<'a, 'b>(
     alloc: Global,
     symbols: &mut Symbols<'a>,
     index: u32,

@@ -14,7 +14,7 @@ ghost use Rattle.abs_parser.specs.Views.{spot};
 use crate::ParseError;
 use crate::cursor::Cursor;
 use crate::expressions::expression;
-use crate::names::{Heading, names_behind, type_parameters};
+use crate::names::{Heading, interface_names, type_parameters};
 use crate::parameters::{constructor_types, params_maybe};
 use crate::types::type_term;
 use abs_lexer::{Keyword, Lexeme, Punctuator};
@@ -156,7 +156,7 @@ pub(crate) fn interface<'a, 'b>(
         place: name.place,
         name: symbols.intern(name.slice)?,
     };
-    let (extended, open) = names_behind(alloc, symbols, Heading::Extends, behind)?;
+    let (extended, open) = interface_names(alloc, symbols, Heading::Extends, behind)?;
     let (_, mut here) = open.take(Lexeme::Punctuator(Punctuator::OpenBrace), 0)?;
     let mut signatures = Vec::new(alloc);
     while !here.is(Lexeme::Punctuator(Punctuator::CloseBrace)) {

@@ -38,17 +38,17 @@ pub(crate) fn expression<'a, 'b>(
     ensures refused { IfErr result (λ error. IsRefused (Subgoal (One ExprSymbol) depth) (spot from.entry) error) }
 {
     if from.is(Lexeme::Keyword(Keyword::Let)) {
-        return let_in(alloc, symbols, depth, from);
+        return let_expression(alloc, symbols, depth, from);
     }
     if from.is(Lexeme::Keyword(Keyword::If)) {
-        return if_else(alloc, symbols, depth, from);
+        return if_expression(alloc, symbols, depth, from);
     }
     operators(alloc, symbols, Precedence::Or, depth + 1, from)
 }
 
 /// `let (T x) = e in e`, and the cursor after it.
 #[cycle(phrases)]
-fn let_in<'a, 'b>(
+fn let_expression<'a, 'b>(
     alloc: Global,
     symbols: &mut Symbols<'a>,
     depth: u32,
@@ -87,7 +87,7 @@ fn let_in<'a, 'b>(
 
 /// `if e then e else e`, and the cursor after it.
 #[cycle(phrases)]
-fn if_else<'a, 'b>(
+fn if_expression<'a, 'b>(
     alloc: Global,
     symbols: &mut Symbols<'a>,
     depth: u32,

@@ -29,7 +29,7 @@ pub(crate) enum Heading {
 ///
 /// # Errors
 /// The refusal of the first token that no such list has there.
-pub(crate) fn names_behind<'a, 'b>(
+pub(crate) fn interface_names<'a, 'b>(
     alloc: Global,
     symbols: &mut Symbols<'a>,
     heading: Heading,

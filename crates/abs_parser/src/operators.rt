@@ -195,7 +195,7 @@ fn climb<'a, 'b>(
     if !operator_follows(from) {
         return Ok((first, from));
     }
-    let (left, here) = operators_behind(alloc, symbols, at, depth, place, first, from)?;
+    let (left, here) = operators_after(alloc, symbols, at, depth, place, first, from)?;
     if at == to {
         return Ok((left, here));
     }
@@ -208,7 +208,7 @@ fn climb<'a, 'b>(
 /// # Errors
 /// The refusal of the first token that no such list has there, or that is too deeply nested.
 #[cycle(phrases)]
-pub(crate) fn operators_behind<'a, 'b>(
+pub(crate) fn operators_after<'a, 'b>(
     alloc: Global,
     symbols: &mut Symbols<'a>,
     precedence: Precedence,

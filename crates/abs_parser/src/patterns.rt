@@ -46,7 +46,7 @@ pub(crate) fn pattern<'a, 'b>(
             let variable = Variable::Unresolved(symbols.intern(name.slice)?);
             Ok((Pattern::Binds(name.place, variable), end))
         }
-        Lexeme::UpperName => built(alloc, symbols, depth, from),
+        Lexeme::UpperName => constructor_pattern(alloc, symbols, depth, from),
         Lexeme::Number => {
             let (number, end) = from.take(Lexeme::Number, depth + 1)?;
             Ok((Pattern::Number(number.place, numeral(number.slice)), end))
@@ -58,14 +58,14 @@ pub(crate) fn pattern<'a, 'b>(
                 end,
             ))
         }
-        Lexeme::Punctuator(sign) => signed(depth, sign, from),
+        Lexeme::Punctuator(sign) => punctuator_pattern(depth, sign, from),
         Lexeme::Keyword(_) | Lexeme::Foreign => Err(from.wrong()),
     }
 }
 
 /// A constructor with the patterns of its arguments, and the cursor after it.
 #[cycle(patterns)]
-fn built<'a, 'b>(
+fn constructor_pattern<'a, 'b>(
     alloc: Global,
     symbols: &mut Symbols<'a>,
     depth: u32,
@@ -92,7 +92,7 @@ fn built<'a, 'b>(
 }
 
 /// `_`, or a number after a minus, and the cursor after it.
-fn signed<'a, 'b>(
+fn punctuator_pattern<'a, 'b>(
     depth: u32,
     sign: Punctuator,
     from: Cursor<'a, 'b>,

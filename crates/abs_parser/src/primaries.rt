@@ -18,7 +18,7 @@ ghost use Rattle.abs_parser.specs.Views.{spot};
 
 use crate::ParseError;
 use crate::arguments::arguments_maybe;
-use crate::cases::case_of;
+use crate::cases::case_primary;
 use crate::cursor::Cursor;
 use crate::expressions::expression;
 use crate::literals::{numeral, text};
@@ -106,17 +106,17 @@ fn primary<'a, 'b>(
             let (token, end) = from.take(Lexeme::Text, depth)?;
             Ok((Expr::Text(token.place, text(alloc, token.slice)?), end))
         }
-        Lexeme::LowerName => lower_primary(alloc, symbols, depth, from),
-        Lexeme::UpperName => built(alloc, symbols, depth, from),
-        Lexeme::Keyword(word) => worded(alloc, symbols, depth, word, from),
-        Lexeme::Punctuator(sign) => group(alloc, symbols, depth, sign, from),
+        Lexeme::LowerName => name_primary(alloc, symbols, depth, from),
+        Lexeme::UpperName => constructor_primary(alloc, symbols, depth, from),
+        Lexeme::Keyword(word) => keyword_primary(alloc, symbols, depth, word, from),
+        Lexeme::Punctuator(sign) => parenthesized(alloc, symbols, depth, sign, from),
         Lexeme::Foreign => Err(from.wrong()),
     }
 }
 
 /// A variable, or a function with its arguments, and the cursor after it.
 #[cycle(phrases)]
-fn lower_primary<'a, 'b>(
+fn name_primary<'a, 'b>(
     alloc: Global,
     symbols: &mut Symbols<'a>,
     depth: u32,
@@ -153,7 +153,7 @@ pub(crate) fn named(place: Place, name: Symbol, arguments: Option<Vec<Expr>>) ->
 
 /// A constructor with its arguments, where it has any, and the cursor after it.
 #[cycle(phrases)]
-fn built<'a, 'b>(
+fn constructor_primary<'a, 'b>(
     alloc: Global,
     symbols: &mut Symbols<'a>,
     depth: u32,
@@ -184,7 +184,7 @@ fn built<'a, 'b>(
 
 /// A primary that begins with a keyword, and the cursor after it.
 #[cycle(phrases)]
-fn worded<'a, 'b>(
+fn keyword_primary<'a, 'b>(
     alloc: Global,
     symbols: &mut Symbols<'a>,
     depth: u32,
@@ -208,15 +208,15 @@ fn worded<'a, 'b>(
             let (token, end) = from.take(Lexeme::Keyword(Keyword::Destiny), depth)?;
             Ok((Expr::Destiny(token.place), end))
         }
-        Keyword::This => this_of(alloc, symbols, depth, from),
-        Keyword::Case => case_of(alloc, symbols, depth, from),
+        Keyword::This => this_primary(alloc, symbols, depth, from),
+        Keyword::Case => case_primary(alloc, symbols, depth, from),
         _ => Err(from.wrong()),
     }
 }
 
 /// `this`, a field of it, or a call on it, and the cursor after it.
 #[cycle(phrases)]
-fn this_of<'a, 'b>(
+fn this_primary<'a, 'b>(
     alloc: Global,
     symbols: &mut Symbols<'a>,
     depth: u32,
@@ -268,7 +268,7 @@ pub(crate) fn member(
 
 /// An expression in parentheses, which leave no node, and the cursor after it.
 #[cycle(phrases)]
-fn group<'a, 'b>(
+fn parenthesized<'a, 'b>(
     alloc: Global,
     symbols: &mut Symbols<'a>,
     depth: u32,

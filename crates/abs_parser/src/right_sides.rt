@@ -42,7 +42,7 @@ pub(crate) fn right_side<'a, 'b>(
         return new_object(alloc, symbols, depth, from);
     }
     let (first, behind) = expression(alloc, symbols, depth, from)?;
-    side_behind(alloc, symbols, depth, from.place(), first, behind)
+    right_side_tail(alloc, symbols, depth, from.place(), first, behind)
 }
 
 /// `new C(es)`, perhaps with `cog` or `local`, and the cursor after it.
@@ -101,7 +101,7 @@ fn mode<'a, 'b>(
 ///
 /// # Errors
 /// The refusal of the first token that is nothing of this form, or that is too deeply nested.
-pub(crate) fn side_behind<'a, 'b>(
+pub(crate) fn right_side_tail<'a, 'b>(
     alloc: Global,
     symbols: &mut Symbols<'a>,
     depth: u32,

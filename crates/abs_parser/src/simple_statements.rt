@@ -18,9 +18,9 @@ use crate::arguments::arguments_maybe;
 use crate::cursor::Cursor;
 use crate::expressions::expression;
 use crate::guards::guard;
-use crate::operators::{Precedence, operators_behind};
+use crate::operators::{Precedence, operators_after};
 use crate::primaries::{member, named};
-use crate::right_sides::{right_side, side_behind};
+use crate::right_sides::{right_side, right_side_tail};
 use crate::types::type_term;
 use abs_lexer::{Keyword, Lexeme, Punctuator};
 use abs_tree::syntax::{Expr, RightSide, Stmt, Target, Variable};
@@ -79,7 +79,7 @@ impl First {
 }
 
 /// `skip;`, and the cursor after it.
-pub(crate) fn skip<'a, 'b>(
+pub(crate) fn skip_statement<'a, 'b>(
     alloc: Global,
     symbols: &mut Symbols<'a>,
     index: u32,
@@ -108,7 +108,7 @@ pub(crate) fn skip<'a, 'b>(
 }
 
 /// `suspend;`, and the cursor after it.
-pub(crate) fn suspend<'a, 'b>(
+pub(crate) fn suspend_statement<'a, 'b>(
     alloc: Global,
     symbols: &mut Symbols<'a>,
     index: u32,
@@ -137,7 +137,7 @@ pub(crate) fn suspend<'a, 'b>(
 }
 
 /// `await g;`, and the cursor after it.
-pub(crate) fn awaiting<'a, 'b>(
+pub(crate) fn await_statement<'a, 'b>(
     alloc: Global,
     symbols: &mut Symbols<'a>,
     index: u32,
@@ -166,7 +166,7 @@ pub(crate) fn awaiting<'a, 'b>(
 }
 
 /// `return e;`, and the cursor after it.
-pub(crate) fn returning<'a, 'b>(
+pub(crate) fn return_statement<'a, 'b>(
     alloc: Global,
     symbols: &mut Symbols<'a>,
     index: u32,
@@ -196,7 +196,7 @@ pub(crate) fn returning<'a, 'b>(
 }
 
 /// `println(e);`, and the cursor after it.
-pub(crate) fn printing<'a, 'b>(
+pub(crate) fn println_statement<'a, 'b>(
     alloc: Global,
     symbols: &mut Symbols<'a>,
     index: u32,
@@ -228,7 +228,7 @@ pub(crate) fn printing<'a, 'b>(
 }
 
 /// `T x;` or `T x = r;`, and the cursor after it.
-pub(crate) fn declaration<'a, 'b>(
+pub(crate) fn variable_declaration<'a, 'b>(
     alloc: Global,
     symbols: &mut Symbols<'a>,
     index: u32,
@@ -283,7 +283,7 @@ fn initial<'a, 'b>(
 }
 
 /// A statement that begins with a name: `x = r;`, or a right side; and the cursor after it.
-pub(crate) fn from_variable<'a, 'b>(
+pub(crate) fn variable_statement<'a, 'b>(
     alloc: Global,
     symbols: &mut Symbols<'a>,
     index: u32,
@@ -305,11 +305,11 @@ pub(crate) fn from_variable<'a, 'b>(
     let (name, behind) = from.take(Lexeme::LowerName, side + 2)?;
     let symbol = symbols.intern(name.slice)?;
     let first = First::Variable(name.place, symbol);
-    behind_first(alloc, symbols, index, side, first, behind)
+    after_name(alloc, symbols, index, side, first, behind)
 }
 
 /// A statement that begins with `this`: `this.x = r;`, or a right side; and the cursor after it.
-pub(crate) fn from_this<'a, 'b>(
+pub(crate) fn this_statement<'a, 'b>(
     alloc: Global,
     symbols: &mut Symbols<'a>,
     index: u32,
@@ -342,12 +342,12 @@ pub(crate) fn from_this<'a, 'b>(
     let (name, last) = name_at.take(Lexeme::LowerName, side + 2)?;
     let symbol = symbols.intern(name.slice)?;
     let first = First::Field(this.place, name.place, symbol);
-    behind_first(alloc, symbols, index, side, first, last)
+    after_name(alloc, symbols, index, side, first, last)
 }
 
 /// What follows the variable or the field with which a statement begins: `= r;`, or the rest of a right side; and the
 /// cursor after it.
-fn behind_first<'a, 'b>(
+fn after_name<'a, 'b>(
     alloc: Global,
     symbols: &mut Symbols<'a>,
     index: u32,
@@ -398,7 +398,7 @@ fn rest<'a, 'b>(
     ensures refused { IfErr result (λ error. IsRefused (Subgoal (One Rest) depth) (spot from.entry) error) }
 {
     let precedence = depth + 1;
-    let (product, here) = operators_behind(
+    let (product, here) = operators_after(
         alloc,
         symbols,
         Precedence::Mul,
@@ -407,7 +407,7 @@ fn rest<'a, 'b>(
         first,
         from,
     )?;
-    let (sum, here) = operators_behind(
+    let (sum, here) = operators_after(
         alloc,
         symbols,
         Precedence::Sum,
@@ -416,7 +416,7 @@ fn rest<'a, 'b>(
         product,
         here,
     )?;
-    let (comparison, here) = operators_behind(
+    let (comparison, here) = operators_after(
         alloc,
         symbols,
         Precedence::Compare,
@@ -425,7 +425,7 @@ fn rest<'a, 'b>(
         sum,
         here,
     )?;
-    let (equality, here) = operators_behind(
+    let (equality, here) = operators_after(
         alloc,
         symbols,
         Precedence::Equal,
@@ -434,7 +434,7 @@ fn rest<'a, 'b>(
         comparison,
         here,
     )?;
-    let (conjunction, here) = operators_behind(
+    let (conjunction, here) = operators_after(
         alloc,
         symbols,
         Precedence::And,
@@ -443,7 +443,7 @@ fn rest<'a, 'b>(
         equality,
         here,
     )?;
-    let (disjunction, here) = operators_behind(
+    let (disjunction, here) = operators_after(
         alloc,
         symbols,
         Precedence::Or,
@@ -452,13 +452,13 @@ fn rest<'a, 'b>(
         conjunction,
         here,
     )?;
-    let (side, last) = side_behind(alloc, symbols, depth, place, disjunction, here)?;
+    let (side, last) = right_side_tail(alloc, symbols, depth, place, disjunction, here)?;
     let (_, end) = last.take(Lexeme::Punctuator(Punctuator::Semicolon), depth)?;
     Ok((side, end))
 }
 
 /// A right side as a statement, `r;`, where the next token begins no other statement; and the cursor after it.
-pub(crate) fn plain<'a, 'b>(
+pub(crate) fn right_side_statement<'a, 'b>(
     alloc: Global,
     symbols: &mut Symbols<'a>,
     index: u32,

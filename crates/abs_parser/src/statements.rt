@@ -18,7 +18,8 @@ use crate::ParseError;
 use crate::cursor::Cursor;
 use crate::expressions::expression;
 use crate::simple_statements::{
-    awaiting, declaration, from_this, from_variable, plain, printing, returning, skip, suspend,
+    await_statement, println_statement, return_statement, right_side_statement, skip_statement,
+    suspend_statement, this_statement, variable_declaration, variable_statement,
 };
 use abs_lexer::{Keyword, Lexeme, Punctuator};
 use abs_tree::Symbols;
@@ -54,17 +55,17 @@ pub(crate) fn statement<'a, 'b>(
         return Err(from.wrong());
     };
     let (stmt, end) = match token.kind {
-        Lexeme::Keyword(word) => return worded(alloc, symbols, index, depth, word, from),
-        Lexeme::UpperName => declaration(alloc, symbols, index, depth, from)?,
-        Lexeme::LowerName => from_variable(alloc, symbols, index, depth, from)?,
+        Lexeme::Keyword(word) => return keyword_statement(alloc, symbols, index, depth, word, from),
+        Lexeme::UpperName => variable_declaration(alloc, symbols, index, depth, from)?,
+        Lexeme::LowerName => variable_statement(alloc, symbols, index, depth, from)?,
         Lexeme::Punctuator(sign) => {
             if sign == Punctuator::OpenBrace {
-                return nested(alloc, symbols, index, depth, from);
+                return block_statement(alloc, symbols, index, depth, from);
             }
-            plain(alloc, symbols, index, depth, from)?
+            right_side_statement(alloc, symbols, index, depth, from)?
         }
         Lexeme::Number | Lexeme::Text | Lexeme::Foreign => {
-            plain(alloc, symbols, index, depth, from)?
+            right_side_statement(alloc, symbols, index, depth, from)?
         }
     };
     Ok((stmt, index + 1, end))
@@ -72,7 +73,7 @@ pub(crate) fn statement<'a, 'b>(
 
 /// A statement that begins with a keyword.
 #[cycle(statements)]
-fn worded<'a, 'b>(
+fn keyword_statement<'a, 'b>(
     alloc: Global,
     symbols: &mut Symbols<'a>,
     index: u32,
@@ -93,22 +94,22 @@ fn worded<'a, 'b>(
     ensures refused { IfErr result (λ error. IsRefused (Subgoal (One StmtSymbol) depth) (spot from.entry) error) }
 {
     let (stmt, end) = match word {
-        Keyword::If => return conditional(alloc, symbols, index, depth, from),
-        Keyword::While => return looping(alloc, symbols, index, depth, from),
-        Keyword::Skip => skip(alloc, symbols, index, depth, from)?,
-        Keyword::Suspend => suspend(alloc, symbols, index, depth, from)?,
-        Keyword::Await => awaiting(alloc, symbols, index, depth, from)?,
-        Keyword::Return => returning(alloc, symbols, index, depth, from)?,
-        Keyword::Println => printing(alloc, symbols, index, depth, from)?,
-        Keyword::This => from_this(alloc, symbols, index, depth, from)?,
-        _ => plain(alloc, symbols, index, depth, from)?,
+        Keyword::If => return if_statement(alloc, symbols, index, depth, from),
+        Keyword::While => return while_statement(alloc, symbols, index, depth, from),
+        Keyword::Skip => skip_statement(alloc, symbols, index, depth, from)?,
+        Keyword::Suspend => suspend_statement(alloc, symbols, index, depth, from)?,
+        Keyword::Await => await_statement(alloc, symbols, index, depth, from)?,
+        Keyword::Return => return_statement(alloc, symbols, index, depth, from)?,
+        Keyword::Println => println_statement(alloc, symbols, index, depth, from)?,
+        Keyword::This => this_statement(alloc, symbols, index, depth, from)?,
+        _ => right_side_statement(alloc, symbols, index, depth, from)?,
     };
     Ok((stmt, index + 1, end))
 }
 
 /// A block as a statement.
 #[cycle(statements)]
-fn nested<'a, 'b>(
+fn block_statement<'a, 'b>(
     alloc: Global,
     symbols: &mut Symbols<'a>,
     index: u32,
@@ -134,7 +135,7 @@ fn nested<'a, 'b>(
 
 /// `if (e) s`, perhaps with `else s`.
 #[cycle(statements)]
-fn conditional<'a, 'b>(
+fn if_statement<'a, 'b>(
     alloc: Global,
     symbols: &mut Symbols<'a>,
     index: u32,
@@ -160,7 +161,7 @@ fn conditional<'a, 'b>(
     let (first, middle, here) = statement(alloc, symbols, index + 1, depth + 1, first_at)?;
     let condition = Arc::new(alloc, test)?;
     let first = branch(alloc, first)?;
-    let (second, behind, end) = otherwise(alloc, symbols, middle, depth + 1, here)?;
+    let (second, behind, end) = else_branch(alloc, symbols, middle, depth + 1, here)?;
     let stmt = Stmt::If {
         index,
         place: word.place,
@@ -173,7 +174,7 @@ fn conditional<'a, 'b>(
 
 /// `else s`, if it is next.
 #[cycle(statements)]
-fn otherwise<'a, 'b>(
+fn else_branch<'a, 'b>(
     alloc: Global,
     symbols: &mut Symbols<'a>,
     index: u32,
@@ -200,7 +201,7 @@ fn otherwise<'a, 'b>(
 
 /// `while (e) s`.
 #[cycle(statements)]
-fn looping<'a, 'b>(
+fn while_statement<'a, 'b>(
     alloc: Global,
     symbols: &mut Symbols<'a>,
     index: u32,

@@ -1,18 +1,18 @@
 use Rattle.abs_lexer.specs.Views.{lexed}
-use Rattle.abs_parser.proofs.+phrases.Goals.{operators::operators_behind-in-Some+in_ok-right+in_ok-push+then-not-repeats, operators::operators_behind-in_default, primaries::built-in-Some, primaries::built-in-None}
-use Rattle.abs_parser.proofs.CaseSteps.{case_begins, case_asked, refused_branch, refused_brace, branch_shorter, first_branch, next_branch, case_found, pattern_read, refused_pattern, branch_found}
-use Rattle.abs_parser.proofs.DigitLemmas.{number_digits, number_fits, narrowed}
-use Rattle.abs_parser.proofs.ExpressionSteps.{or_found, or_refused, if_opened, if_begins, if_tested, if_chosen, if_found, let_opened, let_begins, let_named, let_assigned, let_valued, let_found}
-use Rattle.abs_parser.proofs.FirstPlaceLemmas.{found_within}
-use Rattle.abs_parser.proofs.ListLemmas.{list_of_expressions, trees_of_expressions, arguments}
-use Rattle.abs_parser.proofs.ListSteps.{first_so_far, next_so_far, all_so_far, refused_first, refused_next, maybe_found, refused_between, parentheses_left_out, parentheses_follow, parentheses_opened, parentheses_shut, parenthesis_read, nothing_between}
-use Rattle.abs_parser.proofs.OperatorLemmas.{no_operand_read, next_operand_refused, next_operand_read, last_operand_found, operators_end, first_operand_read, precedence_found}
-use Rattle.abs_parser.proofs.ClimbingLemmas.{unary_refused, precedence_refused, nothing_follows, same_precedence, other_precedence, last_precedence, next_order, next_operand}
-use Rattle.abs_parser.proofs.PatternSteps.{next_taken}
-use Rattle.abs_parser.proofs.PrimaryLemmas.{other_word, no_tail, tree_by, named_tree, built_tree, member_tree, this_tree, group_tree, prefixed_tree, build_phrase, constant_phrase}
-use Rattle.abs_parser.proofs.PrimarySteps.{stands, first_read, name_read, member_begins, call_found, prefix_read, prefix_refused, operand_found, operand_refused, refused_primary, refused_lower, refused_upper, refused_group, refused_word, unary_refused_at_end, primary_refused_at_end, refused_no_primary}
-use Rattle.abs_parser.proofs.WordSteps.{word_refused}
-use Rattle.abs_parser.proofs.StepLemmas.{token_shorter, found_shorter, opens, over_token, over_name, over_part, into_last, all_read, refused_inside, refused_first_token, found_few, passed_on}
+use Rattle.abs_parser.proofs.+phrases.Goals.{operators::operators_after-in-Some+in_ok-right+in_ok-push+then-not-repeats, operators::operators_after-in_default, primaries::constructor_primary-in-Some, primaries::constructor_primary-in-None}
+use Rattle.abs_parser.proofs.reader.CaseSteps.{case_begins, case_asked, refused_branch, refused_brace, branch_shorter, first_branch, next_branch, case_found, pattern_read, refused_pattern, branch_found}
+use Rattle.abs_parser.proofs.grammar.DigitLemmas.{number_digits, number_fits, narrowed}
+use Rattle.abs_parser.proofs.reader.ExpressionSteps.{or_found, or_refused, if_opened, if_begins, if_tested, if_chosen, if_found, let_opened, let_begins, let_named, let_assigned, let_valued, let_found}
+use Rattle.abs_parser.proofs.grammar.FirstPlaceLemmas.{found_within}
+use Rattle.abs_parser.proofs.reader.ListLemmas.{list_of_expressions, trees_of_expressions, arguments}
+use Rattle.abs_parser.proofs.reader.ListSteps.{first_so_far, next_so_far, all_so_far, refused_first, refused_next, maybe_found, refused_between, parentheses_left_out, parentheses_follow, parentheses_opened, parentheses_shut, parenthesis_read, nothing_between}
+use Rattle.abs_parser.proofs.grammar.OperatorLemmas.{no_operand_read, next_operand_refused, next_operand_read, last_operand_found, operators_end, first_operand_read, precedence_found}
+use Rattle.abs_parser.proofs.reader.ClimbingLemmas.{unary_refused, precedence_refused, nothing_follows, same_precedence, other_precedence, last_precedence, next_order, next_operand}
+use Rattle.abs_parser.proofs.reader.PatternSteps.{next_taken}
+use Rattle.abs_parser.proofs.grammar.PrimaryLemmas.{other_word, no_tail, tree_by, named_tree, built_tree, member_tree, this_tree, group_tree, prefixed_tree, build_phrase, constant_phrase}
+use Rattle.abs_parser.proofs.reader.PrimarySteps.{stands, first_read, name_read, member_begins, call_found, prefix_read, prefix_refused, operand_found, operand_refused, refused_primary, refused_lower, refused_upper, refused_group, refused_word, unary_refused_at_end, primary_refused_at_end, refused_no_primary}
+use Rattle.abs_parser.proofs.reader.WordSteps.{word_refused}
+use Rattle.abs_parser.proofs.reader.StepLemmas.{token_shorter, found_shorter, opens, over_token, over_name, over_part, into_last, all_read, refused_inside, refused_first_token, found_few, passed_on}
 use Rattle.abs_parser.specs.TokenKinds.{PunctuatorKind, fits, KeywordKind}
 use Rattle.abs_parser.specs.Productions.{ThisTail, Expr, Arguments}
 use Rattle.abs_parser.specs.ReaderAnswers.{is_asked, maybe_phrases}
@@ -41,90 +41,90 @@ pub expressions::expression-returns-clause-refused : goal.expressions::expressio
 expressions::expression-returns-clause-refused t c =
     IfErr-weaker c.operators.result _ _ (λ error. or_refused c.args.depth (spot c.args.from) error (sym c.is.ensures ∙ c.if-is.false) (sym c.is-2.ensures ∙ c.if-is-2.false)) c.operators.ensures.refused
 
-pub expressions::if_else-returns-in_err-word-clause-refused : goal.expressions::if_else-returns-in_err-word-clause-refused
-expressions::if_else-returns-in_err-word-clause-refused t c =
+pub expressions::if_expression-returns-in_err-word-clause-refused : goal.expressions::if_expression-returns-in_err-word-clause-refused
+expressions::if_expression-returns-in_err-word-clause-refused t c =
     passed_on _ c.from_residual.result c.from_residual.ensures.1 (word_refused (One Expr) c.args.depth (spot c.args.from) _ (if_opened c.args.depth) c.requires.begins c.in_err-word.ensures.refused)
 
-pub expressions::if_else-returns-in_err-test-clause-refused : goal.expressions::if_else-returns-in_err-test-clause-refused
-expressions::if_else-returns-in_err-test-clause-refused t c =
+pub expressions::if_expression-returns-in_err-test-clause-refused : goal.expressions::if_expression-returns-in_err-test-clause-refused
+expressions::if_expression-returns-in_err-test-clause-refused t c =
     passed_on _ c.from_residual-in_err-test.result c.from_residual-in_err-test.ensures.1 (refused_inside (if_begins c.args.depth c.args.symbols.now c.in_ok-word.ensures.found c.in_ok-word.ensures.within) _ c.in_err-test.ensures.refused)
 
-pub expressions::if_else-returns-in_err-first_at-clause-refused : goal.expressions::if_else-returns-in_err-first_at-clause-refused
-expressions::if_else-returns-in_err-first_at-clause-refused t c =
+pub expressions::if_expression-returns-in_err-first_at-clause-refused : goal.expressions::if_expression-returns-in_err-first_at-clause-refused
+expressions::if_expression-returns-in_err-first_at-clause-refused t c =
     passed_on _ c.from_residual-in_err-first_at.result c.from_residual-in_err-first_at.ensures.1 (refused_inside (over_part (if_begins c.args.depth c.args.symbols.now c.in_ok-word.ensures.found c.in_ok-word.ensures.within) c.in_ok-test.ensures.found) _ c.in_err-first_at.ensures.refused)
 
-pub expressions::if_else-expression-requires-2 : goal.expressions::if_else-expression-requires-2
-expressions::if_else-expression-requires-2 t c =
+pub expressions::if_expression-expression-requires-2 : goal.expressions::if_expression-expression-requires-2
+expressions::if_expression-expression-requires-2 t c =
     let few = found_few c.in_ok-test.ensures.found in
     let shorter = found_shorter c.in_ok-test.ensures.found in
     let word = token_shorter c.in_ok-word.ensures.found.takes in
     let then_word = token_shorter c.in_ok-first_at.ensures.found.takes in
     (search rules, (omega arith, omega (arith, c.in_ok-word.ensures.within)))
 
-pub expressions::if_else-returns-in_err-first-clause-refused : goal.expressions::if_else-returns-in_err-first-clause-refused
-expressions::if_else-returns-in_err-first-clause-refused t c =
+pub expressions::if_expression-returns-in_err-first-clause-refused : goal.expressions::if_expression-returns-in_err-first-clause-refused
+expressions::if_expression-returns-in_err-first-clause-refused t c =
     passed_on _ c.from_residual-in_err-first.result c.from_residual-in_err-first.ensures.1 (refused_inside (if_tested c.in_ok-word.ensures.found c.in_ok-test.ensures.found c.in_ok-first_at.ensures.found c.in_ok-word.ensures.within) _ c.in_err-first.ensures.refused)
 
-pub expressions::if_else-returns-in_err-second_at-clause-refused : goal.expressions::if_else-returns-in_err-second_at-clause-refused
-expressions::if_else-returns-in_err-second_at-clause-refused t c =
+pub expressions::if_expression-returns-in_err-second_at-clause-refused : goal.expressions::if_expression-returns-in_err-second_at-clause-refused
+expressions::if_expression-returns-in_err-second_at-clause-refused t c =
     passed_on _ c.from_residual-in_err-second_at.result c.from_residual-in_err-second_at.ensures.1 (refused_inside (over_part (if_tested c.in_ok-word.ensures.found c.in_ok-test.ensures.found c.in_ok-first_at.ensures.found c.in_ok-word.ensures.within) c.in_ok-first.ensures.found) _ c.in_err-second_at.ensures.refused)
 
-pub expressions::if_else-expression-requires-3 : goal.expressions::if_else-expression-requires-3
-expressions::if_else-expression-requires-3 t c =
+pub expressions::if_expression-expression-requires-3 : goal.expressions::if_expression-expression-requires-3
+expressions::if_expression-expression-requires-3 t c =
     let read = over_part (if_tested c.in_ok-word.ensures.found c.in_ok-test.ensures.found c.in_ok-first_at.ensures.found c.in_ok-word.ensures.within) c.in_ok-first.ensures.found in
     let few = read.few in
     let shorter = read.shorter in
     let else_word = token_shorter c.in_ok-second_at.ensures.found.takes in
     (search rules, (omega arith, omega (arith, c.in_ok-word.ensures.within)))
 
-pub expressions::if_else-returns-in_err-second-clause-refused : goal.expressions::if_else-returns-in_err-second-clause-refused
-expressions::if_else-returns-in_err-second-clause-refused t c =
+pub expressions::if_expression-returns-in_err-second-clause-refused : goal.expressions::if_expression-returns-in_err-second-clause-refused
+expressions::if_expression-returns-in_err-second-clause-refused t c =
     let tested = if_tested c.in_ok-word.ensures.found c.in_ok-test.ensures.found c.in_ok-first_at.ensures.found c.in_ok-word.ensures.within in
     passed_on _ c.from_residual-in_err-second.result c.from_residual-in_err-second.ensures.1 (refused_inside (if_chosen tested c.in_ok-first.ensures.found c.in_ok-second_at.ensures.found c.in_ok-word.ensures.within) _ c.in_err-second.ensures.refused)
 
-pub expressions::if_else-returns-clause-found : goal.expressions::if_else-returns-clause-found
-expressions::if_else-returns-clause-found t c =
+pub expressions::if_expression-returns-clause-found : goal.expressions::if_expression-returns-clause-found
+expressions::if_expression-returns-clause-found t c =
     if_found c.in_ok-condition.condition.value c.in_ok-first-2.first.value c.in_ok-second-2.second.value c.in_ok-condition.ensures.ok c.in_ok-first-2.ensures.ok c.in_ok-second-2.ensures.ok
     c.in_ok-word.ensures.found c.in_ok-test.ensures.found c.in_ok-first_at.ensures.found c.in_ok-first.ensures.found c.in_ok-second_at.ensures.found c.in_ok-second.ensures.found c.in_ok-word.ensures.within
 
-pub expressions::let_in-returns-in_err-word-clause-refused : goal.expressions::let_in-returns-in_err-word-clause-refused
-expressions::let_in-returns-in_err-word-clause-refused t c =
+pub expressions::let_expression-returns-in_err-word-clause-refused : goal.expressions::let_expression-returns-in_err-word-clause-refused
+expressions::let_expression-returns-in_err-word-clause-refused t c =
     passed_on _ c.from_residual.result c.from_residual.ensures.1 (word_refused (One Expr) c.args.depth (spot c.args.from) _ (let_opened c.args.depth) c.requires.begins c.in_err-word.ensures.refused)
 
-pub expressions::let_in-returns-in_err-type_at-clause-refused : goal.expressions::let_in-returns-in_err-type_at-clause-refused
-expressions::let_in-returns-in_err-type_at-clause-refused t c =
+pub expressions::let_expression-returns-in_err-type_at-clause-refused : goal.expressions::let_expression-returns-in_err-type_at-clause-refused
+expressions::let_expression-returns-in_err-type_at-clause-refused t c =
     passed_on _ c.from_residual-in_err-type_at.result c.from_residual-in_err-type_at.ensures.1 (refused_inside (let_begins c.args.depth c.args.symbols.now c.in_ok-word.ensures.found c.in_ok-word.ensures.within) _ c.in_err-type_at.ensures.refused)
 
-pub expressions::let_in-returns-in_err-type_of-clause-refused : goal.expressions::let_in-returns-in_err-type_of-clause-refused
-expressions::let_in-returns-in_err-type_of-clause-refused t c =
+pub expressions::let_expression-returns-in_err-type_of-clause-refused : goal.expressions::let_expression-returns-in_err-type_of-clause-refused
+expressions::let_expression-returns-in_err-type_of-clause-refused t c =
     let paren = over_token {kind = lexeme.Punctuator punctuator.OpenParen} (let_begins c.args.depth c.args.symbols.now c.in_ok-word.ensures.found c.in_ok-word.ensures.within) c.in_ok-type_at.ensures.found refl refl c.in_ok-word.ensures.within in
     passed_on _ c.from_residual-in_err-type_of.result c.from_residual-in_err-type_of.ensures.1 (refused_inside paren _ c.in_err-type_of.ensures.refused)
 
-pub expressions::let_in-returns-in_err-name-clause-refused : goal.expressions::let_in-returns-in_err-name-clause-refused
-expressions::let_in-returns-in_err-name-clause-refused t c =
+pub expressions::let_expression-returns-in_err-name-clause-refused : goal.expressions::let_expression-returns-in_err-name-clause-refused
+expressions::let_expression-returns-in_err-name-clause-refused t c =
     let paren = over_token {kind = lexeme.Punctuator punctuator.OpenParen} (let_begins c.args.depth c.args.symbols.now c.in_ok-word.ensures.found c.in_ok-word.ensures.within) c.in_ok-type_at.ensures.found refl refl c.in_ok-word.ensures.within in
     passed_on _ c.from_residual-in_err-name.result c.from_residual-in_err-name.ensures.1 (refused_inside (over_part paren c.in_ok-type_of.ensures.found) _ c.in_err-name.ensures.refused)
 
-pub expressions::let_in-intern-requires : goal.expressions::let_in-intern-requires
-expressions::let_in-intern-requires t c =
+pub expressions::let_expression-intern-requires : goal.expressions::let_expression-intern-requires
+expressions::let_expression-intern-requires t c =
     let few = found_few c.in_ok-type_of.ensures.found in
     let word = token_shorter c.in_ok-word.ensures.found.takes in
     let paren = token_shorter c.in_ok-type_at.ensures.found.takes in
     omega arith
 
-pub expressions::let_in-returns-in_err-equals-clause-refused : goal.expressions::let_in-returns-in_err-equals-clause-refused
-expressions::let_in-returns-in_err-equals-clause-refused t c =
+pub expressions::let_expression-returns-in_err-equals-clause-refused : goal.expressions::let_expression-returns-in_err-equals-clause-refused
+expressions::let_expression-returns-in_err-equals-clause-refused t c =
     let named = let_named c.in_ok-word.ensures.found c.in_ok-type_at.ensures.found c.in_ok-type_of.ensures.found c.in_ok-name.ensures.found c.in_ok-intern.ensures.names c.in_ok-word.ensures.within in
     passed_on _ c.from_residual-in_err-equals.result c.from_residual-in_err-equals.ensures.1 (refused_inside named _ c.in_err-equals.ensures.refused)
 
-pub expressions::let_in-returns-in_err-value_at-clause-refused : goal.expressions::let_in-returns-in_err-value_at-clause-refused
-expressions::let_in-returns-in_err-value_at-clause-refused t c =
+pub expressions::let_expression-returns-in_err-value_at-clause-refused : goal.expressions::let_expression-returns-in_err-value_at-clause-refused
+expressions::let_expression-returns-in_err-value_at-clause-refused t c =
     let named = let_named c.in_ok-word.ensures.found c.in_ok-type_at.ensures.found c.in_ok-type_of.ensures.found c.in_ok-name.ensures.found c.in_ok-intern.ensures.names c.in_ok-word.ensures.within in
     let close = over_token {kind = lexeme.Punctuator punctuator.CloseParen} named c.in_ok-equals.ensures.found refl refl c.in_ok-word.ensures.within in
     passed_on _ c.from_residual-in_err-value_at.result c.from_residual-in_err-value_at.ensures.1 (refused_inside close _ c.in_err-value_at.ensures.refused)
 
-pub expressions::let_in-expression-requires : goal.expressions::let_in-expression-requires
-expressions::let_in-expression-requires t c =
+pub expressions::let_expression-expression-requires : goal.expressions::let_expression-expression-requires
+expressions::let_expression-expression-requires t c =
     let named = let_named c.in_ok-word.ensures.found c.in_ok-type_at.ensures.found c.in_ok-type_of.ensures.found c.in_ok-name.ensures.found c.in_ok-intern.ensures.names c.in_ok-word.ensures.within in
     let few = named.few in
     let shorter = named.shorter in
@@ -132,19 +132,19 @@ expressions::let_in-expression-requires t c =
     let equals = token_shorter c.in_ok-value_at.ensures.found.takes in
     (search rules, (omega arith, omega (arith, c.in_ok-word.ensures.within)))
 
-pub expressions::let_in-returns-in_err-value-clause-refused : goal.expressions::let_in-returns-in_err-value-clause-refused
-expressions::let_in-returns-in_err-value-clause-refused t c =
+pub expressions::let_expression-returns-in_err-value-clause-refused : goal.expressions::let_expression-returns-in_err-value-clause-refused
+expressions::let_expression-returns-in_err-value-clause-refused t c =
     let named = let_named c.in_ok-word.ensures.found c.in_ok-type_at.ensures.found c.in_ok-type_of.ensures.found c.in_ok-name.ensures.found c.in_ok-intern.ensures.names c.in_ok-word.ensures.within in
     passed_on _ c.from_residual-in_err-value.result c.from_residual-in_err-value.ensures.1 (refused_inside (let_assigned named c.in_ok-equals.ensures.found c.in_ok-value_at.ensures.found c.in_ok-word.ensures.within) _ c.in_err-value.ensures.refused)
 
-pub expressions::let_in-returns-in_err-body_at-clause-refused : goal.expressions::let_in-returns-in_err-body_at-clause-refused
-expressions::let_in-returns-in_err-body_at-clause-refused t c =
+pub expressions::let_expression-returns-in_err-body_at-clause-refused : goal.expressions::let_expression-returns-in_err-body_at-clause-refused
+expressions::let_expression-returns-in_err-body_at-clause-refused t c =
     let named = let_named c.in_ok-word.ensures.found c.in_ok-type_at.ensures.found c.in_ok-type_of.ensures.found c.in_ok-name.ensures.found c.in_ok-intern.ensures.names c.in_ok-word.ensures.within in
     let assigned = let_assigned named c.in_ok-equals.ensures.found c.in_ok-value_at.ensures.found c.in_ok-word.ensures.within in
     passed_on _ c.from_residual-in_err-body_at.result c.from_residual-in_err-body_at.ensures.1 (refused_inside (over_part assigned c.in_ok-value.ensures.found) _ c.in_err-body_at.ensures.refused)
 
-pub expressions::let_in-expression-requires-2 : goal.expressions::let_in-expression-requires-2
-expressions::let_in-expression-requires-2 t c =
+pub expressions::let_expression-expression-requires-2 : goal.expressions::let_expression-expression-requires-2
+expressions::let_expression-expression-requires-2 t c =
     let named = let_named c.in_ok-word.ensures.found c.in_ok-type_at.ensures.found c.in_ok-type_of.ensures.found c.in_ok-name.ensures.found c.in_ok-intern.ensures.names c.in_ok-word.ensures.within in
     let read = over_part (let_assigned named c.in_ok-equals.ensures.found c.in_ok-value_at.ensures.found c.in_ok-word.ensures.within) c.in_ok-value.ensures.found in
     let few = read.few in
@@ -152,14 +152,14 @@ expressions::let_in-expression-requires-2 t c =
     let in_word = token_shorter c.in_ok-body_at.ensures.found.takes in
     (search rules, (omega arith, omega (arith, c.in_ok-word.ensures.within)))
 
-pub expressions::let_in-returns-in_err-body-clause-refused : goal.expressions::let_in-returns-in_err-body-clause-refused
-expressions::let_in-returns-in_err-body-clause-refused t c =
+pub expressions::let_expression-returns-in_err-body-clause-refused : goal.expressions::let_expression-returns-in_err-body-clause-refused
+expressions::let_expression-returns-in_err-body-clause-refused t c =
     let named = let_named c.in_ok-word.ensures.found c.in_ok-type_at.ensures.found c.in_ok-type_of.ensures.found c.in_ok-name.ensures.found c.in_ok-intern.ensures.names c.in_ok-word.ensures.within in
     let valued = let_valued (let_assigned named c.in_ok-equals.ensures.found c.in_ok-value_at.ensures.found c.in_ok-word.ensures.within) c.in_ok-value.ensures.found c.in_ok-body_at.ensures.found c.in_ok-word.ensures.within in
     passed_on _ c.from_residual-in_err-body.result c.from_residual-in_err-body.ensures.1 (refused_inside valued _ c.in_err-body.ensures.refused)
 
-pub expressions::let_in-returns-clause-found : goal.expressions::let_in-returns-clause-found
-expressions::let_in-returns-clause-found t c =
+pub expressions::let_expression-returns-clause-found : goal.expressions::let_expression-returns-clause-found
+expressions::let_expression-returns-clause-found t c =
     let named = c.in_ok-intern.ensures in
     let_found c.in_ok-type_of.type_of c.in_ok-intern.field-0 c.in_ok-value-2.value.value c.in_ok-body-2.body.value c.in_ok-value-2.ensures.ok c.in_ok-body-2.ensures.ok c.in_ok-word.ensures.found c.in_ok-type_at.ensures.found
     c.in_ok-type_of.ensures.found c.in_ok-name.ensures.found named.symbol named.names c.in_ok-equals.ensures.found c.in_ok-value_at.ensures.found c.in_ok-value.ensures.found
@@ -217,93 +217,93 @@ operators::climb-returns-clause-refused t c =
     let here = precedence_found c.args.at c.args.place c.args.first c.in_ok-left.left operand is c.in_ok-left.ensures.found in
     fails older begin is (rw c.looser.ensures (next_operand c.args.at c.args.to c.in_ok-left.left c.requires.order other here))) c.climb.ensures.refused
 
-pub operators::operators_behind-loop-operator-init : goal.operators::operators_behind-loop-operator-init
-operators::operators_behind-loop-operator-init t c = record { read = no_operand_read c.args.precedence c.args.depth c.args.symbols.now (spot c.args.from) c.new-operands.ensures.items; first_is = refl }
+pub operators::operators_after-loop-operator-init : goal.operators::operators_after-loop-operator-init
+operators::operators_after-loop-operator-init t c = record { read = no_operand_read c.args.precedence c.args.depth c.args.symbols.now (spot c.args.from) c.new-operands.ensures.items; first_is = refl }
 
-pub operators::operators_behind-operand-requires : goal.operators::operators_behind-operand-requires
-operators::operators_behind-operand-requires t c =
+pub operators::operators_after-operand-requires : goal.operators::operators_after-operand-requires
+operators::operators_after-operand-requires t c =
     let few = c.loop-operator.invariant.read.read.few in
     let sign = token_shorter c.in-Some.ensures.some.takes.takes in
     let shorter = c.loop-operator.invariant.read.read.shorter in
     let depth = c.requires.depth in
     (search rules, omega arith)
 
-pub operators::operators_behind-returns-in_err-right-clause-refused : goal.operators::operators_behind-returns-in_err-right-clause-refused
-operators::operators_behind-returns-in_err-right-clause-refused t c =
+pub operators::operators_after-returns-in_err-right-clause-refused : goal.operators::operators_after-returns-in_err-right-clause-refused
+operators::operators_after-returns-in_err-right-clause-refused t c =
     passed_on _ c.from_residual.result c.from_residual.ensures.1 (next_operand_refused c.in-Some.operator _ c.loop-operator.invariant.read c.in-Some.ensures.precedence c.in-Some.ensures.some.takes c.requires.depth c.in_err-right.ensures.refused)
 
-pub operators::operators_behind-loop-operator-smaller : goal.operators::operators_behind-loop-operator-smaller
-operators::operators_behind-loop-operator-smaller t c =
+pub operators::operators_after-loop-operator-smaller : goal.operators::operators_after-loop-operator-smaller
+operators::operators_after-loop-operator-smaller t c =
     let sign = token_shorter c.in-Some.ensures.some.takes.takes in
     let right = found_shorter c.in_ok-right.ensures.found in
     omega arith
 
-pub operators::operators_behind-loop-operator-preserved : goal.operators::operators_behind-loop-operator-preserved
-operators::operators_behind-loop-operator-preserved t c =
+pub operators::operators_after-loop-operator-preserved : goal.operators::operators_after-loop-operator-preserved
+operators::operators_after-loop-operator-preserved t c =
     let operand : Operand = record { operator = c.in-Some.operator; right = c.in_ok-right.right } in
     let more = next_operand_read c.loop-operator.operands.items operand c.loop-operator.invariant.read c.in-Some.ensures.precedence c.in-Some.ensures.some.takes c.requires.depth c.in_ok-right.ensures.found in
     record { read = rw c.in_ok-push.ensures.items (more (sym c.repeats.ensures ∙ c.if-not-repeats.false)); first_is = c.loop-operator.invariant.first_is }
 
-pub operators::operators_behind-returns-clause-found : goal.operators::operators_behind-returns-clause-found
-operators::operators_behind-returns-clause-found t c =
+pub operators::operators_after-returns-clause-found : goal.operators::operators_after-returns-clause-found
+operators::operators_after-returns-clause-found t c =
     elim c.match-operator_at.branch [
-      | operators::operators_behind-in-Some+in_ok-right+in_ok-push+then-not-repeats w ↦
+      | operators::operators_after-in-Some+in_ok-right+in_ok-push+then-not-repeats w ↦
           let operand : Operand = record { operator = w.in-Some.operator; right = w.in_ok-right.right } in
           let last = last_operand_found c.args.place _ _ operand c.loop-operator.invariant.read w.in-Some.ensures.precedence w.in-Some.ensures.some.takes c.requires.depth w.in_ok-right.ensures.found (sym w.repeats.ensures ∙ w.if-not-repeats.true) in
           rw (w.symbols-is, w.here-is, ← c.loop-operator.invariant.first_is) (last (ap (λ (operands : Vec Operand Global). operands.items) w.operands-is ∙ w.in_ok-push.ensures.items) c.in_ok-node.ensures)
-      | operators::operators_behind-in_default w ↦
+      | operators::operators_after-in_default w ↦
           let ended = operators_end c.args.place _ _ c.loop-operator.invariant.read w.in_default.ensures.none in
           rw (w.symbols-is, w.here-is, ← c.loop-operator.invariant.first_is) (ended (ap (λ (operands : Vec Operand Global). operands.items) w.operands-is) c.in_ok-node.ensures)
     ]
 
-pub primaries::built-returns-in_err-name-clause-refused : goal.primaries::built-returns-in_err-name-clause-refused
-primaries::built-returns-in_err-name-clause-refused t c =
+pub primaries::constructor_primary-returns-in_err-name-clause-refused : goal.primaries::constructor_primary-returns-in_err-name-clause-refused
+primaries::constructor_primary-returns-in_err-name-clause-refused t c =
     passed_on _ c.from_residual.result c.from_residual.ensures.1 (refused_upper c.args.depth (spot c.args.from) _ c.requires.begins c.in_err-name.ensures.refused)
 
-pub primaries::built-returns-in_err-arguments-clause-refused : goal.primaries::built-returns-in_err-arguments-clause-refused
-primaries::built-returns-in_err-arguments-clause-refused t c =
+pub primaries::constructor_primary-returns-in_err-arguments-clause-refused : goal.primaries::constructor_primary-returns-in_err-arguments-clause-refused
+primaries::constructor_primary-returns-in_err-arguments-clause-refused t c =
     passed_on _ c.from_residual-in_err-arguments.result c.from_residual-in_err-arguments.ensures.1 (refused_inside (name_read c.args.depth c.args.symbols.now c.in_ok-name.ensures.found refl refl c.in_ok-name.ensures.within c.in_ok-symbol.ensures.names) _ c.in_err-arguments.ensures.refused)
 
-pub primaries::built-returns-clause-found : goal.primaries::built-returns-clause-found
-primaries::built-returns-clause-found t c =
+pub primaries::constructor_primary-returns-clause-found : goal.primaries::constructor_primary-returns-clause-found
+primaries::constructor_primary-returns-clause-found t c =
     call_found c.args.symbols.now c.in_ok-symbol.symbol c.in_ok-arguments.arguments (code_expr.Build c.in_ok-name.name.place c.in_ok-symbol.symbol c.match-arguments.arguments)
     (name_read c.args.depth c.args.symbols.now c.in_ok-name.ensures.found refl refl c.in_ok-name.ensures.within c.in_ok-symbol.ensures.names) c.in_ok-symbol.ensures.symbol c.in_ok-symbol.ensures.names c.in_ok-arguments.ensures.found (λ names kept trees.
     elim c.match-arguments.branch [
-      | primaries::built-in-Some w ↦ build_phrase names _ _ c.match-arguments.arguments (w.in-Some.is ∙ ap Some (sym w.arguments-is)) kept
-      | primaries::built-in-None w ↦ constant_phrase names _ _ c.match-arguments.arguments w.in-None.is (ap (λ (v : Vec code_expr.Expr Global). v.items) w.arguments-is ∙ w.new-arguments.ensures.items) kept
+      | primaries::constructor_primary-in-Some w ↦ build_phrase names _ _ c.match-arguments.arguments (w.in-Some.is ∙ ap Some (sym w.arguments-is)) kept
+      | primaries::constructor_primary-in-None w ↦ constant_phrase names _ _ c.match-arguments.arguments w.in-None.is (ap (λ (v : Vec code_expr.Expr Global). v.items) w.arguments-is ∙ w.new-arguments.ensures.items) kept
     ] ∙ built_tree (lexed c.in_ok-name.name) c.args.depth c.in_ok-arguments.ensures.found.inside c.in_ok-name.ensures.found.kind_is trees)
 
-pub primaries::group-returns-in_err-inside-clause-refused : goal.primaries::group-returns-in_err-inside-clause-refused
-primaries::group-returns-in_err-inside-clause-refused t c =
+pub primaries::parenthesized-returns-in_err-inside-clause-refused : goal.primaries::parenthesized-returns-in_err-inside-clause-refused
+primaries::parenthesized-returns-in_err-inside-clause-refused t c =
     passed_on _ c.from_residual.result c.from_residual.ensures.1 (refused_group c.args.depth (spot c.args.from) _ c.args.sign c.requires.begins c.in_err-inside.ensures.refused)
 
-pub primaries::group-returns-in_err-expr-clause-refused : goal.primaries::group-returns-in_err-expr-clause-refused
-primaries::group-returns-in_err-expr-clause-refused t c =
+pub primaries::parenthesized-returns-in_err-expr-clause-refused : goal.primaries::parenthesized-returns-in_err-expr-clause-refused
+primaries::parenthesized-returns-in_err-expr-clause-refused t c =
     passed_on _ c.from_residual-in_err-expr.result c.from_residual-in_err-expr.ensures.1 (refused_inside (first_read c.args.depth c.args.symbols.now c.in_ok-inside.ensures.found refl refl c.in_ok-inside.ensures.within) _ c.in_err-expr.ensures.refused)
 
-pub primaries::group-returns-in_err-end-clause-refused : goal.primaries::group-returns-in_err-end-clause-refused
-primaries::group-returns-in_err-end-clause-refused t c =
+pub primaries::parenthesized-returns-in_err-end-clause-refused : goal.primaries::parenthesized-returns-in_err-end-clause-refused
+primaries::parenthesized-returns-in_err-end-clause-refused t c =
     let so = over_part (first_read c.args.depth c.args.symbols.now c.in_ok-inside.ensures.found refl refl c.in_ok-inside.ensures.within) c.in_ok-expr.ensures.found in
     passed_on _ c.from_residual-in_err-end.result c.from_residual-in_err-end.ensures.1 (refused_inside so _ c.in_err-end.ensures.refused)
 
-pub primaries::group-returns-clause-found : goal.primaries::group-returns-clause-found
-primaries::group-returns-clause-found t c =
+pub primaries::parenthesized-returns-clause-found : goal.primaries::parenthesized-returns-clause-found
+primaries::parenthesized-returns-clause-found t c =
     let opening = c.in_ok-inside.ensures.found in
     let expr = c.in_ok-expr.ensures.found in
     let so = over_part (first_read c.args.depth c.args.symbols.now opening refl refl c.in_ok-inside.ensures.within) expr in
     all_read (over_token {kind = lexeme.Punctuator punctuator.CloseParen} so c.in_ok-end.ensures.found refl refl c.in_ok-inside.ensures.within)
     (λ names more. group_tree (lexed c.in_ok-inside.field-0-0) (lexed c.in_ok-end.field-0-0) c.args.depth expr.inside opening.kind_is (expr.is names more))
 
-pub primaries::lower_primary-returns-in_err-name-clause-refused : goal.primaries::lower_primary-returns-in_err-name-clause-refused
-primaries::lower_primary-returns-in_err-name-clause-refused t c =
+pub primaries::name_primary-returns-in_err-name-clause-refused : goal.primaries::name_primary-returns-in_err-name-clause-refused
+primaries::name_primary-returns-in_err-name-clause-refused t c =
     passed_on _ c.from_residual.result c.from_residual.ensures.1 (refused_lower c.args.depth (spot c.args.from) _ c.requires.begins c.in_err-name.ensures.refused)
 
-pub primaries::lower_primary-returns-in_err-arguments-clause-refused : goal.primaries::lower_primary-returns-in_err-arguments-clause-refused
-primaries::lower_primary-returns-in_err-arguments-clause-refused t c =
+pub primaries::name_primary-returns-in_err-arguments-clause-refused : goal.primaries::name_primary-returns-in_err-arguments-clause-refused
+primaries::name_primary-returns-in_err-arguments-clause-refused t c =
     passed_on _ c.from_residual-in_err-arguments.result c.from_residual-in_err-arguments.ensures.1 (refused_inside (name_read c.args.depth c.args.symbols.now c.in_ok-name.ensures.found refl refl c.in_ok-name.ensures.within c.in_ok-symbol.ensures.names) _ c.in_err-arguments.ensures.refused)
 
-pub primaries::lower_primary-returns-clause-found : goal.primaries::lower_primary-returns-clause-found
-primaries::lower_primary-returns-clause-found t c =
+pub primaries::name_primary-returns-clause-found : goal.primaries::name_primary-returns-clause-found
+primaries::name_primary-returns-clause-found t c =
     call_found c.args.symbols.now c.in_ok-symbol.symbol c.in_ok-arguments.arguments _
     (name_read c.args.depth c.args.symbols.now c.in_ok-name.ensures.found refl refl c.in_ok-name.ensures.within c.in_ok-symbol.ensures.names) c.in_ok-symbol.ensures.symbol c.in_ok-symbol.ensures.names c.in_ok-arguments.ensures.found (λ names kept trees.
     c.named.ensures names ∙ ap (λ (name : List ℕ). named c.in_ok-name.name.place name (maybe_phrases names c.in_ok-arguments.arguments)) kept
@@ -340,35 +340,35 @@ pub primaries::primary-returns-in-Foreign-clause-refused : goal.primaries::prima
 primaries::primary-returns-in-Foreign-clause-refused t c =
     refused_no_primary lexeme.Foreign c.in-Some.first.slice.now c.args.depth (spot c.args.from) _ c.wrong-in-Foreign.ensures (next_taken (stands c.in-Some.ensures.some c.in-Foreign.is)) refl
 
-pub primaries::this_of-returns-in_err-this-clause-refused : goal.primaries::this_of-returns-in_err-this-clause-refused
-primaries::this_of-returns-in_err-this-clause-refused t c =
+pub primaries::this_primary-returns-in_err-this-clause-refused : goal.primaries::this_primary-returns-in_err-this-clause-refused
+primaries::this_primary-returns-in_err-this-clause-refused t c =
     passed_on _ c.from_residual.result c.from_residual.ensures.1 (refused_word keyword.This c.args.depth (spot c.args.from) _ refl c.requires.begins c.in_err-this.ensures.refused)
 
-pub primaries::this_of-returns-in_default-clause-found : goal.primaries::this_of-returns-in_default-clause-found
-primaries::this_of-returns-in_default-clause-found t c =
+pub primaries::this_primary-returns-in_default-clause-found : goal.primaries::this_primary-returns-in_default-clause-found
+primaries::this_primary-returns-in_default-clause-found t c =
     let this = c.in_ok-this.ensures.found in
     let none = opens (Optional ThisTail) c.args.depth c.args.symbols.now (spot c.in_ok-this.behind) _ (no_tail c.args.depth _ c.in_default.ensures.other) in
     all_read (into_last (first_read c.args.depth c.args.symbols.now this refl refl c.in_ok-this.ensures.within) none) (λ names more. this_tree (lexed c.in_ok-this.this) c.args.depth this.kind_is)
 
-pub primaries::this_of-returns-in_err-name-clause-refused : goal.primaries::this_of-returns-in_err-name-clause-refused
-primaries::this_of-returns-in_err-name-clause-refused t c =
+pub primaries::this_primary-returns-in_err-name-clause-refused : goal.primaries::this_primary-returns-in_err-name-clause-refused
+primaries::this_primary-returns-in_err-name-clause-refused t c =
     passed_on _ c.from_residual-in_err-name.result c.from_residual-in_err-name.ensures.1 (refused_inside (member_begins c.args.depth c.args.symbols.now c.in_ok-this.ensures.found c.in-Some.ensures.found c.in_ok-this.ensures.within) _ c.in_err-name.ensures.refused)
 
-pub primaries::this_of-arguments_maybe-requires : goal.primaries::this_of-arguments_maybe-requires
-primaries::this_of-arguments_maybe-requires t c =
+pub primaries::this_primary-arguments_maybe-requires : goal.primaries::this_primary-arguments_maybe-requires
+primaries::this_primary-arguments_maybe-requires t c =
     let so = member_begins c.args.depth c.args.symbols.now c.in_ok-this.ensures.found c.in-Some.ensures.found c.in_ok-this.ensures.within in
     let named = over_name {kind = lexeme.LowerName} so c.in_ok-name.ensures.found refl refl c.in_ok-this.ensures.within c.in_ok-symbol.ensures.names in
     let shorter = token_shorter c.in_ok-name.ensures.found.takes in
     let before = so.shorter in
     (search rules, (omega (arith, named.few), c.in_ok-this.ensures.within))
 
-pub primaries::this_of-returns-in_err-arguments-clause-refused : goal.primaries::this_of-returns-in_err-arguments-clause-refused
-primaries::this_of-returns-in_err-arguments-clause-refused t c =
+pub primaries::this_primary-returns-in_err-arguments-clause-refused : goal.primaries::this_primary-returns-in_err-arguments-clause-refused
+primaries::this_primary-returns-in_err-arguments-clause-refused t c =
     let so = member_begins c.args.depth c.args.symbols.now c.in_ok-this.ensures.found c.in-Some.ensures.found c.in_ok-this.ensures.within in
     passed_on _ c.from_residual-in_err-arguments.result c.from_residual-in_err-arguments.ensures.1 (refused_inside (over_name {kind = lexeme.LowerName} so c.in_ok-name.ensures.found refl refl c.in_ok-this.ensures.within c.in_ok-symbol.ensures.names) _ c.in_err-arguments.ensures.refused)
 
-pub primaries::this_of-returns-clause-found : goal.primaries::this_of-returns-clause-found
-primaries::this_of-returns-clause-found t c =
+pub primaries::this_primary-returns-clause-found : goal.primaries::this_primary-returns-clause-found
+primaries::this_primary-returns-clause-found t c =
     let so = member_begins c.args.depth c.args.symbols.now c.in_ok-this.ensures.found c.in-Some.ensures.found c.in_ok-this.ensures.within in
     call_found c.args.symbols.now c.in_ok-symbol.symbol c.in_ok-arguments.arguments _
     (over_name {kind = lexeme.LowerName} so c.in_ok-name.ensures.found refl refl c.in_ok-this.ensures.within c.in_ok-symbol.ensures.names) c.in_ok-symbol.ensures.symbol c.in_ok-symbol.ensures.names c.in_ok-arguments.ensures.found (λ names kept trees.
@@ -403,26 +403,26 @@ primaries::unary-returns-clause-found t c =
     all_read (over_part (prefix_read c.in-Some-prefix_of.prefix c.args.depth c.args.symbols.now takes c.in_ok-sign.ensures.within) found) (λ names more.
     prefixed_tree c.in-Some-prefix_of.prefix (lexed c.in_ok-sign.sign) (c.args.depth + 1) found.inside takes.kind_is (ap (phrase names) c.in_ok-operand-2.ensures.ok ∙ found.is names more))
 
-pub primaries::worded-returns-in_err-token-in-Null-clause-refused : goal.primaries::worded-returns-in_err-token-in-Null-clause-refused
-primaries::worded-returns-in_err-token-in-Null-clause-refused t c =
+pub primaries::keyword_primary-returns-in_err-token-in-Null-clause-refused : goal.primaries::keyword_primary-returns-in_err-token-in-Null-clause-refused
+primaries::keyword_primary-returns-in_err-token-in-Null-clause-refused t c =
     passed_on _ c.from_residual.result c.from_residual.ensures.1 (refused_word keyword.Null c.args.depth (spot c.args.from) _ refl (ap (fits (KeywordKind keyword.Null)) (c.requires.begins ∙ ap KeywordKind c.in-Null.is)) c.in_err-token-in-Null.ensures.refused)
 
-pub primaries::worded-returns-in_ok-token-in-Null-clause-found : goal.primaries::worded-returns-in_ok-token-in-Null-clause-found
-primaries::worded-returns-in_ok-token-in-Null-clause-found t c =
+pub primaries::keyword_primary-returns-in_ok-token-in-Null-clause-found : goal.primaries::keyword_primary-returns-in_ok-token-in-Null-clause-found
+primaries::keyword_primary-returns-in_ok-token-in-Null-clause-found t c =
     let takes = c.in_ok-token-in-Null.ensures.found in
     all_read (first_read c.args.depth c.args.symbols.now takes refl refl c.in_ok-token-in-Null.ensures.within) (λ names more. sym (tree_by (lexed c.in_ok-token-in-Null.token) c.args.depth Empty takes.kind_is))
 
-pub primaries::worded-returns-in_err-token-in-Destiny-clause-refused : goal.primaries::worded-returns-in_err-token-in-Destiny-clause-refused
-primaries::worded-returns-in_err-token-in-Destiny-clause-refused t c =
+pub primaries::keyword_primary-returns-in_err-token-in-Destiny-clause-refused : goal.primaries::keyword_primary-returns-in_err-token-in-Destiny-clause-refused
+primaries::keyword_primary-returns-in_err-token-in-Destiny-clause-refused t c =
     passed_on _ c.from_residual-in_err-token-in-Destiny.result c.from_residual-in_err-token-in-Destiny.ensures.1 (refused_word keyword.Destiny c.args.depth (spot c.args.from) _ refl (ap (fits (KeywordKind keyword.Destiny)) (c.requires.begins ∙ ap KeywordKind c.in-Destiny.is)) c.in_err-token-in-Destiny.ensures.refused)
 
-pub primaries::worded-returns-in_ok-token-in-Destiny-clause-found : goal.primaries::worded-returns-in_ok-token-in-Destiny-clause-found
-primaries::worded-returns-in_ok-token-in-Destiny-clause-found t c =
+pub primaries::keyword_primary-returns-in_ok-token-in-Destiny-clause-found : goal.primaries::keyword_primary-returns-in_ok-token-in-Destiny-clause-found
+primaries::keyword_primary-returns-in_ok-token-in-Destiny-clause-found t c =
     let takes = c.in_ok-token-in-Destiny.ensures.found in
     all_read (first_read c.args.depth c.args.symbols.now takes refl refl c.in_ok-token-in-Destiny.ensures.within) (λ names more. sym (tree_by (lexed c.in_ok-token-in-Destiny.token) c.args.depth Empty takes.kind_is))
 
-pub primaries::worded-returns-in_default : goal.primaries::worded-returns-in_default
-primaries::worded-returns-in_default t c = record {
+pub primaries::keyword_primary-returns-in_default : goal.primaries::keyword_primary-returns-in_default
+primaries::keyword_primary-returns-in_default t c = record {
   found = tt;
   refused = refused_no_primary (lexeme.Keyword c.args.word) [] c.args.depth (spot c.args.from) _ c.wrong.ensures c.requires.begins
       (sym (other_word c.args.word c.in_default.not-Null c.in_default.not-Destiny c.in_default.not-This c.in_default.not-Case));
@@ -458,60 +458,60 @@ cases::branch-returns-clause-found t c =
     let branch : Branch = record { pattern = c.in_ok-pattern.pattern; value = c.in_ok-value.value } in
     branch_found branch c.in_ok-pattern.ensures.found c.in_ok-value_at.ensures.found c.in_ok-value.ensures.found c.in_ok-end.ensures.found c.requires.depth
 
-pub cases::case_of-returns-in_err-word-clause-refused : goal.cases::case_of-returns-in_err-word-clause-refused
-cases::case_of-returns-in_err-word-clause-refused t c =
+pub cases::case_primary-returns-in_err-word-clause-refused : goal.cases::case_primary-returns-in_err-word-clause-refused
+cases::case_primary-returns-in_err-word-clause-refused t c =
     passed_on _ c.from_residual.result c.from_residual.ensures.1 (refused_word keyword.Case c.args.depth (spot c.args.from) _ refl c.requires.begins c.in_err-word.ensures.refused)
 
-pub cases::case_of-returns-in_err-subject-clause-refused : goal.cases::case_of-returns-in_err-subject-clause-refused
-cases::case_of-returns-in_err-subject-clause-refused t c =
+pub cases::case_primary-returns-in_err-subject-clause-refused : goal.cases::case_primary-returns-in_err-subject-clause-refused
+cases::case_primary-returns-in_err-subject-clause-refused t c =
     passed_on _ c.from_residual-in_err-subject.result c.from_residual-in_err-subject.ensures.1 (refused_inside (case_begins c.args.depth c.args.symbols.now c.in_ok-word.ensures.found c.in_ok-word.ensures.within) _ c.in_err-subject.ensures.refused)
 
-pub cases::case_of-returns-in_err-first_at-clause-refused : goal.cases::case_of-returns-in_err-first_at-clause-refused
-cases::case_of-returns-in_err-first_at-clause-refused t c =
+pub cases::case_primary-returns-in_err-first_at-clause-refused : goal.cases::case_primary-returns-in_err-first_at-clause-refused
+cases::case_primary-returns-in_err-first_at-clause-refused t c =
     let subject = over_part (case_begins c.args.depth c.args.symbols.now c.in_ok-word.ensures.found c.in_ok-word.ensures.within) c.in_ok-subject.ensures.found in
     passed_on _ c.from_residual-in_err-first_at.result c.from_residual-in_err-first_at.ensures.1 (refused_inside subject _ c.in_err-first_at.ensures.refused)
 
-pub cases::case_of-branch-alloc-requires : goal.cases::case_of-branch-alloc-requires
-cases::case_of-branch-alloc-requires t c =
+pub cases::case_primary-branch-alloc-requires : goal.cases::case_primary-branch-alloc-requires
+cases::case_primary-branch-alloc-requires t c =
     let few = found_few c.in_ok-subject.ensures.found in
     let shorter = found_shorter c.in_ok-subject.ensures.found in
     let word = token_shorter c.in_ok-word.ensures.found.takes in
     let brace = token_shorter c.in_ok-first_at.ensures.found.takes in
     (search rules, (omega arith, c.in_ok-word.ensures.within))
 
-pub cases::case_of-returns-in_err-first-clause-refused : goal.cases::case_of-returns-in_err-first-clause-refused
-cases::case_of-returns-in_err-first-clause-refused t c =
+pub cases::case_primary-returns-in_err-first-clause-refused : goal.cases::case_primary-returns-in_err-first-clause-refused
+cases::case_primary-returns-in_err-first-clause-refused t c =
     passed_on _ c.from_residual-in_err-first.result c.from_residual-in_err-first.ensures.1 (refused_inside (case_asked c.in_ok-word.ensures.found c.in_ok-subject.ensures.found c.in_ok-first_at.ensures.found c.in_ok-word.ensures.within) _ c.in_err-first.ensures.refused)
 
-pub cases::case_of-loop-symbols-init : goal.cases::case_of-loop-symbols-init
-cases::case_of-loop-symbols-init t c = record {
+pub cases::case_primary-loop-symbols-init : goal.cases::case_primary-loop-symbols-init
+cases::case_primary-loop-symbols-init t c = record {
   read = first_branch c.in_ok-first.first c.in_ok-branches.ensures.items c.in_ok-word.ensures.found c.in_ok-subject.ensures.found c.in_ok-first_at.ensures.found c.in_ok-first.ensures.found c.in_ok-word.ensures.within;
 }
 
-pub cases::case_of-loop-symbols-preserved : goal.cases::case_of-loop-symbols-preserved
-cases::case_of-loop-symbols-preserved t c = record { read = next_branch c.in_ok-next.next c.in_ok-push.ensures.items c.loop-symbols.invariant.read c.in_ok-next.ensures.found }
+pub cases::case_primary-loop-symbols-preserved : goal.cases::case_primary-loop-symbols-preserved
+cases::case_primary-loop-symbols-preserved t c = record { read = next_branch c.in_ok-next.next c.in_ok-push.ensures.items c.loop-symbols.invariant.read c.in_ok-next.ensures.found }
 
-pub cases::case_of-branch-alloc-requires-in-loop-symbols : goal.cases::case_of-branch-alloc-requires-in-loop-symbols
-cases::case_of-branch-alloc-requires-in-loop-symbols t c =
+pub cases::case_primary-branch-alloc-requires-in-loop-symbols : goal.cases::case_primary-branch-alloc-requires-in-loop-symbols
+cases::case_primary-branch-alloc-requires-in-loop-symbols t c =
     let few = c.loop-symbols.invariant.read.read.few in
     let shorter = c.loop-symbols.invariant.read.shorter in
     (search rules, (omega arith, c.in_ok-word.ensures.within))
 
-pub cases::case_of-returns-in_err-next-clause-refused : goal.cases::case_of-returns-in_err-next-clause-refused
-cases::case_of-returns-in_err-next-clause-refused t c =
+pub cases::case_primary-returns-in_err-next-clause-refused : goal.cases::case_primary-returns-in_err-next-clause-refused
+cases::case_primary-returns-in_err-next-clause-refused t c =
     passed_on _ c.from_residual-in_err-next.result c.from_residual-in_err-next.ensures.1 (refused_branch _ c.loop-symbols.invariant.read (sym c.is.ensures ∙ c.loop-symbols-test.true) c.in_err-next.ensures.refused)
 
-pub cases::case_of-loop-symbols-smaller : goal.cases::case_of-loop-symbols-smaller
-cases::case_of-loop-symbols-smaller t c =
+pub cases::case_primary-loop-symbols-smaller : goal.cases::case_primary-loop-symbols-smaller
+cases::case_primary-loop-symbols-smaller t c =
     let shorter = branch_shorter c.in_ok-next.ensures.found in
     omega arith
 
-pub cases::case_of-returns-in_err-end-clause-refused : goal.cases::case_of-returns-in_err-end-clause-refused
-cases::case_of-returns-in_err-end-clause-refused t c =
+pub cases::case_primary-returns-in_err-end-clause-refused : goal.cases::case_primary-returns-in_err-end-clause-refused
+cases::case_primary-returns-in_err-end-clause-refused t c =
     passed_on _ c.from_residual-in_err-end.result c.from_residual-in_err-end.ensures.1 (refused_brace _ c.loop-symbols.invariant.read (sym c.is.ensures ∙ c.loop-symbols-test.false) c.in_err-end.ensures.refused)
 
-pub cases::case_of-returns-clause-found : goal.cases::case_of-returns-clause-found
-cases::case_of-returns-clause-found t c =
+pub cases::case_primary-returns-clause-found : goal.cases::case_primary-returns-clause-found
+cases::case_primary-returns-clause-found t c =
     case_found c.in_ok-subject-2.subject c.loop-symbols.branches c.in_ok-subject-2.ensures.ok c.loop-symbols.invariant.read c.in_ok-end.ensures.found c.in_ok-word.ensures.within
 
 pub arguments::arguments-returns-in_err-behind-clause-refused : goal.arguments::arguments-returns-in_err-behind-clause-refused

@@ -2,11 +2,11 @@ use Rattle.std.proofs.Common.{◌∙◌, arith, refl, sym}
 use Rattle.abs_parser.specs.Productions.{Decl}
 use Rattle.abs_parser.specs.Readings.{One}
 use Rattle.abs_parser.specs.Views.{spot}
-use Rattle.abs_parser.proofs.ClassSteps.{members_of, class_opened, class_begun, first_member, next_member, next_member_free}
-use Rattle.abs_parser.proofs.WordSteps.{word_read, word_refused}
-use Rattle.abs_parser.proofs.DeclarationSteps.{heading_read, refused_part, refused_closing, all_parts}
-use Rattle.abs_parser.proofs.MemberSteps.{member_shorter}
-use Rattle.abs_parser.proofs.StepLemmas.{found_weaker, over_part, refused_inside, passed_on}
+use Rattle.abs_parser.proofs.reader.ClassSteps.{members_of, class_opened, class_begun, first_member, next_member, next_member_free}
+use Rattle.abs_parser.proofs.reader.WordSteps.{word_read, word_refused}
+use Rattle.abs_parser.proofs.reader.DeclarationSteps.{heading_read, refused_part, refused_closing, all_parts}
+use Rattle.abs_parser.proofs.reader.MemberSteps.{member_shorter}
+use Rattle.abs_parser.proofs.reader.StepLemmas.{found_weaker, over_part, refused_inside, passed_on}
 use Rattle.abs_parser.proofs.classes.class.Goals as goal
 
 pub returns-in_err-word-clause-refused : goal.returns-in_err-word-clause-refused
@@ -23,8 +23,8 @@ returns-in_err-params-clause-refused c =
     let named = heading_read (class_opened 0) c.in_ok-word.ensures.found c.in_ok-name.ensures.found c.in_ok-intern.ensures.names (omega arith) in
     passed_on _ c.from_residual-in_err-params.result c.from_residual-in_err-params.ensures.1 (refused_inside named _ c.in_err-params.ensures.refused)
 
-pub names_behind-requires : goal.names_behind-requires
-names_behind-requires c =
+pub interface_names-requires : goal.interface_names-requires
+interface_names-requires c =
     let few = (class_begun c.in_ok-word.ensures.found c.in_ok-name.ensures.found c.in_ok-intern.ensures.names c.in_ok-params.ensures.found (omega arith)).few in
     record { names = omega arith }
 

@@ -3,8 +3,8 @@ use Rattle.abs_tree.specs.Syntax.{Name}
 use Rattle.abs_tree.specs.SyntaxSizes.{member_statements}
 use Rattle.abs_tree.specs.SyntaxViews.{member_tree}
 use Rattle.abs_parser.specs.Views.{spot}
-use Rattle.abs_parser.proofs.ClassSteps.{members_of, class_of}
-use Rattle.abs_parser.proofs.DeclarationSteps.{ReadsParts}
+use Rattle.abs_parser.proofs.reader.ClassSteps.{members_of, class_of}
+use Rattle.abs_parser.proofs.reader.DeclarationSteps.{ReadsParts}
 use Rattle.abs_parser.proofs.classes.class.Given as goal
 
 -- what was read so far, which index is free, and that no more of them are than tokens were read

@@ -1,8 +1,8 @@
 use Rattle.std.proofs.Common.{arith}
 use Rattle.std.proofs.lemmas.Result.{IfOk-weaker, IfErr-weaker}
 use Rattle.abs_parser.specs.Views.{spot}
-use Rattle.abs_parser.proofs.MemberSteps.{refused_type, member_typed, member_named, member_found}
-use Rattle.abs_parser.proofs.StepLemmas.{refused_inside, found_few, passed_on}
+use Rattle.abs_parser.proofs.reader.MemberSteps.{refused_type, member_typed, member_named, member_found}
+use Rattle.abs_parser.proofs.reader.StepLemmas.{refused_inside, found_few, passed_on}
 use Rattle.abs_parser.proofs.classes.member.Goals as goal
 
 pub returns-in_err-type_of-clause-refused : goal.returns-in_err-type_of-clause-refused
@@ -18,29 +18,29 @@ intern-requires c =
     let few = found_few c.in_ok-type_of.ensures.found in
     omega arith
 
-pub member_behind-requires-clause-names : goal.member_behind-requires-clause-names
-member_behind-requires-clause-names c =
+pub member_tail-requires-clause-names : goal.member_tail-requires-clause-names
+member_tail-requires-clause-names c =
     let few = (member_named c.in_ok-type_of.ensures.found c.in_ok-name.ensures.found c.in_ok-intern.ensures.names (omega arith)).few in
     omega arith
 
-pub member_behind-requires-clause-few : goal.member_behind-requires-clause-few
-member_behind-requires-clause-few c =
+pub member_tail-requires-clause-few : goal.member_tail-requires-clause-few
+member_tail-requires-clause-few c =
     let shorter = (member_named c.in_ok-type_of.ensures.found c.in_ok-name.ensures.found c.in_ok-intern.ensures.names (omega arith)).shorter in
     omega arith
 
 pub returns-clause-found : goal.returns-clause-found
 returns-clause-found c =
     let name = c.in_ok-intern.ensures in
-    IfOk-weaker c.member_behind.result _ _
+    IfOk-weaker c.member_tail.result _ _
     (λ found. member_found c.args.index c.in_ok-type_of.type_of c.in_ok-intern.field-0 found.0 c.in_ok-type_of.ensures.found c.in_ok-name.ensures.found name.symbol name.names (omega arith))
-    c.member_behind.ensures.found
+    c.member_tail.ensures.found
 
 pub returns-clause-few : goal.returns-clause-few
 returns-clause-few c =
     let shorter = (member_named c.in_ok-type_of.ensures.found c.in_ok-name.ensures.found c.in_ok-intern.ensures.names (omega arith)).shorter in
-    IfOk-weaker c.member_behind.result _ _ (λ found few. omega arith) c.member_behind.ensures.few
+    IfOk-weaker c.member_tail.result _ _ (λ found few. omega arith) c.member_tail.ensures.few
 
 pub returns-clause-refused : goal.returns-clause-refused
 returns-clause-refused c =
     let named = member_named c.in_ok-type_of.ensures.found c.in_ok-name.ensures.found c.in_ok-intern.ensures.names (omega arith) in
-    IfErr-weaker c.member_behind.result _ _ (λ error. refused_inside named error) c.member_behind.ensures.refused
+    IfErr-weaker c.member_tail.result _ _ (λ error. refused_inside named error) c.member_tail.ensures.refused

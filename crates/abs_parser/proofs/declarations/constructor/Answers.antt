@@ -4,8 +4,8 @@ use Rattle.abs_parser.specs.TokenKinds.{UpperName}
 use Rattle.abs_parser.specs.Productions.{Constructor}
 use Rattle.abs_parser.specs.Readings.{One}
 use Rattle.abs_parser.specs.Views.{spot}
-use Rattle.abs_parser.proofs.DeclarationSteps.{constructor_opened, constructor_shut, constructor_named, constructor_found}
-use Rattle.abs_parser.proofs.StepLemmas.{refused_inside, refused_first_token, passed_on}
+use Rattle.abs_parser.proofs.reader.DeclarationSteps.{constructor_opened, constructor_shut, constructor_named, constructor_found}
+use Rattle.abs_parser.proofs.reader.StepLemmas.{refused_inside, refused_first_token, passed_on}
 use Rattle.abs_parser.proofs.declarations.constructor.Goals as goal
 
 pub returns-in_err-name-clause-refused : goal.returns-in_err-name-clause-refused

@@ -2,9 +2,9 @@ use Rattle.std.proofs.Common.{◌∙◌, arith}
 use Rattle.abs_parser.specs.Productions.{Decl}
 use Rattle.abs_parser.specs.Readings.{One}
 use Rattle.abs_parser.specs.Views.{spot}
-use Rattle.abs_parser.proofs.WordSteps.{word_read, word_refused}
-use Rattle.abs_parser.proofs.DeclarationSteps.{heading_read, data_opened, data_assigned, first_constructor, next_constructor, next_constructor_begins, refused_constructor, refused_closing, all_parts}
-use Rattle.abs_parser.proofs.StepLemmas.{found_weaker, over_part, refused_inside, token_shorter, found_shorter, passed_on}
+use Rattle.abs_parser.proofs.reader.WordSteps.{word_read, word_refused}
+use Rattle.abs_parser.proofs.reader.DeclarationSteps.{heading_read, data_opened, data_assigned, first_constructor, next_constructor, next_constructor_begins, refused_constructor, refused_closing, all_parts}
+use Rattle.abs_parser.proofs.reader.StepLemmas.{found_weaker, over_part, refused_inside, token_shorter, found_shorter, passed_on}
 use Rattle.abs_parser.proofs.declarations.data.Goals as goal
 
 pub returns-in_err-word-clause-refused : goal.returns-in_err-word-clause-refused

@@ -1,6 +1,6 @@
 use Rattle.std.proofs.Common.{length}
 use Rattle.abs_parser.specs.Views.{spot}
-use Rattle.abs_parser.proofs.DeclarationSteps.{AnyIndex, ReadsParts, constructors_of, data_of}
+use Rattle.abs_parser.proofs.reader.DeclarationSteps.{AnyIndex, ReadsParts, constructors_of, data_of}
 use Rattle.abs_parser.proofs.declarations.data.Given as goal
 
 -- what was read so far

@@ -4,9 +4,9 @@ use Rattle.abs_lexer.specs.declared.lexeme.Punctuator.TheVariants as punctuator
 use Rattle.abs_parser.specs.Productions.{Decl}
 use Rattle.abs_parser.specs.Readings.{One}
 use Rattle.abs_parser.specs.Views.{spot}
-use Rattle.abs_parser.proofs.WordSteps.{word_read, word_refused}
-use Rattle.abs_parser.proofs.SignatureSteps.{parameters_read, function_opened, function_named, function_assigned, function_found}
-use Rattle.abs_parser.proofs.StepLemmas.{over_token, over_part, refused_inside, found_few, token_shorter, passed_on}
+use Rattle.abs_parser.proofs.reader.WordSteps.{word_read, word_refused}
+use Rattle.abs_parser.proofs.reader.SignatureSteps.{parameters_read, function_opened, function_named, function_assigned, function_found}
+use Rattle.abs_parser.proofs.reader.StepLemmas.{over_token, over_part, refused_inside, found_few, token_shorter, passed_on}
 use Rattle.abs_parser.proofs.declarations.function.Goals as goal
 
 pub returns-in_err-word-clause-refused : goal.returns-in_err-word-clause-refused

@@ -2,10 +2,10 @@ use Rattle.std.proofs.Common.{◌∙◌, arith, sym}
 use Rattle.abs_parser.specs.Productions.{Decl}
 use Rattle.abs_parser.specs.Readings.{One}
 use Rattle.abs_parser.specs.Views.{spot}
-use Rattle.abs_parser.proofs.WordSteps.{word_read, word_refused}
-use Rattle.abs_parser.proofs.DeclarationSteps.{heading_read, refused_part, refused_closing, all_parts}
-use Rattle.abs_parser.proofs.SignatureSteps.{signatures_of, interface_opened, first_signature, next_signature, signature_shorter}
-use Rattle.abs_parser.proofs.StepLemmas.{found_weaker, over_part, refused_inside, passed_on}
+use Rattle.abs_parser.proofs.reader.WordSteps.{word_read, word_refused}
+use Rattle.abs_parser.proofs.reader.DeclarationSteps.{heading_read, refused_part, refused_closing, all_parts}
+use Rattle.abs_parser.proofs.reader.SignatureSteps.{signatures_of, interface_opened, first_signature, next_signature, signature_shorter}
+use Rattle.abs_parser.proofs.reader.StepLemmas.{found_weaker, over_part, refused_inside, passed_on}
 use Rattle.abs_parser.proofs.declarations.interface.Goals as goal
 
 pub returns-in_err-word-clause-refused : goal.returns-in_err-word-clause-refused

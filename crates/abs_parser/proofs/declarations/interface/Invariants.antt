@@ -1,7 +1,7 @@
 use Rattle.std.proofs.Common.{length}
 use Rattle.abs_parser.specs.Views.{spot}
-use Rattle.abs_parser.proofs.DeclarationSteps.{AnyIndex, ReadsParts}
-use Rattle.abs_parser.proofs.SignatureSteps.{signatures_of, interface_of}
+use Rattle.abs_parser.proofs.reader.DeclarationSteps.{AnyIndex, ReadsParts}
+use Rattle.abs_parser.proofs.reader.SignatureSteps.{signatures_of, interface_of}
 use Rattle.abs_parser.proofs.declarations.interface.Given as goal
 
 -- what was read so far

@@ -1,9 +1,9 @@
 use Rattle.std.proofs.Common.{arith}
 use Rattle.abs_parser.specs.Views.{spot}
-use Rattle.abs_parser.proofs.GuardSteps.{one_test}
-use Rattle.abs_parser.proofs.ListLemmas.{list_of_tests, trees_of_tests}
-use Rattle.abs_parser.proofs.ListSteps.{first_so_far, next_so_far, all_so_far, refused_first, refused_next}
-use Rattle.abs_parser.proofs.StepLemmas.{token_shorter, found_shorter, passed_on}
+use Rattle.abs_parser.proofs.reader.GuardSteps.{one_test}
+use Rattle.abs_parser.proofs.reader.ListLemmas.{list_of_tests, trees_of_tests}
+use Rattle.abs_parser.proofs.reader.ListSteps.{first_so_far, next_so_far, all_so_far, refused_first, refused_next}
+use Rattle.abs_parser.proofs.reader.StepLemmas.{token_shorter, found_shorter, passed_on}
 use Rattle.abs_parser.proofs.guards.guard.Goals as goal
 
 pub returns-in_err-first-clause-refused : goal.returns-in_err-first-clause-refused

@@ -1,7 +1,7 @@
 use Rattle.std.proofs.Common.{length}
 use Rattle.abs_parser.specs.Views.{spot}
-use Rattle.abs_parser.proofs.ListLemmas.{list_of_tests, trees_of_tests}
-use Rattle.abs_parser.proofs.ListSteps.{ReadsSoFar}
+use Rattle.abs_parser.proofs.reader.ListLemmas.{list_of_tests, trees_of_tests}
+use Rattle.abs_parser.proofs.reader.ListSteps.{ReadsSoFar}
 use Rattle.abs_parser.proofs.guards.guard.Given as goal
 
 abbrev pub invariant-loop-behind : goal.invariant-loop-behind

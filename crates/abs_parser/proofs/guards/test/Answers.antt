@@ -1,8 +1,8 @@
 use Rattle.std.proofs.Common.{true, false}
 use Rattle.abs_tree.specs.declared.syntax.statement.Test.{Test}
 use Rattle.abs_parser.specs.Views.{spot}
-use Rattle.abs_parser.proofs.StepLemmas.{passed_on}
-use Rattle.abs_parser.proofs.GuardSteps.{test_refused, question_found, question_left_out, test_found}
+use Rattle.abs_parser.proofs.reader.StepLemmas.{passed_on}
+use Rattle.abs_parser.proofs.reader.GuardSteps.{test_refused, question_found, question_left_out, test_found}
 use Rattle.abs_parser.proofs.guards.test.Goals as goal
 
 pub returns-in_err-value-clause-refused : goal.returns-in_err-value-clause-refused

@@ -1,4 +1,4 @@
-use Rattle.abs_parser.proofs.OutcomeLemmas.{each_text}
+use Rattle.abs_parser.proofs.stop.OutcomeLemmas.{each_text}
 use Rattle.abs_parser.proofs.law.one_outcome.Goals as goal
 
 pub returns : goal.returns

@@ -1,6 +1,6 @@
 use Rattle.std.proofs.Common.{rules}
 use Rattle.abs_lexer.proofs.NumberLemmas.{IsUtf8-digits}
-use Rattle.abs_parser.proofs.DigitLemmas.{numeral_of}
+use Rattle.abs_parser.proofs.grammar.DigitLemmas.{numeral_of}
 use Rattle.abs_parser.proofs.literals.numeral.Goals as goal
 
 pub unreachable-requires : goal.unreachable-requires

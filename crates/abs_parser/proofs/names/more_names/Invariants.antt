@@ -1,6 +1,6 @@
 use Rattle.std.proofs.Common.{length}
 use Rattle.abs_parser.specs.Views.{spot}
-use Rattle.abs_parser.proofs.NameListSteps.{NamesSoFar}
+use Rattle.abs_parser.proofs.reader.NameListSteps.{NamesSoFar}
 use Rattle.abs_parser.proofs.names.more_names.Given as goal
 
 -- what was read so far

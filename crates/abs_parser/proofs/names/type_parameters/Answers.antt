@@ -3,8 +3,8 @@ use Rattle.abs_lexer.specs.declared.lexeme.Lexeme.TheVariants as lexeme
 use Rattle.abs_lexer.specs.declared.lexeme.Punctuator.TheVariants as punctuator
 use Rattle.abs_tree.specs.SyntaxViews.{declared as declared_tree}
 use Rattle.abs_parser.specs.Views.{spot}
-use Rattle.abs_parser.proofs.NameListSteps.{type_parameter_names, no_names_found, names_begin, names_read}
-use Rattle.abs_parser.proofs.StepLemmas.{over_token, over_name, all_read, refused_inside, passed_on}
+use Rattle.abs_parser.proofs.reader.NameListSteps.{type_parameter_names, no_names_found, names_begin, names_read}
+use Rattle.abs_parser.proofs.reader.StepLemmas.{over_token, over_name, all_read, refused_inside, passed_on}
 use Rattle.abs_parser.proofs.names.type_parameters.Goals as goal
 
 pub returns-in_default-clause-found : goal.returns-in_default-clause-found

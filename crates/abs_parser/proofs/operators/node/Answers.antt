@@ -4,7 +4,7 @@ use Rattle.abs_tree.specs.declared.syntax.expression.Expr.{Expr}
 use Rattle.abs_tree.specs.Syntax.{OperatorsOf}
 use Rattle.abs_tree.specs.SyntaxViews.{phrase, operand_trees}
 use Rattle.abs_tree.proofs.SyntaxLemmas.{phrase-operators}
-use Rattle.abs_parser.proofs.OperatorLemmas.{node_is}
+use Rattle.abs_parser.proofs.grammar.OperatorLemmas.{node_is}
 use Rattle.abs_parser.proofs.operators.node.Goals as goal
 
 pub returns : goal.returns

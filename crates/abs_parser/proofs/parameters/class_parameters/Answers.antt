@@ -5,9 +5,9 @@ use Rattle.abs_tree.specs.SyntaxViews.{param_tree}
 use Rattle.abs_parser.specs.Productions.{ClassParameters}
 use Rattle.abs_parser.specs.Readings.{Optional}
 use Rattle.abs_parser.specs.Views.{spot}
-use Rattle.abs_parser.proofs.ListSteps.{parentheses_left_out, parenthesis_read_maybe}
-use Rattle.abs_parser.proofs.ParameterSteps.{class_parameters}
-use Rattle.abs_parser.proofs.StepLemmas.{opens, over_token, over_part, all_read, refused_inside, passed_on}
+use Rattle.abs_parser.proofs.reader.ListSteps.{parentheses_left_out, parenthesis_read_maybe}
+use Rattle.abs_parser.proofs.reader.ParameterSteps.{class_parameters}
+use Rattle.abs_parser.proofs.reader.StepLemmas.{opens, over_token, over_part, all_read, refused_inside, passed_on}
 use Rattle.abs_parser.proofs.parameters.class_parameters.Goals as goal
 
 pub returns-in_default-clause-found : goal.returns-in_default-clause-found

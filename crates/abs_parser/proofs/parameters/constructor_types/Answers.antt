@@ -6,10 +6,10 @@ use Rattle.abs_parser.specs.Productions.{ConstructorTypes}
 use Rattle.abs_parser.specs.Readings.{Optional}
 use Rattle.abs_parser.specs.TreesOf.{types_maybe}
 use Rattle.abs_parser.specs.Views.{spot}
-use Rattle.abs_parser.proofs.ListLemmas.{list_of_types}
-use Rattle.abs_parser.proofs.ListSteps.{maybe_found, refused_between, parentheses_left_out, parenthesis_read_maybe, nothing_between}
-use Rattle.abs_parser.proofs.ParameterSteps.{constructor_types}
-use Rattle.abs_parser.proofs.StepLemmas.{opens, over_token, over_part, all_read, refused_inside, passed_on}
+use Rattle.abs_parser.proofs.reader.ListLemmas.{list_of_types}
+use Rattle.abs_parser.proofs.reader.ListSteps.{maybe_found, refused_between, parentheses_left_out, parenthesis_read_maybe, nothing_between}
+use Rattle.abs_parser.proofs.reader.ParameterSteps.{constructor_types}
+use Rattle.abs_parser.proofs.reader.StepLemmas.{opens, over_token, over_part, all_read, refused_inside, passed_on}
 use Rattle.abs_parser.proofs.parameters.constructor_types.Goals as goal
 
 pub returns-in_default-clause-found : goal.returns-in_default-clause-found

@@ -1,7 +1,7 @@
 use Rattle.std.proofs.Common.{arith}
 use Rattle.abs_parser.specs.Views.{spot}
-use Rattle.abs_parser.proofs.ParameterSteps.{refused_param, param_typed, param_found}
-use Rattle.abs_parser.proofs.StepLemmas.{refused_inside, found_few, passed_on}
+use Rattle.abs_parser.proofs.reader.ParameterSteps.{refused_param, param_typed, param_found}
+use Rattle.abs_parser.proofs.reader.StepLemmas.{refused_inside, found_few, passed_on}
 use Rattle.abs_parser.proofs.parameters.param.Goals as goal
 
 pub returns-in_err-type_of-clause-refused : goal.returns-in_err-type_of-clause-refused

@@ -1,7 +1,7 @@
 use Rattle.std.proofs.Common.{length}
 use Rattle.abs_parser.specs.Views.{spot}
-use Rattle.abs_parser.proofs.ListSteps.{ReadsSoFar}
-use Rattle.abs_parser.proofs.ParameterSteps.{list_of_params, trees_of_params}
+use Rattle.abs_parser.proofs.reader.ListSteps.{ReadsSoFar}
+use Rattle.abs_parser.proofs.reader.ParameterSteps.{list_of_params, trees_of_params}
 use Rattle.abs_parser.proofs.parameters.params.Given as goal
 
 -- what was read so far

@@ -5,10 +5,10 @@ use Rattle.abs_parser.specs.Productions.{Params}
 use Rattle.abs_parser.specs.Readings.{Optional}
 use Rattle.abs_parser.specs.TreesOf.{params_maybe}
 use Rattle.abs_parser.specs.Views.{spot}
-use Rattle.abs_parser.proofs.ListSteps.{maybe_found}
-use Rattle.abs_parser.proofs.ParameterSteps.{list_of_params, params_begin}
-use Rattle.abs_parser.proofs.StepLemmas.{opens, all_read, refused_inside, found_weaker}
-use Rattle.abs_parser.proofs.NonterminalLemmas.{optional_opened, optional_left_out}
+use Rattle.abs_parser.proofs.reader.ListSteps.{maybe_found}
+use Rattle.abs_parser.proofs.reader.ParameterSteps.{list_of_params, params_begin}
+use Rattle.abs_parser.proofs.reader.StepLemmas.{opens, all_read, refused_inside, found_weaker}
+use Rattle.abs_parser.proofs.grammar.NonterminalLemmas.{optional_opened, optional_left_out}
 use Rattle.abs_parser.proofs.parameters.params_maybe.Goals as goal
 
 pub returns-then-not-is-clause-found : goal.returns-then-not-is-clause-found

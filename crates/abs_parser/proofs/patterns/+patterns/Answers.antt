@@ -8,16 +8,16 @@ use Rattle.abs_parser.specs.Readings.{One, Optional}
 use Rattle.abs_parser.specs.TreesOf.{patterns_maybe}
 use Rattle.abs_parser.specs.Productions.{Pattern, PatternArguments}
 use Rattle.abs_parser.specs.Views.{spot}
-use Rattle.abs_parser.proofs.BeginningLemmas.{words_do_not}
-use Rattle.abs_parser.proofs.DigitLemmas.{number_digits, number_fits, narrowed}
-use Rattle.abs_parser.proofs.ListLemmas.{list_of_patterns, trees_of_patterns, pattern_arguments}
-use Rattle.abs_parser.proofs.ListSteps.{first_so_far, next_so_far, all_so_far, refused_first, refused_next, maybe_found, refused_between, parentheses_left_out, parenthesis_read_maybe, nothing_between}
-use Rattle.abs_parser.proofs.StepLemmas.{opens, over_token, over_name, over_part, all_read, refused_inside, token_shorter, found_shorter, found_goes_on, symbol_kept, passed_on}
-use Rattle.abs_parser.proofs.NameLemmas.{goes_on_further}
+use Rattle.abs_parser.proofs.grammar.BeginningLemmas.{words_do_not}
+use Rattle.abs_parser.proofs.grammar.DigitLemmas.{number_digits, number_fits, narrowed}
+use Rattle.abs_parser.proofs.reader.ListLemmas.{list_of_patterns, trees_of_patterns, pattern_arguments}
+use Rattle.abs_parser.proofs.reader.ListSteps.{first_so_far, next_so_far, all_so_far, refused_first, refused_next, maybe_found, refused_between, parentheses_left_out, parenthesis_read_maybe, nothing_between}
+use Rattle.abs_parser.proofs.reader.StepLemmas.{opens, over_token, over_name, over_part, all_read, refused_inside, token_shorter, found_shorter, found_goes_on, symbol_kept, passed_on}
+use Rattle.abs_parser.proofs.grammar.NameLemmas.{goes_on_further}
 use Rattle.abs_tree.proofs.SyntaxLemmas.{pattern_tree-built}
-use Rattle.abs_parser.proofs.PatternLemmas.{constructor_opened, binds_tree, built_tree, number_tree, text_tree}
-use Rattle.abs_parser.proofs.PatternSteps.{pattern_begins, refused_at_end, refused_pattern, refused_no_pattern}
-use Rattle.abs_parser.proofs.PrimarySteps.{stands}
+use Rattle.abs_parser.proofs.grammar.PatternLemmas.{constructor_opened, binds_tree, built_tree, number_tree, text_tree}
+use Rattle.abs_parser.proofs.reader.PatternSteps.{pattern_begins, refused_at_end, refused_pattern, refused_no_pattern}
+use Rattle.abs_parser.proofs.reader.PrimarySteps.{stands}
 use Rattle.abs_parser.proofs.patterns.+patterns.Goals as goal
 
 pub pattern-returns-in_default-clause-refused : goal.pattern-returns-in_default-clause-refused
@@ -65,18 +65,18 @@ pub pattern-returns-in-Keyword-clause-refused : goal.pattern-returns-in-Keyword-
 pattern-returns-in-Keyword-clause-refused t c =
     refused_no_pattern c.args.depth _ c.wrong-in-Keyword.ensures c.in-Some.ensures.some (sym (words_do_not c.in-Keyword.is c.in-Some.first.slice.now))
 
-pub built-returns-in_err-name-clause-refused : goal.built-returns-in_err-name-clause-refused
-built-returns-in_err-name-clause-refused t c =
+pub constructor_pattern-returns-in_err-name-clause-refused : goal.constructor_pattern-returns-in_err-name-clause-refused
+constructor_pattern-returns-in_err-name-clause-refused t c =
     passed_on _ c.from_residual.result c.from_residual.ensures.1 (refused_inside (opens (One Pattern) c.args.depth c.args.symbols.now (spot c.args.from) _ (constructor_opened _ c.args.depth c.requires.begins)) _ c.in_err-name.ensures.refused)
 
-pub built-returns-in_err-arguments-clause-refused : goal.built-returns-in_err-arguments-clause-refused
-built-returns-in_err-arguments-clause-refused t c =
+pub constructor_pattern-returns-in_err-arguments-clause-refused : goal.constructor_pattern-returns-in_err-arguments-clause-refused
+constructor_pattern-returns-in_err-arguments-clause-refused t c =
     let takes = c.in_ok-name.ensures.found in
     passed_on _ c.from_residual-in_err-arguments.result c.from_residual-in_err-arguments.ensures.1 (refused_inside (over_name {kind = lexeme.UpperName} (pattern_begins c.args.depth c.args.symbols.now takes refl) takes refl refl c.in_ok-name.ensures.within c.in_ok-constructor.ensures.names) _
     c.in_err-arguments.ensures.refused)
 
-pub built-returns-clause-found : goal.built-returns-clause-found
-built-returns-clause-found t c =
+pub constructor_pattern-returns-clause-found : goal.constructor_pattern-returns-clause-found
+constructor_pattern-returns-clause-found t c =
     let takes = c.in_ok-name.ensures.found in
     let named = c.in_ok-constructor.ensures in
     let found = c.in_ok-arguments.ensures.found in

@@ -1,7 +1,7 @@
 use Rattle.std.proofs.Common.{◌+◌, ◌*◌, length}
 use Rattle.abs_parser.specs.Views.{spot}
-use Rattle.abs_parser.proofs.ListLemmas.{list_of_patterns, trees_of_patterns}
-use Rattle.abs_parser.proofs.ListSteps.{ReadsSoFar}
+use Rattle.abs_parser.proofs.reader.ListLemmas.{list_of_patterns, trees_of_patterns}
+use Rattle.abs_parser.proofs.reader.ListSteps.{ReadsSoFar}
 use Rattle.abs_parser.proofs.patterns.+patterns.Given as goal
 
 abbrev pub decreases-pattern : goal.decreases-pattern
@@ -10,8 +10,8 @@ decreases-pattern l = 3 * length (spot l.from).rest + 1
 abbrev pub decreases-pattern_arguments : goal.decreases-pattern_arguments
 decreases-pattern_arguments l = 3 * length (spot l.from).rest
 
-abbrev pub decreases-built : goal.decreases-built
-decreases-built l = 3 * length (spot l.from).rest
+abbrev pub decreases-constructor_pattern : goal.decreases-constructor_pattern
+decreases-constructor_pattern l = 3 * length (spot l.from).rest
 
 abbrev pub decreases-patterns : goal.decreases-patterns
 decreases-patterns l = 3 * length (spot l.from).rest + 2

@@ -3,8 +3,8 @@ use Rattle.abs_lexer.specs.declared.lexeme.Lexeme.TheVariants as lexeme
 use Rattle.abs_lexer.specs.declared.lexeme.Punctuator.TheVariants as punctuator
 use Rattle.abs_parser.specs.Productions.{Module}
 use Rattle.abs_parser.specs.Views.{spot}
-use Rattle.abs_parser.proofs.StepLemmas.{passed_on}
-use Rattle.abs_parser.proofs.PreambleSteps.{past_token, past_part, read_whole, refused_left, line_left_out, module_begins}
+use Rattle.abs_parser.proofs.reader.StepLemmas.{passed_on}
+use Rattle.abs_parser.proofs.reader.PreambleSteps.{past_token, past_part, read_whole, refused_left, line_left_out, module_begins}
 use Rattle.abs_parser.proofs.preamble.module_line.Goals as goal
 
 pub returns-in_default-clause-found : goal.returns-in_default-clause-found

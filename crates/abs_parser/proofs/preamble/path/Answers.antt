@@ -1,7 +1,7 @@
 use Rattle.std.proofs.Common.{arith}
 use Rattle.abs_parser.specs.Views.{spot}
-use Rattle.abs_parser.proofs.PreambleSteps.{refused_path, path_begins, refused_dot_name, path_goes_on, path_found}
-use Rattle.abs_parser.proofs.StepLemmas.{token_shorter, passed_on}
+use Rattle.abs_parser.proofs.reader.PreambleSteps.{refused_path, path_begins, refused_dot_name, path_goes_on, path_found}
+use Rattle.abs_parser.proofs.reader.StepLemmas.{token_shorter, passed_on}
 use Rattle.abs_parser.proofs.preamble.path.Goals as goal
 
 pub returns-in_err-first-clause-refused : goal.returns-in_err-first-clause-refused

@@ -1,6 +1,6 @@
 use Rattle.std.proofs.Common.{length}
 use Rattle.abs_parser.specs.Views.{spot}
-use Rattle.abs_parser.proofs.PreambleSteps.{PathUpTo}
+use Rattle.abs_parser.proofs.reader.PreambleSteps.{PathUpTo}
 use Rattle.abs_parser.proofs.preamble.path.Given as goal
 
 -- what was read so far

@@ -1,7 +1,7 @@
 use Rattle.std.proofs.Common.{arith}
 use Rattle.abs_parser.specs.Views.{spot}
-use Rattle.abs_parser.proofs.DeclarationListSteps.{refused_no_declaration, no_declaration_at_end, no_declaration_kind, no_declaration_word}
-use Rattle.abs_parser.proofs.StepLemmas.{found_shorter, found_weaker}
+use Rattle.abs_parser.proofs.reader.DeclarationListSteps.{refused_no_declaration, no_declaration_at_end, no_declaration_kind, no_declaration_word}
+use Rattle.abs_parser.proofs.reader.StepLemmas.{found_shorter, found_weaker}
 use Rattle.abs_parser.proofs.programs.declaration.Goals.{in-Data+in_ok-data-in-Data, in-Def+in_ok-function-in-Def, in-Interface+in_ok-decl-in-Interface}
 use Rattle.abs_parser.proofs.programs.declaration.Goals as goal
 

@@ -1,7 +1,7 @@
 use Rattle.std.proofs.Common.{arith, sym, ◌∙◌}
 use Rattle.abs_parser.specs.Views.{spot}
-use Rattle.abs_parser.proofs.StepLemmas.{passed_on}
-use Rattle.abs_parser.proofs.DeclarationListSteps.{declaration_shorter, no_declaration_yet, next_declaration, refused_declaration, declarations_found}
+use Rattle.abs_parser.proofs.reader.StepLemmas.{passed_on}
+use Rattle.abs_parser.proofs.reader.DeclarationListSteps.{declaration_shorter, no_declaration_yet, next_declaration, refused_declaration, declarations_found}
 use Rattle.abs_parser.proofs.programs.declarations.Goals as goal
 
 pub loop-alloc-init : goal.loop-alloc-init

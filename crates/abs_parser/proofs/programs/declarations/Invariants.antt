@@ -1,6 +1,6 @@
 use Rattle.std.proofs.Common.{length}
 use Rattle.abs_parser.specs.Views.{spot}
-use Rattle.abs_parser.proofs.DeclarationListSteps.{DeclsSoFar}
+use Rattle.abs_parser.proofs.reader.DeclarationListSteps.{DeclsSoFar}
 use Rattle.abs_parser.proofs.programs.declarations.Given as goal
 
 -- what was read so far

@@ -1,5 +1,5 @@
 use Rattle.abs_parser.specs.Views.{spot}
-use Rattle.abs_parser.proofs.RightSideSteps.{cog_found, local_found, plain_found}
+use Rattle.abs_parser.proofs.reader.RightSideSteps.{cog_found, local_found, plain_found}
 use Rattle.abs_parser.proofs.right_sides.mode.Goals as goal
 
 pub returns-in-Some : goal.returns-in-Some

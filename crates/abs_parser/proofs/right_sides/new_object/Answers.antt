@@ -9,9 +9,9 @@ use Rattle.abs_parser.specs.Productions.{Rhs}
 use Rattle.abs_parser.specs.Readings.{One}
 use Rattle.abs_parser.specs.TreesOf.{rhs_in}
 use Rattle.abs_parser.specs.Views.{spot}
-use Rattle.abs_parser.proofs.RightSideSteps.{named_call_found, found_same, mode_found, new_opened, new_begins, new_named}
-use Rattle.abs_parser.proofs.WordSteps.{word_refused}
-use Rattle.abs_parser.proofs.StepLemmas.{refused_inside, passed_on}
+use Rattle.abs_parser.proofs.reader.RightSideSteps.{named_call_found, found_same, mode_found, new_opened, new_begins, new_named}
+use Rattle.abs_parser.proofs.reader.WordSteps.{word_refused}
+use Rattle.abs_parser.proofs.reader.StepLemmas.{refused_inside, passed_on}
 use Rattle.abs_parser.proofs.right_sides.new_object.Goals as goal
 
 pub returns-in_err-word-clause-refused : goal.returns-in_err-word-clause-refused

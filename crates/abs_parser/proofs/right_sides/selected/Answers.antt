@@ -5,8 +5,8 @@ use Rattle.abs_tree.specs.declared.syntax.expression.Expr.{Expr}
 use Rattle.abs_tree.specs.SyntaxViews.{phrase}
 use Rattle.abs_parser.specs.TreesOf.{selected_in}
 use Rattle.abs_parser.specs.Views.{spot}
-use Rattle.abs_parser.proofs.RightSideSteps.{named_call_found, found_same, get_found, refused_selected, selected_named}
-use Rattle.abs_parser.proofs.StepLemmas.{refused_inside, passed_on}
+use Rattle.abs_parser.proofs.reader.RightSideSteps.{named_call_found, found_same, get_found, refused_selected, selected_named}
+use Rattle.abs_parser.proofs.reader.StepLemmas.{refused_inside, passed_on}
 use Rattle.abs_parser.proofs.right_sides.selected.Goals as goal
 
 pub returns-in-Some-clause-found : goal.returns-in-Some-clause-found

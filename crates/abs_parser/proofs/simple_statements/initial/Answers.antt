@@ -1,6 +1,6 @@
 use Rattle.abs_parser.specs.Views.{spot}
-use Rattle.abs_parser.proofs.LocalSteps.{initial_begins, initial_found, no_initial_found}
-use Rattle.abs_parser.proofs.StepLemmas.{refused_inside, passed_on}
+use Rattle.abs_parser.proofs.reader.LocalSteps.{initial_begins, initial_found, no_initial_found}
+use Rattle.abs_parser.proofs.reader.StepLemmas.{refused_inside, passed_on}
 use Rattle.abs_parser.proofs.simple_statements.initial.Goals as goal
 
 pub returns-in_default-clause-found : goal.returns-in_default-clause-found

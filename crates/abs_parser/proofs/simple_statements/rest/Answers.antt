@@ -1,8 +1,8 @@
 use Rattle.std.proofs.Common.{arith}
 use Rattle.abs_parser.specs.Views.{spot}
 use Rattle.abs_parser.specs.declared.operators.Precedence.TheVariants as precedence
-use Rattle.abs_parser.proofs.RestSteps.{rest_begins, over_precedence, precedence_refused, over_tail, tail_refused, semicolon_refused, rest_found}
-use Rattle.abs_parser.proofs.StepLemmas.{found_few, passed_on}
+use Rattle.abs_parser.proofs.reader.RestSteps.{rest_begins, over_precedence, precedence_refused, over_tail, tail_refused, semicolon_refused, rest_found}
+use Rattle.abs_parser.proofs.reader.StepLemmas.{found_few, passed_on}
 use Rattle.abs_parser.proofs.simple_statements.rest.Goals as goal
 
 pub returns-in_err-product-clause-refused : goal.returns-in_err-product-clause-refused
@@ -10,8 +10,8 @@ returns-in_err-product-clause-refused c =
     let start = rest_begins c.args.depth c.args.symbols.now (spot c.args.from) in
     passed_on _ c.from_residual.result c.from_residual.ensures.1 (precedence_refused precedence.Mul _ start c.in_err-product.ensures.refused)
 
-pub operators_behind-requires-2-clause-names : goal.operators_behind-requires-2-clause-names
-operators_behind-requires-2-clause-names c = omega (arith, found_few c.in_ok-product.ensures.found)
+pub operators_after-requires-2-clause-names : goal.operators_after-requires-2-clause-names
+operators_after-requires-2-clause-names c = omega (arith, found_few c.in_ok-product.ensures.found)
 
 pub returns-in_err-sum-clause-refused : goal.returns-in_err-sum-clause-refused
 returns-in_err-sum-clause-refused c =
@@ -19,8 +19,8 @@ returns-in_err-sum-clause-refused c =
     let product = over_precedence precedence.Mul start c.in_ok-product.ensures.found in
     passed_on _ c.from_residual-in_err-sum.result c.from_residual-in_err-sum.ensures.1 (precedence_refused precedence.Sum _ product c.in_err-sum.ensures.refused)
 
-pub operators_behind-requires-3-clause-names : goal.operators_behind-requires-3-clause-names
-operators_behind-requires-3-clause-names c = omega (arith, found_few c.in_ok-product.ensures.found, found_few c.in_ok-sum.ensures.found)
+pub operators_after-requires-3-clause-names : goal.operators_after-requires-3-clause-names
+operators_after-requires-3-clause-names c = omega (arith, found_few c.in_ok-product.ensures.found, found_few c.in_ok-sum.ensures.found)
 
 pub returns-in_err-comparison-clause-refused : goal.returns-in_err-comparison-clause-refused
 returns-in_err-comparison-clause-refused c =
@@ -29,8 +29,8 @@ returns-in_err-comparison-clause-refused c =
     let sum = over_precedence precedence.Sum product c.in_ok-sum.ensures.found in
     passed_on _ c.from_residual-in_err-comparison.result c.from_residual-in_err-comparison.ensures.1 (precedence_refused precedence.Compare _ sum c.in_err-comparison.ensures.refused)
 
-pub operators_behind-requires-4-clause-names : goal.operators_behind-requires-4-clause-names
-operators_behind-requires-4-clause-names c = omega (arith, found_few c.in_ok-product.ensures.found, found_few c.in_ok-sum.ensures.found, found_few c.in_ok-comparison.ensures.found)
+pub operators_after-requires-4-clause-names : goal.operators_after-requires-4-clause-names
+operators_after-requires-4-clause-names c = omega (arith, found_few c.in_ok-product.ensures.found, found_few c.in_ok-sum.ensures.found, found_few c.in_ok-comparison.ensures.found)
 
 pub returns-in_err-equality-clause-refused : goal.returns-in_err-equality-clause-refused
 returns-in_err-equality-clause-refused c =
@@ -40,8 +40,8 @@ returns-in_err-equality-clause-refused c =
     let comparison = over_precedence precedence.Compare sum c.in_ok-comparison.ensures.found in
     passed_on _ c.from_residual-in_err-equality.result c.from_residual-in_err-equality.ensures.1 (precedence_refused precedence.Equal _ comparison c.in_err-equality.ensures.refused)
 
-pub operators_behind-requires-5-clause-names : goal.operators_behind-requires-5-clause-names
-operators_behind-requires-5-clause-names c =
+pub operators_after-requires-5-clause-names : goal.operators_after-requires-5-clause-names
+operators_after-requires-5-clause-names c =
     omega (
       arith,
       found_few c.in_ok-product.ensures.found,
@@ -59,8 +59,8 @@ returns-in_err-conjunction-clause-refused c =
     let equality = over_precedence precedence.Equal comparison c.in_ok-equality.ensures.found in
     passed_on _ c.from_residual-in_err-conjunction.result c.from_residual-in_err-conjunction.ensures.1 (precedence_refused precedence.And _ equality c.in_err-conjunction.ensures.refused)
 
-pub operators_behind-requires-6-clause-names : goal.operators_behind-requires-6-clause-names
-operators_behind-requires-6-clause-names c =
+pub operators_after-requires-6-clause-names : goal.operators_after-requires-6-clause-names
+operators_after-requires-6-clause-names c =
     omega (
       arith,
       found_few c.in_ok-product.ensures.found,
@@ -80,8 +80,8 @@ returns-in_err-disjunction-clause-refused c =
     let conjunction = over_precedence precedence.And equality c.in_ok-conjunction.ensures.found in
     passed_on _ c.from_residual-in_err-disjunction.result c.from_residual-in_err-disjunction.ensures.1 (precedence_refused precedence.Or _ conjunction c.in_err-disjunction.ensures.refused)
 
-pub side_behind-requires-clause-names : goal.side_behind-requires-clause-names
-side_behind-requires-clause-names c =
+pub right_side_tail-requires-clause-names : goal.right_side_tail-requires-clause-names
+right_side_tail-requires-clause-names c =
     omega (
       arith,
       found_few c.in_ok-product.ensures.found,

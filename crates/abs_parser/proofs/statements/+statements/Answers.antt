@@ -8,15 +8,15 @@ use Rattle.abs_parser.specs.TokenKinds.{KeywordKind, PunctuatorKind, fits}
 use Rattle.abs_parser.specs.Productions.{Block}
 use Rattle.abs_parser.specs.Readings.{One}
 use Rattle.abs_parser.specs.Views.{spot}
-use Rattle.abs_parser.proofs.BlockSteps.{first_statement, next_statement, next_free, refused_statement, refused_brace, block_found}
-use Rattle.abs_parser.proofs.FirstPlaceLemmas.{found_fewer}
-use Rattle.abs_parser.proofs.KindLemmas.{sign_is}
-use Rattle.abs_parser.proofs.PatternSteps.{next_taken}
-use Rattle.abs_parser.proofs.PrimarySteps.{stands}
-use Rattle.abs_parser.proofs.WordSteps.{word_read, word_refused}
-use Rattle.abs_parser.proofs.StatementSteps.{block_shut, block_opened, nested_begins, nested_found, test_begins, test_read, while_opened, while_found, if_opened, if_chosen, if_found, else_read, else_found, else_left_out, statement_refused_at_end}
-use Rattle.abs_parser.proofs.StepLemmas.{over_part, refused_inside, refused_first_token, token_shorter, found_few, found_shorter, fits_next, passed_on}
-use Rattle.abs_parser.proofs.statements.+statements.Goals.{statement-in-UpperName+in_ok-declaration-in-UpperName, statement-in-LowerName+in_ok-from_variable-in-LowerName, statement-in-Punctuator+else-eq+in_ok-plain-in-Punctuator, statement-in-Number+in_ok-stmt-in-Number, worded-in-Skip+in_ok-skip-in-Skip, worded-in-Suspend+in_ok-suspend-in-Suspend, worded-in-Await+in_ok-awaiting-in-Await, worded-in-Return+in_ok-returning-in-Return, worded-in-Println+in_ok-printing-in-Println, worded-in-This+in_ok-from_this-in-This, worded-in_default+in_ok-stmt-in_default}
+use Rattle.abs_parser.proofs.reader.BlockSteps.{first_statement, next_statement, next_free, refused_statement, refused_brace, block_found}
+use Rattle.abs_parser.proofs.grammar.FirstPlaceLemmas.{found_fewer}
+use Rattle.abs_parser.proofs.grammar.KindLemmas.{sign_is}
+use Rattle.abs_parser.proofs.reader.PatternSteps.{next_taken}
+use Rattle.abs_parser.proofs.reader.PrimarySteps.{stands}
+use Rattle.abs_parser.proofs.reader.WordSteps.{word_read, word_refused}
+use Rattle.abs_parser.proofs.reader.StatementSteps.{block_shut, block_opened, nested_begins, nested_found, test_begins, test_read, while_opened, while_found, if_opened, if_chosen, if_found, else_read, else_found, else_left_out, statement_refused_at_end}
+use Rattle.abs_parser.proofs.reader.StepLemmas.{over_part, refused_inside, refused_first_token, token_shorter, found_few, found_shorter, fits_next, passed_on}
+use Rattle.abs_parser.proofs.statements.+statements.Goals.{statement-in-UpperName+in_ok-variable_declaration-in-UpperName, statement-in-LowerName+in_ok-variable_statement-in-LowerName, statement-in-Punctuator+else-eq+in_ok-right_side_statement-in-Punctuator, statement-in-Number+in_ok-stmt-in-Number, keyword_statement-in-Skip+in_ok-skip_statement-in-Skip, keyword_statement-in-Suspend+in_ok-suspend_statement-in-Suspend, keyword_statement-in-Await+in_ok-await_statement-in-Await, keyword_statement-in-Return+in_ok-return_statement-in-Return, keyword_statement-in-Println+in_ok-println_statement-in-Println, keyword_statement-in-This+in_ok-this_statement-in-This, keyword_statement-in_default+in_ok-stmt-in_default}
 use Rattle.abs_parser.proofs.statements.+statements.Goals as goal
 
 pub block-returns-in_err-here-clause-refused : goal.block-returns-in_err-here-clause-refused
@@ -71,26 +71,26 @@ block-returns-clause-few t c =
     let brace = token_shorter c.in_ok-close.ensures.found.takes in
     omega arith
 
-pub conditional-returns-in_err-word-clause-refused : goal.conditional-returns-in_err-word-clause-refused
-conditional-returns-in_err-word-clause-refused t c =
+pub if_statement-returns-in_err-word-clause-refused : goal.if_statement-returns-in_err-word-clause-refused
+if_statement-returns-in_err-word-clause-refused t c =
     passed_on _ c.from_residual.result c.from_residual.ensures.1 (word_refused _ _ _ _ (if_opened c.args.depth) c.requires.begins c.in_err-word.ensures.refused)
 
-pub conditional-returns-in_err-test_at-clause-refused : goal.conditional-returns-in_err-test_at-clause-refused
-conditional-returns-in_err-test_at-clause-refused t c =
+pub if_statement-returns-in_err-test_at-clause-refused : goal.if_statement-returns-in_err-test_at-clause-refused
+if_statement-returns-in_err-test_at-clause-refused t c =
     passed_on _ c.from_residual-in_err-test_at.result c.from_residual-in_err-test_at.ensures.1 (refused_inside (word_read _ c.args.symbols.now (if_opened c.args.depth) c.in_ok-word.ensures.found c.in_ok-word.ensures.within) _ c.in_err-test_at.ensures.refused)
 
-pub conditional-returns-in_err-test-clause-refused : goal.conditional-returns-in_err-test-clause-refused
-conditional-returns-in_err-test-clause-refused t c =
+pub if_statement-returns-in_err-test-clause-refused : goal.if_statement-returns-in_err-test-clause-refused
+if_statement-returns-in_err-test-clause-refused t c =
     let begun = test_begins c.args.symbols.now (if_opened c.args.depth) c.in_ok-word.ensures.found c.in_ok-test_at.ensures.found c.in_ok-word.ensures.within in
     passed_on _ c.from_residual-in_err-test.result c.from_residual-in_err-test.ensures.1 (refused_inside begun _ c.in_err-test.ensures.refused)
 
-pub conditional-returns-in_err-first_at-clause-refused : goal.conditional-returns-in_err-first_at-clause-refused
-conditional-returns-in_err-first_at-clause-refused t c =
+pub if_statement-returns-in_err-first_at-clause-refused : goal.if_statement-returns-in_err-first_at-clause-refused
+if_statement-returns-in_err-first_at-clause-refused t c =
     let begun = test_begins c.args.symbols.now (if_opened c.args.depth) c.in_ok-word.ensures.found c.in_ok-test_at.ensures.found c.in_ok-word.ensures.within in
     passed_on _ c.from_residual-in_err-first_at.result c.from_residual-in_err-first_at.ensures.1 (refused_inside (over_part begun c.in_ok-test.ensures.found) _ c.in_err-first_at.ensures.refused)
 
-pub conditional-statement-requires : goal.conditional-statement-requires
-conditional-statement-requires t c =
+pub if_statement-statement-requires : goal.if_statement-statement-requires
+if_statement-statement-requires t c =
     let few = found_few c.in_ok-test.ensures.found in
     let shorter = found_shorter c.in_ok-test.ensures.found in
     let word = token_shorter c.in_ok-word.ensures.found.takes in
@@ -98,13 +98,13 @@ conditional-statement-requires t c =
     let closing = token_shorter c.in_ok-first_at.ensures.found.takes in
     (search rules, (omega arith, (omega arith, c.in_ok-word.ensures.within)))
 
-pub conditional-returns-in_err-first-clause-refused : goal.conditional-returns-in_err-first-clause-refused
-conditional-returns-in_err-first-clause-refused t c =
+pub if_statement-returns-in_err-first-clause-refused : goal.if_statement-returns-in_err-first-clause-refused
+if_statement-returns-in_err-first-clause-refused t c =
     let tested = test_read (if_opened c.args.depth) c.in_ok-word.ensures.found c.in_ok-test_at.ensures.found c.in_ok-test.ensures.found c.in_ok-first_at.ensures.found c.in_ok-word.ensures.within in
     passed_on _ c.from_residual-in_err-first.result c.from_residual-in_err-first.ensures.1 (refused_inside tested _ c.in_err-first.ensures.refused)
 
-pub conditional-otherwise-requires : goal.conditional-otherwise-requires
-conditional-otherwise-requires t c =
+pub if_statement-else_branch-requires : goal.if_statement-else_branch-requires
+if_statement-else_branch-requires t c =
     let few_test = found_few c.in_ok-test.ensures.found in
     let shorter_test = found_shorter c.in_ok-test.ensures.found in
     let few = found_few c.in_ok-first.ensures.found in
@@ -115,24 +115,24 @@ conditional-otherwise-requires t c =
     let closing = token_shorter c.in_ok-first_at.ensures.found.takes in
     (search rules, (omega arith, (omega arith, c.in_ok-word.ensures.within)))
 
-pub conditional-returns-in_err-second-clause-refused : goal.conditional-returns-in_err-second-clause-refused
-conditional-returns-in_err-second-clause-refused t c =
+pub if_statement-returns-in_err-second-clause-refused : goal.if_statement-returns-in_err-second-clause-refused
+if_statement-returns-in_err-second-clause-refused t c =
     let chosen = if_chosen c.in_ok-word.ensures.found c.in_ok-test_at.ensures.found c.in_ok-test.ensures.found c.in_ok-first_at.ensures.found c.in_ok-first.ensures.found c.in_ok-word.ensures.within in
     passed_on _ c.from_residual-in_err-second.result c.from_residual-in_err-second.ensures.1 (refused_inside chosen _ c.in_err-second.ensures.refused)
 
-pub conditional-returns-clause-found : goal.conditional-returns-clause-found
-conditional-returns-clause-found t c =
+pub if_statement-returns-clause-found : goal.if_statement-returns-clause-found
+if_statement-returns-clause-found t c =
     if_found c.args.index c.in_ok-first.middle c.in_ok-condition.condition c.in_ok-first.first c.in_ok-first-2.first c.in_ok-second.second c.in_ok-condition.ensures.ok c.in_ok-first-2.ensures.found
     (λ names. omega (arith, c.in_ok-first.ensures.free names, c.in_ok-first-2.ensures.count names))
     c.in_ok-word.ensures.found c.in_ok-test_at.ensures.found c.in_ok-test.ensures.found c.in_ok-first_at.ensures.found c.in_ok-first.ensures.found c.in_ok-second.ensures.found c.in_ok-word.ensures.within
 
-pub conditional-returns-clause-free : goal.conditional-returns-clause-free
-conditional-returns-clause-free t c names =
+pub if_statement-returns-clause-free : goal.if_statement-returns-clause-free
+if_statement-returns-clause-free t c names =
     let tree = statement-if names c.args.index c.in_ok-word.word.place c.in_ok-condition.condition c.in_ok-first-2.first c.in_ok-second.second in
     rw (ap count_of tree) (omega (arith, c.in_ok-first.ensures.free names, c.in_ok-first-2.ensures.count names, c.in_ok-second.ensures.free names))
 
-pub conditional-returns-clause-few : goal.conditional-returns-clause-few
-conditional-returns-clause-few t c =
+pub if_statement-returns-clause-few : goal.if_statement-returns-clause-few
+if_statement-returns-clause-few t c =
     let shorter_test = found_shorter c.in_ok-test.ensures.found in
     let numbers = c.in_ok-first.ensures.few in
     let numbers_behind = c.in_ok-second.ensures.few in
@@ -141,26 +141,26 @@ conditional-returns-clause-few t c =
     let closing = token_shorter c.in_ok-first_at.ensures.found.takes in
     omega arith
 
-pub looping-returns-in_err-word-clause-refused : goal.looping-returns-in_err-word-clause-refused
-looping-returns-in_err-word-clause-refused t c =
+pub while_statement-returns-in_err-word-clause-refused : goal.while_statement-returns-in_err-word-clause-refused
+while_statement-returns-in_err-word-clause-refused t c =
     passed_on _ c.from_residual.result c.from_residual.ensures.1 (word_refused _ _ _ _ (while_opened c.args.depth) c.requires.begins c.in_err-word.ensures.refused)
 
-pub looping-returns-in_err-test_at-clause-refused : goal.looping-returns-in_err-test_at-clause-refused
-looping-returns-in_err-test_at-clause-refused t c =
+pub while_statement-returns-in_err-test_at-clause-refused : goal.while_statement-returns-in_err-test_at-clause-refused
+while_statement-returns-in_err-test_at-clause-refused t c =
     passed_on _ c.from_residual-in_err-test_at.result c.from_residual-in_err-test_at.ensures.1 (refused_inside (word_read _ c.args.symbols.now (while_opened c.args.depth) c.in_ok-word.ensures.found c.in_ok-word.ensures.within) _ c.in_err-test_at.ensures.refused)
 
-pub looping-returns-in_err-test-clause-refused : goal.looping-returns-in_err-test-clause-refused
-looping-returns-in_err-test-clause-refused t c =
+pub while_statement-returns-in_err-test-clause-refused : goal.while_statement-returns-in_err-test-clause-refused
+while_statement-returns-in_err-test-clause-refused t c =
     let begun = test_begins c.args.symbols.now (while_opened c.args.depth) c.in_ok-word.ensures.found c.in_ok-test_at.ensures.found c.in_ok-word.ensures.within in
     passed_on _ c.from_residual-in_err-test.result c.from_residual-in_err-test.ensures.1 (refused_inside begun _ c.in_err-test.ensures.refused)
 
-pub looping-returns-in_err-body_at-clause-refused : goal.looping-returns-in_err-body_at-clause-refused
-looping-returns-in_err-body_at-clause-refused t c =
+pub while_statement-returns-in_err-body_at-clause-refused : goal.while_statement-returns-in_err-body_at-clause-refused
+while_statement-returns-in_err-body_at-clause-refused t c =
     let begun = test_begins c.args.symbols.now (while_opened c.args.depth) c.in_ok-word.ensures.found c.in_ok-test_at.ensures.found c.in_ok-word.ensures.within in
     passed_on _ c.from_residual-in_err-body_at.result c.from_residual-in_err-body_at.ensures.1 (refused_inside (over_part begun c.in_ok-test.ensures.found) _ c.in_err-body_at.ensures.refused)
 
-pub looping-statement-requires : goal.looping-statement-requires
-looping-statement-requires t c =
+pub while_statement-statement-requires : goal.while_statement-statement-requires
+while_statement-statement-requires t c =
     let few = found_few c.in_ok-test.ensures.found in
     let shorter = found_shorter c.in_ok-test.ensures.found in
     let word = token_shorter c.in_ok-word.ensures.found.takes in
@@ -168,23 +168,23 @@ looping-statement-requires t c =
     let closing = token_shorter c.in_ok-body_at.ensures.found.takes in
     (search rules, (omega arith, (omega arith, c.in_ok-word.ensures.within)))
 
-pub looping-returns-in_err-body-clause-refused : goal.looping-returns-in_err-body-clause-refused
-looping-returns-in_err-body-clause-refused t c =
+pub while_statement-returns-in_err-body-clause-refused : goal.while_statement-returns-in_err-body-clause-refused
+while_statement-returns-in_err-body-clause-refused t c =
     let tested = test_read (while_opened c.args.depth) c.in_ok-word.ensures.found c.in_ok-test_at.ensures.found c.in_ok-test.ensures.found c.in_ok-body_at.ensures.found c.in_ok-word.ensures.within in
     passed_on _ c.from_residual-in_err-body.result c.from_residual-in_err-body.ensures.1 (refused_inside tested _ c.in_err-body.ensures.refused)
 
-pub looping-returns-clause-found : goal.looping-returns-clause-found
-looping-returns-clause-found t c =
+pub while_statement-returns-clause-found : goal.while_statement-returns-clause-found
+while_statement-returns-clause-found t c =
     while_found c.args.index c.in_ok-condition.condition c.in_ok-body.body c.in_ok-body-2.body c.in_ok-condition.ensures.ok c.in_ok-body-2.ensures.found c.in_ok-word.ensures.found
     c.in_ok-test_at.ensures.found c.in_ok-test.ensures.found c.in_ok-body_at.ensures.found c.in_ok-body.ensures.found c.in_ok-word.ensures.within
 
-pub looping-returns-clause-free : goal.looping-returns-clause-free
-looping-returns-clause-free t c names =
+pub while_statement-returns-clause-free : goal.while_statement-returns-clause-free
+while_statement-returns-clause-free t c names =
     let tree = statement-while names c.args.index c.in_ok-word.word.place c.in_ok-condition.condition c.in_ok-body-2.body in
     rw (ap count_of tree) (omega (arith, c.in_ok-body.ensures.free names, c.in_ok-body-2.ensures.count names))
 
-pub looping-returns-clause-few : goal.looping-returns-clause-few
-looping-returns-clause-few t c =
+pub while_statement-returns-clause-few : goal.while_statement-returns-clause-few
+while_statement-returns-clause-few t c =
     let shorter_test = found_shorter c.in_ok-test.ensures.found in
     let numbers = c.in_ok-body.ensures.few in
     let word = token_shorter c.in_ok-word.ensures.found.takes in
@@ -192,72 +192,72 @@ looping-returns-clause-few t c =
     let closing = token_shorter c.in_ok-body_at.ensures.found.takes in
     omega arith
 
-pub nested-block-requires : goal.nested-block-requires
-nested-block-requires t c = (search rules, (c.requires.names, (c.requires.few, omega arith)))
+pub block_statement-block-requires : goal.block_statement-block-requires
+block_statement-block-requires t c = (search rules, (c.requires.names, (c.requires.few, omega arith)))
 
-pub nested-returns-in_err-body-clause-refused : goal.nested-returns-in_err-body-clause-refused
-nested-returns-in_err-body-clause-refused t c =
+pub block_statement-returns-in_err-body-clause-refused : goal.block_statement-returns-in_err-body-clause-refused
+block_statement-returns-in_err-body-clause-refused t c =
     passed_on _ c.from_residual.result c.from_residual.ensures.1 (refused_inside (nested_begins c.args.depth c.args.symbols.now (spot c.args.from) c.requires.begins) _ c.in_err-body.ensures.refused)
 
-pub nested-returns-clause-found : goal.nested-returns-clause-found
-nested-returns-clause-found t c = nested_found c.args.index c.in_ok-body.body c.place-place.ensures c.requires.begins c.in_ok-body.ensures.found
+pub block_statement-returns-clause-found : goal.block_statement-returns-clause-found
+block_statement-returns-clause-found t c = nested_found c.args.index c.in_ok-body.body c.place-place.ensures c.requires.begins c.in_ok-body.ensures.found
 
-pub nested-returns-clause-free : goal.nested-returns-clause-free
-nested-returns-clause-free t c names = rw (ap count_of (statement-block names c.place-place.result c.in_ok-body.body.statements)) (c.in_ok-body.ensures.free names)
+pub block_statement-returns-clause-free : goal.block_statement-returns-clause-free
+block_statement-returns-clause-free t c names = rw (ap count_of (statement-block names c.place-place.result c.in_ok-body.body.statements)) (c.in_ok-body.ensures.free names)
 
-pub otherwise-returns-in_default-clause-found : goal.otherwise-returns-in_default-clause-found
-otherwise-returns-in_default-clause-found t c = else_left_out c.args.index c.args.depth c.args.symbols.now (spot c.args.from) c.in_default.ensures.other
+pub else_branch-returns-in_default-clause-found : goal.else_branch-returns-in_default-clause-found
+else_branch-returns-in_default-clause-found t c = else_left_out c.args.index c.args.depth c.args.symbols.now (spot c.args.from) c.in_default.ensures.other
 
-pub otherwise-statement-requires : goal.otherwise-statement-requires
-otherwise-statement-requires t c =
+pub else_branch-statement-requires : goal.else_branch-statement-requires
+else_branch-statement-requires t c =
     let word = token_shorter c.in-Some.ensures.found.takes in
     (search rules, (omega arith, (omega arith, c.requires.depth)))
 
-pub otherwise-returns-in_err-other-clause-refused : goal.otherwise-returns-in_err-other-clause-refused
-otherwise-returns-in_err-other-clause-refused t c =
+pub else_branch-returns-in_err-other-clause-refused : goal.else_branch-returns-in_err-other-clause-refused
+else_branch-returns-in_err-other-clause-refused t c =
     passed_on _ c.from_residual.result c.from_residual.ensures.1 (refused_inside (else_read c.args.depth c.args.symbols.now c.in-Some.ensures.found c.requires.depth) _ c.in_err-other.ensures.refused)
 
-pub otherwise-returns-clause-found : goal.otherwise-returns-clause-found
-otherwise-returns-clause-found t c = else_found c.args.index c.in_ok-other.other c.in_ok-branch.field-0 c.in_ok-branch.ensures.found c.in-Some.ensures.found c.in_ok-other.ensures.found c.requires.depth
+pub else_branch-returns-clause-found : goal.else_branch-returns-clause-found
+else_branch-returns-clause-found t c = else_found c.args.index c.in_ok-other.other c.in_ok-branch.field-0 c.in_ok-branch.ensures.found c.in-Some.ensures.found c.in_ok-other.ensures.found c.requires.depth
 
 pub statement-returns-in_default-clause-refused : goal.statement-returns-in_default-clause-refused
 statement-returns-in_default-clause-refused t c = statement_refused_at_end c.args.depth (spot c.args.from) _ c.wrong.ensures c.in_default.ensures.none
 
-pub statement-worded-requires : goal.statement-worded-requires
-statement-worded-requires t c = (search rules, (next_taken (stands c.in-Some.ensures.some c.in-Keyword.is), (c.requires.names, (c.requires.few, c.requires.depth))))
+pub statement-keyword_statement-requires : goal.statement-keyword_statement-requires
+statement-keyword_statement-requires t c = (search rules, (next_taken (stands c.in-Some.ensures.some c.in-Keyword.is), (c.requires.names, (c.requires.few, c.requires.depth))))
 
-pub statement-nested-requires : goal.statement-nested-requires
-statement-nested-requires t c =
+pub statement-block_statement-requires : goal.statement-block_statement-requires
+statement-block_statement-requires t c =
     let brace = sign_is c.in-Punctuator.sign punctuator.OpenBrace c.in-Punctuator.is c.eq.ensures c.if-eq.true in
     (search rules, (fits_next refl (stands c.in-Some.ensures.some brace), (c.requires.names, (c.requires.few, c.requires.depth))))
 
-pub worded-conditional-requires : goal.worded-conditional-requires
-worded-conditional-requires t c =
+pub keyword_statement-if_statement-requires : goal.keyword_statement-if_statement-requires
+keyword_statement-if_statement-requires t c =
     let stands_if = c.requires.begins ∙ ap KeywordKind c.in-If.is in
     (search rules, (ap (fits (KeywordKind keyword.If)) stands_if, (c.requires.names, (c.requires.few, c.requires.depth))))
 
-pub worded-looping-requires : goal.worded-looping-requires
-worded-looping-requires t c =
+pub keyword_statement-while_statement-requires : goal.keyword_statement-while_statement-requires
+keyword_statement-while_statement-requires t c =
     let stands_while = c.requires.begins ∙ ap KeywordKind c.in-While.is in
     (search rules, (ap (fits (KeywordKind keyword.While)) stands_while, (c.requires.names, (c.requires.few, c.requires.depth))))
 
 pub statement-returns-clause-found : goal.statement-returns-clause-found
 statement-returns-clause-found t c =
     elim c.match-token.branch [
-      | statement-in-UpperName+in_ok-declaration-in-UpperName w ↦ rw (w.symbols-is, w.stmt-is) w.in_ok-declaration-in-UpperName.ensures.found
-      | statement-in-LowerName+in_ok-from_variable-in-LowerName w ↦ rw (w.symbols-is, w.stmt-is) w.in_ok-from_variable-in-LowerName.ensures.found
-      | statement-in-Punctuator+else-eq+in_ok-plain-in-Punctuator w ↦ rw (w.symbols-is, w.stmt-is) w.in_ok-plain-in-Punctuator.ensures.found
+      | statement-in-UpperName+in_ok-variable_declaration-in-UpperName w ↦ rw (w.symbols-is, w.stmt-is) w.in_ok-variable_declaration-in-UpperName.ensures.found
+      | statement-in-LowerName+in_ok-variable_statement-in-LowerName w ↦ rw (w.symbols-is, w.stmt-is) w.in_ok-variable_statement-in-LowerName.ensures.found
+      | statement-in-Punctuator+else-eq+in_ok-right_side_statement-in-Punctuator w ↦ rw (w.symbols-is, w.stmt-is) w.in_ok-right_side_statement-in-Punctuator.ensures.found
       | statement-in-Number+in_ok-stmt-in-Number w ↦ rw (w.symbols-is, w.stmt-is) w.in_ok-stmt-in-Number.ensures.found
     ]
 
-pub worded-returns-clause-found : goal.worded-returns-clause-found
-worded-returns-clause-found t c =
+pub keyword_statement-returns-clause-found : goal.keyword_statement-returns-clause-found
+keyword_statement-returns-clause-found t c =
     elim c.match-word.branch [
-      | worded-in-Skip+in_ok-skip-in-Skip w ↦ rw (w.symbols-is, w.stmt-is) w.in_ok-skip-in-Skip.ensures.found
-      | worded-in-Suspend+in_ok-suspend-in-Suspend w ↦ rw (w.symbols-is, w.stmt-is) w.in_ok-suspend-in-Suspend.ensures.found
-      | worded-in-Await+in_ok-awaiting-in-Await w ↦ rw (w.symbols-is, w.stmt-is) w.in_ok-awaiting-in-Await.ensures.found
-      | worded-in-Return+in_ok-returning-in-Return w ↦ rw (w.symbols-is, w.stmt-is) w.in_ok-returning-in-Return.ensures.found
-      | worded-in-Println+in_ok-printing-in-Println w ↦ rw (w.symbols-is, w.stmt-is) w.in_ok-printing-in-Println.ensures.found
-      | worded-in-This+in_ok-from_this-in-This w ↦ rw (w.symbols-is, w.stmt-is) w.in_ok-from_this-in-This.ensures.found
-      | worded-in_default+in_ok-stmt-in_default w ↦ rw (w.symbols-is, w.stmt-is) w.in_ok-stmt-in_default.ensures.found
+      | keyword_statement-in-Skip+in_ok-skip_statement-in-Skip w ↦ rw (w.symbols-is, w.stmt-is) w.in_ok-skip_statement-in-Skip.ensures.found
+      | keyword_statement-in-Suspend+in_ok-suspend_statement-in-Suspend w ↦ rw (w.symbols-is, w.stmt-is) w.in_ok-suspend_statement-in-Suspend.ensures.found
+      | keyword_statement-in-Await+in_ok-await_statement-in-Await w ↦ rw (w.symbols-is, w.stmt-is) w.in_ok-await_statement-in-Await.ensures.found
+      | keyword_statement-in-Return+in_ok-return_statement-in-Return w ↦ rw (w.symbols-is, w.stmt-is) w.in_ok-return_statement-in-Return.ensures.found
+      | keyword_statement-in-Println+in_ok-println_statement-in-Println w ↦ rw (w.symbols-is, w.stmt-is) w.in_ok-println_statement-in-Println.ensures.found
+      | keyword_statement-in-This+in_ok-this_statement-in-This w ↦ rw (w.symbols-is, w.stmt-is) w.in_ok-this_statement-in-This.ensures.found
+      | keyword_statement-in_default+in_ok-stmt-in_default w ↦ rw (w.symbols-is, w.stmt-is) w.in_ok-stmt-in_default.ensures.found
     ]

@@ -3,27 +3,27 @@ use Rattle.abs_tree.specs.Syntax.{Name}
 use Rattle.abs_tree.specs.SyntaxSizes.{statement_count}
 use Rattle.abs_tree.specs.SyntaxViews.{statements}
 use Rattle.abs_parser.specs.Views.{spot}
-use Rattle.abs_parser.proofs.BlockSteps.{ReadsBlock}
+use Rattle.abs_parser.proofs.reader.BlockSteps.{ReadsBlock}
 use Rattle.abs_parser.proofs.statements.+statements.Given as goal
 
 -- each call reads fewer tokens than its caller, or as many and less of the grammar
 abbrev pub decreases-statement : goal.decreases-statement
 decreases-statement l = 4 * length (spot l.from).rest + 3
 
-abbrev pub decreases-worded : goal.decreases-worded
-decreases-worded l = 4 * length (spot l.from).rest + 2
+abbrev pub decreases-keyword_statement : goal.decreases-keyword_statement
+decreases-keyword_statement l = 4 * length (spot l.from).rest + 2
 
-abbrev pub decreases-nested : goal.decreases-nested
-decreases-nested l = 4 * length (spot l.from).rest + 1
+abbrev pub decreases-block_statement : goal.decreases-block_statement
+decreases-block_statement l = 4 * length (spot l.from).rest + 1
 
-abbrev pub decreases-conditional : goal.decreases-conditional
-decreases-conditional l = 4 * length (spot l.from).rest + 1
+abbrev pub decreases-if_statement : goal.decreases-if_statement
+decreases-if_statement l = 4 * length (spot l.from).rest + 1
 
-abbrev pub decreases-otherwise : goal.decreases-otherwise
-decreases-otherwise l = 4 * length (spot l.from).rest
+abbrev pub decreases-else_branch : goal.decreases-else_branch
+decreases-else_branch l = 4 * length (spot l.from).rest
 
-abbrev pub decreases-looping : goal.decreases-looping
-decreases-looping l = 4 * length (spot l.from).rest + 1
+abbrev pub decreases-while_statement : goal.decreases-while_statement
+decreases-while_statement l = 4 * length (spot l.from).rest + 1
 
 abbrev pub decreases-block : goal.decreases-block
 decreases-block l = 4 * length (spot l.from).rest

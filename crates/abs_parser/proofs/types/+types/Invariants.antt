@@ -1,7 +1,7 @@
 use Rattle.std.proofs.Common.{◌+◌, ◌*◌, length}
 use Rattle.abs_parser.specs.Views.{spot}
-use Rattle.abs_parser.proofs.ListLemmas.{list_of_types, trees_of_types}
-use Rattle.abs_parser.proofs.ListSteps.{ReadsSoFar}
+use Rattle.abs_parser.proofs.reader.ListLemmas.{list_of_types, trees_of_types}
+use Rattle.abs_parser.proofs.reader.ListSteps.{ReadsSoFar}
 use Rattle.abs_parser.proofs.types.+types.Given as goal
 
 abbrev pub decreases-type_term : goal.decreases-type_term

@@ -1,7 +1,7 @@
 use Rattle.abs_lexer.specs.Views.{lexed}
 use Rattle.abs_parser.specs.Views.{spot}
-use Rattle.abs_parser.proofs.KindLemmas.{kind_equal, kind_other}
-use Rattle.abs_parser.proofs.AskedLemmas.{unfit_token, unfit_end}
+use Rattle.abs_parser.proofs.grammar.KindLemmas.{kind_equal, kind_other}
+use Rattle.abs_parser.proofs.grammar.AskedLemmas.{unfit_token, unfit_end}
 use Rattle.abs_parser.proofs.cursor.Cursor.accept.Goals.{in_default-via-in-Some+else-eq, in_default-via-in_default}
 use Rattle.abs_parser.proofs.cursor.Cursor.accept.Goals as goal
 

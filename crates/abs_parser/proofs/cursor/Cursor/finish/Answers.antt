@@ -1,6 +1,6 @@
 use Rattle.abs_parser.specs.TokenKinds.{End}
 use Rattle.abs_parser.specs.Views.{spot}
-use Rattle.abs_parser.proofs.AskedLemmas.{other_refused, unfit_for_end}
+use Rattle.abs_parser.proofs.grammar.AskedLemmas.{other_refused, unfit_for_end}
 use Rattle.abs_parser.proofs.cursor.Cursor.finish.Goals as goal
 
 pub returns-in-Some-clause-refused : goal.returns-in-Some-clause-refused

@@ -1,5 +1,5 @@
 use Rattle.std.proofs.Common.{refl}
-use Rattle.abs_parser.proofs.SpotLemmas.{element_at}
+use Rattle.abs_parser.proofs.grammar.SpotLemmas.{element_at}
 use Rattle.abs_parser.proofs.cursor.Cursor.next.Goals as goal
 
 pub returns-clause-some : goal.returns-clause-some

@@ -1,8 +1,8 @@
 use Rattle.std.proofs.Common.{arith}
 use Rattle.abs_parser.specs.ReaderAnswers.{asked}
 use Rattle.abs_parser.specs.Views.{spot}
-use Rattle.abs_parser.proofs.AskedLemmas.{other_refused}
-use Rattle.abs_parser.proofs.StepLemmas.{deep_refused, fits_next}
+use Rattle.abs_parser.proofs.grammar.AskedLemmas.{other_refused}
+use Rattle.abs_parser.proofs.reader.StepLemmas.{deep_refused, fits_next}
 use Rattle.abs_parser.proofs.cursor.Cursor.take.Goals as goal
 
 pub returns-in_default-clause-refused : goal.returns-in_default-clause-refused

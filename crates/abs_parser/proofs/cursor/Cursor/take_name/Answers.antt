@@ -1,6 +1,6 @@
 use Rattle.abs_parser.specs.ReaderAnswers.{fixed_kind}
 use Rattle.abs_parser.specs.Views.{spot}
-use Rattle.abs_parser.proofs.AskedLemmas.{other_refused}
+use Rattle.abs_parser.proofs.grammar.AskedLemmas.{other_refused}
 use Rattle.abs_parser.proofs.cursor.Cursor.take_name.Goals as goal
 
 pub returns-in-None-clause-refused : goal.returns-in-None-clause-refused

@@ -1,0 +1,166 @@
+-- The token of a kind that a reader asks for: a token of another kind does not fit it, and so what is wanted is refused there. Two words
+-- of the language that are spelled alike are one, and so are two signs, since each is the one that is looked up by how it is written.
+use Rattle.std.proofs.Common.{◌≡◌, ℕ, Bool, true, false, Option, Some, None, List, [], ◌∷◌, ◌++◌, cond, refl, sym, ap, ◌∙◌}
+use Rattle.std.proofs.lemmas.Slice.Eq.{bytes_eq-Decides}
+use Rattle.std.specs.Prelude.{codes}
+use Rattle.std.specs.Str.{bytes_eq}
+use Rattle.abs_tree.specs.declared.place.Place.{Place}
+use Rattle.abs_tree.specs.declared.refusal.Code.TheVariants.{S1}
+use Rattle.abs_lexer.specs.declared.lexeme.Keyword.{Keyword}
+use Rattle.abs_lexer.specs.declared.lexeme.Keyword.TheVariants as keyword
+use Rattle.abs_lexer.specs.declared.lexeme.Lexeme.{Lexeme}
+use Rattle.abs_lexer.specs.declared.lexeme.Lexeme.TheVariants as lexeme
+use Rattle.abs_lexer.specs.declared.lexeme.Punctuator.{Punctuator}
+use Rattle.abs_lexer.specs.declared.lexeme.Punctuator.TheVariants as punctuator
+use Rattle.abs_lexer.specs.Words.{spelling, punctuator_bytes, keywords, keyword_among}
+use Rattle.abs_lexer.specs.Scans.{punctuator_among, long_punctuators, short_punctuators}
+use Rattle.abs_lexer.specs.Tokens.{Lexed}
+use Rattle.abs_parser.specs.TokenKinds.{TokenKind, Token, TextEnd, LowerName, LocalName, UpperName, AbsName, StdLibName, Number, Text, KeywordKind, Foreign, PunctuatorKind, End, token_kind_of, token_kind, fits, next}
+use Rattle.abs_parser.specs.Readings.{Wanted, Terminal}
+use Rattle.abs_parser.specs.Refusing.{Other}
+use Rattle.abs_parser.specs.ReaderAnswers.{asked, left_at, wrong_at, RefusedAt, IsRefused}
+use Rattle.abs_parser.specs.Stops.{wrong_code}
+use Rattle.abs_parser.specs.Tokens.{Spot, TakesToken}
+use Rattle.abs_tree.specs.declared.source_error.SourceError.{SourceError}
+use Rattle.abs_tree.specs.declared.source_error.SourceError.TheVariants.{Refused}
+
+-- each word is looked up by its spelling
+word_found : (word : Keyword) → keyword_among keywords (spelling word) ≡ Some word
+word_found keyword.Module = refl
+word_found _ = refl
+
+-- so two words that are spelled alike are one
+spelled_alike : (a b : Keyword) → bytes_eq (spelling a) (spelling b) ≡ true → a ≡ b
+spelled_alike a b alike =
+    let same : spelling a ≡ spelling b = (bytes_eq-Decides (spelling a) (spelling b)).0 alike in
+    let found : Some a ≡ Some b = sym (word_found a) ∙ (ap (keyword_among keywords) same ∙ word_found b) in
+    cc
+
+-- each sign is looked up by its text
+sign_is_among : (sign : Punctuator) → punctuator_among (long_punctuators ++ short_punctuators) (punctuator_bytes sign) ≡ Some sign
+sign_is_among punctuator.OpenParen = refl
+sign_is_among _ = refl
+
+-- so two signs that are written alike are one
+written_alike : (a b : Punctuator) → bytes_eq (punctuator_bytes a) (punctuator_bytes b) ≡ true → a ≡ b
+written_alike a b alike =
+    let same : punctuator_bytes a ≡ punctuator_bytes b = (bytes_eq-Decides (punctuator_bytes a) (punctuator_bytes b)).0 alike in
+    let found : Some a ≡ Some b = sym (sign_is_among a) ∙ (ap (punctuator_among (long_punctuators ++ short_punctuators)) same ∙ sign_is_among b) in
+    cc
+
+-- what fits a keyword is this keyword
+pub word_fits : (word : Keyword) (found : TokenKind) → fits (KeywordKind word) found ≡ true → found ≡ KeywordKind word
+word_fits word (KeywordKind other) e = ap KeywordKind (sym (spelled_alike word other e))
+word_fits word _ e = cc
+
+-- and what fits a punctuator is this punctuator
+pub sign_fits : (sign : Punctuator) (found : TokenKind) → fits (PunctuatorKind sign) found ≡ true → found ≡ PunctuatorKind sign
+sign_fits sign (PunctuatorKind other) e = ap PunctuatorKind (sym (written_alike sign other e))
+sign_fits sign _ e = cc
+
+-- the kind of token that a kind of the grammar is of; at the end there is none
+lexeme_of : TokenKind → Option Lexeme
+lexeme_of LowerName = Some lexeme.LowerName
+lexeme_of LocalName = Some lexeme.LowerName
+lexeme_of UpperName = Some lexeme.UpperName
+lexeme_of AbsName = Some lexeme.UpperName
+lexeme_of StdLibName = Some lexeme.UpperName
+lexeme_of Number = Some lexeme.Number
+lexeme_of Text = Some lexeme.Text
+lexeme_of (KeywordKind word) = Some (lexeme.Keyword word)
+lexeme_of Foreign = Some lexeme.Foreign
+lexeme_of (PunctuatorKind sign) = Some (lexeme.Punctuator sign)
+lexeme_of End = None
+
+-- a lower-case name is one, with a spelling of its own or without
+lower_of : (is_local : Bool) → lexeme_of (cond is_local LocalName LowerName) ≡ Some lexeme.LowerName
+unfolding lexeme_of
+lower_of true = refl
+lower_of false = refl
+
+-- and so is an upper-case name
+upper_of : (is_abs is_library : Bool) → lexeme_of (cond is_abs AbsName (cond is_library StdLibName UpperName)) ≡ Some lexeme.UpperName
+unfolding lexeme_of
+upper_of true is_library = refl
+upper_of false true = refl
+upper_of false false = refl
+
+-- the kind of a token is of the token's own kind
+of_token : (kind : Lexeme) (bytes : List ℕ) → lexeme_of (token_kind_of kind bytes) ≡ Some kind
+unfolding lexeme_of
+of_token lexeme.LowerName bytes = lower_of (bytes_eq bytes (codes "local"))
+of_token lexeme.UpperName bytes = upper_of (bytes_eq bytes (codes "ABS")) (bytes_eq bytes (codes "StdLib"))
+of_token lexeme.Number bytes = refl
+of_token lexeme.Text bytes = refl
+of_token (lexeme.Keyword word) bytes = refl
+of_token lexeme.Foreign bytes = refl
+of_token (lexeme.Punctuator sign) bytes = refl
+
+-- what fits a kind that is asked for is of that kind
+of_asked : (kind : Lexeme) (found : TokenKind) → fits (asked kind) found ≡ true → lexeme_of found ≡ Some kind
+unfolding lexeme_of
+of_asked lexeme.LowerName LowerName e = refl
+of_asked lexeme.LowerName LocalName e = refl
+of_asked lexeme.LowerName _ e = cc
+of_asked lexeme.UpperName UpperName e = refl
+of_asked lexeme.UpperName AbsName e = refl
+of_asked lexeme.UpperName StdLibName e = refl
+of_asked lexeme.UpperName _ e = cc
+of_asked lexeme.Number Number e = refl
+of_asked lexeme.Number _ e = cc
+of_asked lexeme.Text Text e = refl
+of_asked lexeme.Text _ e = cc
+of_asked (lexeme.Keyword word) (KeywordKind other) e = ap (λ (found : Keyword). Some (lexeme.Keyword found)) (sym (spelled_alike word other e))
+of_asked (lexeme.Keyword word) _ e = cc
+of_asked lexeme.Foreign _ e = cc
+of_asked (lexeme.Punctuator sign) (PunctuatorKind other) e = ap (λ (found : Punctuator). Some (lexeme.Punctuator found)) (sym (written_alike sign other e))
+of_asked (lexeme.Punctuator sign) _ e = cc
+
+-- a token of another kind does not fit the kind that is asked for
+pub other_kind : (kind : Lexeme) (token : Lexed) → (token.kind ≡ kind → ⊥) → fits (asked kind) (token_kind_of token.kind token.bytes) ≡ false
+other_kind kind token differs = by (fits (asked kind) (token_kind_of token.kind token.bytes)) refl
+  where
+    by : (fit : Bool) → fits (asked kind) (token_kind_of token.kind token.bytes) ≡ fit → fit ≡ false
+    by false e = refl
+    by true e = absurd (differs (let same : Some token.kind ≡ Some kind = sym (of_token token.kind token.bytes) ∙ of_asked kind (token_kind_of token.kind token.bytes) e in cc))
+
+-- and neither does the end
+pub end_is_other : (kind : Lexeme) → fits (asked kind) End ≡ false
+end_is_other lexeme.LowerName = refl
+end_is_other _ = refl
+
+-- the tokens that are left begin with one that does not fit, so what is wanted is refused at it
+refused_at_first : (kind : TokenKind) (depth : ℕ) (items : List Wanted) (rest : List Lexed) (end : Place)
+    → fits kind (next (left_at (record { rest = rest; end = end }))) ≡ false
+    → RefusedAt (Terminal kind depth ∷ items) (left_at (record { rest = rest; end = end })) (wrong_at (record { rest = rest; end = end }))
+refused_at_first kind depth items [] end unfit = record { mark = TextEnd end; behind = []; code = S1; refuses = Other unfit refl; refusal_is = refl }
+refused_at_first kind depth items (token ∷ others) end unfit = record {
+  mark = Token token;
+  behind = left_at (record { rest = others; end = end });
+  code = wrong_code (token_kind (Token token));
+  refuses = Other unfit refl;
+  refusal_is = refl;
+}
+
+-- where the next token does not fit the kind that is asked for, a token of that kind is refused, whatever is to follow it
+pub other_refused : (kind : TokenKind) (from : Spot) (error : SourceError) → error ≡ Refused (wrong_at from) → fits kind (next (left_at from)) ≡ false
+    → (depth : ℕ) → IsRefused (Terminal kind depth) from error
+other_refused kind from error is unfit depth = λ items. rw is (refused_at_first kind depth items from.rest from.end unfit)
+
+-- the next token does not fit where it is of another kind
+pub unfit_token : (kind : Lexeme) (token : Lexed) (from to : Spot) → TakesToken token from to → (token.kind ≡ kind → ⊥) → fits (asked kind) (next (left_at from)) ≡ false
+unfit_token kind token from to takes differs = rw takes.rest (other_kind kind token differs)
+
+-- nor does it where the source ends
+pub unfit_end : (kind : Lexeme) (from : Spot) → from.rest ≡ [] → fits (asked kind) (next (left_at from)) ≡ false
+unfit_end kind from ends = rw ends (end_is_other kind)
+
+-- what is of a kind of tokens does not fit where the end is asked for
+other_than_end : (found : TokenKind) {kind : Lexeme} → lexeme_of found ≡ Some kind → fits End found ≡ false
+unfolding lexeme_of
+other_than_end End is = cc
+other_than_end _ is = refl
+
+-- so a token does not fit there
+pub unfit_for_end : {token : Lexed} {from to : Spot} → TakesToken token from to → fits End (next (left_at from)) ≡ false
+unfit_for_end {token} takes = rw takes.rest (other_than_end (token_kind_of token.kind token.bytes) (of_token token.kind token.bytes))

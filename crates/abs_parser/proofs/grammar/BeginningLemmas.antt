@@ -1,0 +1,38 @@
+-- Which kinds of tokens a pattern may begin with, by the kind of the token alone.
+use Rattle.std.proofs.Common.{◌≡◌, ℕ, Bool, true, false, List, cond, refl}
+use mathlib.Core.Logic.{◌⊎◌, inl, inr}
+use denote.Enum.Bare.{sameb}
+use Rattle.abs_lexer.specs.contracts.lexeme.Punctuator.{the_type}
+use Rattle.abs_lexer.specs.declared.lexeme.Keyword.{Keyword}
+use Rattle.abs_lexer.specs.declared.lexeme.Keyword.TheVariants as keyword
+use Rattle.abs_lexer.specs.declared.lexeme.Lexeme.{Lexeme}
+use Rattle.abs_lexer.specs.declared.lexeme.Lexeme.TheVariants as lexeme
+use Rattle.abs_lexer.specs.declared.lexeme.Punctuator.TheVariants as punctuator
+use Rattle.abs_parser.specs.TokenKinds.{token_kind_of}
+use Rattle.abs_parser.specs.Productions.{begins, begins_within, Pattern}
+use Rattle.abs_parser.specs.ReaderAnswers.{asked}
+use Rattle.abs_parser.proofs.grammar.FirstTokens.{BeginsBy, begins_as}
+
+-- whether a pattern may begin with a token of a kind
+abbrev pub may_begin : Lexeme → Bool
+may_begin (lexeme.Punctuator sign) = cond (sameb the_type sign punctuator.Underscore) true (sameb the_type sign punctuator.Minus)
+may_begin (lexeme.Keyword word) = false
+may_begin lexeme.Foreign = false
+may_begin _ = true
+
+-- that is so for each kind
+may_begin_told : (kind : Lexeme) → may_begin kind ≡ begins Pattern (asked kind)
+unfolding begins begins_within
+may_begin_told (lexeme.Keyword keyword.Module) = refl
+may_begin_told (lexeme.Punctuator punctuator.OpenParen) = refl
+may_begin_told _ = refl
+
+-- and for each name
+pub first_kinds : BeginsBy Pattern may_begin
+unfolding begins begins_within
+first_kinds = record { told = may_begin_told; local_too = refl; abs_too = refl; library_too = refl }
+
+-- words begin none
+pub words_do_not : {kind : Lexeme} → ((word : Keyword) × (kind ≡ lexeme.Keyword word)) ⊎ (kind ≡ lexeme.Foreign) → (bytes : List ℕ) → false ≡ begins Pattern (token_kind_of kind bytes)
+words_do_not (inl (word, e)) = begins_as first_kinds (lexeme.Keyword word) e refl
+words_do_not (inr e) = begins_as first_kinds lexeme.Foreign e refl

@@ -1,0 +1,153 @@
+-- Readings, whatever the grammar is. They stand side by side: a reading of items before others falls into one of each, and two such
+-- make one again. So a whole reading, which leaves no token over, stays one where a part in front is opened to what it consists of, where
+-- such a part is closed again, and where a token in front is taken or put back. And a list is read as the same items in one way only.
+use Rattle.std.proofs.Common.{◌≡◌, ℕ, true, false, List, [], ◌∷◌, ◌++◌, Some, None, refl, sym, ap, ◌∙◌}
+use Rattle.std.proofs.lemmas.List.{append_assoc}
+use Rattle.abs_parser.specs.TokenKinds.{Mark, TokenKind, token_kind, fits, next}
+use Rattle.abs_parser.specs.Productions.{Program}
+use Rattle.abs_parser.specs.Readings.{Goal, One, Wanted, Terminal, Subgoal, opened, Forest, Empty, Leaf, Node, Reads, Nothing, Taken, Opened, depths}
+
+-- What is wanted of a source is a program.
+abbrev pub a_program : List Wanted
+a_program = Subgoal (One Program) 0 ∷ []
+
+-- Two forests stand side by side as one.
+abbrev join : Forest → Forest → Forest
+join Empty behind = behind
+join (Leaf mark depth before) behind = Leaf mark depth (join before behind)
+join (Node goal inside before) behind = Node goal inside (join before behind)
+
+-- The tokens of both stand as deep as they did.
+depths_join : (before behind : Forest) → depths (join before behind) ≡ depths before ++ depths behind
+depths_join Empty behind = refl
+depths_join (Leaf mark depth before) behind = ap (λ (levels : List ℕ). depth ∷ levels) (depths_join before behind)
+depths_join (Node goal inside before) behind =
+    ap (λ (levels : List ℕ). depths inside ++ levels) (depths_join before behind) ∙ sym (append_assoc (depths inside) (depths before) (depths behind))
+
+-- Two readings, one behind the other, are one of the items of both.
+reads_join : {first second : List Wanted} {ts middle rest : List Mark} {before behind : Forest} → Reads first ts before middle → Reads second middle behind rest
+    → Reads (first ++ second) ts (join before behind) rest
+reads_join Nothing others = others
+reads_join (Taken fit reads) others = Taken fit (reads_join reads others)
+reads_join (Opened is inside reads) others = Opened is inside (reads_join reads others)
+
+-- A forest is that of a reading of the first items, and of one of the second items behind it.
+record Split (first second : List Wanted) (ts rest : List Mark) (forest : Forest) : Type 0 where
+  middle : List Mark
+  before : Forest
+  behind : Forest
+  reads_before : Reads first ts before middle
+  reads_behind : Reads second middle behind rest
+  is : forest ≡ join before behind
+
+-- A reading of items before others falls into one of each.
+split : (first second : List Wanted) {ts rest : List Mark} {forest : Forest} → Reads (first ++ second) ts forest rest → Split first second ts rest forest
+split [] second reads = record { middle = _; before = Empty; behind = _; reads_before = Nothing; reads_behind = reads; is = refl }
+split (Terminal kind depth ∷ first) second (Taken {mark = mark} fit reads) =
+    let parts = split first second reads in
+    record {
+      middle = parts.middle;
+      before = Leaf mark depth parts.before;
+      behind = parts.behind;
+      reads_before = Taken fit parts.reads_before;
+      reads_behind = parts.reads_behind;
+      is = ap (Leaf mark depth) parts.is;
+    }
+split (Subgoal goal depth ∷ first) second (Opened {inside = inside} is reads_inside reads) =
+    let parts = split first second reads in
+    record {
+      middle = parts.middle;
+      before = Node goal inside parts.before;
+      behind = parts.behind;
+      reads_before = Opened is reads_inside parts.reads_before;
+      reads_behind = parts.reads_behind;
+      is = ap (Node goal inside) parts.is;
+    }
+
+-- A list is read as the same items in one way only.
+pub one_reading : {items : List Wanted} {ts rest left : List Mark} {forest other : Forest} → Reads items ts forest rest → Reads items ts other left
+    → (forest ≡ other) × (rest ≡ left)
+one_reading Nothing Nothing = (refl, refl)
+one_reading (Taken fit reads) (Taken other_fit other_reads) =
+    let same = one_reading reads other_reads in
+    (cc (same.0), same.1)
+one_reading (Opened {inner = inner} is inside reads) (Opened {inner = other_inner} other_is other_inside other_reads) =
+    let alike : other_inner ≡ inner = cc in
+    let within = one_reading inside (rw alike at other_inside) in
+    let behind = one_reading reads (rw (← within.1) at other_reads) in
+    (cc (within.0, behind.0), behind.1)
+
+-- The whole list is read as these items, and its tokens stand at these depths.
+pub record WholeReading (items : List Wanted) (ts : List Mark) (levels : List ℕ) : Type 0 where
+  pub forest : Forest
+  pub reads : Reads items ts forest []
+  pub are : depths forest ≡ levels
+
+-- A whole reading of what a part consists of, before others, is one of the part.
+pub part_closed : {goal : Goal} {depth : ℕ} {inner items : List Wanted} {ts : List Mark} {levels : List ℕ} → opened goal (next ts) depth ≡ Some inner
+    → WholeReading (inner ++ items) ts levels → WholeReading (Subgoal goal depth ∷ items) ts levels
+part_closed {goal} {depth} {inner} {items} is reading =
+    let parts = split inner items reading.reads in
+    record {
+      forest = Node goal parts.before parts.behind;
+      reads = Opened is parts.reads_before parts.reads_behind;
+      are = sym (ap depths parts.is ∙ depths_join parts.before parts.behind) ∙ reading.are;
+    }
+
+-- What is read inside a part, with what is read behind it, is a whole reading of what the part consists of.
+inside_joined : {goal : Goal} {depth : ℕ} {inner items : List Wanted} {ts : List Mark} {forest : Forest} {levels : List ℕ} → opened goal (next ts) depth ≡ Some inner
+    → Reads (Subgoal goal depth ∷ items) ts forest [] → depths forest ≡ levels → WholeReading (inner ++ items) ts levels
+inside_joined {inner = inner} is (Opened {inner = other_inner} {inside = inside} {forest = forest} other_is reads_inside reads) are =
+    let alike : other_inner ≡ inner = cc in
+    record { forest = join inside forest; reads = reads_join (rw alike at reads_inside) reads; are = depths_join inside forest ∙ are }
+
+-- A whole reading of a part, before others, is one of what the part consists of.
+pub part_opened : {goal : Goal} {depth : ℕ} {inner items : List Wanted} {ts : List Mark} {levels : List ℕ} → opened goal (next ts) depth ≡ Some inner
+    → WholeReading (Subgoal goal depth ∷ items) ts levels → WholeReading (inner ++ items) ts levels
+part_opened is reading = inside_joined is reading.reads reading.are
+
+-- A token fits and stands at the first of these depths, and the list behind it is read as the other items.
+pub record TokenTaken (kind : TokenKind) (depth : ℕ) (items : List Wanted) (mark : Mark) (ts : List Mark) (levels : List ℕ) : Type 0 where
+  pub fit : fits kind (token_kind mark) ≡ true
+  pub others : List ℕ
+  pub are : levels ≡ depth ∷ others
+  pub behind : WholeReading items ts others
+
+-- A reading that begins with a token is one of it and of the list behind it.
+first_taken : {kind : TokenKind} {depth : ℕ} {items : List Wanted} {mark : Mark} {ts : List Mark} {forest : Forest} {levels : List ℕ}
+    → Reads (Terminal kind depth ∷ items) (mark ∷ ts) forest [] → depths forest ≡ levels → TokenTaken kind depth items mark ts levels
+first_taken (Taken {forest = forest} fit reads) are = record { fit = fit; others = depths forest; are = sym are; behind = record { forest = forest; reads = reads; are = refl } }
+
+-- So is a whole reading that begins with one.
+pub token_taken : {kind : TokenKind} {depth : ℕ} {items : List Wanted} {mark : Mark} {ts : List Mark} {levels : List ℕ}
+    → WholeReading (Terminal kind depth ∷ items) (mark ∷ ts) levels → TokenTaken kind depth items mark ts levels
+token_taken reading = first_taken reading.reads reading.are
+
+-- A token that fits, put before a whole reading, is read with it.
+pub token_put : {kind : TokenKind} {depth : ℕ} {items : List Wanted} {mark : Mark} {ts : List Mark} {levels : List ℕ} → fits kind (token_kind mark) ≡ true
+    → WholeReading items ts levels → WholeReading (Terminal kind depth ∷ items) (mark ∷ ts) (depth ∷ levels)
+token_put {depth = depth} {mark = mark} fit reading =
+    record { forest = Leaf mark depth reading.forest; reads = Taken fit reading.reads; are = ap (λ (levels : List ℕ). depth ∷ levels) reading.are }
+
+-- No whole reading begins with a token that does not fit.
+pub unfit_unread : {kind : TokenKind} {depth : ℕ} {items : List Wanted} {mark : Mark} {ts : List Mark} {levels : List ℕ} → fits kind (token_kind mark) ≡ false
+    → WholeReading (Terminal kind depth ∷ items) (mark ∷ ts) levels → ⊥
+unfit_unread unfit reading = cc (token_taken reading).fit
+
+-- A part that the next token does not open is not read.
+no_part : {goal : Goal} {depth : ℕ} {items : List Wanted} {ts rest : List Mark} {forest : Forest} → opened goal (next ts) depth ≡ None
+    → Reads (Subgoal goal depth ∷ items) ts forest rest → ⊥
+no_part shut (Opened is inside reads) = cc
+
+-- So no whole reading begins with such a part.
+pub shut_unread : {goal : Goal} {depth : ℕ} {items : List Wanted} {ts : List Mark} {levels : List ℕ} → opened goal (next ts) depth ≡ None
+    → WholeReading (Subgoal goal depth ∷ items) ts levels → ⊥
+shut_unread shut reading = no_part shut reading.reads
+
+-- Where nothing is wanted, nothing is taken.
+nothing_taken : {ts rest : List Mark} {forest : Forest} → Reads [] ts forest rest → ts ≡ rest
+nothing_taken Nothing = refl
+
+-- So no token is read where nothing is wanted.
+pub unwanted_unread : {mark : Mark} {ts : List Mark} {levels : List ℕ} → WholeReading [] (mark ∷ ts) levels → ⊥
+unwanted_unread reading = cc (nothing_taken reading.reads)

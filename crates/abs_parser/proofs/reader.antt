@@ -1,0 +1,32 @@
+-- The steps of the parsing functions: from what was read of a nonterminal so far, over a token, a name or a part, to its end or to where it
+-- is refused; for lists, for parts up to a closing token, and for each nonterminal.
+pub mod StepLemmas
+pub mod PatternSteps
+pub mod WordSteps
+pub mod InFrontSteps
+pub mod ListSteps
+pub mod ListLemmas
+pub mod ClimbingLemmas
+pub mod RepeatSteps
+pub mod PrimarySteps
+pub mod ExpressionSteps
+pub mod CaseSteps
+pub mod GuardSteps
+pub mod RightSideSteps
+pub mod PlainSteps
+pub mod NameListSteps
+pub mod ParameterSteps
+pub mod DeclarationSteps
+pub mod SignatureSteps
+pub mod PreambleSteps
+pub mod MemberSteps
+pub mod ClassSteps
+pub mod DeclarationListSteps
+pub mod WordStatementSteps
+pub mod LocalSteps
+pub mod RestSteps
+pub mod FirstSteps
+pub mod StatementSteps
+pub mod BlockSteps
+pub mod WordLemmas
+pub mod WholeSteps

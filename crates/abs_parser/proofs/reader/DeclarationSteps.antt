@@ -1,0 +1,250 @@
+-- The steps of the readers of declarations: over the keyword and the name that begin one; over the parts that repeat up to a token that
+-- closes, with the trees of those that were read so far; and what constructors and data consist of, by the next token, over their tokens
+-- and parts.
+use Rattle.std.proofs.Common.{◌≡◌, ◌≤◌, ℕ, true, false, List, [], ◌∷◌, ◌++◌, map, Some, None, refl, sym, ap, ◌∙◌, append_assoc}
+use Rattle.std.specs.Prelude.{⊤}
+use Rattle.std.proofs.lemmas.List.{append-nil, map-append}
+use Rattle.abs_tree.specs.Names.{with_name, number_of_name}
+use Rattle.abs_tree.specs.declared.place.Place.{Place}
+use Rattle.abs_tree.specs.declared.symbol.Symbol.{Symbol as NameSymbol}
+use Rattle.abs_tree.specs.declared.syntax.declaration.Constructor.{Constructor as CodeConstructor}
+use Rattle.abs_tree.specs.declared.syntax.declaration.Declared.{Declared}
+use Rattle.abs_tree.specs.Syntax.{Name, DeclaredTree, ConstructorTree, DeclTree, DataTree}
+use Rattle.abs_tree.specs.SyntaxViews.{declared as declared_tree, type_trees, constructor_tree}
+use Rattle.abs_lexer.specs.declared.lexeme.Keyword.{Keyword}
+use Rattle.abs_lexer.specs.declared.lexeme.Keyword.TheVariants as keyword
+use Rattle.abs_lexer.specs.declared.lexeme.Lexeme.{Lexeme}
+use Rattle.abs_lexer.specs.declared.lexeme.Lexeme.TheVariants as lexeme
+use Rattle.abs_lexer.specs.declared.lexeme.Punctuator.TheVariants as punctuator
+use Rattle.abs_lexer.specs.Tokens.{Lexed}
+use Rattle.abs_parser.specs.Answers.{GoesOn}
+use Rattle.abs_parser.specs.TokenKinds.{Mark, Token, TokenKind, UpperName, KeywordKind, PunctuatorKind, token_kind_of, fits, next}
+use Rattle.abs_parser.specs.Productions.{Nonterminal, Decl, Constructor, NextConstructor, ConstructorTypes, TypeParameters, begins, begins_within, chosen}
+use Rattle.abs_parser.specs.Readings.{One, Optional, Repeated, Wanted, Terminal, Subgoal, opened, Forest, Empty, Leaf, Node}
+use Rattle.abs_parser.specs.ReaderAnswers.{left_at, asked, TakesKind, FoundAs, IsRefused, is_asked}
+use Rattle.abs_parser.specs.Stops.{limit}
+use Rattle.abs_parser.specs.Tokens.{Spot}
+use Rattle.abs_parser.specs.TreesOf.{names_maybe, constructor_types, constructor_in, more_constructors, decl_in, decl_by}
+use Rattle.abs_tree.specs.declared.source_error.SourceError.{SourceError}
+use Rattle.abs_parser.proofs.grammar.NameLemmas.{goes_on_further}
+use Rattle.abs_parser.proofs.reader.StepLemmas.{HasRead, is_name, opens, over_token, over_name, over_part, all_read, refused_inside, fits_next, found_goes_on, symbol_kept}
+use Rattle.abs_parser.proofs.grammar.NonterminalLemmas.{begins_with_token, part_shut, part_begun, part_opened, repeated_opened, repeated_ends}
+use Rattle.abs_parser.proofs.reader.PatternSteps.{next_taken, nothing_found}
+use Rattle.abs_parser.proofs.reader.RepeatSteps.{in_front, over_one_more, refused_up_to, ends_at}
+use Rattle.abs_parser.proofs.reader.NameListSteps.{declared_kept}
+use Rattle.abs_parser.proofs.reader.WordSteps.{word_read}
+
+-- Parts that repeat up to a token that closes
+
+-- a declaration without statements may have any first index
+abbrev pub AnyIndex : ℕ → Type 0
+AnyIndex index = ⊤
+
+-- The parts of a declaration that repeat up to a token that closes: which nonterminal they are, which token closes, and the trees of one of them
+-- in the code and of those that were read, from the index that is free before the declaration and behind those of these trees.
+pub record Parts (Listed Tree : Type 0) : Type 0 where
+  pub nonterminal : Nonterminal
+  pub closing : Lexeme
+  pub closing_asked : is_asked closing ≡ true
+  pub closing_unnamed : is_name closing ≡ false
+  pub closing_ends : (kind : TokenKind) → fits (asked closing) kind ≡ true → begins nonterminal kind ≡ false
+  pub tree : List Name → Listed → Tree
+  pub trees_in : ℕ → List Tree → Forest → List Tree
+  pub trees_none : (index : ℕ) (before : List Tree) → trees_in index before Empty ≡ []
+
+-- What was read of a declaration up to here, with the trees of those of the parts that the code has, and the tree of the whole by them:
+-- whatever further parts are read, and the token behind them, complete it, where the declaration has one of these first indexes.
+pub record ReadsParts {Listed Tree : Type 0} (parts : Parts Listed Tree) (Starts : ℕ → Type 0) (whole : List Name → List Tree → DeclTree) (depth : ℕ) (old now : List (List ℕ)) (from here : Spot) (listed : List Listed) : Type 0 where
+  pub make : Forest → Forest
+  pub read : HasRead (One Decl) depth old now from make (Subgoal (Repeated parts.nonterminal) depth ∷ Terminal (asked parts.closing) depth ∷ []) here
+  pub is : (index : ℕ) → Starts index → (names : List Name) → GoesOn now names → (inside : Forest) (mark : Mark) (at : ℕ) (others : List DeclTree)
+      → decl_in index (make (Node (Repeated parts.nonterminal) inside (Leaf mark at Empty))) others
+      ≡ whole names (map (parts.tree names) listed ++ parts.trees_in index (map (parts.tree names) listed) inside) ∷ others
+
+-- the tree of one more stands behind those of the others
+pub one_more : {Listed Tree : Type 0} (tree : Listed → Tree) (listed : List Listed) (one : Listed) (behind : List Tree) → map tree (listed ++ one ∷ []) ++ behind ≡ map tree listed ++ tree one ∷ behind
+one_more tree listed one behind = ap (λ trees. trees ++ behind) (map-append tree listed (one ∷ [])) ∙ append_assoc (map tree listed) (tree one ∷ []) behind
+
+-- over one more of the parts
+pub next_part : {Listed Tree : Type 0} {parts : Parts Listed Tree} {Starts : ℕ → Type 0} {whole : List Name → List Tree → DeclTree} {depth : ℕ} {old now new : List (List ℕ)} {from here to : Spot} {listed longer : List Listed}
+    {is_read : List (List ℕ) → Forest → Type 0} (one : Listed) → longer ≡ listed ++ one ∷ [] → ReadsParts parts Starts whole depth old now from here listed
+    → (found : FoundAs (One parts.nonterminal) depth now new here to is_read)
+    → ((index : ℕ) → Starts index → (names : List Name) → GoesOn new names → (others : Forest)
+    → parts.tree names one ∷ parts.trees_in index (map (parts.tree names) (listed ++ one ∷ [])) others
+    ≡ parts.trees_in index (map (parts.tree names) listed) (Node (One parts.nonterminal) found.inside (Node (Repeated parts.nonterminal) others Empty)))
+    → ReadsParts parts Starts whole depth old new from to longer
+next_part {parts = parts} {whole = whole} {depth} {listed = listed} one same so found is = rw same (record {
+  make = λ rest. so.make (in_front parts.nonterminal found.inside rest);
+  read = over_one_more so.read (repeated_opened parts.nonterminal _ depth (part_begun parts.nonterminal _ depth found.rule_is)) found;
+  is = λ index starts names more inside mark at others.
+      so.is index starts names (goes_on_further (found_goes_on found) more) (Node (One parts.nonterminal) found.inside (Node (Repeated parts.nonterminal) inside Empty)) mark at others
+      ∙ ap (λ trees. whole names trees ∷ others)
+      (ap (λ trees. map (parts.tree names) listed ++ trees) (sym (is index starts names more inside))
+      ∙ sym (one_more (parts.tree names) listed one (parts.trees_in index (map (parts.tree names) (listed ++ one ∷ [])) inside)));
+})
+
+-- where the token that closes is not next, the declaration is refused where one more is
+pub refused_part : {Listed Tree : Type 0} {parts : Parts Listed Tree} {Starts : ℕ → Type 0} {whole : List Name → List Tree → DeclTree} {depth : ℕ} {old now : List (List ℕ)} {from here : Spot} {listed : List Listed} (error : SourceError)
+    → ReadsParts parts Starts whole depth old now from here listed → fits (asked parts.closing) (next (left_at here)) ≡ false → IsRefused (Subgoal (One parts.nonterminal) depth) here error
+    → IsRefused (Subgoal (One Decl) depth) from error
+refused_part {parts = parts} error so other refused = refused_up_to (asked parts.closing) error so.read other refused
+
+-- where no further one begins, there is none
+pub no_part : (symbol : Nonterminal) (depth : ℕ) (table : List (List ℕ)) (here : Spot) → begins symbol (next (left_at here)) ≡ false → FoundAs (Repeated symbol) depth table table here here (λ names inside. inside ≡ Empty)
+no_part symbol depth table here ends = nothing_found (Repeated symbol) depth table here (repeated_ends symbol _ depth ends)
+
+-- and the declaration is refused where the token is that closes
+pub refused_closing : {Listed Tree : Type 0} {parts : Parts Listed Tree} {Starts : ℕ → Type 0} {whole : List Name → List Tree → DeclTree} {depth : ℕ} {old now : List (List ℕ)} {from here : Spot} {listed : List Listed} (error : SourceError)
+    → ReadsParts parts Starts whole depth old now from here listed → begins parts.nonterminal (next (left_at here)) ≡ false → IsRefused (Terminal (asked parts.closing) depth) here error
+    → IsRefused (Subgoal (One Decl) depth) from error
+refused_closing {parts = parts} {depth = depth} {now = now} {here = here} error so ends refused = refused_inside (over_part so.read (no_part parts.nonterminal depth now here ends)) error refused
+
+-- behind the token that closes, the declaration is found
+pub all_parts : {Listed Tree : Type 0} {parts : Parts Listed Tree} {Starts : ℕ → Type 0} {whole : List Name → List Tree → DeclTree} {depth : ℕ} {old now : List (List ℕ)} {from here end : Spot} {token : Lexed} {listed : List Listed}
+    → ReadsParts parts Starts whole depth old now from here listed → TakesKind parts.closing token here end → depth ≤ limit
+    → FoundAs (One Decl) depth old now from end (λ names inside. (index : ℕ) → Starts index → (others : List DeclTree) → whole names (map (parts.tree names) listed) ∷ others ≡ decl_in index inside others)
+all_parts {parts = parts} {whole = whole} {depth} {now = now} {here = here} {token = token} {listed} so takes within =
+    let none = no_part parts.nonterminal depth now here (parts.closing_ends _ (fits_next parts.closing_asked takes)) in
+    all_read (over_token (over_part so.read none) takes parts.closing_asked parts.closing_unnamed within) (λ names more index starts others.
+    let before = map (parts.tree names) listed in
+    sym (so.is index starts names more none.inside (Token token) depth others ∙ ap (λ trees. whole names trees ∷ others)
+    (ap (λ inside. before ++ parts.trees_in index before inside) (none.is names more)
+    ∙ (ap (λ trees. before ++ trees) (parts.trees_none index before) ∙ append-nil (map (parts.tree names) listed)))))
+
+-- The first token of a declaration
+
+-- over the keyword that opens a declaration, and the name behind it
+pub heading_read : {word : Keyword} {left : List Wanted} {token name : Lexed} {from name_at behind : Spot} {depth : ℕ} {old table : List (List ℕ)}
+    → opened (One Decl) (KeywordKind word) depth ≡ Some (Terminal (KeywordKind word) depth ∷ Terminal UpperName depth ∷ left) → TakesKind (lexeme.Keyword word) token from name_at
+    → TakesKind lexeme.UpperName name name_at behind → table ≡ with_name old name.bytes → depth ≤ limit
+    → HasRead (One Decl) depth old table from (λ rest. Leaf (Token token) depth (Leaf (Token name) depth rest)) left behind
+heading_read {depth = depth} {old} is word name named within = over_name (word_read depth old is word within) name refl refl within named
+
+-- the tree of a declaration is the one for its keyword
+pub by_word : {word : Keyword} {token : Lexed} {from behind : Spot} (index depth : ℕ) (inside : Forest) (others : List DeclTree) → TakesKind (lexeme.Keyword word) token from behind
+    → decl_in index (Leaf (Token token) depth inside) others ≡ decl_by index (KeywordKind word) token.place inside others
+by_word {token = token} index depth inside others takes = ap (λ (kind : Lexeme). decl_by index (token_kind_of kind token.bytes) token.place inside others) takes.kind_is
+
+-- Constructors
+
+-- this constructor was read
+abbrev pub IsConstructor : CodeConstructor → List (List ℕ) → Forest → Type 0
+IsConstructor constructor names inside = (others : List ConstructorTree) → constructor_tree names constructor ∷ others ≡ constructor_in inside others
+
+-- a constructor begins with its name
+constructor_begins : (kind : TokenKind) → begins Constructor kind ≡ fits UpperName kind
+constructor_begins kind = begins_with_token Constructor kind refl
+
+-- which opens it
+pub constructor_opened : (kind : TokenKind) (depth : ℕ) → fits UpperName kind ≡ true → opened (One Constructor) kind depth ≡ Some (Terminal UpperName depth ∷ Subgoal (Optional ConstructorTypes) depth ∷ [])
+constructor_opened kind depth fit = part_opened Constructor kind depth refl refl (constructor_begins kind ∙ fit)
+
+-- nothing else opens one
+pub constructor_shut : (kind : TokenKind) (depth : ℕ) → fits UpperName kind ≡ false → opened (One Constructor) kind depth ≡ None
+constructor_shut kind depth differs = part_shut Constructor kind depth (constructor_begins kind ∙ differs)
+
+-- over the name of a constructor
+pub constructor_named : {name : Lexed} {from behind : Spot} {depth : ℕ} {old table : List (List ℕ)} → TakesKind lexeme.UpperName name from behind → table ≡ with_name old name.bytes → depth ≤ limit
+    → HasRead (One Constructor) depth old table from (λ rest. Leaf (Token name) depth rest) (Subgoal (Optional ConstructorTypes) depth ∷ []) behind
+constructor_named {from = from} {depth = depth} {old} name is within =
+    over_name (opens (One Constructor) depth old from _ (constructor_opened _ depth (fits_next refl name))) name refl refl within is
+
+-- a constructor with its name and its types is found
+pub constructor_found : {name : Lexed} {from types_at end : Spot} {depth : ℕ} {old table new : List (List ℕ)} (constructor : CodeConstructor) → constructor.name.place ≡ name.place → TakesKind lexeme.UpperName name from types_at
+    → constructor.name.name.0 ≡ number_of_name old name.bytes → table ≡ with_name old name.bytes
+    → FoundAs (Optional ConstructorTypes) depth table new types_at end (λ names inside. type_trees names constructor.types.items ≡ constructor_types inside) → depth ≤ limit
+    → FoundAs (One Constructor) depth old new from end (IsConstructor constructor)
+constructor_found {name} {old = old} constructor same takes number is types within =
+    all_read (over_part (constructor_named takes is within) types) (λ names more others.
+    rw (same, symbol_kept old constructor.name.name number is names (goes_on_further (found_goes_on types) more), types.is names more) refl)
+
+-- Data
+
+-- no further constructor begins with ";"
+pub no_constructor_closes : begins NextConstructor (PunctuatorKind punctuator.Semicolon) ≡ false
+unfolding begins begins_within
+no_constructor_closes = refl
+
+-- the constructors of data repeat up to ";"
+abbrev pub constructors_of : Parts CodeConstructor ConstructorTree
+constructors_of = record {
+  nonterminal = NextConstructor;
+  closing = lexeme.Punctuator punctuator.Semicolon;
+  closing_asked = refl;
+  closing_unnamed = refl;
+  closing_ends = ends_at NextConstructor punctuator.Semicolon no_constructor_closes;
+  tree = constructor_tree;
+  trees_in = λ index before. more_constructors;
+  trees_none = λ index before. refl;
+}
+
+-- a further one begins with "|"
+pub next_constructor_begins : (kind : TokenKind) → begins NextConstructor kind ≡ fits (PunctuatorKind punctuator.Bar) kind
+next_constructor_begins kind = begins_with_token NextConstructor kind refl
+
+-- over "|"
+bar_read : {bar : Lexed} {from behind : Spot} (depth : ℕ) (table : List (List ℕ)) → TakesKind (lexeme.Punctuator punctuator.Bar) bar from behind → depth ≤ limit
+    → HasRead (One NextConstructor) depth table table from (λ rest. Leaf (Token bar) depth rest) (Subgoal (One Constructor) depth ∷ []) behind
+bar_read {from = from} depth table takes within =
+    over_token (opens (One NextConstructor) depth table from _ (part_opened NextConstructor _ depth refl refl (next_constructor_begins _ ∙ fits_next refl takes))) takes refl refl within
+
+-- behind the name of data stands this
+abbrev pub behind_data : ℕ → List Wanted
+behind_data at =
+    Subgoal (Optional TypeParameters) at ∷ Terminal (PunctuatorKind punctuator.Assign) at ∷ Subgoal (One Constructor) at ∷ Subgoal (Repeated NextConstructor) at ∷ Terminal (PunctuatorKind punctuator.Semicolon) at ∷ []
+
+-- `data` opens a declaration
+pub data_opened : (depth : ℕ) → opened (One Decl) (KeywordKind keyword.Data) depth ≡ Some (Terminal (KeywordKind keyword.Data) depth ∷ Terminal UpperName depth ∷ behind_data depth)
+unfolding begins chosen begins_within
+data_opened depth = refl
+
+-- the tree of data, by those of its constructors
+abbrev pub data_of : Place → Declared → List Declared → List Name → List ConstructorTree → DeclTree
+data_of place name parameters names constructors = DataTree place (declared_tree names name) (map (declared_tree names) parameters) constructors
+
+-- over the parameters of data and "="
+pub data_assigned : {word name equals : Lexed} {from name_at behind equals_at first_at : Spot} {depth : ℕ} {old table now : List (List ℕ)} {is_read : List (List ℕ) → Forest → Type 0}
+    → TakesKind (lexeme.Keyword keyword.Data) word from name_at → TakesKind lexeme.UpperName name name_at behind → table ≡ with_name old name.bytes
+    → (parameters : FoundAs (Optional TypeParameters) depth table now behind equals_at is_read) → TakesKind (lexeme.Punctuator punctuator.Assign) equals equals_at first_at → depth ≤ limit
+    → HasRead (One Decl) depth old now from (λ rest. Leaf (Token word) depth (Leaf (Token name) depth (Node (Optional TypeParameters) parameters.inside (Leaf (Token equals) depth rest))))
+    (Subgoal (One Constructor) depth ∷ Subgoal (Repeated NextConstructor) depth ∷ Terminal (PunctuatorKind punctuator.Semicolon) depth ∷ []) first_at
+data_assigned {depth = depth} word name is parameters equals within = over_token (over_part (heading_read (data_opened depth) word name is within) parameters) equals refl refl within
+
+-- the tree of data is made of those of its parts
+data_made : {name held_name : DeclaredTree} {parameters held_parameters : List DeclaredTree} {constructors held_constructors : List ConstructorTree} (place : Place) (others : List DeclTree)
+    → held_name ≡ name → held_parameters ≡ parameters → held_constructors ≡ constructors → DataTree place name parameters constructors ∷ others ≡ DataTree place held_name held_parameters held_constructors ∷ others
+data_made place others name parameters constructors = rw (name, parameters, constructors) refl
+
+-- data was read up to its first constructor
+pub first_constructor : {word name equals : Lexed} {from name_at behind equals_at first_at here : Spot} {depth : ℕ} {old table now new : List (List ℕ)} {constructors : List CodeConstructor}
+    (symbol : NameSymbol) (listed : List Declared) (first : CodeConstructor) → constructors ≡ first ∷ [] → TakesKind (lexeme.Keyword keyword.Data) word from name_at → TakesKind lexeme.UpperName name name_at behind
+    → symbol.0 ≡ number_of_name old name.bytes → table ≡ with_name old name.bytes
+    → FoundAs (Optional TypeParameters) depth table now behind equals_at (λ names inside. map (declared_tree names) listed ≡ names_maybe inside)
+    → TakesKind (lexeme.Punctuator punctuator.Assign) equals equals_at first_at → FoundAs (One Constructor) depth now new first_at here (IsConstructor first) → depth ≤ limit
+    → ReadsParts constructors_of AnyIndex (data_of word.place (record { place = name.place; name = symbol }) listed) depth old new from here constructors
+first_constructor {word} {name} {equals} {depth = depth} {old} symbol listed first same takes takes_name number is parameters takes_equals found within = rw same (record {
+  make = λ rest. Leaf (Token word) depth (Leaf (Token name) depth (Node (Optional TypeParameters) parameters.inside (Leaf (Token equals) depth (Node (One Constructor) found.inside rest))));
+  read = over_part (data_assigned takes takes_name is parameters takes_equals within) found;
+  is = λ index starts names more inside mark at others.
+      let since = goes_on_further (found_goes_on found) more in
+      by_word index depth _ others takes
+      ∙ data_made word.place others (declared_kept old name symbol number is names (goes_on_further (found_goes_on parameters) since)) (parameters.is names since) (found.is names more (more_constructors inside));
+})
+
+-- and up to one more behind "|"
+pub next_constructor : {whole : List Name → List ConstructorTree → DeclTree} {bar : Lexed} {from here constructor_at to : Spot} {depth : ℕ} {old now new : List (List ℕ)} {constructors longer : List CodeConstructor}
+    (constructor : CodeConstructor) → longer ≡ constructors ++ constructor ∷ [] → ReadsParts constructors_of AnyIndex whole depth old now from here constructors → TakesKind (lexeme.Punctuator punctuator.Bar) bar here constructor_at
+    → FoundAs (One Constructor) depth now new constructor_at to (IsConstructor constructor) → depth ≤ limit → ReadsParts constructors_of AnyIndex whole depth old new from to longer
+next_constructor {bar = bar} {depth = depth} {now = now} {new = new} constructor same so takes found within =
+    let next : FoundAs (One NextConstructor) depth now new _ _ (λ names inside. inside ≡ Leaf (Token bar) depth (Node (One Constructor) found.inside Empty)) =
+    all_read (over_part (bar_read depth now takes within) found) (λ names more. refl) in
+    next_part constructor same so next (λ index starts names more others.
+    found.is names more (more_constructors others)
+    ∙ sym (ap (λ inside. more_constructors (Node (One NextConstructor) inside (Node (Repeated NextConstructor) others Empty))) (next.is names more)))
+
+-- behind "|" data is refused where the constructor is
+pub refused_constructor : {whole : List Name → List ConstructorTree → DeclTree} {bar : Lexed} {from here constructor_at : Spot} {depth : ℕ} {old now : List (List ℕ)} {constructors : List CodeConstructor} (error : SourceError)
+    → ReadsParts constructors_of AnyIndex whole depth old now from here constructors → TakesKind (lexeme.Punctuator punctuator.Bar) bar here constructor_at → depth ≤ limit
+    → IsRefused (Subgoal (One Constructor) depth) constructor_at error → IsRefused (Subgoal (One Decl) depth) from error
+refused_constructor {depth = depth} {now = now} error so takes within refused =
+    refused_part error so (ap (fits (PunctuatorKind punctuator.Semicolon)) (next_taken takes)) (refused_inside (bar_read depth now takes within) error refused)

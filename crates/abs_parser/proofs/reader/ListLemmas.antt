@@ -1,0 +1,173 @@
+-- Which symbols are lists with a sign between any two, which trees stand for them, and which nonterminals are such lists between parentheses.
+use Rattle.std.proofs.Common.{◌≡◌, false, refl}
+use Rattle.abs_lexer.specs.declared.lexeme.Punctuator.TheVariants as punctuator
+use Rattle.abs_tree.specs.Syntax.{TypeTree, TypeTrees, NoType, NextType, PatternTree, PatternTrees, NoPattern, NextPattern, Phrase, Phrases, NoPhrase, NextPhrase, Tests, NoTest, NextTest}
+use Rattle.abs_tree.specs.SyntaxViews.{type_tree, type_trees, pattern_tree, pattern_trees, phrase, phrases, tests}
+use Rattle.abs_tree.specs.declared.syntax.expression.Expr as code_expr
+use Rattle.abs_tree.specs.declared.syntax.pattern.Pattern as code_pattern
+use Rattle.abs_tree.specs.declared.syntax.statement.Test as code_test
+use Rattle.abs_tree.specs.declared.syntax.types.TypeTerm.{TypeTerm}
+use Rattle.abs_parser.specs.TokenKinds.{PunctuatorKind}
+use Rattle.abs_parser.specs.Productions.{Type', Types, CommaType, Pattern, PatternArguments, Patterns, CommaPattern, Expr, Arguments, Args, CommaExpr, Guard, Test, AndTest, begins, begins_within}
+use Rattle.abs_parser.specs.Readings.{Forest, Empty, Leaf, Node}
+use Rattle.abs_parser.specs.TreesOf.{type_in, types_in, more_types, pattern_in, patterns_in, more_patterns, expr_in, args_in, more_args, test_in, guard_in, more_tests}
+use Rattle.abs_parser.proofs.reader.ListSteps.{SeparatedList, ListTrees, InParentheses}
+
+-- Types
+
+-- types are a list
+abbrev pub list_of_types : SeparatedList
+list_of_types = record {
+  separator = punctuator.Comma;
+  list = Types;
+  one = Type';
+  next = CommaType;
+  list_is = refl;
+  list_counts = refl;
+  next_is = refl;
+  next_counts = refl;
+}
+
+-- and these are its trees
+abbrev pub trees_of_types : ListTrees TypeTerm TypeTree TypeTrees
+trees_of_types = record {
+  tree = type_tree;
+  trees = type_trees;
+  none = NoType;
+  more = NextType;
+  trees_none = λ names. refl;
+  trees_more = λ names first others. refl;
+  one_in = type_in;
+  list_in = types_in;
+  others_in = more_types;
+  list_is = λ one behind first others. refl;
+  others_none = refl;
+  others_more = λ next one behind mark depth first others. refl;
+}
+
+-- Patterns
+
+-- patterns are a list
+abbrev pub list_of_patterns : SeparatedList
+list_of_patterns = record {
+  separator = punctuator.Comma;
+  list = Patterns;
+  one = Pattern;
+  next = CommaPattern;
+  list_is = refl;
+  list_counts = refl;
+  next_is = refl;
+  next_counts = refl;
+}
+
+-- and these are its trees
+abbrev pub trees_of_patterns : ListTrees code_pattern.Pattern PatternTree PatternTrees
+trees_of_patterns = record {
+  tree = pattern_tree;
+  trees = pattern_trees;
+  none = NoPattern;
+  more = NextPattern;
+  trees_none = λ names. refl;
+  trees_more = λ names first others. refl;
+  one_in = pattern_in;
+  list_in = patterns_in;
+  others_in = more_patterns;
+  list_is = λ one behind first others. refl;
+  others_none = refl;
+  others_more = λ next one behind mark depth first others. refl;
+}
+
+-- no pattern begins with a parenthesis that closes
+pub no_pattern_closes : begins Pattern (PunctuatorKind punctuator.CloseParen) ≡ false
+unfolding begins begins_within
+no_pattern_closes = refl
+
+-- the arguments of a pattern are patterns between parentheses
+abbrev pub pattern_arguments : InParentheses list_of_patterns
+pattern_arguments = record { nonterminal = PatternArguments; nonterminal_is = refl; nonterminal_counts = refl; none_closes = no_pattern_closes }
+
+-- Expressions
+
+-- expressions are a list
+abbrev pub list_of_expressions : SeparatedList
+list_of_expressions = record {
+  separator = punctuator.Comma;
+  list = Args;
+  one = Expr;
+  next = CommaExpr;
+  list_is = refl;
+  list_counts = refl;
+  next_is = refl;
+  next_counts = refl;
+}
+
+-- and these are its trees
+abbrev pub trees_of_expressions : ListTrees code_expr.Expr Phrase Phrases
+trees_of_expressions = record {
+  tree = phrase;
+  trees = phrases;
+  none = NoPhrase;
+  more = NextPhrase;
+  trees_none = λ names. refl;
+  trees_more = λ names first others. refl;
+  one_in = expr_in;
+  list_in = args_in;
+  others_in = more_args;
+  list_is = λ one behind first others. refl;
+  others_none = refl;
+  others_more = λ next one behind mark depth first others. refl;
+}
+
+-- no expression begins with a parenthesis that closes
+pub no_expression_closes : begins Expr (PunctuatorKind punctuator.CloseParen) ≡ false
+unfolding begins begins_within
+no_expression_closes = refl
+
+-- arguments are expressions between parentheses
+abbrev pub arguments : InParentheses list_of_expressions
+arguments = record { nonterminal = Arguments; nonterminal_is = refl; nonterminal_counts = refl; none_closes = no_expression_closes }
+
+-- Guards
+
+-- guards are a list
+abbrev pub list_of_tests : SeparatedList
+list_of_tests = record {
+  separator = punctuator.And;
+  list = Guard;
+  one = Test;
+  next = AndTest;
+  list_is = refl;
+  list_counts = refl;
+  next_is = refl;
+  next_counts = refl;
+}
+
+-- the tree of one test, before others
+abbrev test_before : Tests → Tests → Tests
+test_before (NextTest place value asks _) others = NextTest place value asks others
+test_before NoTest others = others
+
+-- what was read as a test stands before others as it does alone
+pub test_in_front : (inside : Forest) (others : Tests) → test_in inside others ≡ test_before (test_in inside NoTest) others
+test_in_front Empty others = refl
+test_in_front (Leaf mark depth behind) others = refl
+test_in_front (Node equal inside Empty) others = refl
+test_in_front (Node equal inside (Leaf mark depth behind)) others = refl
+test_in_front (Node equal inside (Node question asks behind)) others = refl
+
+-- and these are its trees
+abbrev pub trees_of_tests : ListTrees code_test.Test Tests Tests
+trees_of_tests = record {
+  tree = λ names test. NextTest test.place (phrase names test.value.value) test.asks NoTest;
+  trees = tests;
+  none = NoTest;
+  more = test_before;
+  trees_none = λ names. refl;
+  trees_more = λ names first others. refl;
+  one_in = λ inside. test_in inside NoTest;
+  list_in = guard_in;
+  others_in = more_tests;
+  list_is = λ one behind first others. test_in_front first (more_tests others);
+  others_none = refl;
+  others_more = λ next one behind mark depth first others. test_in_front first (more_tests others);
+}

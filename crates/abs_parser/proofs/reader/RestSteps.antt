@@ -1,0 +1,279 @@
+-- The steps of the reader of what stands behind the first operand of a right side: over the operators of each precedence, and over what may stand
+-- behind an expression, up to `;`. All before `;` may be left out. So where the next token does not open the part, no token was read,
+-- and the part is refused where the next item is.
+use Rattle.std.proofs.Common.{◌≡◌, ◌≤◌, ℕ, ◌+◌, Bool, true, false, List, [], ◌∷◌, ◌++◌, Some, None, refl, sym, ap, subst, ◌∙◌}
+use Rattle.std.proofs.lemmas.Bool.{or_parts}
+use Rattle.std.proofs.lemmas.Option.{same_Some}
+use Rattle.abs_tree.specs.SyntaxViews.{phrase, side_tree}
+use Rattle.abs_tree.specs.declared.place.Place.{Place}
+use Rattle.abs_tree.specs.declared.syntax.expression.Expr.{Expr}
+use Rattle.abs_tree.specs.declared.syntax.statement.RightSide.{RightSide}
+use Rattle.abs_tree.specs.declared.refusal.Code.{Code}
+use Rattle.abs_lexer.specs.declared.lexeme.Lexeme.TheVariants as lexeme
+use Rattle.abs_lexer.specs.declared.lexeme.Punctuator.TheVariants as punctuator
+use Rattle.abs_lexer.specs.Tokens.{Lexed}
+use Rattle.abs_parser.specs.TokenKinds.{Mark, Token, TokenKind, PunctuatorKind, fits, next}
+use Rattle.abs_parser.specs.Precedences.{rest_of, operands_in}
+use Rattle.abs_parser.specs.Productions.{Rest, MulTail, SumTail, CompareTail, EqualTail, AndTail, OrTail, RhsTail, begins}
+use Rattle.abs_parser.specs.Readings.{Goal, One, Optional, Wanted, Terminal, Subgoal, opened, Forest, Leaf, Node, Reads, Nothing, Taken, Opened}
+use Rattle.abs_parser.specs.Refusing.{Refuses, Shut, Open, Cut}
+use Rattle.abs_parser.specs.ReaderAnswers.{left_at, TakesKind, FoundAs, RefusedAs, IsRefused, IsRefusedWith}
+use Rattle.abs_parser.specs.Stops.{limit}
+use Rattle.abs_parser.specs.Tokens.{Spot}
+use Rattle.abs_parser.specs.TreesOf.{with_operators, tail_in, rest_in}
+use Rattle.abs_parser.specs.declared.operators.Precedence.{Precedence}
+use Rattle.abs_parser.specs.declared.operators.Precedence.TheVariants as precedence
+use Rattle.abs_tree.specs.declared.source_error.SourceError.{SourceError}
+use Rattle.abs_tree.specs.declared.source_error.SourceError.TheVariants.{Refused, Memory}
+use Rattle.abs_parser.proofs.grammar.NameLemmas.{goes_on_further}
+use Rattle.abs_parser.proofs.reader.StepLemmas.{HasRead, opens, over_token, over_part, all_read, refused_inside, refused_both, refused_other, fits_next, found_goes_on}
+use Rattle.abs_parser.proofs.grammar.NonterminalLemmas.{begins_by, part_opened, part_shut, optional_left_out}
+
+-- What was left out
+
+-- where nothing is wanted no token is read
+reads_nothing : {items : List Wanted} {ts to : List Mark} {forest : Forest} → items ≡ [] → Reads items ts forest to → to ≡ ts
+reads_nothing none Nothing = refl
+reads_nothing none (Taken fit reads) = absurd cc
+reads_nothing none (Opened is first reads) = absurd cc
+
+-- a part of nothing leaves the tokens that there were
+nothing_left_out : {goal : Goal} {depth : ℕ} {old new : List (List ℕ)} {from to : Spot} {is_read : List (List ℕ) → Forest → Type 0}
+    → FoundAs goal depth old new from to is_read → opened goal (next (left_at from)) depth ≡ Some [] → left_at to ≡ left_at from
+nothing_left_out found none = reads_nothing (same_Some _ _ (sym found.rule_is ∙ none)) found.reads
+
+-- tokens that refuse a part of nothing refuse what stands behind it
+behind_by : {part : Goal} {at : ℕ} {item : Wanted} {items : List Wanted} {ts rest : List Mark} {code : Code} → opened part (next ts) at ≡ Some []
+    → Refuses (Subgoal part at ∷ item ∷ items) ts rest code → Refuses (item ∷ items) ts rest code
+behind_by none (Shut shut is) = absurd cc
+behind_by {item = item} {items} {ts} {rest} {code} none (Open is refused) =
+    subst (λ (inner : List Wanted). Refuses (inner ++ item ∷ items) ts rest code) (same_Some _ _ (sym is ∙ none)) refused
+behind_by none (Cut is) = Cut is
+
+-- what refuses a part of nothing refuses whatever stands behind it
+refused_behind : (part : Goal) (at : ℕ) (item : Wanted) (spot : Spot) (error : SourceError) → opened part (next (left_at spot)) at ≡ Some []
+    → IsRefused (Subgoal part at) spot error → IsRefused item spot error
+refused_behind part at item spot (Refused refusal) none refused = λ items.
+    let found = refused (item ∷ items) in
+    record { mark = found.mark; behind = found.behind; code = found.code; refuses = behind_by none found.refuses; refusal_is = found.refusal_is }
+refused_behind part at item spot Memory none refused = λ items. tt
+
+-- and what refuses the two refuses the second one
+refused_second : (part : Goal) (at : ℕ) (item : Wanted) (spot : Spot) (error : SourceError) → opened part (next (left_at spot)) at ≡ Some []
+    → IsRefusedWith (Subgoal part at) item spot error → IsRefused item spot error
+refused_second part at item spot (Refused refusal) none refused = λ items.
+    let found = refused items in
+    record { mark = found.mark; behind = found.behind; code = found.code; refuses = behind_by none found.refuses; refusal_is = found.refusal_is }
+refused_second part at item spot Memory none refused = λ items. tt
+
+-- what is refused at a spot is refused at each one with the same tokens
+pub refused_there : (item : Wanted) (here there : Spot) (error : SourceError) → left_at here ≡ left_at there → IsRefused item here error → IsRefused item there error
+refused_there item here there error same refused = λ items. subst (λ (ts : List Mark). RefusedAs (item ∷ items) ts error) same (refused items)
+
+-- A reader of a part that not each token opens has come to rest where these items are left: if the next token may open the part, the reader
+-- has read so much of it; if not, it has read no token.
+pub record MayHaveRead (may : Bool) (goal : Goal) (depth : ℕ) (old now : List (List ℕ)) (from : Spot) (make : Forest → Forest) (left : List Wanted) (here : Spot) : Type 0 where
+  pub read : may ≡ true → HasRead goal depth old now from make left here
+  pub still : may ≡ false → left_at here ≡ left_at from
+
+-- nothing of the part was read
+pub may_open : {may : Bool} (goal : Goal) (depth : ℕ) (table : List (List ℕ)) (from : Spot) (inner : List Wanted)
+    → (may ≡ true → opened goal (next (left_at from)) depth ≡ Some inner) → MayHaveRead may goal depth table table from (λ rest. rest) inner from
+may_open goal depth table from inner is = record {
+  read = λ begun. opens goal depth table from inner (is begun);
+  still = λ none. refl;
+}
+
+-- over a part that was found, and that is left out where the whole is not opened
+pub over_left_out : {may : Bool} {goal part : Goal} {depth at : ℕ} {old now new : List (List ℕ)} {from here behind : Spot} {make : Forest → Forest} {left : List Wanted}
+    {is_read : List (List ℕ) → Forest → Type 0}
+    → MayHaveRead may goal depth old now from make (Subgoal part at ∷ left) here → (may ≡ false → opened part (next (left_at from)) at ≡ Some [])
+    → (found : FoundAs part at now new here behind is_read) → MayHaveRead may goal depth old new from (λ rest. make (Node part found.inside rest)) left behind
+over_left_out {part = part} {at = at} so left_out found = record {
+  read = λ begun. over_part (so.read begun) found;
+  still = λ none. nothing_left_out found (ap (λ (ts : List Mark). opened part (next ts) at) (so.still none) ∙ left_out none) ∙ so.still none;
+}
+
+-- the part is refused where the next item is, by cases of whether the next token may open the part
+refused_by : (is : Bool) {may : Bool} {goal : Goal} {depth : ℕ} {old now : List (List ℕ)} {from here : Spot} {make : Forest → Forest} {item : Wanted} {left : List Wanted} → may ≡ is
+    → MayHaveRead may goal depth old now from make (item ∷ left) here → (error : SourceError) → IsRefused item here error
+    → (may ≡ false → left_at here ≡ left_at from → IsRefused (Subgoal goal depth) from error) → IsRefused (Subgoal goal depth) from error
+refused_by true e so error refused otherwise = refused_inside (so.read e) error refused
+refused_by false e so error refused otherwise = otherwise e (so.still e)
+
+-- the part is refused where the next item is, if it is also where no token opens it
+pub refused_either_way : {may : Bool} {goal : Goal} {depth : ℕ} {old now : List (List ℕ)} {from here : Spot} {make : Forest → Forest} {item : Wanted} {left : List Wanted}
+    → MayHaveRead may goal depth old now from make (item ∷ left) here → (error : SourceError) → IsRefused item here error
+    → (may ≡ false → left_at here ≡ left_at from → IsRefused (Subgoal goal depth) from error) → IsRefused (Subgoal goal depth) from error
+refused_either_way {may} so error refused otherwise = refused_by may refl so error refused otherwise
+
+-- so it is where the next two items are, by cases
+both_by : (is : Bool) {may : Bool} {goal part : Goal} {depth at : ℕ} {old now : List (List ℕ)} {from here : Spot} {make : Forest → Forest} {second : Wanted} {left : List Wanted} → may ≡ is
+    → MayHaveRead may goal depth old now from make (Subgoal part at ∷ second ∷ left) here → (may ≡ false → opened part (next (left_at from)) at ≡ Some []) → (error : SourceError)
+    → IsRefusedWith (Subgoal part at) second here error → (may ≡ false → IsRefused second from error → IsRefused (Subgoal goal depth) from error) → IsRefused (Subgoal goal depth) from error
+both_by true e so left_out error refused otherwise = refused_both (so.read e) error refused
+both_by false {part = part} {at = at} {from = from} {second = second} e so left_out error refused otherwise =
+    otherwise e (refused_second part at second from error (left_out e) (λ items. subst (λ (ts : List Mark). RefusedAs (Subgoal part at ∷ second ∷ items) ts error) (so.still e) (refused items)))
+
+-- and with a part that is left out where no token opens the whole
+pub refused_both_either_way : {may : Bool} {goal part : Goal} {depth at : ℕ} {old now : List (List ℕ)} {from here : Spot} {make : Forest → Forest} {second : Wanted} {left : List Wanted}
+    → MayHaveRead may goal depth old now from make (Subgoal part at ∷ second ∷ left) here → (may ≡ false → opened part (next (left_at from)) at ≡ Some []) → (error : SourceError)
+    → IsRefusedWith (Subgoal part at) second here error → (may ≡ false → IsRefused second from error → IsRefused (Subgoal goal depth) from error) → IsRefused (Subgoal goal depth) from error
+refused_both_either_way {may} so left_out error refused otherwise = both_by may refl so left_out error refused otherwise
+
+-- so it is where the next item is a part that is left out then
+pub refused_left_out : {may : Bool} {goal part : Goal} {depth at : ℕ} {old now : List (List ℕ)} {from here : Spot} {make : Forest → Forest} {left : List Wanted}
+    → MayHaveRead may goal depth old now from make (Subgoal part at ∷ left) here → (may ≡ false → opened part (next (left_at from)) at ≡ Some []) → (error : SourceError)
+    → IsRefused (Subgoal part at) here error → IsRefused (Subgoal goal depth) from error
+refused_left_out {goal = goal} {part} {depth} {at} {from = from} so left_out error refused =
+    refused_either_way so error refused (λ none same.
+    refused_behind part at (Subgoal goal depth) from error (left_out none) (refused_there (Subgoal part at) _ from error same refused))
+
+-- and where it is a token that does not fit then
+pub refused_unfit_either_way : {may : Bool} {kind : TokenKind} {goal : Goal} {depth at : ℕ} {old now : List (List ℕ)} {from here : Spot} {make : Forest → Forest} {left : List Wanted}
+    → MayHaveRead may goal depth old now from make (Terminal kind at ∷ left) here → (may ≡ false → fits kind (next (left_at from)) ≡ false)
+    → (may ≡ false → opened goal (next (left_at from)) depth ≡ None) → (error : SourceError) → IsRefused (Terminal kind at) here error
+    → IsRefused (Subgoal goal depth) from error
+refused_unfit_either_way {kind = kind} {goal} {depth} {at} {from = from} so differs shut error refused =
+    refused_either_way so error refused (λ none same. refused_other kind at goal depth from error (differs none) (shut none) (refused_there (Terminal kind at) _ from error same refused))
+
+-- where the next token must open the part it was read so far, by cases of whether it may
+has_read_by : (is : Bool) {may : Bool} {goal : Goal} {depth : ℕ} {old now : List (List ℕ)} {from here : Spot} {make : Forest → Forest} {left : List Wanted} → may ≡ is
+    → MayHaveRead may goal depth old now from make left here → (may ≡ false → left_at here ≡ left_at from → ⊥) → HasRead goal depth old now from make left here
+has_read_by true e so never = so.read e
+has_read_by false e so never = absurd (never e (so.still e))
+
+-- where the next token must open the part it was read so far
+pub has_read : {may : Bool} {goal : Goal} {depth : ℕ} {old now : List (List ℕ)} {from here : Spot} {make : Forest → Forest} {left : List Wanted}
+    → MayHaveRead may goal depth old now from make left here → (may ≡ false → left_at here ≡ left_at from → ⊥) → HasRead goal depth old now from make left here
+has_read {may} so never = has_read_by may refl so never
+
+-- Behind a first operand
+
+-- What begins none of what may stand behind a first operand: no operator, nothing that may stand behind an expression, and no `;`.
+record BeginsNone (kind : TokenKind) : Type 0 where
+  mul : begins MulTail kind ≡ false
+  sum : begins SumTail kind ≡ false
+  compare : begins CompareTail kind ≡ false
+  equal : begins EqualTail kind ≡ false
+  and : begins AndTail kind ≡ false
+  or : begins OrTail kind ≡ false
+  tail : begins RhsTail kind ≡ false
+  semicolon : fits (PunctuatorKind punctuator.Semicolon) kind ≡ false
+
+-- what begins no rest begins none of it
+begins_none : (kind : TokenKind) → begins Rest kind ≡ false → BeginsNone kind
+begins_none kind none =
+    let muls = or_parts _ _ (sym (begins_by Rest kind refl) ∙ none) in
+    let sums = or_parts _ _ muls.1 in
+    let compared = or_parts _ _ sums.1 in
+    let equal = or_parts _ _ compared.1 in
+    let ands = or_parts _ _ equal.1 in
+    let ors = or_parts _ _ ands.1 in
+    let tail = or_parts _ _ ors.1 in
+    record { mul = muls.0; sum = sums.0; compare = compared.0; equal = equal.0; and = ands.0; or = ors.0; tail = tail.0; semicolon = tail.1 }
+
+-- where it is not opened, no operator of a precedence is read
+precedence_left_out : (precedence : Precedence) (kind : TokenKind) (depth : ℕ) → begins Rest kind ≡ false → opened (rest_of precedence) kind depth ≡ Some []
+precedence_left_out precedence.Or kind depth none = rw ((begins_none kind none).or) refl
+precedence_left_out precedence.And kind depth none = rw ((begins_none kind none).and) refl
+precedence_left_out precedence.Equal kind depth none = rw ((begins_none kind none).equal) refl
+precedence_left_out precedence.Compare kind depth none = rw ((begins_none kind none).compare) refl
+precedence_left_out precedence.Sum kind depth none = rw ((begins_none kind none).sum) refl
+precedence_left_out precedence.Mul kind depth none = rw ((begins_none kind none).mul) refl
+
+-- The reader of what stands behind a first operand, up to `;`, has come to rest where these items are left.
+abbrev pub RestRead : ℕ → List (List ℕ) → List (List ℕ) → Spot → (Forest → Forest) → List Wanted → Spot → Type 0
+RestRead depth old now from make left here = MayHaveRead (begins Rest (next (left_at from))) (One Rest) depth old now from make left here
+
+-- what is wanted behind the operators
+abbrev pub behind_operators : ℕ → List Wanted
+behind_operators depth = Subgoal (Optional RhsTail) depth ∷ Terminal (PunctuatorKind punctuator.Semicolon) depth ∷ []
+
+-- it begins with the operators of each precedence
+pub rest_begins : (depth : ℕ) (table : List (List ℕ)) (from : Spot)
+    → RestRead depth table table from (λ rest. rest)
+    (Subgoal (rest_of precedence.Mul) (depth + 1) ∷ Subgoal (rest_of precedence.Sum) (depth + 1) ∷ Subgoal (rest_of precedence.Compare) (depth + 1)
+    ∷ Subgoal (rest_of precedence.Equal) (depth + 1) ∷ Subgoal (rest_of precedence.And) (depth + 1) ∷ Subgoal (rest_of precedence.Or) (depth + 1) ∷ behind_operators depth) from
+rest_begins depth table from = may_open (One Rest) depth table from _ (λ begun. part_opened Rest _ depth refl refl begun)
+
+-- over the operators of a precedence
+pub over_precedence : {depth : ℕ} {old now new : List (List ℕ)} {from here behind : Spot} {make : Forest → Forest} {left : List Wanted}
+    {is_read : List (List ℕ) → Forest → Type 0} (precedence : Precedence) → RestRead depth old now from make (Subgoal (rest_of precedence) (depth + 1) ∷ left) here
+    → (found : FoundAs (rest_of precedence) (depth + 1) now new here behind is_read)
+    → RestRead depth old new from (λ rest. make (Node (rest_of precedence) found.inside rest)) left behind
+over_precedence {depth} precedence so found = over_left_out so (precedence_left_out precedence _ (depth + 1)) found
+
+-- it is refused where they are
+pub precedence_refused : {depth : ℕ} {old now : List (List ℕ)} {from here : Spot} {make : Forest → Forest} {left : List Wanted} (precedence : Precedence) (error : SourceError)
+    → RestRead depth old now from make (Subgoal (rest_of precedence) (depth + 1) ∷ left) here → IsRefused (Subgoal (rest_of precedence) (depth + 1)) here error
+    → IsRefused (Subgoal (One Rest) depth) from error
+precedence_refused {depth} precedence error so refused = refused_left_out so (precedence_left_out precedence _ (depth + 1)) error refused
+
+-- where it is not opened, nothing is read behind the operators
+tail_left_out : (kind : TokenKind) (depth : ℕ) → begins Rest kind ≡ false → opened (Optional RhsTail) kind depth ≡ Some []
+tail_left_out kind depth none = optional_left_out RhsTail kind depth (begins_none kind none).tail
+
+-- over what may stand behind an expression
+pub over_tail : {depth : ℕ} {old now new : List (List ℕ)} {from here behind : Spot} {make : Forest → Forest} {is_read : List (List ℕ) → Forest → Type 0}
+    → RestRead depth old now from make (behind_operators depth) here → (found : FoundAs (Optional RhsTail) depth now new here behind is_read)
+    → RestRead depth old new from (λ rest. make (Node (Optional RhsTail) found.inside rest)) (Terminal (PunctuatorKind punctuator.Semicolon) depth ∷ []) behind
+over_tail {depth} so found = over_left_out so (tail_left_out _ depth) found
+
+-- it is refused where that is
+pub tail_refused : {depth : ℕ} {old now : List (List ℕ)} {from here : Spot} {make : Forest → Forest} (error : SourceError)
+    → RestRead depth old now from make (behind_operators depth) here → IsRefused (Subgoal (Optional RhsTail) depth) here error
+    → IsRefused (Subgoal (One Rest) depth) from error
+tail_refused {depth} error so refused = refused_left_out so (tail_left_out _ depth) error refused
+
+-- and where the `;` is
+pub semicolon_refused : {depth : ℕ} {old now : List (List ℕ)} {from here : Spot} {make : Forest → Forest} (error : SourceError)
+    → RestRead depth old now from make (Terminal (PunctuatorKind punctuator.Semicolon) depth ∷ []) here → IsRefused (Terminal (PunctuatorKind punctuator.Semicolon) depth) here error
+    → IsRefused (Subgoal (One Rest) depth) from error
+semicolon_refused {depth} error so refused =
+    refused_unfit_either_way so (λ none. (begins_none _ none).semicolon) (part_shut Rest _ depth) error refused
+
+-- over the `;`
+semicolon_read : {token : Lexed} {depth : ℕ} {old now : List (List ℕ)} {from here end : Spot} {make : Forest → Forest}
+    → RestRead depth old now from make (Terminal (PunctuatorKind punctuator.Semicolon) depth ∷ []) here → TakesKind (lexeme.Punctuator punctuator.Semicolon) token here end → depth ≤ limit
+    → HasRead (One Rest) depth old now from (λ rest. make (Leaf (Token token) depth rest)) [] end
+semicolon_read so semicolon within =
+    over_token (has_read so (λ none same.
+    let differs = (begins_none _ none).semicolon in
+    let fit = fits_next {kind = lexeme.Punctuator punctuator.Semicolon} refl semicolon in
+    let here = ap (λ (ts : List Mark). fits (PunctuatorKind punctuator.Semicolon) (next ts)) same in
+    cc)) semicolon refl refl within
+
+-- the operators of a precedence were found behind an operand, which is this expression with them
+abbrev pub PrecedenceFound : Precedence → ℕ → List (List ℕ) → List (List ℕ) → Spot → Spot → Place → Expr → Expr → Type 0
+PrecedenceFound precedence depth old new from to place first expr =
+    FoundAs (rest_of precedence) (depth + 1) old new from to (λ names inside. phrase names expr ≡ with_operators place (phrase names first) (operands_in precedence inside))
+
+-- what stands behind a first operand is found with the operators of each precedence, what may stand behind them, and `;`
+pub rest_found : {token : Lexed} {depth : ℕ} {old a b c d e f new : List (List ℕ)} {from at_sum at_compare at_equal at_and at_or at_tail at_end end : Spot} {place : Place}
+    (first product sum comparison equality conjunction disjunction : Expr) (side : RightSide)
+    → PrecedenceFound precedence.Mul depth old a from at_sum place first product
+    → PrecedenceFound precedence.Sum depth a b at_sum at_compare place product sum
+    → PrecedenceFound precedence.Compare depth b c at_compare at_equal place sum comparison
+    → PrecedenceFound precedence.Equal depth c d at_equal at_and place comparison equality
+    → PrecedenceFound precedence.And depth d e at_and at_or place equality conjunction
+    → PrecedenceFound precedence.Or depth e f at_or at_tail place conjunction disjunction
+    → FoundAs (Optional RhsTail) depth f new at_tail at_end (λ names inside. side_tree names side ≡ tail_in place (phrase names disjunction) inside)
+    → TakesKind (lexeme.Punctuator punctuator.Semicolon) token at_end end → depth ≤ limit
+    → FoundAs (One Rest) depth old new from end (λ names inside. side_tree names side ≡ rest_in place (phrase names first) inside)
+rest_found {depth = depth} {old} {from = from} first product sum comparison equality conjunction disjunction side muls sums compares equals ands ors tail semicolon within =
+    let behind_mul = over_precedence precedence.Mul (rest_begins depth old from) muls in
+    let behind_sum = over_precedence precedence.Sum behind_mul sums in
+    let behind_compare = over_precedence precedence.Compare behind_sum compares in
+    let behind_equal = over_precedence precedence.Equal behind_compare equals in
+    let behind_and = over_precedence precedence.And behind_equal ands in
+    let behind_or = over_precedence precedence.Or behind_and ors in
+    all_read (semicolon_read (over_tail behind_or tail) semicolon within) (λ names more.
+    let before_tail = goes_on_further (found_goes_on tail) more in
+    let before_or = goes_on_further (found_goes_on ors) before_tail in
+    let before_and = goes_on_further (found_goes_on ands) before_or in
+    let before_equal = goes_on_further (found_goes_on equals) before_and in
+    let before_compare = goes_on_further (found_goes_on compares) before_equal in
+    let before_sum = goes_on_further (found_goes_on sums) before_compare in
+    rw (tail.is names more, ors.is names before_tail, ands.is names before_or, equals.is names before_and)
+    (rw (compares.is names before_equal, sums.is names before_compare, muls.is names before_sum) refl))

@@ -1,0 +1,201 @@
+-- The steps of the readers of statements that hold others: a block as a statement; the keyword and the test of an `if` and of a `while`, and
+-- the branches behind them; `else`; and which trees stand for what was read of them. And at the end of the source a statement is refused.
+use Rattle.std.proofs.Common.{◌≡◌, ◌≤◌, ℕ, ◌+◌, true, false, List, [], ◌∷◌, Option, Some, None, refl, sym, ap, ◌∙◌}
+use Rattle.std.specs.declared.alloc.Global.{Global}
+use Rattle.std.specs.declared.sync.Arc.{Arc}
+use Rattle.std.specs.declared.vec.Vec.{Vec}
+use Rattle.abs_tree.specs.declared.place.Place.{Place}
+use Rattle.abs_tree.specs.declared.syntax.declaration.Body.{Body}
+use Rattle.abs_tree.specs.declared.syntax.expression.Expr.{Expr as CodeExpr}
+use Rattle.abs_tree.specs.declared.syntax.statement.Stmt as code_stmt
+use Rattle.abs_tree.specs.declared.syntax.statement.Stmt.{Stmt as CodeStmt}
+use Rattle.abs_tree.specs.Syntax.{Name, Phrase, BlockOf, IfOf, WhileOf, MaybeStatements, Else as ElseTree, Statements}
+use Rattle.abs_tree.specs.SyntaxSizes.{statement_count}
+use Rattle.abs_tree.specs.SyntaxViews.{phrase, statement, statements, maybe_statements}
+use Rattle.abs_tree.proofs.StatementLemmas.{statement-block, statement-if, statement-while}
+use Rattle.abs_lexer.specs.declared.lexeme.Keyword.{Keyword}
+use Rattle.abs_lexer.specs.declared.lexeme.Keyword.TheVariants as keyword
+use Rattle.abs_lexer.specs.declared.lexeme.Lexeme.TheVariants as lexeme
+use Rattle.abs_lexer.specs.declared.lexeme.Punctuator.TheVariants as punctuator
+use Rattle.abs_lexer.specs.Tokens.{Lexed}
+use Rattle.abs_parser.specs.Firsts.{IsBlock}
+use Rattle.abs_parser.specs.TokenKinds.{Token, TokenKind, KeywordKind, PunctuatorKind, End, fits, next}
+use Rattle.abs_parser.specs.Productions.{Stmt, Block, Else, Expr, begins, begins_within, chosen}
+use Rattle.abs_parser.specs.Readings.{One, Optional, Repeated, Wanted, Terminal, Subgoal, opened, Forest, Empty, Leaf, Node}
+use Rattle.abs_parser.specs.ReaderAnswers.{left_at, wrong_at, TakesKind, FoundAs, IsRefused}
+use Rattle.abs_parser.specs.Stops.{limit}
+use Rattle.abs_parser.specs.Tokens.{Spot, place_of}
+use Rattle.abs_parser.specs.TreesOf.{place_in, statement_in, branch_of, else_in}
+use Rattle.abs_tree.specs.declared.source_error.SourceError.{SourceError}
+use Rattle.abs_tree.specs.declared.source_error.SourceError.TheVariants.{Refused}
+use Rattle.abs_parser.proofs.reader.ExpressionSteps.{IsExpression}
+use Rattle.abs_parser.proofs.grammar.FirstPlaceLemmas.{first_place_found}
+use Rattle.abs_parser.proofs.grammar.NameLemmas.{goes_on_further}
+use Rattle.abs_parser.proofs.reader.PatternSteps.{next_end, nothing_found}
+use Rattle.abs_parser.proofs.reader.WordSteps.{word_read}
+use Rattle.abs_parser.proofs.reader.WordStatementSteps.{statement_by_word}
+use Rattle.abs_parser.proofs.reader.StepLemmas.{HasRead, opens, over_token, over_part, into_last, all_read, refused_shut, fits_next, found_goes_on, found_weaker}
+use Rattle.abs_parser.proofs.grammar.NonterminalLemmas.{begins_with_token, part_shut, part_opened, optional_opened, optional_left_out}
+
+-- this statement was read, from its first index
+abbrev pub IsStatement : ℕ → CodeStmt → List (List ℕ) → Forest → Type 0
+IsStatement index stmt names inside = statement names stmt ≡ statement_in index inside
+
+-- Blocks
+
+-- a block begins with "{"
+block_begins : (kind : TokenKind) → begins Block kind ≡ fits (PunctuatorKind punctuator.OpenBrace) kind
+block_begins kind = begins_with_token Block kind refl
+
+-- which opens it, and behind it stand statements and "}"
+pub block_opened : (kind : TokenKind) (depth : ℕ) → fits (PunctuatorKind punctuator.OpenBrace) kind ≡ true
+    → opened (One Block) kind depth ≡ Some (Terminal (PunctuatorKind punctuator.OpenBrace) depth ∷ Subgoal (Repeated Stmt) depth ∷ Terminal (PunctuatorKind punctuator.CloseBrace) depth ∷ [])
+block_opened kind depth fit = part_opened Block kind depth refl refl (block_begins kind ∙ fit)
+
+-- nothing else opens one
+pub block_shut : (kind : TokenKind) (depth : ℕ) → fits (PunctuatorKind punctuator.OpenBrace) kind ≡ false → opened (One Block) kind depth ≡ None
+block_shut kind depth differs = part_shut Block kind depth (block_begins kind ∙ differs)
+
+-- where it begins, it is the statement
+nested_opened : (kind : TokenKind) (depth : ℕ) → fits (PunctuatorKind punctuator.OpenBrace) kind ≡ true → opened (One Stmt) kind depth ≡ Some (Subgoal (One Block) (depth + 1) ∷ [])
+unfolding chosen
+nested_opened kind depth fit = rw (block_begins kind ∙ fit) refl
+
+-- a statement is opened as a block
+pub nested_begins : (depth : ℕ) (table : List (List ℕ)) (from : Spot) → fits (PunctuatorKind punctuator.OpenBrace) (next (left_at from)) ≡ true
+    → HasRead (One Stmt) depth table table from (λ rest. rest) (Subgoal (One Block) (depth + 1) ∷ []) from
+nested_begins depth table from fit = opens (One Stmt) depth table from _ (nested_opened _ depth fit)
+
+-- the block that was found is the statement
+pub nested_found : {depth : ℕ} {old new : List (List ℕ)} {from to : Spot} {place : Place} (index : ℕ) (body : Body) → place ≡ place_of from → fits (PunctuatorKind punctuator.OpenBrace) (next (left_at from)) ≡ true
+    → FoundAs (One Block) (depth + 1) old new from to (λ names inside. IsBlock index names body inside) → FoundAs (One Stmt) depth old new from to (IsStatement index (code_stmt.Block place body.statements))
+nested_found {depth} {old} {from = from} {place = place} index body at fit found =
+    all_read (over_part (nested_begins depth old from fit) found) (λ names more.
+    statement-block names place body.statements
+    ∙ (ap (λ (here : Place). BlockOf here (statements names body.statements.items)) (at ∙ sym (first_place_found found)) ∙ ap (BlockOf (place_in found.inside)) ((found.is names more).statements_are)))
+
+-- Tests
+
+-- a word before an expression in parentheses, and what stands behind them
+abbrev pub tested_by : Keyword → ℕ → List Wanted → List Wanted
+tested_by word at left = Terminal (KeywordKind word) at ∷ Terminal (PunctuatorKind punctuator.OpenParen) at ∷ Subgoal (One Expr) at ∷ Terminal (PunctuatorKind punctuator.CloseParen) at ∷ left
+
+-- over the keyword and "("
+pub test_begins : {word : Keyword} {token paren : Lexed} {from open_at test_at : Spot} {depth : ℕ} {left : List Wanted} (table : List (List ℕ))
+    → opened (One Stmt) (KeywordKind word) depth ≡ Some (tested_by word (depth + 1) left)
+    → TakesKind (lexeme.Keyword word) token from open_at → TakesKind (lexeme.Punctuator punctuator.OpenParen) paren open_at test_at → depth + 1 ≤ limit
+    → HasRead (One Stmt) depth table table from (λ rest. Leaf (Token token) (depth + 1) (Leaf (Token paren) (depth + 1) rest))
+    (Subgoal (One Expr) (depth + 1) ∷ Terminal (PunctuatorKind punctuator.CloseParen) (depth + 1) ∷ left) test_at
+test_begins table is takes opening within = over_token (word_read _ table is takes within) opening refl refl within
+
+-- and over the expression and ")"
+pub test_read : {word : Keyword} {token paren close : Lexed} {from open_at test_at close_at behind : Spot} {depth : ℕ} {left : List Wanted} {old now : List (List ℕ)} {is_read : List (List ℕ) → Forest → Type 0}
+    → opened (One Stmt) (KeywordKind word) depth ≡ Some (tested_by word (depth + 1) left)
+    → TakesKind (lexeme.Keyword word) token from open_at → TakesKind (lexeme.Punctuator punctuator.OpenParen) paren open_at test_at
+    → (test : FoundAs (One Expr) (depth + 1) old now test_at close_at is_read) → TakesKind (lexeme.Punctuator punctuator.CloseParen) close close_at behind → depth + 1 ≤ limit
+    → HasRead (One Stmt) depth old now from
+    (λ rest. Leaf (Token token) (depth + 1) (Leaf (Token paren) (depth + 1) (Node (One Expr) test.inside (Leaf (Token close) (depth + 1) rest)))) left behind
+test_read {old = old} is takes opening test closing within = over_token (over_part (test_begins old is takes opening within) test) closing refl refl within
+
+-- `while`
+
+-- `while` opens a statement: a test, and one more statement
+pub while_opened : (depth : ℕ) → opened (One Stmt) (KeywordKind keyword.While) depth ≡ Some (tested_by keyword.While (depth + 1) (Subgoal (One Stmt) (depth + 1) ∷ []))
+unfolding begins chosen begins_within
+while_opened depth = refl
+
+-- its tree is made of those of its parts
+while_made : {test held_test : Phrase} {body held_body : Statements} (index : ℕ) (place : Place) → held_test ≡ test → held_body ≡ body → WhileOf index place held_test held_body ≡ WhileOf index place test body
+while_made index place test body = rw (test, body) refl
+
+-- a `while` with its test and its body is found, as they are held in memory
+pub while_found : {word paren close : Lexed} {from open_at test_at close_at body_at end : Spot} {depth : ℕ} {old now new : List (List ℕ)} {test : CodeExpr}
+    (index : ℕ) (held : Arc CodeExpr Global) (stmt : CodeStmt) (body : Vec CodeStmt Global) → held.value ≡ test → ((names : List Name) → statements names body.items ≡ branch_of (statement names stmt))
+    → TakesKind (lexeme.Keyword keyword.While) word from open_at → TakesKind (lexeme.Punctuator punctuator.OpenParen) paren open_at test_at
+    → FoundAs (One Expr) (depth + 1) old now test_at close_at (IsExpression test) → TakesKind (lexeme.Punctuator punctuator.CloseParen) close close_at body_at
+    → FoundAs (One Stmt) (depth + 1) now new body_at end (IsStatement (index + 1) stmt) → depth + 1 ≤ limit
+    → FoundAs (One Stmt) depth old new from end (IsStatement index (code_stmt.While index word.place held body))
+while_found {word} {paren} {close} {depth = depth} index held stmt body same are takes opening test closing found within =
+    all_read (over_part (test_read (while_opened depth) takes opening test closing within) found) (λ names more.
+    statement-while names index word.place held body
+    ∙ (while_made index word.place (ap (phrase names) same ∙ test.is names (goes_on_further (found_goes_on found) more)) (are names ∙ ap branch_of (found.is names more))
+    ∙ sym (statement_by_word index (depth + 1) (Leaf (Token paren) (depth + 1) (Node (One Expr) test.inside (Leaf (Token close) (depth + 1) (Node (One Stmt) found.inside Empty)))) takes)))
+
+-- `if` and `else`
+
+-- `if` opens a statement: a test, one more statement, and perhaps `else`
+pub if_opened : (depth : ℕ) → opened (One Stmt) (KeywordKind keyword.If) depth ≡ Some (tested_by keyword.If (depth + 1) (Subgoal (One Stmt) (depth + 1) ∷ Subgoal (Optional Else) (depth + 1) ∷ []))
+unfolding begins chosen begins_within
+if_opened depth = refl
+
+-- its tree is made of those of its parts
+if_made : {test held_test : Phrase} {first held_first : Statements} {other held_other : MaybeStatements} (index : ℕ) (place : Place) → held_test ≡ test → held_first ≡ first → held_other ≡ other
+    → IfOf index place held_test held_first held_other ≡ IfOf index place test first other
+if_made index place test first other = rw (test, first, other) refl
+
+-- over the first branch of an `if`
+pub if_chosen : {word paren close : Lexed} {from open_at test_at close_at first_at here : Spot} {depth : ℕ} {old now new : List (List ℕ)} {is_read is_chosen : List (List ℕ) → Forest → Type 0}
+    → TakesKind (lexeme.Keyword keyword.If) word from open_at → TakesKind (lexeme.Punctuator punctuator.OpenParen) paren open_at test_at
+    → (test : FoundAs (One Expr) (depth + 1) old now test_at close_at is_read) → TakesKind (lexeme.Punctuator punctuator.CloseParen) close close_at first_at
+    → (first : FoundAs (One Stmt) (depth + 1) now new first_at here is_chosen) → depth + 1 ≤ limit
+    → HasRead (One Stmt) depth old new from
+    (λ rest. Leaf (Token word) (depth + 1) (Leaf (Token paren) (depth + 1) (Node (One Expr) test.inside (Leaf (Token close) (depth + 1) (Node (One Stmt) first.inside rest)))))
+    (Subgoal (Optional Else) (depth + 1) ∷ []) here
+if_chosen {depth = depth} takes opening test closing first within = over_part (test_read (if_opened depth) takes opening test closing within) first
+
+-- an `if` with its test and its branches is found, as they are held in memory
+pub if_found : {word paren close : Lexed} {from open_at test_at close_at first_at here end : Spot} {depth : ℕ} {old one two new : List (List ℕ)} {test : CodeExpr}
+    (index middle : ℕ) (held : Arc CodeExpr Global) (stmt : CodeStmt) (first : Vec CodeStmt Global) (other : Option (Vec CodeStmt Global)) → held.value ≡ test
+    → ((names : List Name) → statements names first.items ≡ branch_of (statement names stmt)) → ((names : List Name) → middle ≡ index + 1 + statement_count (statements names first.items))
+    → TakesKind (lexeme.Keyword keyword.If) word from open_at → TakesKind (lexeme.Punctuator punctuator.OpenParen) paren open_at test_at
+    → FoundAs (One Expr) (depth + 1) old one test_at close_at (IsExpression test) → TakesKind (lexeme.Punctuator punctuator.CloseParen) close close_at first_at
+    → FoundAs (One Stmt) (depth + 1) one two first_at here (IsStatement (index + 1) stmt)
+    → FoundAs (Optional Else) (depth + 1) two new here end (λ names inside. maybe_statements names other ≡ else_in middle inside) → depth + 1 ≤ limit
+    → FoundAs (One Stmt) depth old new from end (IsStatement index (code_stmt.If index word.place held first other))
+if_found {word} {paren} {close} {depth = depth} index middle held stmt first other same are is_middle takes opening test closing found behind within =
+    all_read (over_part (if_chosen takes opening test closing found within) behind) (λ names more.
+    let since = goes_on_further (found_goes_on behind) more in
+    let branch = are names ∙ ap branch_of (found.is names since) in
+    statement-if names index word.place held first other
+    ∙ (if_made index word.place (ap (phrase names) same ∙ test.is names (goes_on_further (found_goes_on found) since)) branch
+    (behind.is names more ∙ (ap (λ (n : ℕ). else_in n behind.inside) (is_middle names) ∙ ap (λ (trees : Statements). else_in (index + 1 + statement_count trees) behind.inside) branch))
+    ∙ sym (statement_by_word index (depth + 1)
+    (Leaf (Token paren) (depth + 1) (Node (One Expr) test.inside (Leaf (Token close) (depth + 1) (Node (One Stmt) found.inside (Node (Optional Else) behind.inside Empty))))) takes)))
+
+-- what may stand behind the first branch begins with `else`
+else_begins : (kind : TokenKind) → begins Else kind ≡ fits (KeywordKind keyword.Else) kind
+else_begins kind = begins_with_token Else kind refl
+
+-- over `else`
+pub else_read : {word : Lexed} {from behind : Spot} (depth : ℕ) (table : List (List ℕ)) → TakesKind (lexeme.Keyword keyword.Else) word from behind → depth ≤ limit
+    → HasRead (Optional Else) depth table table from (λ rest. Node (One Else) (Leaf (Token word) depth rest) Empty) (Subgoal (One Stmt) depth ∷ []) behind
+else_read {from = from} depth table takes within =
+    let fit = else_begins _ ∙ fits_next refl takes in
+    into_last (opens (Optional Else) depth table from _ (optional_opened Else _ depth fit))
+    (over_token (opens (One Else) depth table from _ (part_opened Else _ depth refl refl fit)) takes refl refl within)
+
+-- with the statement behind it, it is found
+pub else_found : {word : Lexed} {from behind to : Spot} {depth : ℕ} {old new : List (List ℕ)} (index : ℕ) (stmt : CodeStmt) (branch : Vec CodeStmt Global)
+    → ((names : List Name) → statements names branch.items ≡ branch_of (statement names stmt)) → TakesKind (lexeme.Keyword keyword.Else) word from behind
+    → FoundAs (One Stmt) depth old new behind to (IsStatement index stmt) → depth ≤ limit
+    → FoundAs (Optional Else) depth old new from to (λ names inside. maybe_statements names (Some branch) ≡ else_in index inside)
+else_found {depth = depth} {old} index stmt branch are takes found within =
+    all_read (over_part (else_read depth old takes within) found) (λ names more. ap ElseTree (are names ∙ ap branch_of (found.is names more)))
+
+-- without `else` it is left out
+pub else_left_out : (index depth : ℕ) (table : List (List ℕ)) (from : Spot) → fits (KeywordKind keyword.Else) (next (left_at from)) ≡ false
+    → FoundAs (Optional Else) depth table table from from (λ names inside. maybe_statements names None ≡ else_in index inside)
+else_left_out index depth table from other =
+    found_weaker (nothing_found (Optional Else) depth table from (optional_left_out Else _ depth (else_begins _ ∙ other))) (λ names more none. sym (ap (else_in index) none))
+
+-- The end of the source
+
+-- the end of the source opens no statement
+statement_end : (depth : ℕ) → opened (One Stmt) End depth ≡ None
+unfolding begins chosen begins_within
+statement_end depth = refl
+
+-- so a statement is refused there
+pub statement_refused_at_end : (depth : ℕ) (from : Spot) (error : SourceError) → error ≡ Refused (wrong_at from) → from.rest ≡ [] → IsRefused (Subgoal (One Stmt) depth) from error
+statement_refused_at_end depth from error is none =
+    rw is (refused_shut (One Stmt) depth from (ap (λ (k : TokenKind). opened (One Stmt) k depth) (next_end from none) ∙ statement_end depth))

@@ -1,0 +1,554 @@
+-- The steps of a reader through what a part of the grammar consists of, generic in the productions. A reader that has come to rest
+-- inside a part has what it read so far (`HasRead`): whatever is read as what is left there completes the part, and whatever refuses
+-- what is left there refuses the part. It begins where the part is opened; it goes on over a token, over a name and over a part that
+-- was found; and it ends with the part found, or refused by what refuses the next item.
+use Rattle.std.proofs.Common.{◌≡◌, ◌≤◌, ◌<◌, ℕ, suc, Bool, true, false, ◌||◌, not, cond, List, [], ◌∷◌, ◌++◌, ◌+◌, length, Option, Some, None, refl, sym, ap, subst, ◌∙◌, fold, map, arith, length-append}
+use Rattle.std.specs.Prelude.{slice_get, unwrap_or, Result, Ok, Err, IsErrAnd, IfErr}
+use Rattle.std.specs.List.{list_any}
+use Rattle.std.specs.Str.{bytes_eq}
+use Rattle.std.proofs.lemmas.List.{length-map}
+use Rattle.std.proofs.lemmas.List.Folds.{list_any-append}
+use Rattle.std.proofs.lemmas.List.Sums.{fold-append}
+use Rattle.std.proofs.lemmas.Option.{same_Some}
+use Rattle.std.proofs.lemmas.Slice.Eq.{bytes_eq-Decides}
+use Rattle.abs_tree.specs.Names.{with_name, number_of_name}
+use Rattle.abs_tree.specs.Trees.{name_of}
+use Rattle.abs_tree.specs.Refusals.{refusal_of}
+use Rattle.abs_tree.specs.declared.symbol.Symbol.{Symbol}
+use Rattle.abs_tree.specs.declared.refusal.Code.{Code}
+use Rattle.abs_tree.specs.declared.refusal.Code.TheVariants.{S2}
+use Rattle.abs_tree.specs.declared.place.Place.{Place}
+use Rattle.abs_lexer.specs.declared.lexeme.Lexeme.{Lexeme}
+use Rattle.abs_lexer.specs.declared.lexeme.Lexeme.TheVariants as lexeme
+use Rattle.abs_lexer.specs.Tokens.{Lexed}
+use Rattle.abs_lexer.specs.Words.{spelling, punctuator_bytes}
+use Rattle.abs_parser.specs.Answers.{GoesOn}
+use Rattle.abs_parser.specs.TokenKinds.{Mark, Token, TextEnd, TokenKind, LowerName, LocalName, UpperName, AbsName, StdLibName, place_of_mark, token_kind, token_kind_of, fits, next}
+use Rattle.abs_parser.specs.Readings.{Goal, Wanted, Terminal, Subgoal, opened, Forest, Empty, Leaf, Node, Reads, Nothing, Taken, Opened, depths}
+use Rattle.abs_parser.specs.Refusing.{Refuses, Other, Below, Past, Shut, Open, Cut, AllWithin}
+use Rattle.abs_parser.specs.Stops.{limit, wrong_code}
+use Rattle.abs_parser.specs.Tokens.{Spot, place_of, TakesToken}
+use Rattle.abs_parser.specs.TreesOf.{written}
+use Rattle.abs_parser.specs.ReaderAnswers.{left_at, name_first, names_before, asked, fixed_kind, refusal_at, wrong_at, TakesKind, TakesFixed, FoundAs, RefusedAt, IsRefused, IsRefusedWith, is_asked}
+use Rattle.abs_parser.specs.declared.cursor.FixedName.{FixedName}
+use Rattle.abs_parser.specs.declared.cursor.FixedName.TheVariants as fixed
+use Rattle.abs_tree.specs.declared.source_error.SourceError.{SourceError}
+use Rattle.abs_tree.specs.declared.source_error.SourceError.TheVariants.{Refused, Memory}
+use Rattle.abs_parser.proofs.grammar.NameLemmas.{goes_on_itself, goes_on_further, goes_on_all, number_stays, few_more}
+use Rattle.abs_parser.proofs.stop.MoveLemmas.{refuses_behind, within_first}
+
+-- two lists of tokens within the limit are so together
+pub within_both : (first second : List ℕ) → AllWithin first → AllWithin second → AllWithin (first ++ second)
+within_both [] second here behind = behind
+within_both (depth ∷ first) second here behind = (here.0, within_both first second here.1 behind)
+
+-- a token is one more of those that are left
+pub left_of : {token : Lexed} {from to : Spot} → TakesToken token from to → left_at from ≡ Token token ∷ left_at to
+left_of {token} {from} {to} takes = rw (takes.rest, takes.end) refl
+
+-- how many tokens are left, with the end
+pub left_length : (spot : Spot) → length (left_at spot) ≡ length spot.rest + 1
+left_length spot = length-append (map Token spot.rest) (TextEnd spot.end ∷ []) ∙ ap (λ (n : ℕ). n + 1) (length-map spot.rest Token)
+
+-- a token takes one off what is left
+pub token_shorter : {token : Lexed} {from to : Spot} → TakesToken token from to → length from.rest ≡ suc (length to.rest)
+token_shorter takes = ap length takes.rest
+
+-- whether tokens of a kind are names
+abbrev pub is_name : Lexeme → Bool
+is_name lexeme.LowerName = true
+is_name lexeme.UpperName = true
+is_name _ = false
+
+-- a name that begins with a lower-case letter fits, whether it is `local` or not
+lower_fits : (is_local : Bool) → fits LowerName (cond is_local LocalName LowerName) ≡ true
+lower_fits true = refl
+lower_fits false = refl
+
+-- a name that begins with an upper-case letter fits, whichever it is
+upper_fits : (is_abs is_std : Bool) → fits UpperName (cond is_abs AbsName (cond is_std StdLibName UpperName)) ≡ true
+upper_fits true is_std = refl
+upper_fits false true = refl
+upper_fits false false = refl
+
+-- a token of a kind fits where one of it is asked for, however it is written
+pub asked_fits : (kind : Lexeme) (bytes : List ℕ) → is_asked kind ≡ true → fits (asked kind) (token_kind_of kind bytes) ≡ true
+asked_fits lexeme.LowerName bytes is = lower_fits _
+asked_fits lexeme.UpperName bytes is = upper_fits _ _
+asked_fits lexeme.Number bytes is = refl
+asked_fits lexeme.Text bytes is = refl
+asked_fits (lexeme.Keyword keyword) bytes is = (bytes_eq-Decides (spelling keyword) (spelling keyword)).1 refl
+asked_fits lexeme.Foreign bytes is = absurd cc
+asked_fits (lexeme.Punctuator punctuator) bytes is = (bytes_eq-Decides (punctuator_bytes punctuator) (punctuator_bytes punctuator)).1 refl
+
+-- a name that begins with a lower-case letter stands before others
+lower_named : (is_local : Bool) (name : List ℕ) (others : List (List ℕ)) → name_first (cond is_local LocalName LowerName) name others ≡ name ∷ others
+lower_named true name others = refl
+lower_named false name others = refl
+
+-- so does one that begins with an upper-case letter
+upper_named : (is_abs is_std : Bool) (name : List ℕ) (others : List (List ℕ)) → name_first (cond is_abs AbsName (cond is_std StdLibName UpperName)) name others ≡ name ∷ others
+upper_named true is_std name others = refl
+upper_named false true name others = refl
+upper_named false false name others = refl
+
+-- a name stands before others
+pub named_first : (kind : Lexeme) (bytes : List ℕ) (others : List (List ℕ)) → is_name kind ≡ true → name_first (token_kind_of kind bytes) bytes others ≡ bytes ∷ others
+named_first lexeme.LowerName bytes others is = lower_named _ bytes others
+named_first lexeme.UpperName bytes others is = upper_named _ _ bytes others
+named_first _ bytes others is = absurd cc
+
+-- what is no name leaves the others as they are
+pub unnamed_first : (kind : Lexeme) (bytes : List ℕ) (others : List (List ℕ)) → is_name kind ≡ false → name_first (token_kind_of kind bytes) bytes others ≡ others
+unnamed_first lexeme.LowerName bytes others is = absurd cc
+unnamed_first lexeme.UpperName bytes others is = absurd cc
+unnamed_first _ bytes others is = refl
+
+-- names before others before more
+name_first_append : (kind : TokenKind) (name : List ℕ) (others more : List (List ℕ)) → name_first kind name (others ++ more) ≡ name_first kind name others ++ more
+name_first_append LowerName name others more = refl
+name_first_append LocalName name others more = refl
+name_first_append UpperName name others more = refl
+name_first_append AbsName name others more = refl
+name_first_append StdLibName name others more = refl
+name_first_append _ name others more = refl
+
+-- the names in what was read stand before all others
+pub names_append : (forest : Forest) (others more : List (List ℕ)) → names_before forest (others ++ more) ≡ names_before forest others ++ more
+names_append Empty others more = refl
+names_append (Leaf mark depth behind) others more =
+    ap (name_first (token_kind mark) (written mark)) (names_append behind others more) ∙ name_first_append (token_kind mark) (written mark) (names_before behind others) more
+names_append (Node goal inside behind) others more =
+    ap (names_before inside) (names_append behind others more) ∙ names_append inside (names_before behind others) more
+
+-- the table goes on with the names in what was read, and then with the others
+pub table_of_both : (table : List (List ℕ)) (forest : Forest) (others : List (List ℕ))
+    → fold with_name table (names_before forest others) ≡ fold with_name (fold with_name table (names_before forest [])) others
+table_of_both table forest others =
+    ap (fold with_name table) (names_append forest [] others) ∙ fold-append with_name table (names_before forest []) others
+
+-- no token is more than one name
+few_first : (kind : TokenKind) (name : List ℕ) (others : List (List ℕ)) → length (name_first kind name others) ≤ length others + 1
+few_first LowerName name others = omega arith
+few_first LocalName name others = omega arith
+few_first UpperName name others = omega arith
+few_first AbsName name others = omega arith
+few_first StdLibName name others = omega arith
+few_first _ name others = omega arith
+
+-- there are no more names in what was read than tokens that were taken
+few_names : {items : List Wanted} {ts rest : List Mark} {forest : Forest} → Reads items ts forest rest → (others : List (List ℕ))
+    → length (names_before forest others) + length rest ≤ length others + length ts
+few_names Nothing others = omega arith
+few_names (Taken {mark = mark} {forest = forest} e reads) others =
+    omega (arith, few_first (token_kind mark) (written mark) (names_before forest others), few_names reads others)
+few_names (Opened {inside = inside} {forest = forest} e first reads) others =
+    omega (arith, few_names first (names_before forest others), few_names reads others)
+
+-- what is left is no longer than what there was
+pub reads_shorter : {items : List Wanted} {ts rest : List Mark} {forest : Forest} → Reads items ts forest rest → length rest ≤ length ts
+reads_shorter Nothing = omega arith
+reads_shorter (Taken e reads) = omega (arith, reads_shorter reads)
+reads_shorter (Opened e first reads) = omega (arith, reads_shorter first, reads_shorter reads)
+
+-- a part that was found leaves no more tokens than there were
+pub found_shorter : {goal : Goal} {depth : ℕ} {old new : List (List ℕ)} {from to : Spot} {is_read : List (List ℕ) → Forest → Type 0}
+    → FoundAs goal depth old new from to is_read → length to.rest ≤ length from.rest
+found_shorter {from = from} {to = to} found = omega (arith, reads_shorter found.reads, left_length from, left_length to)
+
+-- a part that was found leaves a table and tokens that are no more together than they were
+pub found_few : {goal : Goal} {depth : ℕ} {old new : List (List ℕ)} {from to : Spot} {is_read : List (List ℕ) → Forest → Type 0}
+    → FoundAs goal depth old new from to is_read → length new + length to.rest ≤ length old + length from.rest
+found_few {old = old} {from = from} {to = to} found =
+    omega (arith, few_more old (names_before found.inside []), few_names found.reads [], ap length found.table, left_length from, left_length to)
+
+-- a part that was found leaves a table that goes on with the one before
+pub found_goes_on : {goal : Goal} {depth : ℕ} {old new : List (List ℕ)} {from to : Spot} {is_read : List (List ℕ) → Forest → Type 0}
+    → FoundAs goal depth old new from to is_read → GoesOn old new
+found_goes_on {old = old} found = rw found.table (goes_on_all old (names_before found.inside []))
+
+-- a name stands at its number before a table where it does in the table, or is the first itself
+place_by : (here behind : Bool) (k : ℕ) (name x : List ℕ) (xs : List (List ℕ)) → (here ≡ true → x ≡ name) → (behind ≡ true → slice_get xs k ≡ Some name)
+    → (here || behind) ≡ true → slice_get (x ∷ xs) (cond (not here) (1 + k) 0) ≡ Some name
+place_by true behind k name x xs same further found = ap Some (same refl)
+place_by false behind k name x xs same further found =
+    let more : 1 + k ≡ suc k = omega arith in
+    rw more (further found)
+
+-- a name stands at its number in a table that has it
+name_at : (table : List (List ℕ)) (name : List ℕ) → list_any (bytes_eq name) table ≡ true → slice_get table (number_of_name table name) ≡ Some name
+name_at [] name found = absurd cc
+name_at (x ∷ xs) name found = place_by (bytes_eq name x) (list_any (bytes_eq name) xs) (number_of_name xs name) name x xs (λ e. sym ((bytes_eq-Decides name x).0 e)) (name_at xs name) found
+
+-- one of two holds where the second does
+or_right : (b : Bool) → (b || true) ≡ true
+or_right true = refl
+or_right false = refl
+
+-- the name that is put into a table is there, by cases of whether it was before
+is_there_by : (is : Bool) (table : List (List ℕ)) (name : List ℕ) → list_any (bytes_eq name) table ≡ is → list_any (bytes_eq name) (cond is table (table ++ name ∷ [])) ≡ true
+is_there_by true table name e = e
+is_there_by false table name e =
+    list_any-append (bytes_eq name) table (name ∷ []) ∙ (ap (λ (b : Bool). list_any (bytes_eq name) table || (b || false)) ((bytes_eq-Decides name name).1 refl) ∙ or_right _)
+
+-- a table has the name that was put into it
+is_there : (table : List (List ℕ)) (name : List ℕ) → list_any (bytes_eq name) (with_name table name) ≡ true
+is_there table name = is_there_by (list_any (bytes_eq name) table) table name refl
+
+-- so has a table that goes on with it
+is_there_still : (table : List (List ℕ)) (name : List ℕ) (names : List (List ℕ)) → GoesOn (with_name table name) names → list_any (bytes_eq name) names ≡ true
+is_there_still table name names more =
+    ap (list_any (bytes_eq name)) more.is ∙ (list_any-append (bytes_eq name) (with_name table name) more.more ∙ ap (λ (b : Bool). b || list_any (bytes_eq name) more.more) (is_there table name))
+
+-- the symbol of a name that was put into a table has this name in each table that goes on with that
+pub symbol_named : (old : List (List ℕ)) (name : List ℕ) (symbol : Symbol) → symbol.0 ≡ number_of_name old name
+    → (names : List (List ℕ)) → GoesOn (with_name old name) names → name_of names symbol ≡ name
+symbol_named old name symbol is names more =
+    ap (λ (n : ℕ). unwrap_or (slice_get names n) []) (is ∙ sym (number_stays old name names more))
+    ∙ ap (λ (found : Option (List ℕ)). unwrap_or found []) (name_at names name (is_there_still old name names more))
+
+-- A reader of a part has come to rest where these items of what it consists of are left. What is read as them is put into the forest by
+-- `make`; the table of names has come so far; and no more was put into it than there were tokens.
+pub record HasRead (goal : Goal) (depth : ℕ) (old now : List (List ℕ)) (from : Spot) (make : Forest → Forest) (left : List Wanted) (here : Spot) : Type 0 where
+  pub inner : List Wanted
+  pub rule_is : opened goal (next (left_at from)) depth ≡ Some inner
+  pub reads : (rest : Forest) (to : List Mark) → Reads left (left_at here) rest to → Reads inner (left_at from) (make rest) to
+  pub within : (rest : Forest) → AllWithin (depths rest) → AllWithin (depths (make rest))
+  pub refuses : (items : List Wanted) (to : List Mark) (code : Code) → Refuses (left ++ items) (left_at here) to code → Refuses (Subgoal goal depth ∷ items) (left_at from) to code
+  pub table : (rest : Forest) → fold with_name old (names_before (make rest) []) ≡ fold with_name now (names_before rest [])
+  pub goes_on : GoesOn old now
+  pub few : length now + length here.rest ≤ length old + length from.rest
+  pub shorter : length here.rest ≤ length from.rest
+
+-- a part is opened by the next token
+pub opens : (goal : Goal) (depth : ℕ) (table : List (List ℕ)) (from : Spot) (inner : List Wanted) → opened goal (next (left_at from)) depth ≡ Some inner
+    → HasRead goal depth table table from (λ rest. rest) inner from
+opens goal depth table from inner is = record {
+  inner = inner;
+  rule_is = is;
+  reads = λ rest to reads. reads;
+  within = λ rest within. within;
+  refuses = λ items to code refused. Open is refused;
+  table = λ rest. refl;
+  goes_on = goes_on_itself table;
+  few = omega arith;
+  shorter = omega arith;
+}
+
+-- what was read inside a part, where it stands alone
+abbrev pub inside_alone : Forest → Forest
+inside_alone (Node part inside Empty) = inside
+inside_alone forest = forest
+
+-- what is read as a part alone is read as what it is opened to
+alone_reads : {goal : Goal} {depth : ℕ} {inner : List Wanted} {ts to : List Mark} {rest : Forest} → opened goal (next ts) depth ≡ Some inner
+    → Reads (Subgoal goal depth ∷ []) ts rest to → Reads inner ts (inside_alone rest) to
+alone_reads is (Opened e first Nothing) = rw (same_Some _ _ (sym is ∙ e)) first
+
+-- no token is too deep inside it
+alone_within : (rest : Forest) → AllWithin (depths rest) → AllWithin (depths (inside_alone rest))
+alone_within (Node part inside Empty) within = within_first (depths inside) [] within
+alone_within Empty within = within
+alone_within (Leaf mark depth others) within = within
+alone_within (Node part inside (Leaf mark depth others)) within = within
+alone_within (Node part inside (Node goal first others)) within = within
+
+-- and it has the same names
+alone_names : (rest : Forest) → names_before (inside_alone rest) [] ≡ names_before rest []
+alone_names Empty = refl
+alone_names (Leaf mark depth others) = refl
+alone_names (Node part inside Empty) = refl
+alone_names (Node part inside (Leaf mark depth others)) = refl
+alone_names (Node part inside (Node goal first others)) = refl
+
+-- a part that the next token opens is left whole where nothing of it was read
+pub left_whole : (goal : Goal) (depth : ℕ) (table : List (List ℕ)) (from : Spot) (inner : List Wanted) → opened goal (next (left_at from)) depth ≡ Some inner
+    → HasRead goal depth table table from inside_alone (Subgoal goal depth ∷ []) from
+left_whole goal depth table from inner is = record {
+  inner = inner;
+  rule_is = is;
+  reads = λ rest to reads. alone_reads is reads;
+  within = λ rest within. alone_within rest within;
+  refuses = λ items to code refused. refused;
+  table = λ rest. ap (fold with_name table) (alone_names rest);
+  goes_on = goes_on_itself table;
+  few = omega arith;
+  shorter = omega arith;
+}
+
+-- what a token of a kind is taken for
+kind_fits : {kind : Lexeme} {token : Lexed} {from to : Spot} → is_asked kind ≡ true → TakesKind kind token from to → fits (asked kind) (token_kind (Token token)) ≡ true
+kind_fits {kind} {token} wanted takes = rw takes.kind_is (asked_fits kind token.bytes wanted)
+
+-- the kind of a token that stands at a spot is the next one
+pub next_is : {token : Lexed} {from to : Spot} → TakesToken token from to → next (left_at from) ≡ token_kind (Token token)
+next_is takes = ap next (left_of takes)
+
+-- the next token fits where one of its kind is asked for
+pub fits_next : {kind : Lexeme} {token : Lexed} {from to : Spot} → is_asked kind ≡ true → TakesKind kind token from to → fits (asked kind) (next (left_at from)) ≡ true
+fits_next {kind} wanted takes = ap (fits (asked kind)) (next_is takes.takes) ∙ kind_fits wanted takes
+
+-- a name with a spelling of its own fits where it is asked for
+fits_itself : (name : FixedName) → fits (fixed_kind name) (fixed_kind name) ≡ true
+fits_itself fixed.Local = refl
+fits_itself fixed.Abs = refl
+fits_itself fixed.StdLib = refl
+
+-- and so does the token that is it
+fixed_fits : {name : FixedName} {token : Lexed} {from to : Spot} → TakesFixed name token from to → fits (fixed_kind name) (token_kind (Token token)) ≡ true
+fixed_fits {name} takes = ap (fits (fixed_kind name)) takes.kind_is ∙ fits_itself name
+
+-- the next token is such a name
+pub next_fixed : {name : FixedName} {token : Lexed} {from to : Spot} → TakesFixed name token from to → next (left_at from) ≡ fixed_kind name
+next_fixed takes = next_is takes.takes ∙ takes.kind_is
+
+-- a token that is no name leaves the others as they are
+token_unnamed : {kind : Lexeme} {token : Lexed} {from to : Spot} → TakesKind kind token from to → is_name kind ≡ false → (others : List (List ℕ))
+    → name_first (token_kind (Token token)) token.bytes others ≡ others
+token_unnamed {kind} {token} takes is others = rw takes.kind_is (unnamed_first kind token.bytes others is)
+
+-- a token that is a name stands before others
+token_named : {kind : Lexeme} {token : Lexed} {from to : Spot} → TakesKind kind token from to → is_name kind ≡ true → (others : List (List ℕ))
+    → name_first (token_kind (Token token)) token.bytes others ≡ token.bytes ∷ others
+token_named {kind} {token} takes is others = rw takes.kind_is (named_first kind token.bytes others is)
+
+-- a name with a spelling of its own stands before others
+fixed_first : (name : FixedName) (bytes : List ℕ) (others : List (List ℕ)) → name_first (fixed_kind name) bytes others ≡ bytes ∷ others
+fixed_first fixed.Local bytes others = refl
+fixed_first fixed.Abs bytes others = refl
+fixed_first fixed.StdLib bytes others = refl
+
+-- and so does the token that is it
+fixed_named : {name : FixedName} {token : Lexed} {from to : Spot} → TakesFixed name token from to → (others : List (List ℕ))
+    → name_first (token_kind (Token token)) token.bytes others ≡ token.bytes ∷ others
+fixed_named {name} {token} takes others = ap (λ (kind : TokenKind). name_first kind token.bytes others) takes.kind_is ∙ fixed_first name token.bytes others
+
+-- over a token that fits, with what it does to the table
+over_fitting : {goal : Goal} {depth at : ℕ} {old now table : List (List ℕ)} {from here behind : Spot} {make : Forest → Forest} {left : List Wanted} {kind : TokenKind} {token : Lexed}
+    → HasRead goal depth old now from make (Terminal kind at ∷ left) here → TakesToken token here behind → fits kind (token_kind (Token token)) ≡ true → at ≤ limit
+    → ((others : List (List ℕ)) → fold with_name now (name_first (token_kind (Token token)) token.bytes others) ≡ fold with_name table others)
+    → GoesOn now table → length table ≤ length now + 1 → HasRead goal depth old table from (λ rest. make (Leaf (Token token) at rest)) left behind
+over_fitting {at = at} {token = token} so takes fit within is goes_on few = record {
+  inner = so.inner;
+  rule_is = so.rule_is;
+  reads = λ rest to reads. so.reads (Leaf (Token token) at rest) to (rw (left_of takes) (Taken fit reads));
+  within = λ rest others. so.within (Leaf (Token token) at rest) (within, others);
+  refuses = λ items to code refused. so.refuses items to code (rw (left_of takes) (Past fit within refused));
+  table = λ rest. so.table (Leaf (Token token) at rest) ∙ is (names_before rest []);
+  goes_on = goes_on_further so.goes_on goes_on;
+  few = omega (arith, so.few, token_shorter takes, few);
+  shorter = omega (arith, so.shorter, token_shorter takes);
+}
+
+-- over a token that is no name
+pub over_token : {goal : Goal} {depth at : ℕ} {old now : List (List ℕ)} {from here behind : Spot} {make : Forest → Forest} {left : List Wanted} {kind : Lexeme} {token : Lexed}
+    → HasRead goal depth old now from make (Terminal (asked kind) at ∷ left) here → TakesKind kind token here behind → is_asked kind ≡ true → is_name kind ≡ false → at ≤ limit
+    → HasRead goal depth old now from (λ rest. make (Leaf (Token token) at rest)) left behind
+over_token {now = now} so takes wanted no_name within =
+    over_fitting so takes.takes (kind_fits wanted takes) within (λ others. ap (fold with_name now) (token_unnamed takes no_name others)) (goes_on_itself now) (omega arith)
+
+-- over a token that fits and is a name, which the table has then
+over_named : {goal : Goal} {depth at : ℕ} {old now table : List (List ℕ)} {from here behind : Spot} {make : Forest → Forest} {left : List Wanted} {kind : TokenKind} {token : Lexed}
+    → HasRead goal depth old now from make (Terminal kind at ∷ left) here → TakesToken token here behind → fits kind (token_kind (Token token)) ≡ true
+    → ((others : List (List ℕ)) → name_first (token_kind (Token token)) token.bytes others ≡ token.bytes ∷ others) → at ≤ limit → table ≡ with_name now token.bytes
+    → HasRead goal depth old table from (λ rest. make (Leaf (Token token) at rest)) left behind
+over_named {now = now} {token = token} so takes fit named within is =
+    over_fitting so takes fit within (λ others. ap (fold with_name now) (named others) ∙ ap (λ (names : List (List ℕ)). fold with_name names others) (sym is))
+    (rw is (goes_on_all now (token.bytes ∷ []))) (omega (arith, ap length is, few_more now (token.bytes ∷ [])))
+
+-- over a name, which the table has then
+pub over_name : {goal : Goal} {depth at : ℕ} {old now table : List (List ℕ)} {from here behind : Spot} {make : Forest → Forest} {left : List Wanted} {kind : Lexeme} {token : Lexed}
+    → HasRead goal depth old now from make (Terminal (asked kind) at ∷ left) here → TakesKind kind token here behind → is_asked kind ≡ true → is_name kind ≡ true → at ≤ limit
+    → table ≡ with_name now token.bytes → HasRead goal depth old table from (λ rest. make (Leaf (Token token) at rest)) left behind
+over_name so takes wanted named within is = over_named so takes.takes (kind_fits wanted takes) (token_named takes named) within is
+
+-- over a name with a spelling of its own, which the table has then, too
+pub over_fixed : {goal : Goal} {depth at : ℕ} {old now table : List (List ℕ)} {from here behind : Spot} {make : Forest → Forest} {left : List Wanted} {name : FixedName} {token : Lexed}
+    → HasRead goal depth old now from make (Terminal (fixed_kind name) at ∷ left) here → TakesFixed name token here behind → at ≤ limit → table ≡ with_name now token.bytes
+    → HasRead goal depth old table from (λ rest. make (Leaf (Token token) at rest)) left behind
+over_fixed so takes within is = over_named so takes.takes (fixed_fits takes) (fixed_named takes) within is
+
+-- over a part that was found
+pub over_part : {goal part : Goal} {depth at : ℕ} {old now new : List (List ℕ)} {from here behind : Spot} {make : Forest → Forest} {left : List Wanted} {is_read : List (List ℕ) → Forest → Type 0}
+    → HasRead goal depth old now from make (Subgoal part at ∷ left) here → (found : FoundAs part at now new here behind is_read)
+    → HasRead goal depth old new from (λ rest. make (Node part found.inside rest)) left behind
+over_part {part = part} {now = now} {left = left} so found = record {
+  inner = so.inner;
+  rule_is = so.rule_is;
+  reads = λ rest to reads. so.reads (Node part found.inside rest) to (Opened found.rule_is found.reads reads);
+  within = λ rest others. so.within (Node part found.inside rest) (within_both (depths found.inside) (depths rest) found.within others);
+  refuses = λ items to code refused. so.refuses items to code (Open found.rule_is (refuses_behind found.reads found.within refused));
+  table = λ rest. so.table (Node part found.inside rest)
+      ∙ (table_of_both now found.inside (names_before rest [])
+      ∙ ap (λ (names : List (List ℕ)). fold with_name names (names_before rest [])) (sym found.table));
+  goes_on = goes_on_further so.goes_on (found_goes_on found);
+  few = omega (arith, so.few, found_few found);
+  shorter = omega (arith, so.shorter, found_shorter found);
+}
+
+-- the reader of the last part in place of what it reads
+pub into_last : {goal last : Goal} {depth at : ℕ} {old now new : List (List ℕ)} {from here behind : Spot} {make make_last : Forest → Forest} {left : List Wanted}
+    → HasRead goal depth old now from make (Subgoal last at ∷ []) here → HasRead last at now new here make_last left behind
+    → HasRead goal depth old new from (λ rest. make (Node last (make_last rest) Empty)) left behind
+into_last {last = last} {make_last = make_last} so inside = record {
+  inner = so.inner;
+  rule_is = so.rule_is;
+  reads = λ rest to reads. so.reads (Node last (make_last rest) Empty) to (Opened inside.rule_is (inside.reads rest to reads) Nothing);
+  within = λ rest others. so.within (Node last (make_last rest) Empty) (within_both (depths (make_last rest)) [] (inside.within rest others) tt);
+  refuses = λ items to code refused. so.refuses items to code (inside.refuses items to code refused);
+  table = λ rest. so.table (Node last (make_last rest) Empty) ∙ inside.table rest;
+  goes_on = goes_on_further so.goes_on inside.goes_on;
+  few = omega (arith, so.few, inside.few);
+  shorter = omega (arith, so.shorter, inside.shorter);
+}
+
+-- where nothing is left, the part is found
+pub all_read : {goal : Goal} {depth : ℕ} {old now : List (List ℕ)} {from here : Spot} {make : Forest → Forest} {is_read : List (List ℕ) → Forest → Type 0}
+    → HasRead goal depth old now from make [] here → ((names : List (List ℕ)) → GoesOn now names → is_read names (make Empty))
+    → FoundAs goal depth old now from here is_read
+all_read {here = here} {make = make} so is = record {
+  inside = make Empty;
+  inner = so.inner;
+  rule_is = so.rule_is;
+  reads = so.reads Empty (left_at here) Nothing;
+  within = so.within Empty tt;
+  table = sym (so.table Empty);
+  is = is;
+}
+
+-- what refuses the next item, whatever follows it, refuses the part
+pub refused_inside : {goal : Goal} {depth : ℕ} {old now : List (List ℕ)} {from here : Spot} {make : Forest → Forest} {item : Wanted} {left : List Wanted}
+    → HasRead goal depth old now from make (item ∷ left) here → (error : SourceError) → IsRefused item here error → IsRefused (Subgoal goal depth) from error
+refused_inside {left = left} so (Refused refusal) refused = λ items.
+    let at = refused (left ++ items) in
+    record { mark = at.mark; behind = at.behind; code = at.code; refuses = so.refuses items (at.mark ∷ at.behind) at.code at.refuses; refusal_is = at.refusal_is }
+refused_inside so Memory refused = λ items. tt
+
+-- where all of the part is read but what leaves nothing behind, what refuses the item that is to follow the part refuses the part with it
+pub refused_after : {goal part : Goal} {depth at : ℕ} {old now new : List (List ℕ)} {from here behind : Spot} {make : Forest → Forest} {is_read : List (List ℕ) → Forest → Type 0} (second : Wanted)
+    → HasRead goal depth old now from make (Subgoal part at ∷ []) here → FoundAs part at now new here behind is_read → (error : SourceError) → IsRefused second behind error
+    → IsRefusedWith (Subgoal goal depth) second from error
+refused_after second so found (Refused refusal) refused = λ items.
+    let over = over_part so found in
+    let at = refused items in
+    record { mark = at.mark; behind = at.behind; code = at.code; refuses = over.refuses (second ∷ items) (at.mark ∷ at.behind) at.code at.refuses; refusal_is = at.refusal_is }
+refused_after second so found Memory refused = λ items. tt
+
+-- and so does what refuses the next two items
+pub refused_both : {goal : Goal} {depth : ℕ} {old now : List (List ℕ)} {from here : Spot} {make : Forest → Forest} {item second : Wanted} {left : List Wanted}
+    → HasRead goal depth old now from make (item ∷ second ∷ left) here → (error : SourceError) → IsRefusedWith item second here error → IsRefused (Subgoal goal depth) from error
+refused_both {left = left} so (Refused refusal) refused = λ items.
+    let at = refused (left ++ items) in
+    record { mark = at.mark; behind = at.behind; code = at.code; refuses = so.refuses items (at.mark ∷ at.behind) at.code at.refuses; refusal_is = at.refusal_is }
+refused_both so Memory refused = λ items. tt
+
+-- what holds of an error holds where a `?` passes it on
+pub passed_on : {X : Type 0} {error : SourceError} (P : SourceError → Type 0) (result : Result X SourceError) → IsErrAnd result (λ passed. passed ≡ error) → P error → IfErr result P
+passed_on P (Ok x) passed holds = absurd passed
+passed_on P (Err e) passed holds = subst P (sym passed) holds
+
+-- the token that stands at a spot, and its place; the end of the source counts as one
+record NextMark (spot : Spot) : Type 0 where
+  mark : Mark
+  behind : List Mark
+  is : left_at spot ≡ mark ∷ behind
+  place_is : place_of_mark mark ≡ place_of spot
+
+-- at each spot there stands one, by cases of whether a token is left
+next_by : (rest : List Lexed) (end : Place) → NextMark (record { rest = rest; end = end })
+next_by [] end = record { mark = TextEnd end; behind = []; is = refl; place_is = refl }
+next_by (token ∷ others) end = record { mark = Token token; behind = map Token others ++ TextEnd end ∷ []; is = refl; place_is = refl }
+
+-- so there stands one at each spot
+next_mark : (spot : Spot) → NextMark spot
+next_mark spot = next_by spot.rest spot.end
+
+-- what is refused at the token that stands at a spot, by a code
+pub refused_here : {items : List Wanted} (spot : Spot) (code : Code)
+    → ((mark : Mark) (behind : List Mark) → left_at spot ≡ mark ∷ behind → token_kind mark ≡ next (left_at spot) → Refuses items (mark ∷ behind) (mark ∷ behind) code)
+    → RefusedAt items (left_at spot) (refusal_at code spot)
+refused_here {items} spot code refuses =
+    let here = next_mark spot in
+    record {
+      mark = here.mark;
+      behind = here.behind;
+      code = code;
+      refuses = subst (λ (ts : List Mark). Refuses items ts (here.mark ∷ here.behind) code) (sym here.is) (refuses here.mark here.behind here.is (sym (ap next here.is)));
+      refusal_is = ap (λ (place : Place). refusal_of (record { code = code; place = place })) (sym here.place_is);
+    }
+
+-- a part that the next token does not open is refused there
+pub refused_shut : (goal : Goal) (depth : ℕ) (spot : Spot) → opened goal (next (left_at spot)) depth ≡ None → IsRefused (Subgoal goal depth) spot (Refused (wrong_at spot))
+refused_shut goal depth spot shut = λ items.
+    refused_here spot (wrong_code (next (left_at spot))) (λ mark behind is same.
+    Shut (ap (λ (kind : TokenKind). opened goal kind depth) same ∙ shut) (ap wrong_code (sym same)))
+
+-- a token that fits and is too deeply nested is refused
+pub deep_refused : (kind : TokenKind) (depth : ℕ) (spot : Spot) (error : SourceError) → error ≡ Refused (refusal_at S2 spot) → fits kind (next (left_at spot)) ≡ true → limit < depth
+    → IsRefused (Terminal kind depth) spot error
+deep_refused kind depth spot error is fit deep = rw is (λ items. refused_here spot S2 (λ mark behind is_left same. Below (ap (fits kind) same ∙ fit) deep))
+
+-- a refusal of a token that does not fit is one of a part that it does not open, behind which others stand
+other_by : {kind : TokenKind} {at : ℕ} {items others : List Wanted} {goal : Goal} {depth : ℕ} {ts rest : List Mark} {code : Code} → fits kind (next ts) ≡ false
+    → opened goal (next ts) depth ≡ None → Refuses (Terminal kind at ∷ items) ts rest code → Refuses (Subgoal goal depth ∷ others) ts rest code
+other_by differs shut (Other e is) = Shut shut is
+other_by differs shut (Below e deep) = absurd cc
+other_by differs shut (Past e within refused) = absurd cc
+other_by differs shut (Cut is) = Cut is
+
+-- what refuses a token that does not fit refuses a part that it does not open
+pub refused_other : (kind : TokenKind) (at : ℕ) (goal : Goal) (depth : ℕ) (spot : Spot) (error : SourceError) → fits kind (next (left_at spot)) ≡ false
+    → opened goal (next (left_at spot)) depth ≡ None → IsRefused (Terminal kind at) spot error → IsRefused (Subgoal goal depth) spot error
+refused_other kind at goal depth spot (Refused refusal) differs shut refused = λ items.
+    let found = refused items in
+    record { mark = found.mark; behind = found.behind; code = found.code; refuses = other_by differs shut found.refuses; refusal_is = found.refusal_is }
+refused_other kind at goal depth spot Memory differs shut refused = λ items. tt
+
+-- by cases of whether the next token fits
+by_fit : (fit : Bool) (kind : TokenKind) (at : ℕ) (goal : Goal) (depth : ℕ) {inner : List Wanted} (spot : Spot) (error : SourceError) → fits kind (next (left_at spot)) ≡ fit
+    → (fits kind (next (left_at spot)) ≡ true → opened goal (next (left_at spot)) depth ≡ Some (Terminal kind at ∷ inner))
+    → (fits kind (next (left_at spot)) ≡ false → opened goal (next (left_at spot)) depth ≡ None)
+    → IsRefused (Terminal kind at) spot error → IsRefused (Subgoal goal depth) spot error
+by_fit true kind at goal depth spot error e is_opened is_shut refused = refused_inside (opens goal depth [] spot _ (is_opened e)) error refused
+by_fit false kind at goal depth spot error e is_opened is_shut refused = refused_other kind at goal depth spot error e (is_shut e) refused
+
+-- a part that begins with a token of a kind, and with nothing else, is refused where that token is
+pub refused_first_token : (kind : TokenKind) (at : ℕ) (goal : Goal) (depth : ℕ) {inner : List Wanted} (spot : Spot) (error : SourceError)
+    → (fits kind (next (left_at spot)) ≡ true → opened goal (next (left_at spot)) depth ≡ Some (Terminal kind at ∷ inner))
+    → (fits kind (next (left_at spot)) ≡ false → opened goal (next (left_at spot)) depth ≡ None)
+    → IsRefused (Terminal kind at) spot error → IsRefused (Subgoal goal depth) spot error
+refused_first_token kind at goal depth spot error is_opened is_shut refused =
+    by_fit (fits kind (next (left_at spot))) kind at goal depth spot error refl is_opened is_shut refused
+
+-- a refusal of a part that is not opened is one of another that is not, behind which others stand
+shut_by : {part : Goal} {at : ℕ} {items others : List Wanted} {goal : Goal} {depth : ℕ} {ts rest : List Mark} {code : Code} → opened part (next ts) at ≡ None
+    → opened goal (next ts) depth ≡ None → Refuses (Subgoal part at ∷ items) ts rest code → Refuses (Subgoal goal depth ∷ others) ts rest code
+shut_by closed shut (Shut e is) = Shut shut is
+shut_by closed shut (Open e refused) = absurd cc
+shut_by closed shut (Cut is) = Cut is
+
+-- what refuses a part that is not opened refuses another one that is not
+pub refused_alike : (part : Goal) (at : ℕ) (goal : Goal) (depth : ℕ) (spot : Spot) (error : SourceError) → opened part (next (left_at spot)) at ≡ None
+    → opened goal (next (left_at spot)) depth ≡ None → IsRefused (Subgoal part at) spot error → IsRefused (Subgoal goal depth) spot error
+refused_alike part at goal depth spot (Refused refusal) closed shut refused = λ items.
+    let found = refused items in
+    record { mark = found.mark; behind = found.behind; code = found.code; refuses = shut_by closed shut found.refuses; refusal_is = found.refusal_is }
+refused_alike part at goal depth spot Memory closed shut refused = λ items. tt
+
+-- the same where the table is given a name of its own
+pub symbol_kept : (old : List (List ℕ)) {table : List (List ℕ)} {name : List ℕ} (symbol : Symbol) → symbol.0 ≡ number_of_name old name → table ≡ with_name old name
+    → (names : List (List ℕ)) → GoesOn table names → name_of names symbol ≡ name
+symbol_kept old {name = name} symbol number is names more = symbol_named old name symbol number names (subst (λ (t : List (List ℕ)). GoesOn t names) is more)
+
+-- what was found is so, where it follows from how it was found
+pub found_weaker : {goal : Goal} {depth : ℕ} {old new : List (List ℕ)} {from to : Spot} {is_read is_too : List (List ℕ) → Forest → Type 0} → (found : FoundAs goal depth old new from to is_read)
+    → ((names : List (List ℕ)) → GoesOn new names → is_read names found.inside → is_too names found.inside) → FoundAs goal depth old new from to is_too
+found_weaker found so = record {
+  inside = found.inside;
+  inner = found.inner;
+  rule_is = found.rule_is;
+  reads = found.reads;
+  within = found.within;
+  table = found.table;
+  is = λ names more. so names more (found.is names more);
+}

@@ -1,0 +1,577 @@
+-- What is still to be read can be read to the end. A short list of tokens is computed from the table: the tokens of one alternative
+-- of each nonterminal, without the parts that may be left out. It is read as what is wanted where that is fine: where no part goes on with
+-- what completes those behind it. What is wanted stays fine when parts are opened, since each alternative of the table passes a test:
+-- no item of it goes on with what completes the next ones, nor, where it may be the last, with what the nonterminal does not go on with.
+use Rattle.std.proofs.Common.{◌≡◌, ℕ, zero, suc, ◌+◌, Bool, true, false, not, ◌&&◌, ◌||◌, List, [], ◌∷◌, ◌++◌, Option, Some, None, cond, codes, refl, sym, ap, subst, ◌∙◌}
+use Rattle.std.specs.Prelude.{option_map, if◌then◌else◌}
+use Rattle.std.specs.List.{list_any, list_all, find}
+use Rattle.std.specs.Str.{bytes_eq}
+use Rattle.std.proofs.Math.Bool.{or-false}
+use Rattle.std.proofs.lemmas.Bool.{and_parts, or_parts, not-true}
+use Rattle.std.proofs.lemmas.List.{append_assoc}
+use Rattle.std.proofs.lemmas.List.Folds.{list_any-append}
+use Rattle.std.proofs.lemmas.Slice.Eq.{bytes_eq-Decides}
+use Rattle.abs_tree.specs.Places.{start}
+use Rattle.abs_lexer.specs.declared.lexeme.Lexeme.{Lexeme}
+use Rattle.abs_lexer.specs.declared.lexeme.Lexeme.TheVariants as lexeme
+use Rattle.abs_lexer.specs.declared.lexeme.Keyword.TheVariants as keyword
+use Rattle.abs_lexer.specs.declared.lexeme.Punctuator.TheVariants as punctuator
+use Rattle.abs_lexer.specs.Words.{spelling, punctuator_bytes}
+use Rattle.abs_parser.specs.TokenKinds.{Mark, Token, TextEnd, TokenKind, LowerName, LocalName, UpperName, AbsName, StdLibName, Number, Text, KeywordKind, Foreign, PunctuatorKind, End, token_kind, fits, next}
+use Rattle.abs_parser.specs.Productions.{Nonterminal, Program, Path, Constructor, NextConstructor, Params, Extends, Implements, Type', Types, CommaType, Stmt, Else, Initial, Guard, AndTest, Test, Rhs, Args, CommaExpr, Expr, Or, OrTail, And, AndTail, Equal, EqualTail, Compare, CompareTail, Sum, SumTail, Mul, MulTail, Unary, Primary, ThisTail, Pattern, Patterns, CommaPattern, Item, Of, Part, Opt, Many, Inside, rule, items_begin, begins_within, begins, chosen}
+use Rattle.abs_parser.specs.Readings.{Goal, One, Optional, Repeated, Wanted, Terminal, Subgoal, place_item, place, inner_depth, opened, Empty, Nothing}
+use Rattle.abs_parser.proofs.grammar.ReadingLemmas.{a_program, WholeReading, part_closed, token_put}
+use Rattle.abs_parser.proofs.stop.MoveLemmas.{Moves, Stays, Takes, Opens}
+
+-- a token at the first place
+abbrev token : Lexeme → List ℕ → Mark
+token kind bytes = Token record { kind = kind; place = start; bytes = bytes }
+
+-- a token that fits where this kind is asked for
+abbrev sample : TokenKind → Mark
+sample LowerName = token lexeme.LowerName (codes "x")
+sample LocalName = token lexeme.LowerName (codes "local")
+sample UpperName = token lexeme.UpperName (codes "U")
+sample AbsName = token lexeme.UpperName (codes "ABS")
+sample StdLibName = token lexeme.UpperName (codes "StdLib")
+sample Number = token lexeme.Number (codes "1")
+sample Text = token lexeme.Text (34 ∷ 34 ∷ [])
+sample (KeywordKind keyword) = token (lexeme.Keyword keyword) (spelling keyword)
+sample Foreign = token lexeme.Foreign (codes "try")
+sample (PunctuatorKind punctuator) = token (lexeme.Punctuator punctuator) (punctuator_bytes punctuator)
+sample End = TextEnd start
+
+-- the first of some alternatives
+abbrev first_alternative : List (List Item) → List Item
+first_alternative [] = []
+first_alternative (items ∷ others) = items
+
+-- a nonterminal is read shortly by its first alternative, but where that leads back to it
+abbrev simplest : Nonterminal → List Item
+simplest Expr = Part Or ∷ []
+simplest Unary = Part Primary ∷ []
+simplest nonterminal = first_alternative (rule nonterminal)
+
+-- the tokens of these items, given those of each nonterminal
+abbrev item_tokens : (Nonterminal → List Mark) → Item → List Mark
+item_tokens tokens (Of kind) = sample kind ∷ []
+item_tokens tokens (Part nonterminal) = tokens nonterminal
+item_tokens tokens (Opt nonterminal) = []
+item_tokens tokens (Many nonterminal) = []
+item_tokens tokens (Inside more item) = item_tokens tokens item
+
+-- the tokens of the items of an alternative, one behind the other
+abbrev items_tokens : (Nonterminal → List Mark) → List Item → List Mark
+items_tokens tokens [] = []
+items_tokens tokens (item ∷ others) = item_tokens tokens item ++ items_tokens tokens others
+
+-- a short list of tokens that is read as the nonterminal; 12 nonterminals in a row are enough, as for what they begin with
+unfoldable pub short_within : ℕ → Nonterminal → List Mark
+short_within zero nonterminal = []
+short_within (suc rounds) nonterminal = items_tokens (short_within rounds) (simplest nonterminal)
+
+-- a short list of tokens that is read as the nonterminal
+unfoldable pub short : Nonterminal → List Mark
+short nonterminal = short_within 12 nonterminal
+
+-- a short list for a part: a nonterminal's, and none where it may be left out
+abbrev goal_tokens : Goal → List Mark
+goal_tokens (One nonterminal) = short nonterminal
+goal_tokens (Optional nonterminal) = []
+goal_tokens (Repeated nonterminal) = []
+
+-- a short list of tokens that completes what is wanted
+abbrev pub finish : List Wanted → List Mark
+finish [] = []
+finish (Terminal kind depth ∷ items) = sample kind ∷ finish items
+finish (Subgoal goal depth ∷ items) = goal_tokens goal ++ finish items
+
+-- the kinds with which a nonterminal may begin
+abbrev item_starts : (Nonterminal → List TokenKind) → Item → List TokenKind → List TokenKind
+item_starts first (Of asked) behind = asked ∷ []
+item_starts first (Part nonterminal) behind = first nonterminal
+item_starts first (Opt nonterminal) behind = first nonterminal ++ behind
+item_starts first (Many nonterminal) behind = first nonterminal ++ behind
+item_starts first (Inside more item) behind = item_starts first item behind
+
+-- the kinds with which the items of an alternative may begin
+abbrev items_start : (Nonterminal → List TokenKind) → List Item → List TokenKind
+items_start first [] = []
+items_start first (item ∷ others) = item_starts first item (items_start first others)
+
+-- the kinds with which one of some alternatives may begin
+abbrev alternatives_start : (Nonterminal → List TokenKind) → List (List Item) → List TokenKind
+alternatives_start first [] = []
+alternatives_start first (items ∷ others) = items_start first items ++ alternatives_start first others
+
+-- the kinds with which a nonterminal may begin, looking so many nonterminals deep
+unfoldable pub starts_within : ℕ → Nonterminal → List TokenKind
+starts_within zero nonterminal = []
+starts_within (suc rounds) nonterminal = alternatives_start (starts_within rounds) (rule nonterminal)
+
+-- the kinds with which a nonterminal may begin
+unfoldable pub starts : Nonterminal → List TokenKind
+starts nonterminal = starts_within 12 nonterminal
+
+-- The kinds with which the precedences of an expression may go on where they could end: behind a primary
+abbrev after_primary : List TokenKind
+after_primary = PunctuatorKind punctuator.Dot ∷ PunctuatorKind punctuator.OpenParen ∷ []
+
+-- behind a product
+abbrev after_mul : List TokenKind
+after_mul = PunctuatorKind punctuator.Star ∷ PunctuatorKind punctuator.Slash ∷ PunctuatorKind punctuator.Percent ∷ after_primary
+
+-- behind a sum
+abbrev after_sum : List TokenKind
+after_sum = PunctuatorKind punctuator.Plus ∷ PunctuatorKind punctuator.Minus ∷ after_mul
+
+-- behind a comparison
+abbrev after_compare : List TokenKind
+after_compare =
+    PunctuatorKind punctuator.Less ∷ PunctuatorKind punctuator.LessEqual ∷ PunctuatorKind punctuator.Greater ∷ PunctuatorKind punctuator.GreaterEqual ∷ after_sum
+
+-- behind an equality
+abbrev after_equal : List TokenKind
+after_equal = PunctuatorKind punctuator.Equal ∷ PunctuatorKind punctuator.NotEqual ∷ after_compare
+
+-- behind a conjunction
+abbrev after_and : List TokenKind
+after_and = PunctuatorKind punctuator.And ∷ after_equal
+
+-- behind an expression
+abbrev after_expr : List TokenKind
+after_expr = PunctuatorKind punctuator.Or ∷ after_and
+
+-- behind a part of a guard
+abbrev after_test : List TokenKind
+after_test = PunctuatorKind punctuator.Question ∷ after_equal
+
+-- behind a right side
+abbrev after_rhs : List TokenKind
+after_rhs = PunctuatorKind punctuator.Not ∷ after_expr
+
+-- the kinds with which each nonterminal may go on where it could end
+abbrev continues : Nonterminal → List TokenKind
+continues Path = PunctuatorKind punctuator.Dot ∷ []
+continues Constructor = PunctuatorKind punctuator.OpenParen ∷ []
+continues NextConstructor = PunctuatorKind punctuator.OpenParen ∷ []
+continues Params = PunctuatorKind punctuator.Comma ∷ []
+continues Extends = PunctuatorKind punctuator.Comma ∷ []
+continues Implements = PunctuatorKind punctuator.Comma ∷ []
+continues Type' = PunctuatorKind punctuator.Less ∷ []
+continues Types = PunctuatorKind punctuator.Comma ∷ PunctuatorKind punctuator.Less ∷ []
+continues CommaType = PunctuatorKind punctuator.Less ∷ []
+continues Stmt = KeywordKind keyword.Else ∷ []
+continues Else = KeywordKind keyword.Else ∷ []
+continues Initial = after_rhs
+continues Guard = PunctuatorKind punctuator.And ∷ after_test
+continues AndTest = after_test
+continues Test = after_test
+continues Rhs = after_rhs
+continues Args = PunctuatorKind punctuator.Comma ∷ after_expr
+continues CommaExpr = after_expr
+continues Expr = after_expr
+continues Or = after_expr
+continues OrTail = after_and
+continues And = after_and
+continues AndTail = after_equal
+continues Equal = after_equal
+continues EqualTail = after_compare
+continues Compare = after_compare
+continues CompareTail = after_sum
+continues Sum = after_sum
+continues SumTail = after_mul
+continues Mul = after_mul
+continues MulTail = after_primary
+continues Unary = after_primary
+continues Primary = after_primary
+continues ThisTail = PunctuatorKind punctuator.OpenParen ∷ []
+continues Pattern = PunctuatorKind punctuator.OpenParen ∷ []
+continues Patterns = PunctuatorKind punctuator.Comma ∷ PunctuatorKind punctuator.OpenParen ∷ []
+continues CommaPattern = PunctuatorKind punctuator.OpenParen ∷ []
+continues nonterminal = []
+
+-- whether a token of the kind may stand where one of these is asked for
+abbrev meets : List TokenKind → TokenKind → Bool
+meets kinds kind = list_any (λ (asked : TokenKind). fits asked kind) kinds
+
+-- whether a part goes on with a token of the kind, or begins with it where it may be left out
+abbrev goes_on : Goal → TokenKind → Bool
+goes_on (One nonterminal) kind = meets (continues nonterminal) kind
+goes_on (Optional nonterminal) kind = meets (starts nonterminal ++ continues nonterminal) kind
+goes_on (Repeated nonterminal) kind = meets (starts nonterminal ++ continues nonterminal) kind
+
+-- no part goes on with what completes those behind it; and the token that stands for a kind is one of that kind
+abbrev pub Fine : List Wanted → Type 0
+Fine [] = Unit {0}
+Fine (Terminal kind depth ∷ items) = (fits kind (token_kind (sample kind)) ≡ true) × Fine items
+Fine (Subgoal goal depth ∷ items) = (goes_on goal (next (finish items)) ≡ false) × Fine items
+
+-- What is wanted of a program is fine.
+pub fine_start : Fine a_program
+fine_start = (refl, tt)
+
+-- What is fine is fine behind its first item.
+fine_tail : (item : Wanted) (items : List Wanted) → Fine (item ∷ items) → Fine items
+fine_tail (Terminal kind depth) items fine = fine.1
+fine_tail (Subgoal goal depth) items fine = fine.1
+
+-- So it is behind a token.
+pub fine_behind : (kind : TokenKind) (depth : ℕ) (items : List Wanted) → Fine (Terminal kind depth ∷ items) → Fine items
+fine_behind kind depth items fine = fine.1
+
+-- What does not meet two lists, one behind the other, meets neither.
+meets_neither : (front behind : List TokenKind) (kind : TokenKind) → meets (front ++ behind) kind ≡ false → (meets front kind ≡ false) × (meets behind kind ≡ false)
+meets_neither front behind kind e = or_parts _ _ (sym (list_any-append (λ (asked : TokenKind). fits asked kind) front behind) ∙ e)
+
+-- The listed kinds with which an item begins, before others, are those that the table tells.
+item_tells : (first : Nonterminal → TokenKind → Bool) (kinds : Nonterminal → List TokenKind) (kind : TokenKind) → ((nonterminal : Nonterminal) → first nonterminal kind ≡ meets (kinds nonterminal) kind)
+    → (item : Item) (others : List Item) → items_begin first others kind ≡ meets (items_start kinds others) kind
+    → items_begin first (item ∷ others) kind ≡ meets (items_start kinds (item ∷ others)) kind
+item_tells first kinds kind tells (Of asked) others e = sym (or-false (fits asked kind))
+item_tells first kinds kind tells (Part nonterminal) others e = tells nonterminal
+item_tells first kinds kind tells (Opt nonterminal) others e =
+    ap (λ b. b || items_begin first others kind) (tells nonterminal) ∙ (ap (λ b. meets (kinds nonterminal) kind || b) e ∙ sym (list_any-append (λ (asked : TokenKind). fits asked kind) (kinds nonterminal) (items_start kinds others)))
+item_tells first kinds kind tells (Many nonterminal) others e =
+    ap (λ b. b || items_begin first others kind) (tells nonterminal) ∙ (ap (λ b. meets (kinds nonterminal) kind || b) e ∙ sym (list_any-append (λ (asked : TokenKind). fits asked kind) (kinds nonterminal) (items_start kinds others)))
+item_tells first kinds kind tells (Inside more item) others e = item_tells first kinds kind tells item others e
+
+-- So are those of an alternative.
+items_tell : (first : Nonterminal → TokenKind → Bool) (kinds : Nonterminal → List TokenKind) (kind : TokenKind) → ((nonterminal : Nonterminal) → first nonterminal kind ≡ meets (kinds nonterminal) kind)
+    → (items : List Item) → items_begin first items kind ≡ meets (items_start kinds items) kind
+items_tell first kinds kind tells [] = refl
+items_tell first kinds kind tells (item ∷ others) = item_tells first kinds kind tells item others (items_tell first kinds kind tells others)
+
+-- So are those of some alternatives.
+alternatives_tell : (first : Nonterminal → TokenKind → Bool) (kinds : Nonterminal → List TokenKind) (kind : TokenKind) → ((nonterminal : Nonterminal) → first nonterminal kind ≡ meets (kinds nonterminal) kind)
+    → (alternatives : List (List Item))
+    → list_any (λ (items : List Item). items_begin first items kind) alternatives ≡ meets (alternatives_start kinds alternatives) kind
+alternatives_tell first kinds kind tells [] = refl
+alternatives_tell first kinds kind tells (items ∷ others) =
+    ap (λ b. b || list_any (λ (items : List Item). items_begin first items kind) others) (items_tell first kinds kind tells items)
+    ∙ (ap (λ b. meets (items_start kinds items) kind || b) (alternatives_tell first kinds kind tells others)
+    ∙ sym (list_any-append (λ (asked : TokenKind). fits asked kind) (items_start kinds items) (alternatives_start kinds others)))
+
+-- So are those of a nonterminal, in so many rounds.
+rounds_tell : (rounds : ℕ) (nonterminal : Nonterminal) (kind : TokenKind) → begins_within rounds nonterminal kind ≡ meets (starts_within rounds nonterminal) kind
+unfolding begins_within starts_within
+rounds_tell zero nonterminal kind = refl
+rounds_tell (suc rounds) nonterminal kind = alternatives_tell (begins_within rounds) (starts_within rounds) kind (λ nonterminal. rounds_tell rounds nonterminal kind) (rule nonterminal)
+
+-- So they are in as many as the table takes.
+starts_tell : (nonterminal : Nonterminal) (kind : TokenKind) → begins nonterminal kind ≡ meets (starts nonterminal) kind
+unfolding begins starts
+starts_tell nonterminal kind = rounds_tell 12 nonterminal kind
+
+-- A part that may be left out begins with no token with which it does not go on.
+begins_not : (nonterminal : Nonterminal) (kind : TokenKind) → meets (starts nonterminal ++ continues nonterminal) kind ≡ false → begins nonterminal kind ≡ false
+begins_not nonterminal kind e = starts_tell nonterminal kind ∙ (meets_neither (starts nonterminal) (continues nonterminal) kind e).0
+
+-- whether two kinds are one word or one sign
+abbrev is_same : TokenKind → TokenKind → Bool
+is_same (KeywordKind one) (KeywordKind other) = bytes_eq (spelling one) (spelling other)
+is_same (PunctuatorKind one) (PunctuatorKind other) = bytes_eq (punctuator_bytes one) (punctuator_bytes other)
+is_same one other = false
+
+-- A token that is not of the one is not of the other.
+same_fits : (one other kind : TokenKind) → is_same one other ≡ true → fits other kind ≡ false → fits one kind ≡ false
+same_fits (KeywordKind one) (KeywordKind other) (KeywordKind keyword) same e =
+    ap (λ bytes. bytes_eq bytes (spelling keyword)) ((bytes_eq-Decides (spelling one) (spelling other)).0 same) ∙ e
+same_fits (PunctuatorKind one) (PunctuatorKind other) (PunctuatorKind punctuator) same e =
+    ap (λ bytes. bytes_eq bytes (punctuator_bytes punctuator)) ((bytes_eq-Decides (punctuator_bytes one) (punctuator_bytes other)).0 same) ∙ e
+same_fits (KeywordKind one) (KeywordKind other) kind same e = refl
+same_fits (PunctuatorKind one) (PunctuatorKind other) kind same e = refl
+same_fits one other kind same e = absurd cc
+
+-- whether none of these kinds is met by what an item, and others behind it, are completed with
+abbrev item_clears : Item → List TokenKind → Bool → Bool
+item_clears (Of kind) kinds behind = not (meets kinds (token_kind (sample kind)))
+item_clears (Part nonterminal) kinds behind = not (meets kinds (next (short nonterminal)))
+item_clears (Opt nonterminal) kinds behind = behind
+item_clears (Many nonterminal) kinds behind = behind
+item_clears (Inside more item) kinds behind = item_clears item kinds behind
+
+-- and by what some items of an alternative are, where what stands behind the alternative meets none of the last kinds
+abbrev clears : List TokenKind → List Item → List TokenKind → Bool
+clears last [] kinds = list_all (λ (one : TokenKind). list_any (λ (other : TokenKind). is_same one other) last) kinds
+clears last (item ∷ others) kinds = item_clears item kinds (clears last others kinds)
+
+-- whether each item of an alternative is fine before the others
+abbrev item_is_fine : Item → (List TokenKind → Bool) → Bool
+item_is_fine (Of kind) behind = fits kind (token_kind (sample kind))
+item_is_fine (Part nonterminal) behind = behind (continues nonterminal)
+item_is_fine (Opt nonterminal) behind = behind (starts nonterminal ++ continues nonterminal)
+item_is_fine (Many nonterminal) behind = behind (starts nonterminal ++ continues nonterminal)
+item_is_fine (Inside more item) behind = item_is_fine item behind
+
+-- whether all items of an alternative are, given what its nonterminal does not go on with
+abbrev items_are_fine : List TokenKind → List Item → Bool
+items_are_fine last [] = true
+items_are_fine last (item ∷ others) = item_is_fine item (clears last others) && items_are_fine last others
+
+-- Each alternative of the table passes the test.
+table_is_fine : (nonterminal : Nonterminal) → list_all (λ (items : List Item). items_are_fine (continues nonterminal) items) (rule nonterminal) ≡ true
+unfolding short short_within starts starts_within
+table_is_fine Program = refl
+table_is_fine _ = refl
+
+-- The alternative by which a nonterminal is read shortly is chosen by the first of its tokens.
+chosen_shortly : (nonterminal : Nonterminal) (ts : List Mark) → chosen nonterminal (next (short nonterminal ++ ts)) ≡ Some (simplest nonterminal)
+unfolding short short_within chosen begins begins_within
+chosen_shortly Program ts = refl
+chosen_shortly _ ts = refl
+
+-- That token does not depend on what stands behind.
+next_shortly : (nonterminal : Nonterminal) (ts : List Mark) → next (short nonterminal ++ ts) ≡ next (short nonterminal)
+unfolding short short_within
+next_shortly Program ts = refl
+next_shortly _ ts = refl
+
+-- The tokens of that alternative are the nonterminal's.
+tokens_shortly : (nonterminal : Nonterminal) → items_tokens short (simplest nonterminal) ≡ short nonterminal
+unfolding short short_within
+tokens_shortly Program = refl
+tokens_shortly _ = refl
+
+-- The same token is met where the tokens behind it are others.
+meets_shortly : (nonterminal : Nonterminal) (kinds : List TokenKind) (ts : List Mark) → meets kinds (next (short nonterminal)) ≡ false
+    → meets kinds (next (short nonterminal ++ ts)) ≡ false
+meets_shortly nonterminal kinds ts e = ap (meets kinds) (next_shortly nonterminal ts) ∙ e
+
+-- An item, and others behind it, are completed as the test says.
+item_clear : (item : Item) (kinds : List TokenKind) (behind : Bool) (depth : ℕ) (items : List Wanted) → item_clears item kinds behind ≡ true
+    → (behind ≡ true → meets kinds (next (finish items)) ≡ false) → meets kinds (next (finish (place_item depth item ∷ items))) ≡ false
+item_clear (Of kind) kinds behind depth items e others = not-true _ e
+item_clear (Part nonterminal) kinds behind depth items e others = meets_shortly nonterminal kinds (finish items) (not-true _ e)
+item_clear (Opt nonterminal) kinds behind depth items e others = others e
+item_clear (Many nonterminal) kinds behind depth items e others = others e
+item_clear (Inside more item) kinds behind depth items e others = item_clear item kinds behind (depth + more) items e others
+
+-- A kind that is one of the last is not met where they are not.
+one_clear : (last : List TokenKind) (one kind : TokenKind) → list_any (λ (other : TokenKind). is_same one other) last ≡ true → meets last kind ≡ false → fits one kind ≡ false
+one_clear [] one kind e none = absurd cc
+one_clear (other ∷ last) one kind e none =
+    let parts = or_parts (fits other kind) (meets last kind) none in
+    go (is_same one other) refl parts.0 (λ e. one_clear last one kind e parts.1) e
+  where
+    go : (same : Bool) → is_same one other ≡ same → fits other kind ≡ false
+        → (list_any (λ (other : TokenKind). is_same one other) last ≡ true → fits one kind ≡ false)
+        → (same || list_any (λ (other : TokenKind). is_same one other) last) ≡ true → fits one kind ≡ false
+    go true is none further e = same_fits one other kind is none
+    go false is none further e = further e
+
+-- So none is met if each is one of the last.
+all_clear : (last kinds : List TokenKind) (kind : TokenKind) → list_all (λ (one : TokenKind). list_any (λ (other : TokenKind). is_same one other) last) kinds ≡ true
+    → meets last kind ≡ false → meets kinds kind ≡ false
+all_clear last [] kind e none = refl
+all_clear last (one ∷ kinds) kind e none =
+    let parts = and_parts _ _ e in
+    ap (λ b. b || meets kinds kind) (one_clear last one kind parts.0 none) ∙ all_clear last kinds kind parts.1 none
+
+-- Some items of an alternative are completed as the test says.
+items_clear : (last : List TokenKind) (others : List Item) (kinds : List TokenKind) (depth : ℕ) (items : List Wanted) → clears last others kinds ≡ true
+    → meets last (next (finish items)) ≡ false → meets kinds (next (finish (place depth others ++ items))) ≡ false
+items_clear last [] kinds depth items e none = all_clear last kinds (next (finish items)) e none
+items_clear last (item ∷ others) kinds depth items e none =
+    item_clear item kinds (clears last others kinds) depth (place depth others ++ items) e (λ e. items_clear last others kinds depth items e none)
+
+-- An item that passes the test is fine before others.
+item_fine : (item : Item) (behind : List TokenKind → Bool) (depth : ℕ) (items : List Wanted) → item_is_fine item behind ≡ true
+    → ((kinds : List TokenKind) → behind kinds ≡ true → meets kinds (next (finish items)) ≡ false) → Fine items → Fine (place_item depth item ∷ items)
+item_fine (Of kind) behind depth items e others fine = (e, fine)
+item_fine (Part nonterminal) behind depth items e others fine = (others _ e, fine)
+item_fine (Opt nonterminal) behind depth items e others fine = (others _ e, fine)
+item_fine (Many nonterminal) behind depth items e others fine = (others _ e, fine)
+item_fine (Inside more item) behind depth items e others fine = item_fine item behind (depth + more) items e others fine
+
+-- So is an alternative that does.
+items_fine : (last : List TokenKind) (others : List Item) (depth : ℕ) (items : List Wanted) → items_are_fine last others ≡ true
+    → meets last (next (finish items)) ≡ false → Fine items → Fine (place depth others ++ items)
+items_fine last [] depth items e none fine = fine
+items_fine last (item ∷ others) depth items e none fine =
+    let parts = and_parts _ _ e in
+    item_fine item (clears last others) depth (place depth others ++ items) parts.0 (λ kinds e. items_clear last others kinds depth items e none)
+    (items_fine last others depth items parts.1 none fine)
+
+-- What is found in a list passes a test that each element does.
+found_passes : {A : Type 0} (wanted test : A → Bool) (xs : List A) (found : A) → find wanted xs ≡ Some found → list_all test xs ≡ true → test found ≡ true
+found_passes wanted test [] found is e = absurd cc
+found_passes wanted test (x ∷ xs) found is e =
+    let parts = and_parts _ _ e in
+    go (wanted x) is parts.0 (λ is. found_passes wanted test xs found is parts.1)
+  where
+    go : (here : Bool) → cond here (Some x) (find wanted xs) ≡ Some found → test x ≡ true → (find wanted xs ≡ Some found → test found ≡ true) → test found ≡ true
+    go true is passes further =
+        let same : x ≡ found = cc in
+        ap test (sym same) ∙ passes
+    go false is passes further = further is
+
+-- An alternative that is chosen passes the test.
+chosen_is_fine : (nonterminal : Nonterminal) (kind : TokenKind) (items : List Item) → chosen nonterminal kind ≡ Some items → items_are_fine (continues nonterminal) items ≡ true
+unfolding chosen
+chosen_is_fine nonterminal kind items e = found_passes _ (λ (items : List Item). items_are_fine (continues nonterminal) items) (rule nonterminal) items e (table_is_fine nonterminal)
+
+-- What a nonterminal consists of is fine where the nonterminal was.
+chosen_fine : (nonterminal : Nonterminal) (kind : TokenKind) (depth : ℕ) (alternative : Option (List Item)) (inner items : List Wanted) → chosen nonterminal kind ≡ alternative
+    → option_map (place (inner_depth nonterminal depth)) alternative ≡ Some inner → Fine (Subgoal (One nonterminal) depth ∷ items) → Fine (inner ++ items)
+chosen_fine nonterminal kind depth None inner items is e fine = absurd cc
+chosen_fine nonterminal kind depth (Some alternative) inner items is e fine =
+    let same : place (inner_depth nonterminal depth) alternative ≡ inner = cc in
+    subst (λ (l : List Wanted). Fine (l ++ items)) same
+    (items_fine (continues nonterminal) alternative (inner_depth nonterminal depth) items (chosen_is_fine nonterminal kind alternative is) fine.0 fine.1)
+
+-- So is what a part consists of that may be left out.
+optional_fine : (nonterminal : Nonterminal) (depth : ℕ) (begin : Bool) (inner items : List Wanted)
+    → (if begin then Some (Subgoal (One nonterminal) depth ∷ []) else Some []) ≡ Some inner
+    → Fine (Subgoal (Optional nonterminal) depth ∷ items) → Fine (inner ++ items)
+optional_fine nonterminal depth true inner items e fine =
+    let same : Subgoal (One nonterminal) depth ∷ [] ≡ inner = cc in
+    subst (λ (l : List Wanted). Fine (l ++ items)) same ((meets_neither (starts nonterminal) (continues nonterminal) _ fine.0).1, fine.1)
+optional_fine nonterminal depth false inner items e fine =
+    let same : [] ≡ inner = cc in
+    subst (λ (l : List Wanted). Fine (l ++ items)) same fine.1
+
+-- So is what a part consists of that may stand any number of times.
+repeated_fine : (nonterminal : Nonterminal) (depth : ℕ) (begin : Bool) (inner items : List Wanted)
+    → (if begin then Some (Subgoal (One nonterminal) depth ∷ Subgoal (Repeated nonterminal) depth ∷ []) else Some []) ≡ Some inner
+    → Fine (Subgoal (Repeated nonterminal) depth ∷ items) → Fine (inner ++ items)
+repeated_fine nonterminal depth true inner items e fine =
+    let same : Subgoal (One nonterminal) depth ∷ Subgoal (Repeated nonterminal) depth ∷ [] ≡ inner = cc in
+    subst (λ (l : List Wanted). Fine (l ++ items)) same ((meets_neither (starts nonterminal) (continues nonterminal) _ fine.0).1, fine)
+repeated_fine nonterminal depth false inner items e fine =
+    let same : [] ≡ inner = cc in
+    subst (λ (l : List Wanted). Fine (l ++ items)) same fine.1
+
+-- So is what any part consists of.
+opened_fine : (goal : Goal) (kind : TokenKind) (depth : ℕ) (inner items : List Wanted) → opened goal kind depth ≡ Some inner
+    → Fine (Subgoal goal depth ∷ items) → Fine (inner ++ items)
+opened_fine (One nonterminal) kind depth inner items e fine = chosen_fine nonterminal kind depth (chosen nonterminal kind) inner items refl e fine
+opened_fine (Optional nonterminal) kind depth inner items e fine = optional_fine nonterminal depth (begins nonterminal kind) inner items e fine
+opened_fine (Repeated nonterminal) kind depth inner items e fine = repeated_fine nonterminal depth (begins nonterminal kind) inner items e fine
+
+-- What is wanted stays fine as it moves over the tokens.
+pub fine_moves : {items others : List Wanted} {ts rest : List Mark} → Moves items ts others rest → Fine items → Fine others
+fine_moves Stays fine = fine
+fine_moves (Takes e within moves) fine = fine_moves moves fine.1
+fine_moves (Opens {goal = goal} {depth = depth} {inner = inner} {items = items} {ts = ts} e moves) fine =
+    fine_moves moves (opened_fine goal (next ts) depth inner items e fine)
+
+-- what is wanted is read from the short list of tokens, to its end
+pub record Finishes (items : List Wanted) : Type 0 where
+  pub depths : List ℕ
+  pub whole : WholeReading items (finish items) depths
+
+-- A token of a kind is read.
+token_finishes : (kind : TokenKind) (depth : ℕ) (items : List Wanted) → Fine (Terminal kind depth ∷ items) → Finishes items → Finishes (Terminal kind depth ∷ items)
+token_finishes kind depth items fine rest = record {
+  depths = depth ∷ rest.depths;
+  whole = token_put fine.0 rest.whole;
+}
+
+-- A part that does not begin with the next token is left out.
+left_out : (goal : Goal) (depth : ℕ) (items : List Wanted) → goal_tokens goal ≡ [] → opened goal (next (finish items)) depth ≡ Some [] → Finishes items
+    → Finishes (Subgoal goal depth ∷ items)
+left_out goal depth items none e rest = record {
+  depths = rest.depths;
+  whole = subst (λ (ts : List Mark). WholeReading (Subgoal goal depth ∷ items) (ts ++ finish items) rest.depths) (sym none)
+      (part_closed e rest.whole);
+}
+
+-- So is one that may stand once.
+optional_finishes : (nonterminal : Nonterminal) (depth : ℕ) (items : List Wanted) → Fine (Subgoal (Optional nonterminal) depth ∷ items) → Finishes items
+    → Finishes (Subgoal (Optional nonterminal) depth ∷ items)
+optional_finishes nonterminal depth items fine rest =
+    left_out (Optional nonterminal) depth items refl
+    (ap (λ b. if b then Some (Subgoal (One nonterminal) depth ∷ []) else Some []) (begins_not nonterminal _ fine.0)) rest
+
+-- So is one that may stand any number of times.
+repeated_finishes : (nonterminal : Nonterminal) (depth : ℕ) (items : List Wanted) → Fine (Subgoal (Repeated nonterminal) depth ∷ items) → Finishes items
+    → Finishes (Subgoal (Repeated nonterminal) depth ∷ items)
+repeated_finishes nonterminal depth items fine rest =
+    left_out (Repeated nonterminal) depth items refl
+    (ap (λ b. if b then Some (Subgoal (One nonterminal) depth ∷ Subgoal (Repeated nonterminal) depth ∷ []) else Some []) (begins_not nonterminal _ fine.0)) rest
+
+-- whether the nonterminal of an item, where it is one, passes a test
+abbrev item_passes : (Nonterminal → Bool) → Item → Bool
+item_passes test (Part nonterminal) = test nonterminal
+item_passes test (Inside more item) = item_passes test item
+item_passes test item = true
+
+-- whether so many rounds are enough for the short list of a nonterminal
+unfoldable enough : ℕ → Nonterminal → Bool
+enough zero nonterminal = false
+enough (suc rounds) nonterminal = list_all (λ (item : Item). item_passes (enough rounds) item) (simplest nonterminal)
+
+-- 12 rounds are enough for each nonterminal.
+twelve_are_enough : (nonterminal : Nonterminal) → enough 12 nonterminal ≡ true
+unfolding enough
+twelve_are_enough Program = refl
+twelve_are_enough _ = refl
+
+-- a nonterminal is read to its end, before what is
+abbrev Completes : Nonterminal → Type 0
+Completes nonterminal = (depth : ℕ) (items : List Wanted) → Fine (Subgoal (One nonterminal) depth ∷ items) → Finishes items → Finishes (Subgoal (One nonterminal) depth ∷ items)
+
+-- An item is read to its end if its nonterminal is.
+item_finishes : (test : Nonterminal → Bool) → ((nonterminal : Nonterminal) → test nonterminal ≡ true → Completes nonterminal) → (item : Item) → item_passes test item ≡ true
+    → (depth : ℕ) (items : List Wanted) → Fine (place_item depth item ∷ items) → Finishes items → Finishes (place_item depth item ∷ items)
+item_finishes test complete (Of kind) e depth items fine rest = token_finishes kind depth items fine rest
+item_finishes test complete (Part nonterminal) e depth items fine rest = complete nonterminal e depth items fine rest
+item_finishes test complete (Opt nonterminal) e depth items fine rest = optional_finishes nonterminal depth items fine rest
+item_finishes test complete (Many nonterminal) e depth items fine rest = repeated_finishes nonterminal depth items fine rest
+item_finishes test complete (Inside more item) e depth items fine rest = item_finishes test complete item e (depth + more) items fine rest
+
+-- So is an alternative.
+items_finish : (test : Nonterminal → Bool) → ((nonterminal : Nonterminal) → test nonterminal ≡ true → Completes nonterminal)
+    → (others : List Item) → list_all (λ (item : Item). item_passes test item) others ≡ true
+    → (depth : ℕ) (items : List Wanted) → Fine (place depth others ++ items) → Finishes items → Finishes (place depth others ++ items)
+items_finish test complete [] e depth items fine rest = rest
+items_finish test complete (item ∷ others) e depth items fine rest =
+    let parts = and_parts _ _ e in
+    item_finishes test complete item parts.0 depth (place depth others ++ items) fine
+    (items_finish test complete others parts.1 depth items (fine_tail _ _ fine) rest)
+
+-- What completes an item, before others, is what completes them behind its tokens.
+item_completed : (item : Item) (depth : ℕ) (items : List Wanted) → finish (place_item depth item ∷ items) ≡ item_tokens short item ++ finish items
+item_completed (Inside more item) depth items = item_completed item (depth + more) items
+item_completed _ depth items = refl
+
+-- So it is for an alternative.
+items_completed : (others : List Item) (depth : ℕ) (items : List Wanted) → finish (place depth others ++ items) ≡ items_tokens short others ++ finish items
+items_completed [] depth items = refl
+items_completed (item ∷ others) depth items =
+    item_completed item depth (place depth others ++ items)
+    ∙ (ap (λ (l : List Mark). item_tokens short item ++ l) (items_completed others depth items)
+    ∙ sym (append_assoc (item_tokens short item) (items_tokens short others) (finish items)))
+
+-- A nonterminal is read to its end if its alternative is.
+symbol_finishes : (nonterminal : Nonterminal) (depth : ℕ) (items : List Wanted) → Finishes (place (inner_depth nonterminal depth) (simplest nonterminal) ++ items)
+    → Finishes (Subgoal (One nonterminal) depth ∷ items)
+symbol_finishes nonterminal depth items inside =
+    let same : finish (place (inner_depth nonterminal depth) (simplest nonterminal) ++ items) ≡ short nonterminal ++ finish items =
+    items_completed (simplest nonterminal) (inner_depth nonterminal depth) items ∙ ap (λ (l : List Mark). l ++ finish items) (tokens_shortly nonterminal) in
+    record {
+      depths = inside.depths;
+      whole = part_closed
+          (ap (λ (o : Option (List Item)). option_map (place (inner_depth nonterminal depth)) o) (chosen_shortly nonterminal (finish items)))
+          (subst (λ (ts : List Mark). WholeReading (place (inner_depth nonterminal depth) (simplest nonterminal) ++ items) ts inside.depths) same inside.whole);
+    }
+
+-- So each nonterminal is read to its end for which so many rounds are enough.
+completes : (rounds : ℕ) (nonterminal : Nonterminal) → enough rounds nonterminal ≡ true → Completes nonterminal
+unfolding enough
+completes zero nonterminal e depth items fine rest = absurd cc
+completes (suc rounds) nonterminal e depth items fine rest =
+    let inside : Fine (place (inner_depth nonterminal depth) (simplest nonterminal) ++ items) =
+    items_fine (continues nonterminal) (simplest nonterminal) (inner_depth nonterminal depth) items
+    (chosen_is_fine nonterminal (next (short nonterminal ++ [])) (simplest nonterminal) (chosen_shortly nonterminal [])) fine.0 fine.1 in
+    symbol_finishes nonterminal depth items
+    (items_finish (enough rounds) (λ inner e. completes rounds inner e) (simplest nonterminal) e (inner_depth nonterminal depth) items inside rest)
+
+-- Whatever is wanted, and fine, is read to its end from the short list of tokens.
+pub finishes : (items : List Wanted) → Fine items → Finishes items
+finishes [] fine = record { depths = []; whole = record { forest = Empty; reads = Nothing; are = refl } }
+finishes (Terminal kind depth ∷ items) fine = token_finishes kind depth items fine (finishes items fine.1)
+finishes (Subgoal (One nonterminal) depth ∷ items) fine = completes 12 nonterminal (twelve_are_enough nonterminal) depth items fine (finishes items fine.1)
+finishes (Subgoal (Optional nonterminal) depth ∷ items) fine = optional_finishes nonterminal depth items fine (finishes items fine.1)
+finishes (Subgoal (Repeated nonterminal) depth ∷ items) fine = repeated_finishes nonterminal depth items fine (finishes items fine.1)
