@@ -38,7 +38,7 @@ evaluate_local names slots left k expr place variable made left_is expr_is =
     ap (λ (l : ℕ). evaluate names slots l (expr_tree expr) made) left_is
     ∙ ap (λ (e : Expr). evaluate names slots (suc k) (expr_tree e) made) expr_is
 
--- a operators gives what its operators give from the left, behind what its first operand gives
+-- a operators gives what its operators give from the left, after what its first operand gives
 pub evaluate_operators : (names : List (List ℕ)) (slots : List Value) (left k : ℕ) (expr : Expr) (place : Place) (first : Box Expr Global) (operands : Vec Operand Global) (made now : ℕ) (found : Evaluated)
     → left ≡ suc k → expr ≡ code.Operators place first operands
     → evaluate names slots k (expr_tree first.value) made ≡ record { result = found; applications = now }

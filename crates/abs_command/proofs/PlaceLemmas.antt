@@ -1,4 +1,4 @@
--- Where names offend: the offences of a text that was read stand one behind the other, each at a token of its own. So there is
+-- Where names offend: the offences of a text that was read stand one after the other, each at a token of its own. So there is
 -- one that stands first.
 use Rattle.std.proofs.Common.{◌≡◌, ℕ, zero, suc, ◌+◌, ◌<◌, ◌≤◌, Bool, true, false, cond, List, [], ◌∷◌, ◌++◌, Ok, Err, map, refl, sym, ap, subst, ◌∙◌, length, get_or, arith}
 use Rattle.std.proofs.lemmas.List.{append-nil, map-append}
@@ -31,7 +31,7 @@ use Rattle.abs_parser.proofs.sizes.LeafPlaces.{phrase_uses, link_uses, side_uses
 abbrev places : List Offence → List Place
 places offences = map (λ (offence : Offence). offence.place) offences
 
--- Each of them stands behind what comes before them.
+-- Each of them stands after what comes before them.
 rise_at : (low : ℕ) (offences : List Offence) (k : ℕ) (d : Offence) → PlacesRise low (places offences) → k < length offences → low ≤ (get_or offences k d).place.offset
 rise_at low [] k d x few = absurd (omega arith)
 rise_at low (offence ∷ rest) zero d x few = x.0
@@ -53,11 +53,11 @@ rise_once low (offence ∷ rest) (suc k) zero d e x few less same =
 rise_once low (offence ∷ rest) (suc k) (suc l) d e x few less same =
     rise_once (offence.place.offset + 1) rest k l d e x.1 (omega arith) (omega arith) same
 
--- Offences at some of the places, and others at some of those behind, are at some of all.
-both_places : (first second : List Offence) {here behind : List Place} → IsPartOf (places first) here → IsPartOf (places second) behind
-    → IsPartOf (places (first ++ second)) (here ++ behind)
-both_places first second {here} {behind} x y =
-    subst (λ (some : List Place). IsPartOf some (here ++ behind)) (sym (map-append (λ (offence : Offence). offence.place) first second)) (part_both x y)
+-- Offences at some of the places, and others at some of those after, are at some of all.
+both_places : (first second : List Offence) {here after : List Place} → IsPartOf (places first) here → IsPartOf (places second) after
+    → IsPartOf (places (first ++ second)) (here ++ after)
+both_places first second {here} {after} x y =
+    subst (λ (some : List Place). IsPartOf some (here ++ after)) (sym (map-append (λ (offence : Offence). offence.place) first second)) (part_both x y)
 
 -- Where a test fails, an offence stands at a place.
 one_by : (b : Bool) (code : Code) (place : Place) → IsPartOf (places (cond b [] (record { code = code; place = place } ∷ []))) (place ∷ [])
@@ -145,9 +145,9 @@ mutual
   operands_places names place (NextOperand operation right others) =
       let many = phrase_uses right ++ link_uses others in
       let operands = made_of_both (λ first rest operator. Then operator first rest) (runnable_expr names right) (runnable_operands names place others) in
-      of_second (λ (behind : Operator → OperandTrees). (operator : Operator) → OperandsWithin many (behind operator)) (OperandsWithin many)
-      (λ operator (behind : Operator → OperandTrees). behind operator) (ok_or (runnable_operator operation) place) operands (λ operator behind x. x operator)
-      (of_both (ExprWithin (phrase_uses right)) (OperandsWithin (link_uses others)) (λ (behind : Operator → OperandTrees). (operator : Operator) → OperandsWithin many (behind operator))
+      of_second (λ (after : Operator → OperandTrees). (operator : Operator) → OperandsWithin many (after operator)) (OperandsWithin many)
+      (λ operator (after : Operator → OperandTrees). after operator) (ok_or (runnable_operator operation) place) operands (λ operator after x. x operator)
+      (of_both (ExprWithin (phrase_uses right)) (OperandsWithin (link_uses others)) (λ (after : Operator → OperandTrees). (operator : Operator) → OperandsWithin many (after operator))
       (λ first rest operator. Then operator first rest) (runnable_expr names right) (runnable_operands names place others)
       (λ first rest x y operator scope. both_places (unknown_in scope first) (unknown_in_operands scope rest) (x scope) (y scope))
       (expr_places names right) (operands_places names place others))
@@ -181,7 +181,7 @@ stmt_places names (PrintOf index place text) =
     of_one (ExprWithin (phrase_uses text)) (StmtWithin (phrase_uses text)) (Print place) (runnable_text names text) (λ printed x. x) (text_places names text)
 stmt_places names _ = tt
 
--- So do statements, one behind the other.
+-- So do statements, one after the other.
 stmts_places : (names : List Name) (statements : Statements) → IfOk (runnable_statements names statements) (StmtsWithin (statements_uses statements))
 stmts_places names NoStatement = λ scope. none
 stmts_places names (NextStatement first others) =

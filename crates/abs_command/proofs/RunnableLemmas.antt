@@ -49,7 +49,7 @@ pub not_yet_for : {P Q : Place → Type 0} (error : RunnableError) → ((place :
 not_yet_for (NotYet place) follows cause = follows place cause
 not_yet_for Memory follows cause = cause
 
--- what the rest of a list gives stands behind what was found before it, and where the rest gives nothing, the whole list does for the same place
+-- what the rest of a list gives stands after what was found before it, and where the rest gives nothing, the whole list does for the same place
 abbrev pub IsReadUpTo : {A B T : Type 0} → (List A → Result T Place) → (List B → T) → List A → ℕ → List B → Type 0
 IsReadUpTo {A} {B} {T} gives tree all index found = record {
   found : (rest : List B) → gives (drop index all) ≡ Ok (tree rest) → gives all ≡ Ok (tree (found ++ rest));
@@ -86,7 +86,7 @@ pub operand_runs : (names : List Name) (place : Place) (operand : SyntaxOperand)
     → runnable_expr names (phrase names operand.right) ≡ Ok (expr_tree made.right)
     → (others : List SyntaxOperand) (rest : List Operand) → operands_run names place others ≡ Ok (operands_of rest)
     → operands_run names place (operand ∷ others) ≡ Ok (operands_of (made ∷ rest))
-operand_runs names place operand made operator right others rest behind = rw (operator, right, behind) refl
+operand_runs names place operand made operator right others rest after = rw (operator, right, after) refl
 
 -- operators do not run where one of them does not
 pub operator_not_yet : (names : List Name) (place : Place) (operand : SyntaxOperand) → runnable_operator operand.operator ≡ None
@@ -98,7 +98,7 @@ pub operand_not_yet : (names : List Name) (place at : Place) (operand : SyntaxOp
     → runnable_expr names (phrase names operand.right) ≡ Err at → (others : List SyntaxOperand) → operands_run names place (operand ∷ others) ≡ Err at
 operand_not_yet names place at operand operator runs none others = rw (runs, none) refl
 
--- operators do not run where those behind the first one do not
+-- operators do not run where those after the first one do not
 pub operands_not_yet : (names : List Name) (place : Place) (operand : SyntaxOperand) (made : Operand) → runnable_operator operand.operator ≡ Some made.operator
     → runnable_expr names (phrase names operand.right) ≡ Ok (expr_tree made.right) → (others : List SyntaxOperand) (at : Place) → operands_run names place others ≡ Err at
     → operands_run names place (operand ∷ others) ≡ Err at
@@ -114,7 +114,7 @@ operators_run names expr place first others operands made found is operands_are 
     ∙ (rw (first_runs, ← operands_are, others_run) refl
     ∙ ap Ok (sym (expr_tree-operators place made found)))
 
--- operators of one precedence do not run where one behind the first operand does not
+-- operators of one precedence do not run where one after the first operand does not
 pub operators_not_yet : (names : List Name) (expr : SyntaxExpr) (place : Place) (first : Box SyntaxExpr Global) (others : Vec SyntaxOperand Global) (operands : List SyntaxOperand)
     (made : Expr) → expr ≡ code_expr.Operators place first others → operands ≡ others.items → runnable_expr names (phrase names first.value) ≡ Ok (expr_tree made)
     → (at : Place) → operands_run names place operands ≡ Err at → runnable_expr names (phrase names expr) ≡ Err at
@@ -229,14 +229,14 @@ statements_run names stmts = runnable_statements names (statements names stmts)
 pub statement_runs : (names : List Name) (stmt : SyntaxStmt) (made : Stmt) → runnable_statement names (statement names stmt) ≡ Ok (stmt_tree made)
     → (others : List SyntaxStmt) (rest : List Stmt) → statements_run names others ≡ Ok (map stmt_tree rest)
     → statements_run names (stmt ∷ others) ≡ Ok (map stmt_tree (made ∷ rest))
-statement_runs names stmt made runs others rest behind = rw (runs, behind) refl
+statement_runs names stmt made runs others rest after = rw (runs, after) refl
 
 -- statements do not run where one of them does not
 pub statement_not_yet : (names : List Name) (stmt : SyntaxStmt) (at : Place) → runnable_statement names (statement names stmt) ≡ Err at
     → (others : List SyntaxStmt) → statements_run names (stmt ∷ others) ≡ Err at
 statement_not_yet names stmt at none others = rw none refl
 
--- statements do not run where those behind the first one do not
+-- statements do not run where those after the first one do not
 pub statements_not_yet : (names : List Name) (stmt : SyntaxStmt) (made : Stmt) → runnable_statement names (statement names stmt) ≡ Ok (stmt_tree made)
     → (others : List SyntaxStmt) (at : Place) → statements_run names others ≡ Err at → statements_run names (stmt ∷ others) ≡ Err at
 statements_not_yet names stmt made runs others at none = rw (runs, none) refl

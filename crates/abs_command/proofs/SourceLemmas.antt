@@ -144,4 +144,4 @@ names_are_pieces {text} tokens names pieces written = All-weaker (IsWritten toke
     piece : (name : List ℕ) → IsWritten tokens name → IsPiece text name
     piece name x =
         let at = All-contains (IsPieceAt text) tokens x.token pieces x.among in
-        record { front = at.front; behind = at.behind; is = at.is ∙ ap (λ (bytes : List ℕ). at.front ++ (bytes ++ at.behind)) (sym x.is) }
+        record { front = at.front; after = at.after; is = at.is ∙ ap (λ (bytes : List ℕ). at.front ++ (bytes ++ at.after)) (sym x.is) }

@@ -60,7 +60,7 @@ abbrev mutual
   pub runnable_operands : List Name → Place → Operands → Result OperandTrees Place
   runnable_operands names place NoOperands = Ok NoOperand
   runnable_operands names place (NextOperand operation right others) =
-      made_of_both (λ operator (behind : Operator → OperandTrees). behind operator) (ok_or (runnable_operator operation) place)
+      made_of_both (λ operator (after : Operator → OperandTrees). after operator) (ok_or (runnable_operator operation) place)
       (made_of_both (λ first rest operator. Then operator first rest) (runnable_expr names right) (runnable_operands names place others))
 
 -- a right side that is an expression

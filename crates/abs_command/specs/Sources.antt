@@ -55,8 +55,8 @@ HasOffence text = (refusal : Refusal) × FirstOffence text refusal
 -- the name is a piece of the source
 pub record IsPiece (text name : List ℕ) : Type 0 where
   pub front : List ℕ
-  pub behind : List ℕ
-  pub is : text ≡ front ++ (name ++ behind)
+  pub after : List ℕ
+  pub is : text ≡ front ++ (name ++ after)
 
 -- A source is refused for at most one offence: any two refusals of it are equal.
 abbrev pub HasOneFirstOffence : List ℕ → Type 0

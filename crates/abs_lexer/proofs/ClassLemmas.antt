@@ -132,34 +132,34 @@ test_of_class class byte h =
     (tested (is_white byte) (byte == 34) (is_ascii_digit byte) (is_ascii_lowercase byte) (is_ascii_uppercase byte))
 
 -- every sign begins with a mark
-pub class_sign : (p : Punctuator) (behind : List ℕ) → class_of (slice_index (punctuator_bytes p ++ behind) 0) ≡ Mark
-class_sign punctuator.OpenParen behind = refl
-class_sign punctuator.CloseParen behind = refl
-class_sign punctuator.OpenBrace behind = refl
-class_sign punctuator.CloseBrace behind = refl
-class_sign punctuator.Less behind = refl
-class_sign punctuator.Greater behind = refl
-class_sign punctuator.Comma behind = refl
-class_sign punctuator.Semicolon behind = refl
-class_sign punctuator.Dot behind = refl
-class_sign punctuator.Assign behind = refl
-class_sign punctuator.Equal behind = refl
-class_sign punctuator.NotEqual behind = refl
-class_sign punctuator.LessEqual behind = refl
-class_sign punctuator.GreaterEqual behind = refl
-class_sign punctuator.Plus behind = refl
-class_sign punctuator.Minus behind = refl
-class_sign punctuator.Star behind = refl
-class_sign punctuator.Slash behind = refl
-class_sign punctuator.Percent behind = refl
-class_sign punctuator.Not behind = refl
-class_sign punctuator.Tilde behind = refl
-class_sign punctuator.Question behind = refl
-class_sign punctuator.Bar behind = refl
-class_sign punctuator.Or behind = refl
-class_sign punctuator.And behind = refl
-class_sign punctuator.Arrow behind = refl
-class_sign punctuator.Underscore behind = refl
+pub class_sign : (p : Punctuator) (after : List ℕ) → class_of (slice_index (punctuator_bytes p ++ after) 0) ≡ Mark
+class_sign punctuator.OpenParen after = refl
+class_sign punctuator.CloseParen after = refl
+class_sign punctuator.OpenBrace after = refl
+class_sign punctuator.CloseBrace after = refl
+class_sign punctuator.Less after = refl
+class_sign punctuator.Greater after = refl
+class_sign punctuator.Comma after = refl
+class_sign punctuator.Semicolon after = refl
+class_sign punctuator.Dot after = refl
+class_sign punctuator.Assign after = refl
+class_sign punctuator.Equal after = refl
+class_sign punctuator.NotEqual after = refl
+class_sign punctuator.LessEqual after = refl
+class_sign punctuator.GreaterEqual after = refl
+class_sign punctuator.Plus after = refl
+class_sign punctuator.Minus after = refl
+class_sign punctuator.Star after = refl
+class_sign punctuator.Slash after = refl
+class_sign punctuator.Percent after = refl
+class_sign punctuator.Not after = refl
+class_sign punctuator.Tilde after = refl
+class_sign punctuator.Question after = refl
+class_sign punctuator.Bar after = refl
+class_sign punctuator.Or after = refl
+class_sign punctuator.And after = refl
+class_sign punctuator.Arrow after = refl
+class_sign punctuator.Underscore after = refl
 
 -- the form of a piece that begins with a byte of this class
 pub data FormOf (kind : Lexeme) (piece : List ℕ) : Class → Type 0 where
@@ -170,34 +170,34 @@ pub data FormOf (kind : Lexeme) (piece : List ℕ) : Class → Type 0 where
   sign : (p : Punctuator) → piece ≡ punctuator_bytes p → kind ≡ PunctuatorLexeme p → FormOf kind piece Mark
 
 -- the first byte of a name and of a number
-pub first_of_name : {is_first : ℕ → Bool} {piece : List ℕ} (x : IsName is_first piece) (behind : List ℕ) → slice_index (piece ++ behind) 0 ≡ x.first
-first_of_name x behind = ap (λ (bytes : List ℕ). slice_index (bytes ++ behind) 0) x.is
+pub first_of_name : {is_first : ℕ → Bool} {piece : List ℕ} (x : IsName is_first piece) (after : List ℕ) → slice_index (piece ++ after) 0 ≡ x.first
+first_of_name x after = ap (λ (bytes : List ℕ). slice_index (bytes ++ after) 0) x.is
 
-pub first_of_number : (piece behind : List ℕ) → IsNumber piece → is_ascii_digit (slice_index (piece ++ behind) 0) ≡ true
-first_of_number [] behind x = absurd (omega (arith, x.some))
-first_of_number (byte ∷ others) behind x = x.digits 0 0 (omega arith)
+pub first_of_number : (piece after : List ℕ) → IsNumber piece → is_ascii_digit (slice_index (piece ++ after) 0) ≡ true
+first_of_number [] after x = absurd (omega (arith, x.some))
+first_of_number (byte ∷ others) after x = x.digits 0 0 (omega arith)
 
-pub first_of_text : {passes : ℕ → Bool} {piece : List ℕ} (x : IsQuoted passes piece) (behind : List ℕ) → slice_index (piece ++ behind) 0 ≡ 34
-first_of_text x behind = ap (λ (bytes : List ℕ). slice_index (bytes ++ behind) 0) x.is
+pub first_of_text : {passes : ℕ → Bool} {piece : List ℕ} (x : IsQuoted passes piece) (after : List ℕ) → slice_index (piece ++ after) 0 ≡ 34
+first_of_text x after = ap (λ (bytes : List ℕ). slice_index (bytes ++ after) 0) x.is
 
 -- a form that stands in front has the class of the first byte
-pub formed : {kind : Lexeme} {piece : List ℕ} (behind : List ℕ) → IsForm kind piece → FormOf kind piece (class_of (slice_index (piece ++ behind) 0))
-formed {kind} {piece} behind (form_word x e) =
-    subst (λ (c : Class). FormOf kind piece c) (sym (ap class_of (first_of_name x behind) ∙ class_lower x.first x.letter)) (word x e)
-formed {kind} {piece} behind (form_upper x e) =
-    subst (λ (c : Class). FormOf kind piece c) (sym (ap class_of (first_of_name x behind) ∙ class_upper x.first x.letter)) (upper x e)
-formed {kind} {piece} behind (form_number x e) =
-    subst (λ (c : Class). FormOf kind piece c) (sym (class_digit (slice_index (piece ++ behind) 0) (first_of_number piece behind x))) (number x e)
-formed {kind} {piece} behind (form_text x e) =
-    subst (λ (c : Class). FormOf kind piece c) (sym (ap class_of (first_of_text x behind))) (text x e)
-formed {kind} {piece} behind (form_sign p is e) =
-    subst (λ (c : Class). FormOf kind piece c) (sym (ap (λ (bytes : List ℕ). class_of (slice_index (bytes ++ behind) 0)) is ∙ class_sign p behind)) (sign p is e)
+pub formed : {kind : Lexeme} {piece : List ℕ} (after : List ℕ) → IsForm kind piece → FormOf kind piece (class_of (slice_index (piece ++ after) 0))
+formed {kind} {piece} after (form_word x e) =
+    subst (λ (c : Class). FormOf kind piece c) (sym (ap class_of (first_of_name x after) ∙ class_lower x.first x.letter)) (word x e)
+formed {kind} {piece} after (form_upper x e) =
+    subst (λ (c : Class). FormOf kind piece c) (sym (ap class_of (first_of_name x after) ∙ class_upper x.first x.letter)) (upper x e)
+formed {kind} {piece} after (form_number x e) =
+    subst (λ (c : Class). FormOf kind piece c) (sym (class_digit (slice_index (piece ++ after) 0) (first_of_number piece after x))) (number x e)
+formed {kind} {piece} after (form_text x e) =
+    subst (λ (c : Class). FormOf kind piece c) (sym (ap class_of (first_of_text x after))) (text x e)
+formed {kind} {piece} after (form_sign p is e) =
+    subst (λ (c : Class). FormOf kind piece c) (sym (ap (λ (bytes : List ℕ). class_of (slice_index (bytes ++ after) 0)) is ∙ class_sign p after)) (sign p is e)
 
 -- the same of bytes that begin with the piece
-pub formed_in : {kind : Lexeme} {bytes : List ℕ} (piece behind : List ℕ) {class : Class} → bytes ≡ piece ++ behind → class_of (slice_index bytes 0) ≡ class → IsForm kind piece
+pub formed_in : {kind : Lexeme} {bytes : List ℕ} (piece after : List ℕ) {class : Class} → bytes ≡ piece ++ after → class_of (slice_index bytes 0) ≡ class → IsForm kind piece
     → FormOf kind piece class
-formed_in {kind} {bytes} piece behind {class} is c x =
-    subst (λ (c : Class). FormOf kind piece c) (sym (ap (λ (bs : List ℕ). class_of (slice_index bs 0)) is) ∙ c) (formed behind x)
+formed_in {kind} {bytes} piece after {class} is c x =
+    subst (λ (c : Class). FormOf kind piece c) (sym (ap (λ (bs : List ℕ). class_of (slice_index bs 0)) is) ∙ c) (formed after x)
 
 -- a comment opens with a mark
 opened : (first second : Bool) (bytes : List ℕ) → (first ≡ true → slice_index bytes 0 ≡ 47) → (second ≡ true → slice_index bytes 0 ≡ 47) → (first || second) ≡ true

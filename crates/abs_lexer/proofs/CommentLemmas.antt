@@ -25,7 +25,7 @@ use Rattle.abs_lexer.proofs.ScanLemmas.{Describes}
 use Rattle.abs_lexer.proofs.ScanLemmas.Describes.{comment, offence}
 
 -- where a line ends, no more of its bytes stand
-pub line_stops : (behind : List ℕ) → EndsLine behind → prefix_len is_on_line behind ≡ 0
+pub line_stops : (after : List ℕ) → EndsLine after → prefix_len is_on_line after ≡ 0
 line_stops [] h = refl
 line_stops (byte ∷ others) h = rw h refl
 
@@ -33,7 +33,7 @@ stopped : (b : Bool) (byte n : ℕ) → not b ≡ not (byte == 10) → cond (not
 stopped true byte n e h = refl
 stopped false byte n e h = absurd (omega arith)
 
-stops_line : (behind : List ℕ) → prefix_len is_on_line behind ≡ 0 → EndsLine behind
+stops_line : (after : List ℕ) → prefix_len is_on_line after ≡ 0 → EndsLine after
 stops_line [] h = tt
 stops_line (byte ∷ others) h =
     let test = stopped (byte == 10) byte (prefix_len is_on_line others) refl h in
@@ -46,26 +46,26 @@ on_line {piece} inside is h =
     (All-cons (λ byte. is_on_line byte ≡ true) 47 (47 ∷ inside) refl (All-cons (λ byte. is_on_line byte ≡ true) 47 inside refl h))
 
 -- a comment up to the end of its line is found
-pub line_found : {bytes piece : List ℕ} (behind inside : List ℕ) → bytes ≡ piece ++ behind → piece ≡ codes "//" ++ inside → AllPass is_on_line inside → EndsLine behind
+pub line_found : {bytes piece : List ℕ} (after inside : List ℕ) → bytes ≡ piece ++ after → piece ≡ codes "//" ++ inside → AllPass is_on_line inside → EndsLine after
     → line_at bytes ≡ comment_checked piece
 unfolding line_at
-line_found {bytes} {piece} behind inside is e h ends =
-    let count : prefix_len is_on_line bytes ≡ length piece = ap (prefix_len is_on_line) is ∙ run_is is_on_line piece behind (on_line inside e h) (line_stops behind ends) in
+line_found {bytes} {piece} after inside is e h ends =
+    let count : prefix_len is_on_line bytes ≡ length piece = ap (prefix_len is_on_line) is ∙ run_is is_on_line piece after (on_line inside e h) (line_stops after ends) in
     let front : take (prefix_len is_on_line bytes) bytes ≡ piece =
-    ap (λ (n : ℕ). take n bytes) count ∙ (ap (λ (bs : List ℕ). take (length piece) bs) is ∙ take-append_seam piece behind) in
+    ap (λ (n : ℕ). take n bytes) count ∙ (ap (λ (bs : List ℕ). take (length piece) bs) is ∙ take-append_seam piece after) in
     ap comment_checked front
 
--- behind "/*" a comment ends
-pub block_found : {bytes piece : List ℕ} (behind inside : List ℕ) → bytes ≡ piece ++ behind → piece ≡ codes "/*" ++ (inside ++ codes "*/") → NowhereIn inside (codes "*/")
+-- after "/*" a comment ends
+pub block_found : {bytes piece : List ℕ} (after inside : List ℕ) → bytes ≡ piece ++ after → piece ≡ codes "/*" ++ (inside ++ codes "*/") → NowhereIn inside (codes "*/")
     → block_at bytes ≡ comment_checked piece
 unfolding block_at
-block_found {bytes} {piece} behind inside is e none =
-    let rest : drop 2 bytes ≡ inside ++ (codes "*/" ++ behind) =
-    ap (λ (bs : List ℕ). drop 2 bs) is ∙ (ap (λ (p : List ℕ). drop 2 (p ++ behind)) e ∙ append_assoc inside (codes "*/") behind) in
-    let ends : block_end (drop 2 bytes) ≡ Some (length inside) = ap block_end rest ∙ block_ends inside behind none in
+block_found {bytes} {piece} after inside is e none =
+    let rest : drop 2 bytes ≡ inside ++ (codes "*/" ++ after) =
+    ap (λ (bs : List ℕ). drop 2 bs) is ∙ (ap (λ (p : List ℕ). drop 2 (p ++ after)) e ∙ append_assoc inside (codes "*/") after) in
+    let ends : block_end (drop 2 bytes) ≡ Some (length inside) = ap block_end rest ∙ block_ends inside after none in
     let long : length piece ≡ length inside + 4 = omega (arith, ap length e, length-append inside (codes "*/")) in
     let front : take (length inside + 4) bytes ≡ piece =
-    ap (λ (n : ℕ). take n bytes) (sym long) ∙ (ap (λ (bs : List ℕ). take (length piece) bs) is ∙ take-append_seam piece behind) in
+    ap (λ (n : ℕ). take n bytes) (sym long) ∙ (ap (λ (bs : List ℕ). take (length piece) bs) is ∙ take-append_seam piece after) in
     rw ends (ap comment_checked front)
 
 -- a comment that is UTF-8 is sound
@@ -74,20 +74,20 @@ unfolding comment_checked
 comment_sound {piece} valid = checked_sound (Blank (length piece)) (utf8_valid_len piece) piece (omega (arith, utf8_valid_len-IsUtf8 piece valid))
 
 -- a comment that ends
-describe_ended : {bytes piece : List ℕ} (behind : List ℕ) → bytes ≡ piece ++ behind → IsComment piece behind → Describes bytes (comment_checked piece)
+describe_ended : {bytes piece : List ℕ} (after : List ℕ) → bytes ≡ piece ++ after → IsComment piece after → Describes bytes (comment_checked piece)
 unfolding comment_checked
-describe_ended {bytes} {piece} behind is x = by (cases_lt (utf8_valid_len piece) (length piece))
+describe_ended {bytes} {piece} after is x = by (cases_lt (utf8_valid_len piece) (length piece))
   where
     by : (utf8_valid_len piece < length piece) ⊎ (length piece ≤ utf8_valid_len piece) → Describes bytes (checked_piece (Blank (length piece)) (utf8_valid_len piece) piece)
     by (inl short) =
         subst (λ (p : Piece). Describes bytes p) (sym (checked_offence (Blank (length piece)) (utf8_valid_len piece) piece short))
         (offence L1 (utf8_valid_len piece) (λ place. subst (λ (f : List ℕ). OffendsAt place bytes (record { code = L1; place = place_after place f }))
-        (sym (front_of_piece piece behind (utf8_valid_len piece) is (omega arith)))
-        (broken_comment piece behind (take (utf8_valid_len piece) piece) is x (broken_at piece short)))
-        (omega (arith, short, ap length is, length-append piece behind)))
+        (sym (front_of_piece piece after (utf8_valid_len piece) is (omega arith)))
+        (broken_comment piece after (take (utf8_valid_len piece) piece) is x (broken_at piece short)))
+        (omega (arith, short, ap length is, length-append piece after)))
     by (inr all) =
         subst (λ (p : Piece). Describes bytes p) (sym (checked_sound (Blank (length piece)) (utf8_valid_len piece) piece all))
-        (comment piece behind (length piece) is x (unbroken piece all) refl)
+        (comment piece after (length piece) is x (unbroken piece all) refl)
 
 -- what begins with "//"
 pub describe_line : (bytes : List ℕ) → opens_line bytes ≡ true → Describes bytes (line_at bytes)
@@ -103,15 +103,15 @@ describe_line bytes h =
     (line (take (prefix_len is_on_line (drop 2 bytes)) (drop 2 bytes)) piece (run_passes is_on_line (drop 2 bytes)) (stops_line (drop count bytes) (run_ends is_on_line bytes)))
 
 -- what begins with "/*" and doesn't end
-endless : {bytes : List ℕ} (inside : List ℕ) → bytes ≡ codes "/*" ++ inside → block_end inside ≡ None → (piece behind : List ℕ) → bytes ≡ piece ++ behind → IsComment piece behind → ⊥
-endless {bytes} inside is none piece behind e (line text x h ends) =
-    let same : codes "/*" ++ inside ≡ codes "//" ++ (text ++ behind) = sym is ∙ (e ∙ ap (λ (p : List ℕ). p ++ behind) x) in
+endless : {bytes : List ℕ} (inside : List ℕ) → bytes ≡ codes "/*" ++ inside → block_end inside ≡ None → (piece after : List ℕ) → bytes ≡ piece ++ after → IsComment piece after → ⊥
+endless {bytes} inside is none piece after e (line text x h ends) =
+    let same : codes "/*" ++ inside ≡ codes "//" ++ (text ++ after) = sym is ∙ (e ∙ ap (λ (p : List ℕ). p ++ after) x) in
     let second : ◌≡◌ {A = ℕ} 42 47 = cc in
     omega (arith, second)
-endless {bytes} inside is none piece behind e (block text x nowhere) =
-    let same : codes "/*" ++ inside ≡ codes "/*" ++ ((text ++ codes "*/") ++ behind) = sym is ∙ (e ∙ ap (λ (p : List ℕ). p ++ behind) x) in
-    let rest : inside ≡ text ++ (codes "*/" ++ behind) = ap (λ (bs : List ℕ). drop 2 bs) same ∙ append_assoc text (codes "*/") behind in
-    let ends : None ≡ Some (length text) = sym none ∙ (ap block_end rest ∙ block_ends text behind nowhere) in
+endless {bytes} inside is none piece after e (block text x nowhere) =
+    let same : codes "/*" ++ inside ≡ codes "/*" ++ ((text ++ codes "*/") ++ after) = sym is ∙ (e ∙ ap (λ (p : List ℕ). p ++ after) x) in
+    let rest : inside ≡ text ++ (codes "*/" ++ after) = ap (λ (bs : List ℕ). drop 2 bs) same ∙ append_assoc text (codes "*/") after in
+    let ends : None ≡ Some (length text) = sym none ∙ (ap block_end rest ∙ block_ends text after nowhere) in
     cc
 
 -- what begins with "/*"
@@ -124,6 +124,6 @@ describe_block bytes h = by (block_end (drop 2 bytes)) refl
         rw e (offence L2 0 (λ place. open_comment (record { inside = drop 2 bytes; is = two_in_front 47 42 bytes h; endless = endless (drop 2 bytes) (two_in_front 47 42 bytes h) e })) (omega arith))
     by (Some n) e =
         let x = block_reads (drop 2 bytes) n e in
-        let is : bytes ≡ (codes "/*" ++ (x.inside ++ codes "*/")) ++ x.behind =
-        two_in_front 47 42 bytes h ∙ ap (λ (bs : List ℕ). 47 ∷ 42 ∷ bs) (x.is ∙ sym (append_assoc x.inside (codes "*/") x.behind)) in
-        subst (λ (p : Piece). Describes bytes p) (sym (block_found x.behind x.inside is refl x.nowhere)) (describe_ended x.behind is (block x.inside refl x.nowhere))
+        let is : bytes ≡ (codes "/*" ++ (x.inside ++ codes "*/")) ++ x.after =
+        two_in_front 47 42 bytes h ∙ ap (λ (bs : List ℕ). 47 ∷ 42 ∷ bs) (x.is ∙ sym (append_assoc x.inside (codes "*/") x.after)) in
+        subst (λ (p : Piece). Describes bytes p) (sym (block_found x.after x.inside is refl x.nowhere)) (describe_ended x.after is (block x.inside refl x.nowhere))

@@ -37,7 +37,7 @@ longer_broken bytes zero k above below valid = absurd (omega arith)
 longer_broken bytes (suc n) k above below valid =
     longer_by (is_utf8 (take (suc n) bytes)) bytes n k refl above below (λ a b v. longer_broken bytes n k a b v) valid
 
--- bytes that are no UTF-8 stop being so behind the longest front that is
+-- bytes that are no UTF-8 stop being so after the longest front that is
 pub broken : (bytes : List ℕ) → utf8_valid_len bytes < length bytes → IsValidUpTo bytes (utf8_valid_len bytes)
 unfolding utf8_valid_len
 broken bytes h = record { short = h; front = front_valid bytes (length bytes); longest = λ k above. last k above (cases_lt (length bytes) k) }
@@ -61,52 +61,52 @@ two_in_front first second bytes h =
     sym (take-append-drop 2 bytes) ∙ ap (λ (front : List ℕ). front ++ drop 2 bytes) ((bytes_eq-Decides (take 2 bytes) (first ∷ second ∷ [])).0 h)
 
 -- a comment ends at the first "*/"
-ends_here : (byte : ℕ) (others behind : List ℕ) → NowhereIn (byte ∷ others) (codes "*/") → bytes_eq (take 2 (byte ∷ (others ++ (codes "*/" ++ behind)))) (codes "*/") ≡ true → ⊥
-ends_here byte [] behind none h = let same = two_in_front 42 47 (byte ∷ 42 ∷ 47 ∷ behind) h in let second : ◌≡◌ {A = ℕ} 42 47 = cc in omega (arith, second)
-ends_here byte (next ∷ others) behind none h =
-    let same = two_in_front 42 47 (byte ∷ next ∷ (others ++ (codes "*/" ++ behind))) h in
+ends_here : (byte : ℕ) (others after : List ℕ) → NowhereIn (byte ∷ others) (codes "*/") → bytes_eq (take 2 (byte ∷ (others ++ (codes "*/" ++ after)))) (codes "*/") ≡ true → ⊥
+ends_here byte [] after none h = let same = two_in_front 42 47 (byte ∷ 42 ∷ 47 ∷ after) h in let second : ◌≡◌ {A = ℕ} 42 47 = cc in omega (arith, second)
+ends_here byte (next ∷ others) after none h =
+    let same = two_in_front 42 47 (byte ∷ next ∷ (others ++ (codes "*/" ++ after))) h in
     let first : byte ≡ 42 = cc in
     let second : next ≡ 47 = cc in
     none [] others (rw (first, second) refl)
 
 -- the rest of what nowhere holds a piece holds it nowhere
 pub nowhere_rest : (byte : ℕ) (others piece : List ℕ) → NowhereIn (byte ∷ others) piece → NowhereIn others piece
-nowhere_rest byte others piece none front behind is = none (byte ∷ front) behind (ap (λ (bytes : List ℕ). byte ∷ bytes) is)
+nowhere_rest byte others piece none front after is = none (byte ∷ front) after (ap (λ (bytes : List ℕ). byte ∷ bytes) is)
 
 -- what is not true is false
 pub true_or_false : (b : Bool) → (b ≡ true → ⊥) → b ≡ false
 true_or_false true h = absurd (h refl)
 true_or_false false h = refl
 
-pub block_ends : (inside behind : List ℕ) → NowhereIn inside (codes "*/") → block_end (inside ++ (codes "*/" ++ behind)) ≡ Some (length inside)
+pub block_ends : (inside after : List ℕ) → NowhereIn inside (codes "*/") → block_end (inside ++ (codes "*/" ++ after)) ≡ Some (length inside)
 unfolding block_end
-block_ends [] behind none = refl
-block_ends (byte ∷ others) behind none =
-    let here = true_or_false (bytes_eq (take 2 (byte ∷ (others ++ (codes "*/" ++ behind)))) (codes "*/")) (ends_here byte others behind none) in
-    let rest = block_ends others behind (nowhere_rest byte others (codes "*/") none) in
+block_ends [] after none = refl
+block_ends (byte ∷ others) after none =
+    let here = true_or_false (bytes_eq (take 2 (byte ∷ (others ++ (codes "*/" ++ after)))) (codes "*/")) (ends_here byte others after none) in
+    let rest = block_ends others after (nowhere_rest byte others (codes "*/") none) in
     rw (here, rest) (ap (λ (n : ℕ). Some n) (omega arith))
 
--- a comment that ends behind so many bytes
+-- a comment that ends after so many bytes
 pub record Ends (bytes : List ℕ) (count : ℕ) : Type 0 where
   pub inside : List ℕ
-  pub behind : List ℕ
-  pub is : bytes ≡ inside ++ (codes "*/" ++ behind)
+  pub after : List ℕ
+  pub is : bytes ≡ inside ++ (codes "*/" ++ after)
   pub nowhere : NowhereIn inside (codes "*/")
   pub count_is : length inside ≡ count
 
 ends_first : (bytes : List ℕ) (n : ℕ) → bytes_eq (take 2 bytes) (codes "*/") ≡ true → Some 0 ≡ Some n → Ends bytes n
 ends_first bytes n h e = record {
   inside = [];
-  behind = drop 2 bytes;
+  after = drop 2 bytes;
   is = two_in_front 42 47 bytes h;
-  nowhere = λ front behind is. let long = ap length is in omega (arith, long, length-append front (codes "*/" ++ behind));
+  nowhere = λ front after is. let long = ap length is in omega (arith, long, length-append front (codes "*/" ++ after));
   count_is = cc;
 }
 
 -- a piece in front of two lists is in front of the first, where that is long enough
-not_in_front : (byte : ℕ) (inside behind : List ℕ) (rest : List ℕ) → bytes_eq (take 2 (byte ∷ (inside ++ rest))) (codes "*/") ≡ false → byte ∷ inside ≡ codes "*/" ++ behind → ⊥
-not_in_front byte [] behind rest h is = let long = ap length is in omega (arith, long)
-not_in_front byte (next ∷ inside) behind rest h is =
+not_in_front : (byte : ℕ) (inside after : List ℕ) (rest : List ℕ) → bytes_eq (take 2 (byte ∷ (inside ++ rest))) (codes "*/") ≡ false → byte ∷ inside ≡ codes "*/" ++ after → ⊥
+not_in_front byte [] after rest h is = let long = ap length is in omega (arith, long)
+not_in_front byte (next ∷ inside) after rest h is =
     let first : byte ≡ 42 = cc in
     let second : next ≡ 47 = cc in
     let test : bytes_eq (byte ∷ next ∷ []) (codes "*/") ≡ true = rw (first, second) refl in
@@ -115,16 +115,16 @@ not_in_front byte (next ∷ inside) behind rest h is =
 ends_later : (byte : ℕ) (others : List ℕ) (m n : ℕ) → bytes_eq (take 2 (byte ∷ others)) (codes "*/") ≡ false → Ends others m → n ≡ 1 + m → Ends (byte ∷ others) n
 ends_later byte others m n h x e = record {
   inside = byte ∷ x.inside;
-  behind = x.behind;
+  after = x.after;
   is = ap (λ (bytes : List ℕ). byte ∷ bytes) x.is;
   nowhere = nowhere;
   count_is = omega (arith, x.count_is, e);
 }
   where
     nowhere : NowhereIn (byte ∷ x.inside) (codes "*/")
-    nowhere [] behind is =
-        not_in_front byte x.inside behind (codes "*/" ++ x.behind) (subst (λ (bytes : List ℕ). bytes_eq (take 2 (byte ∷ bytes)) (codes "*/") ≡ false) x.is h) is
-    nowhere (first ∷ front) behind is = x.nowhere front behind cc
+    nowhere [] after is =
+        not_in_front byte x.inside after (codes "*/" ++ x.after) (subst (λ (bytes : List ℕ). bytes_eq (take 2 (byte ∷ bytes)) (codes "*/") ≡ false) x.is h) is
+    nowhere (first ∷ front) after is = x.nowhere front after cc
 
 ends_by : (b : Bool) (byte : ℕ) (others : List ℕ) (n : ℕ) → bytes_eq (take 2 (byte ∷ others)) (codes "*/") ≡ b → block_end (byte ∷ others) ≡ Some n
     → ((m : ℕ) → block_end others ≡ Some m → Ends others m) → Ends (byte ∷ others) n

@@ -18,18 +18,18 @@ use Rattle.abs_lexer.proofs.StepLemmas.{Step, step, form_some, comment_some, beg
 use Rattle.abs_lexer.proofs.StepLemmas.Step.{begins, stops}
 
 -- nothing stands in front of no bytes
-nothing_begins : {place : Place} {bytes : List ℕ} (piece behind : List ℕ) {tokens : List Lexed} → bytes ≡ [] → bytes ≡ piece ++ behind → Begins place piece behind tokens → ⊥
-nothing_begins piece behind none is x = omega (arith, ap length none, ap length is, length-append piece behind, begins_some x)
+nothing_begins : {place : Place} {bytes : List ℕ} (piece after : List ℕ) {tokens : List Lexed} → bytes ≡ [] → bytes ≡ piece ++ after → Begins place piece after tokens → ⊥
+nothing_begins piece after none is x = omega (arith, ap length none, ap length is, length-append piece after, begins_some x)
 
 -- some bytes have one list of tokens
 lexes_once : {place : Place} {bytes : List ℕ} {tokens others : List Lexed} → Lexes place bytes tokens → Lexes place bytes others → tokens ≡ others
 lexes_once (end place bytes none) (end place' bytes' none') = refl
-lexes_once (end place bytes none) (more place' bytes' piece behind front others tokens is x rest are) = absurd (nothing_begins piece behind none is x)
-lexes_once (more place bytes piece behind front others tokens is x rest are) (end place' bytes' none) = absurd (nothing_begins piece behind none is x)
-lexes_once {place} {bytes} (more place' bytes' piece behind front others tokens is x rest are) (more place'' bytes'' piece' behind' front' others' tokens' is' x' rest' are') =
-    let same = begins_once piece piece' behind behind' front front' is is' x x' in
-    let moved : Lexes (place_after place piece) behind others' =
-    subst (λ (p : List ℕ). Lexes (place_after place p) behind others') (sym same.piece_is) (subst (λ (b : List ℕ). Lexes (place_after place piece') b others') (sym same.behind_is) rest') in
+lexes_once (end place bytes none) (more place' bytes' piece after front others tokens is x rest are) = absurd (nothing_begins piece after none is x)
+lexes_once (more place bytes piece after front others tokens is x rest are) (end place' bytes' none) = absurd (nothing_begins piece after none is x)
+lexes_once {place} {bytes} (more place' bytes' piece after front others tokens is x rest are) (more place'' bytes'' piece' after' front' others' tokens' is' x' rest' are') =
+    let same = begins_once piece piece' after after' front front' is is' x x' in
+    let moved : Lexes (place_after place piece) after others' =
+    subst (λ (p : List ℕ). Lexes (place_after place p) after others') (sym same.piece_is) (subst (λ (b : List ℕ). Lexes (place_after place piece') b others') (sym same.after_is) rest') in
     are ∙ (ap (λ (f : List Lexed). f ++ others) same.tokens_are ∙ (ap (λ (o : List Lexed). front' ++ o) (lexes_once rest moved) ∙ sym are'))
 
 -- an offence in front of no bytes there is not
@@ -37,25 +37,25 @@ nothing_offends : {place : Place} {bytes : List ℕ} {offence : Offence} → byt
 nothing_offends none (stray_byte x) = omega (arith, ap length none, ap length x.is)
 nothing_offends none (open_comment x) = omega (arith, ap length none, ap length x.is)
 nothing_offends none (open_string x) = omega (arith, ap length none, ap length x.is)
-nothing_offends none (large_number piece behind is x large) = omega (arith, ap length none, ap length is, length-append piece behind, form_some x.form)
-nothing_offends none (bad_escape piece behind front is x y) = omega (arith, ap length none, ap length is, length-append piece behind, ap length x.is)
-nothing_offends none (broken_string piece behind front is x y) = omega (arith, ap length none, ap length is, length-append piece behind, ap length x.is)
-nothing_offends none (broken_comment piece behind front is x y) = omega (arith, ap length none, ap length is, length-append piece behind, comment_some x)
+nothing_offends none (large_number piece after is x large) = omega (arith, ap length none, ap length is, length-append piece after, form_some x.form)
+nothing_offends none (bad_escape piece after front is x y) = omega (arith, ap length none, ap length is, length-append piece after, ap length x.is)
+nothing_offends none (broken_string piece after front is x y) = omega (arith, ap length none, ap length is, length-append piece after, ap length x.is)
+nothing_offends none (broken_comment piece after front is x y) = omega (arith, ap length none, ap length is, length-append piece after, comment_some x)
 
--- an offence behind what stands in front is one of the rest
-pub offends_behind : {place : Place} {bytes : List ℕ} (piece behind : List ℕ) {tokens : List Lexed} {offence : Offence} → bytes ≡ piece ++ behind → Begins place piece behind tokens
-    → Offends place bytes offence → Offends (place_after place piece) behind offence
-offends_behind piece behind is x (here place bytes offence y) = absurd (begins_or_stops piece behind is x y)
-offends_behind piece behind {tokens} is x (later place bytes piece' behind' front offence is' x' rest) =
-    let same = begins_once piece piece' behind behind' tokens front is is' x x' in
-    subst (λ (p : List ℕ). Offends (place_after place p) behind offence) (sym same.piece_is)
-    (subst (λ (b : List ℕ). Offends (place_after place piece') b offence) (sym same.behind_is) rest)
+-- an offence after what stands in front is one of the rest
+pub offends_after : {place : Place} {bytes : List ℕ} (piece after : List ℕ) {tokens : List Lexed} {offence : Offence} → bytes ≡ piece ++ after → Begins place piece after tokens
+    → Offends place bytes offence → Offends (place_after place piece) after offence
+offends_after piece after is x (here place bytes offence y) = absurd (begins_or_stops piece after is x y)
+offends_after piece after {tokens} is x (later place bytes piece' after' front offence is' x' rest) =
+    let same = begins_once piece piece' after after' tokens front is is' x x' in
+    subst (λ (p : List ℕ). Offends (place_after place p) after offence) (sym same.piece_is)
+    (subst (λ (b : List ℕ). Offends (place_after place piece') b offence) (sym same.after_is) rest)
 
 -- bytes that have tokens have no offence
 lexes_or_offends : {place : Place} {bytes : List ℕ} {tokens : List Lexed} {offence : Offence} → Lexes place bytes tokens → Offends place bytes offence → ⊥
 lexes_or_offends (end place bytes none) (here place' bytes' offence x) = nothing_offends none x
-lexes_or_offends (end place bytes none) (later place' bytes' piece behind front offence is x rest) = nothing_begins piece behind none is x
-lexes_or_offends (more place bytes piece behind front others tokens is x rest are) y = lexes_or_offends rest (offends_behind piece behind is x y)
+lexes_or_offends (end place bytes none) (later place' bytes' piece after front offence is x rest) = nothing_begins piece after none is x
+lexes_or_offends (more place bytes piece after front others tokens is x rest are) y = lexes_or_offends rest (offends_after piece after is x y)
 
 -- the first offence of the bytes from a place on
 pub record IsFirstFrom (place : Place) (bytes : List ℕ) (offence : Offence) : Type 0 where
@@ -69,14 +69,14 @@ stop_is_first {place} {bytes} {code} count found few x = record { offends = here
   where
     least : (other : Offence) → Offends place bytes other → (place_after place (take count bytes)).offset ≤ other.place.offset
     least other (here place' bytes' other' y) = stops_first code count found few y
-    least other (later place' bytes' piece behind front other' is y rest) = absurd (begins_or_stops piece behind is y x)
+    least other (later place' bytes' piece after front other' is y rest) = absurd (begins_or_stops piece after is y x)
 
 -- and the first of the rest that of the whole
-first_later : {place : Place} {bytes : List ℕ} (piece behind : List ℕ) (tokens : List Lexed) (offence : Offence) → bytes ≡ piece ++ behind → Begins place piece behind tokens
-    → IsFirstFrom (place_after place piece) behind offence → IsFirstFrom place bytes offence
-first_later {place} {bytes} piece behind tokens offence is x first = record {
-  offends = later place bytes piece behind tokens offence is x first.offends;
-  least = λ other y. first.least other (offends_behind piece behind is x y);
+first_later : {place : Place} {bytes : List ℕ} (piece after : List ℕ) (tokens : List Lexed) (offence : Offence) → bytes ≡ piece ++ after → Begins place piece after tokens
+    → IsFirstFrom (place_after place piece) after offence → IsFirstFrom place bytes offence
+first_later {place} {bytes} piece after tokens offence is x first = record {
+  offends = later place bytes piece after tokens offence is x first.offends;
+  least = λ other y. first.least other (offends_after piece after is x y);
 }
 
 -- some bytes have tokens, or a first offence
@@ -84,14 +84,14 @@ data Lexing (place : Place) (bytes : List ℕ) : Type 0 where
   lexed : (tokens : List Lexed) → Lexes place bytes tokens → Lexing place bytes
   stopped : (offence : Offence) → IsFirstFrom place bytes offence → Lexing place bytes
 
-lexing_behind : {place : Place} {bytes : List ℕ} (piece behind : List ℕ) (tokens : List Lexed) → bytes ≡ piece ++ behind → Begins place piece behind tokens
-    → Lexing (place_after place piece) behind → Lexing place bytes
-lexing_behind {place} {bytes} piece behind tokens is x (lexed others rest) = lexed (tokens ++ others) (more place bytes piece behind tokens others (tokens ++ others) is x rest refl)
-lexing_behind {place} {bytes} piece behind tokens is x (stopped offence first) = stopped offence (first_later piece behind tokens offence is x first)
+lexing_after : {place : Place} {bytes : List ℕ} (piece after : List ℕ) (tokens : List Lexed) → bytes ≡ piece ++ after → Begins place piece after tokens
+    → Lexing (place_after place piece) after → Lexing place bytes
+lexing_after {place} {bytes} piece after tokens is x (lexed others rest) = lexed (tokens ++ others) (more place bytes piece after tokens others (tokens ++ others) is x rest refl)
+lexing_after {place} {bytes} piece after tokens is x (stopped offence first) = stopped offence (first_later piece after tokens offence is x first)
 
 lexing_by : {place : Place} {bytes : List ℕ} (found : Piece) → piece_at bytes ≡ found → Step place bytes found
-    → ((piece behind : List ℕ) → bytes ≡ piece ++ behind → 0 < length piece → Lexing (place_after place piece) behind) → Lexing place bytes
-lexing_by found is (begins found' piece behind tokens e x) rest = lexing_behind piece behind tokens e x (rest piece behind e (begins_some x))
+    → ((piece after : List ℕ) → bytes ≡ piece ++ after → 0 < length piece → Lexing (place_after place piece) after) → Lexing place bytes
+lexing_by found is (begins found' piece after tokens e x) rest = lexing_after piece after tokens e x (rest piece after e (begins_some x))
 lexing_by found is (stops code count offends few) rest = stopped (record { code = code; place = place_after _ (take count _) }) (stop_is_first count is few offends)
 
 lexing : (room : ℕ) (place : Place) (bytes : List ℕ) → length bytes ≤ room → Lexing place bytes
@@ -99,7 +99,7 @@ lexing room place [] few = lexed [] (end place [] refl)
 lexing zero place (byte ∷ others) few = absurd (omega arith)
 lexing (suc room) place (byte ∷ others) few =
     lexing_by (piece_at (byte ∷ others)) refl (step place (byte ∷ others) (omega arith))
-    (λ piece behind is some. lexing room (place_after place piece) behind (omega (arith, few, some, ap length is, length-append piece behind)))
+    (λ piece after is some. lexing room (place_after place piece) after (omega (arith, few, some, ap length is, length-append piece after)))
 
 -- a text has one list of tokens
 pub list_once : {text : List ℕ} {list other : TokenList} → TokensOf text list → TokensOf text other → list ≡ other
@@ -115,8 +115,8 @@ list_or_first x y = lexes_or_offends x.tokens y.offends
 -- two offences at one offset are one
 offends_same : {place : Place} {bytes : List ℕ} {one other : Offence} → Offends place bytes one → Offends place bytes other → one.place.offset ≡ other.place.offset → one ≡ other
 offends_same (here place bytes one x) (here place' bytes' other y) same = offends_once x y same
-offends_same (here place bytes one x) (later place' bytes' piece behind front other is y rest) same = absurd (begins_or_stops piece behind is y x)
-offends_same (later place bytes piece behind front one is x rest) y same = offends_same rest (offends_behind piece behind is x y) same
+offends_same (here place bytes one x) (later place' bytes' piece after front other is y rest) same = absurd (begins_or_stops piece after is y x)
+offends_same (later place bytes piece after front one is x rest) y same = offends_same rest (offends_after piece after is x y) same
 
 -- so a text has one first offence
 pub first_once : {text : List ℕ} {one other : Offence} → IsFirstLexical text one → IsFirstLexical text other → one ≡ other

@@ -45,16 +45,16 @@ pub record IsStopped (place : Place) (bytes : List ℕ) (offence : Offence) : Ty
 stopped_here : (place : Place) (bytes : List ℕ) (code : Code) → piece_at bytes ≡ Stop code 0 → IsStopped place bytes (record { code = code; place = place })
 stopped_here place bytes code found = record { count = 0; front = 0; found = found; place_is = refl; least = omega arith; within = omega arith }
 
--- one that stands behind a front of a piece
-stopped_behind : (place : Place) {bytes : List ℕ} (piece behind front more : List ℕ) (code : Code) (count : ℕ) → bytes ≡ piece ++ behind → piece ≡ front ++ more
+-- one that stands after a front of a piece
+stopped_after : (place : Place) {bytes : List ℕ} (piece after front more : List ℕ) (code : Code) (count : ℕ) → bytes ≡ piece ++ after → piece ≡ front ++ more
     → piece_at bytes ≡ Stop code count → count ≤ length front → IsStopped place bytes (record { code = code; place = place_after place front })
-stopped_behind place {bytes} piece behind front more code count is e found least = record {
+stopped_after place {bytes} piece after front more code count is e found least = record {
   count = count;
   front = length front;
   found = found;
-  place_is = ap (place_after place) (sym (front_in_piece piece behind front more is e));
+  place_is = ap (place_after place) (sym (front_in_piece piece after front more is e));
   least = least;
-  within = omega (arith, ap length is, ap length e, length-append piece behind, length-append front more);
+  within = omega (arith, ap length is, ap length e, length-append piece after, length-append front more);
 }
 
 -- a byte that begins nothing
@@ -90,7 +90,7 @@ stray_found bytes x = by (class_of x.byte) refl
     by Mark e =
         let opens = neither (opens_line bytes) (opens_block bytes) x.no_comment in
         let marks : mark_at bytes ≡ punctuator_at bytes = rw (opens.0, opens.1) refl in
-        piece_of_class Mark bytes (first Mark e) ∙ (marks ∙ no_sign_found bytes (λ p behind is. x.no_token (PunctuatorLexeme p) (punctuator_bytes p) behind is (form_sign p refl refl)))
+        piece_of_class Mark bytes (first Mark e) ∙ (marks ∙ no_sign_found bytes (λ p after is. x.no_token (PunctuatorLexeme p) (punctuator_bytes p) after is (form_sign p refl refl)))
 
 -- a comment that doesn't end
 open_comment_found : (bytes : List ℕ) → IsOpenComment bytes → piece_at bytes ≡ Stop L2 0
@@ -113,9 +113,9 @@ open_comment_found bytes x = piece_of_class Mark bytes class ∙ (marks ∙ by (
     by None e = rw e refl
     by (Some n) e =
         let y = block_reads (drop 2 bytes) n e in
-        let rest : x.inside ≡ y.inside ++ (codes "*/" ++ y.behind) = ap (λ (bs : List ℕ). drop 2 bs) (sym x.is) ∙ y.is in
-        absurd (x.endless (codes "/*" ++ (y.inside ++ codes "*/")) y.behind
-        (x.is ∙ ap (λ (bs : List ℕ). 47 ∷ 42 ∷ bs) (rest ∙ sym (append_assoc y.inside (codes "*/") y.behind))) (block y.inside refl y.nowhere))
+        let rest : x.inside ≡ y.inside ++ (codes "*/" ++ y.after) = ap (λ (bs : List ℕ). drop 2 bs) (sym x.is) ∙ y.is in
+        absurd (x.endless (codes "/*" ++ (y.inside ++ codes "*/")) y.after
+        (x.is ∙ ap (λ (bs : List ℕ). 47 ∷ 42 ∷ bs) (rest ∙ sym (append_assoc y.inside (codes "*/") y.after))) (block y.inside refl y.nowhere))
 
 -- a text that doesn't end on its line
 open_text_found : (bytes : List ℕ) → IsOpenString bytes → piece_at bytes ≡ Stop L3 0
@@ -126,15 +126,15 @@ open_text_found bytes x = piece_of_class Quote bytes (ap (λ (bs : List ℕ). cl
     by None e = rw e refl
     by (Some n) e =
         let y = closing_reads (drop 1 bytes) n e in
-        let rest : x.inside ≡ y.inside ++ 34 ∷ y.behind = ap (λ (bs : List ℕ). drop 1 bs) (sym x.is) ∙ y.is in
-        absurd (x.endless (34 ∷ (y.inside ++ 34 ∷ [])) y.behind
-        (x.is ∙ ap (λ (bs : List ℕ). 34 ∷ bs) (rest ∙ sym (append_assoc y.inside (34 ∷ []) y.behind)))
+        let rest : x.inside ≡ y.inside ++ 34 ∷ y.after = ap (λ (bs : List ℕ). drop 1 bs) (sym x.is) ∙ y.is in
+        absurd (x.endless (34 ∷ (y.inside ++ 34 ∷ [])) y.after
+        (x.is ∙ ap (λ (bs : List ℕ). 34 ∷ bs) (rest ∙ sym (append_assoc y.inside (34 ∷ []) y.after)))
         (record { inside = y.inside; is = refl; reads = y.reads }))
 
 -- a number past 127 bits
-large_found : {bytes : List ℕ} (piece behind : List ℕ) → bytes ≡ piece ++ behind → IsLongest Number piece behind → 2 ^ 127 ≤ digits_value 10 piece → piece_at bytes ≡ Stop L4 0
+large_found : {bytes : List ℕ} (piece after : List ℕ) → bytes ≡ piece ++ after → IsLongest Number piece after → 2 ^ 127 ≤ digits_value 10 piece → piece_at bytes ≡ Stop L4 0
 unfolding number_at
-large_found {bytes} piece behind is x large = by (class_of (slice_index bytes 0)) refl (formed_in piece behind is refl x.form)
+large_found {bytes} piece after is x large = by (class_of (slice_index bytes 0)) refl (formed_in piece after is refl x.form)
   where
     by : (class : Class) → class_of (slice_index bytes 0) ≡ class → FormOf Number piece class → piece_at bytes ≡ Stop L4 0
     by White e y = elim y [ ]
@@ -143,41 +143,41 @@ large_found {bytes} piece behind is x large = by (class_of (slice_index bytes 0)
     by Upper e (upper y k) = cc
     by Mark e (sign p y k) = cc
     by Digit e (number y k) =
-        let count = digits_found piece behind is y x in
+        let count = digits_found piece after is y x in
         let test : nat_lt (digits_value 10 piece) (2 ^ 127) ≡ false = grind (arith, nat_tests) in
         piece_of_class Digit bytes e
-        ∙ (ap (λ (p : List ℕ). cond (nat_lt (digits_value 10 p) (2 ^ 127)) (Token Number (prefix_len is_ascii_digit bytes)) (Stop L4 0)) (run_takes_piece is_ascii_digit piece behind is count)
+        ∙ (ap (λ (p : List ℕ). cond (nat_lt (digits_value 10 p) (2 ^ 127)) (Token Number (prefix_len is_ascii_digit bytes)) (Stop L4 0)) (run_takes_piece is_ascii_digit piece after is count)
         ∙ rw test refl)
 
 -- a text in which an offence stands
-text_stops : {bytes : List ℕ} (piece behind : List ℕ) → bytes ≡ piece ++ behind → IsQuoted is_on_line piece → min (bad_escape piece) (utf8_valid_len piece) < length piece
+text_stops : {bytes : List ℕ} (piece after : List ℕ) → bytes ≡ piece ++ after → IsQuoted is_on_line piece → min (bad_escape piece) (utf8_valid_len piece) < length piece
     → piece_at bytes ≡ Stop L1 (min (bad_escape piece) (utf8_valid_len piece))
 unfolding string_checked
-text_stops {bytes} piece behind is x short =
-    let class : class_of (slice_index bytes 0) ≡ Quote = ap (λ (bs : List ℕ). class_of (slice_index bs 0)) (is ∙ ap (λ (p : List ℕ). p ++ behind) x.is) in
-    piece_of_class Quote bytes class ∙ (text_found behind is x ∙ checked_offence (Token Text (length piece)) (min (bad_escape piece) (utf8_valid_len piece)) piece short)
+text_stops {bytes} piece after is x short =
+    let class : class_of (slice_index bytes 0) ≡ Quote = ap (λ (bs : List ℕ). class_of (slice_index bs 0)) (is ∙ ap (λ (p : List ℕ). p ++ after) x.is) in
+    piece_of_class Quote bytes class ∙ (text_found after is x ∙ checked_offence (Token Text (length piece)) (min (bad_escape piece) (utf8_valid_len piece)) piece short)
 
 -- a comment in which one stands
-comment_stops : {bytes : List ℕ} (piece behind : List ℕ) → bytes ≡ piece ++ behind → IsComment piece behind → utf8_valid_len piece < length piece
+comment_stops : {bytes : List ℕ} (piece after : List ℕ) → bytes ≡ piece ++ after → IsComment piece after → utf8_valid_len piece < length piece
     → piece_at bytes ≡ Stop L1 (utf8_valid_len piece)
 unfolding comment_checked
-comment_stops piece behind is x short = comment_found piece behind is x ∙ checked_offence (Blank (length piece)) (utf8_valid_len piece) piece short
+comment_stops piece after is x short = comment_found piece after is x ∙ checked_offence (Blank (length piece)) (utf8_valid_len piece) piece short
 
 -- each offence in front is found, or one before it
 pub offends_found : {place : Place} {bytes : List ℕ} {offence : Offence} → OffendsAt place bytes offence → IsStopped place bytes offence
 offends_found {place} {bytes} (stray_byte x) = stopped_here place bytes L1 (stray_found bytes x)
 offends_found {place} {bytes} (open_comment x) = stopped_here place bytes L2 (open_comment_found bytes x)
 offends_found {place} {bytes} (open_string x) = stopped_here place bytes L3 (open_text_found bytes x)
-offends_found {place} {bytes} (large_number piece behind is x large) = stopped_here place bytes L4 (large_found piece behind is x large)
-offends_found {place} {bytes} (offends_bad_escape piece behind front is x y) =
+offends_found {place} {bytes} (large_number piece after is x large) = stopped_here place bytes L4 (large_found piece after is x large)
+offends_found {place} {bytes} (offends_bad_escape piece after front is x y) =
     let least = bad_found y in
-    stopped_behind place piece behind front (92 ∷ y.byte ∷ y.others) L1 (min (bad_escape piece) (utf8_valid_len piece)) is y.is
-    (text_stops piece behind is x (omega (arith, least.0, least.1))) (omega (arith, least.0))
-offends_found {place} {bytes} (broken_string piece behind front is x y) =
+    stopped_after place piece after front (92 ∷ y.byte ∷ y.others) L1 (min (bad_escape piece) (utf8_valid_len piece)) is y.is
+    (text_stops piece after is x (omega (arith, least.0, least.1))) (omega (arith, least.0))
+offends_found {place} {bytes} (broken_string piece after front is x y) =
     let least = broken_found y in
-    stopped_behind place piece behind front y.behind L1 (min (bad_escape piece) (utf8_valid_len piece)) is y.is
-    (text_stops piece behind is x (omega (arith, least.0, least.1))) (omega (arith, least.0))
-offends_found {place} {bytes} (broken_comment piece behind front is x y) =
+    stopped_after place piece after front y.after L1 (min (bad_escape piece) (utf8_valid_len piece)) is y.is
+    (text_stops piece after is x (omega (arith, least.0, least.1))) (omega (arith, least.0))
+offends_found {place} {bytes} (broken_comment piece after front is x y) =
     let least = broken_found y in
-    stopped_behind place piece behind front y.behind L1 (utf8_valid_len piece) is y.is
-    (comment_stops piece behind is x (omega (arith, least.0, least.1))) (omega (arith, least.0))
+    stopped_after place piece after front y.after L1 (utf8_valid_len piece) is y.is
+    (comment_stops piece after is x (omega (arith, least.0, least.1))) (omega (arith, least.0))

@@ -29,16 +29,16 @@ use Rattle.abs_lexer.proofs.ClassLemmas.FormOf.{word, upper, number}
 
 -- what some bytes begin with
 pub data Describes (bytes : List ℕ) : Piece → Type 0 where
-  white : (byte : ℕ) (behind : List ℕ) → bytes ≡ byte ∷ behind → is_white byte ≡ true → Describes bytes (Blank 1)
-  comment : (piece behind : List ℕ) (count : ℕ) → bytes ≡ piece ++ behind → IsComment piece behind → IsUtf8 piece → count ≡ length piece → Describes bytes (Blank count)
-  token : (kind : Lexeme) (piece behind : List ℕ) (count : ℕ) → bytes ≡ piece ++ behind → opens_comment bytes ≡ false → IsLongest kind piece behind → IsSound kind piece
+  white : (byte : ℕ) (after : List ℕ) → bytes ≡ byte ∷ after → is_white byte ≡ true → Describes bytes (Blank 1)
+  comment : (piece after : List ℕ) (count : ℕ) → bytes ≡ piece ++ after → IsComment piece after → IsUtf8 piece → count ≡ length piece → Describes bytes (Blank count)
+  token : (kind : Lexeme) (piece after : List ℕ) (count : ℕ) → bytes ≡ piece ++ after → opens_comment bytes ≡ false → IsLongest kind piece after → IsSound kind piece
       → count ≡ length piece → Describes bytes (Token kind count)
   offence : (code : Code) (count : ℕ) → ((place : Place) → OffendsAt place bytes (record { code = code; place = place_after place (take count bytes) }))
       → count ≤ length bytes → Describes bytes (Offence code count)
 
 -- a piece in front is the longest token, where each other one in front is no longer
-pub longest_in : {kind : Lexeme} {bytes piece behind : List ℕ} → bytes ≡ piece ++ behind → IsForm kind piece
-    → ((other : Lexeme) (longer more : List ℕ) → bytes ≡ longer ++ more → IsForm other longer → length longer ≤ length piece) → IsLongest kind piece behind
+pub longest_in : {kind : Lexeme} {bytes piece after : List ℕ} → bytes ≡ piece ++ after → IsForm kind piece
+    → ((other : Lexeme) (longer more : List ℕ) → bytes ≡ longer ++ more → IsForm other longer → length longer ≤ length piece) → IsLongest kind piece after
 longest_in is x f = record { form = x; longest = λ other longer more e y. f other longer more (is ∙ e) y }
 
 -- a piece in front whose bytes pass is no longer than the run
@@ -57,7 +57,7 @@ pub name_passes : {is_first : ℕ → Bool} {piece : List ℕ} → ((byte : ℕ)
 name_passes {is_first} {piece} letters x =
     All-same (λ byte. is_word byte ≡ true) piece (x.first ∷ x.others) x.is (All-cons (λ byte. is_word byte ≡ true) x.first x.others (letters x.first x.letter) x.word)
 
--- the run of such bytes behind a letter is a name
+-- the run of such bytes after a letter is a name
 pub name_in_front : (is_first : ℕ → Bool) (byte : ℕ) (others : List ℕ) → is_first byte ≡ true → is_word byte ≡ true
     → IsName is_first (take (prefix_len is_word (byte ∷ others)) (byte ∷ others))
 name_in_front is_first byte others letter passes =

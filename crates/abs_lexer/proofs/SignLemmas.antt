@@ -100,10 +100,10 @@ size_of punctuator.Arrow = long refl refl
 size_of punctuator.Underscore = short refl refl
 
 -- the front of some bytes that begin with a sign
-front_is : {bytes : List ℕ} (p : Punctuator) (piece behind : List ℕ) (size : ℕ) → bytes ≡ piece ++ behind → piece ≡ punctuator_bytes p → length (punctuator_bytes p) ≡ size → take size bytes ≡ punctuator_bytes p
-front_is {bytes} p piece behind size is e sized =
+front_is : {bytes : List ℕ} (p : Punctuator) (piece after : List ℕ) (size : ℕ) → bytes ≡ piece ++ after → piece ≡ punctuator_bytes p → length (punctuator_bytes p) ≡ size → take size bytes ≡ punctuator_bytes p
+front_is {bytes} p piece after size is e sized =
     let size_is : size ≡ length piece = sym sized ∙ ap length (sym e) in
-    ap (λ (n : ℕ). take n bytes) size_is ∙ (ap (λ (bs : List ℕ). take (length piece) bs) is ∙ (take-append_seam piece behind ∙ e))
+    ap (λ (n : ℕ). take n bytes) size_is ∙ (ap (λ (bs : List ℕ). take (length piece) bs) is ∙ (take-append_seam piece after ∙ e))
 
 -- no sign of two bytes stands in front
 abbrev NoLong : List ℕ → Type 0
@@ -114,21 +114,21 @@ none_long None none = refl
 none_long (Some q) none = absurd (none q refl)
 
 -- the longest sign in front is found
-pub sign_is_found : {bytes : List ℕ} (p : Punctuator) (piece behind : List ℕ) → bytes ≡ piece ++ behind → piece ≡ punctuator_bytes p
+pub sign_is_found : {bytes : List ℕ} (p : Punctuator) (piece after : List ℕ) → bytes ≡ piece ++ after → piece ≡ punctuator_bytes p
     → ((q : Punctuator) (more : List ℕ) → bytes ≡ punctuator_bytes q ++ more → length (punctuator_bytes q) ≤ length piece) → punctuator_at bytes ≡ Token (PunctuatorLexeme p) (length piece)
 unfolding punctuator_at
-sign_is_found {bytes} p piece behind is e longest = by (size_of p)
+sign_is_found {bytes} p piece after is e longest = by (size_of p)
   where
     by : SizeOf p → punctuator_piece (long_punctuator (take 2 bytes)) (short_punctuator (take 1 bytes)) ≡ Token (PunctuatorLexeme p) (length piece)
     by (long two known) =
-        let found : long_punctuator (take 2 bytes) ≡ Some p = ap long_punctuator (front_is p piece behind 2 is e two) ∙ known in
+        let found : long_punctuator (take 2 bytes) ≡ Some p = ap long_punctuator (front_is p piece after 2 is e two) ∙ known in
         rw found (ap (λ (n : ℕ). Token (PunctuatorLexeme p) n) (sym (ap length e ∙ two)))
     by (short one known) =
         let none = none_long (long_punctuator (take 2 bytes)) (λ q found.
         let x = long_found (take 2 bytes) q found in
         let few = longest q (drop 2 bytes) (sym (take-append-drop 2 bytes) ∙ ap (λ (f : List ℕ). f ++ drop 2 bytes) (sym x.text)) in
         omega (arith, few, x.size_is, ap length e, one)) in
-        let found : short_punctuator (take 1 bytes) ≡ Some p = ap short_punctuator (front_is p piece behind 1 is e one) ∙ known in
+        let found : short_punctuator (take 1 bytes) ≡ Some p = ap short_punctuator (front_is p piece after 1 is e one) ∙ known in
         rw (none, found) (ap (λ (n : ℕ). Token (PunctuatorLexeme p) n) (sym (ap length e ∙ one)))
 
 -- where a sign stands in front, one is found
@@ -191,11 +191,11 @@ describe_sign byte others class no_comment = by (long_punctuator (take 2 bytes))
           no_white = tests.0;
           no_quote = λ e. false≢true (sym tests.1 ∙ (Decides-eqb byte 34).1 e);
           no_comment = no_comment;
-          no_token = λ kind piece behind e y. let q = signed piece behind e y in not_none bytes q.0 behind (e ∙ ap (λ (f : List ℕ). f ++ behind) q.1) l s;
+          no_token = λ kind piece after e y. let q = signed piece after e y in not_none bytes q.0 after (e ∙ ap (λ (f : List ℕ). f ++ after) q.1) l s;
         })) (omega arith)
 
 -- where no sign stands in front, none is found
-pub no_sign_found : (bytes : List ℕ) → ((p : Punctuator) (behind : List ℕ) → bytes ≡ punctuator_bytes p ++ behind → ⊥) → punctuator_at bytes ≡ Offence L1 0
+pub no_sign_found : (bytes : List ℕ) → ((p : Punctuator) (after : List ℕ) → bytes ≡ punctuator_bytes p ++ after → ⊥) → punctuator_at bytes ≡ Offence L1 0
 unfolding punctuator_at
 no_sign_found bytes none = by (long_punctuator (take 2 bytes)) (short_punctuator (take 1 bytes)) refl refl
   where

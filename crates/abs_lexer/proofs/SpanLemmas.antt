@@ -37,9 +37,9 @@ stands_nearer byte others at stands = record {
   reads = λ j few. let e : suc at + j ≡ suc (at + j) = omega arith in rw e at (stands.reads j few);
 }
 
--- the first place of it, by the test at the first byte and the first place behind that
+-- the first place of it, by the test at the first byte and the first place after that
 found_by : (test : Bool) (byte : ℕ) (others : List ℕ) (found : Option ℕ) → bytes_eq (take 2 (byte ∷ others)) mark ≡ test
-    → FindsNeedle (byte ∷ others) mark 0 found → ((behind : Option ℕ) → FindsNeedle others mark 0 behind → behind ≡ block_end others)
+    → FindsNeedle (byte ∷ others) mark 0 found → ((after : Option ℕ) → FindsNeedle others mark 0 after → after ≡ block_end others)
     → found ≡ cond test (Some 0) (increased_by 1 (block_end others))
 found_by true byte others None e finds more = absurd (finds 0 (omega arith) (omega arith) (stands_by (byte ∷ others) e))
 found_by true byte others (Some zero) e finds more = refl

@@ -6,7 +6,7 @@ use Rattle.std.proofs.lemmas.List.Sums.{fold-append}
 use Rattle.abs_tree.specs.declared.place.Place.{Place}
 use Rattle.abs_tree.specs.declared.refusal.Code.{Code}
 use Rattle.abs_tree.specs.declared.refusal.Offence.{Offence}
-use Rattle.abs_tree.specs.Places.{place_after_byte as behind_byte, place_after}
+use Rattle.abs_tree.specs.Places.{place_after_byte as next_place, place_after}
 use Rattle.abs_lexer.specs.declared.lexeme.Lexeme.{Lexeme}
 use Rattle.abs_lexer.specs.declared.piece.Piece.{Piece}
 use Rattle.abs_lexer.specs.declared.piece.Piece.TheVariants.{Blank, Token, Offence as Stop}
@@ -27,14 +27,14 @@ use Rattle.abs_lexer.proofs.OffenceLemmas.{IsStopped, offends_found}
 
 -- what some bytes begin with
 pub data Step (place : Place) (bytes : List ℕ) : Piece → Type 0 where
-  begins : (found : Piece) (piece behind : List ℕ) (tokens : List Lexed) → bytes ≡ piece ++ behind → Begins place piece behind tokens → Step place bytes found
+  begins : (found : Piece) (piece after : List ℕ) (tokens : List Lexed) → bytes ≡ piece ++ after → Begins place piece after tokens → Step place bytes found
   stops : (code : Code) (count : ℕ) → OffendsAt place bytes (record { code = code; place = place_after place (take count bytes) }) → count ≤ length bytes → Step place bytes (Stop code count)
 
 step_of : (place : Place) (bytes : List ℕ) (found : Piece) → Describes bytes found → Step place bytes found
-step_of place bytes found (describes_white byte behind is w) = begins found (byte ∷ []) behind [] is (white byte refl w)
-step_of place bytes found (describes_comment piece behind count is x valid long) = begins found piece behind [] is (comment x valid)
-step_of place bytes found (describes_token kind piece behind count is unopened x sound long) =
-    begins found piece behind (record { kind = kind; place = place; bytes = piece } ∷ []) is
+step_of place bytes found (describes_white byte after is w) = begins found (byte ∷ []) after [] is (white byte refl w)
+step_of place bytes found (describes_comment piece after count is x valid long) = begins found piece after [] is (comment x valid)
+step_of place bytes found (describes_token kind piece after count is unopened x sound long) =
+    begins found piece after (record { kind = kind; place = place; bytes = piece } ∷ []) is
     (lexeme kind (ap opens_comment (sym is) ∙ unopened) x sound)
 step_of place bytes found (describes_offence code count offends few) = stops code count (offends place) few
 
@@ -50,26 +50,26 @@ form_some (number x e) = x.some
 form_some (text x e) = omega (arith, ap length x.is)
 form_some (sign p is e) = omega (arith, ap length is, sign_some p)
 
-pub comment_some : {piece behind : List ℕ} → IsComment piece behind → 0 < length piece
+pub comment_some : {piece after : List ℕ} → IsComment piece after → 0 < length piece
 comment_some (line inside is h ends) = omega (arith, ap length is)
 comment_some (block inside is none) = omega (arith, ap length is)
 
 -- and so has all that stands in front
-pub begins_some : {place : Place} {piece behind : List ℕ} {tokens : List Lexed} → Begins place piece behind tokens → 0 < length piece
+pub begins_some : {place : Place} {piece after : List ℕ} {tokens : List Lexed} → Begins place piece after tokens → 0 < length piece
 begins_some (white byte is w) = omega (arith, ap length is)
 begins_some (comment x valid) = comment_some x
 begins_some (lexeme kind unopened x sound) = form_some x.form
 
 -- what stands in front is one thing
-pub record SameFront (piece other behind more : List ℕ) (tokens others : List Lexed) : Type 0 where
+pub record SameFront (piece other after more : List ℕ) (tokens others : List Lexed) : Type 0 where
   pub piece_is : piece ≡ other
-  pub behind_is : behind ≡ more
+  pub after_is : after ≡ more
   pub tokens_are : tokens ≡ others
 
 -- two fronts of one length are one
-same_piece : {bytes : List ℕ} (piece other behind more : List ℕ) → bytes ≡ piece ++ behind → bytes ≡ other ++ more → length piece ≡ length other → piece ≡ other
-same_piece {bytes} piece other behind more is e long =
-    sym (take-append_seam piece behind) ∙ (ap (λ (bs : List ℕ). take (length piece) bs) (sym is ∙ e) ∙ (ap (λ (n : ℕ). take n (other ++ more)) long ∙ take-append_seam other more))
+same_piece : {bytes : List ℕ} (piece other after more : List ℕ) → bytes ≡ piece ++ after → bytes ≡ other ++ more → length piece ≡ length other → piece ≡ other
+same_piece {bytes} piece other after more is e long =
+    sym (take-append_seam piece after) ∙ (ap (λ (bs : List ℕ). take (length piece) bs) (sym is ∙ e) ∙ (ap (λ (n : ℕ). take n (other ++ more)) long ∙ take-append_seam other more))
 
 blank_length : (m n : ℕ) → Blank m ≡ Blank n → m ≡ n
 blank_length m n h = cc
@@ -77,25 +77,25 @@ blank_length m n h = cc
 token_parts : (kind other : Lexeme) (m n : ℕ) → Token kind m ≡ Token other n → (kind ≡ other) × (m ≡ n)
 token_parts kind other m n h = (cc, cc)
 
-same_front : {bytes : List ℕ} (piece other behind more : List ℕ) (tokens others : List Lexed) → bytes ≡ piece ++ behind → bytes ≡ other ++ more → length piece ≡ length other
-    → (piece ≡ other → tokens ≡ others) → SameFront piece other behind more tokens others
-same_front piece other behind more tokens others is e long f =
-    let same = same_piece piece other behind more is e long in
-    let rest : piece ++ behind ≡ piece ++ more = sym is ∙ (e ∙ ap (λ (p : List ℕ). p ++ more) (sym same)) in
-    record { piece_is = same; behind_is = append_cancel_left piece behind more rest; tokens_are = f same }
+same_front : {bytes : List ℕ} (piece other after more : List ℕ) (tokens others : List Lexed) → bytes ≡ piece ++ after → bytes ≡ other ++ more → length piece ≡ length other
+    → (piece ≡ other → tokens ≡ others) → SameFront piece other after more tokens others
+same_front piece other after more tokens others is e long f =
+    let same = same_piece piece other after more is e long in
+    let rest : piece ++ after ≡ piece ++ more = sym is ∙ (e ∙ ap (λ (p : List ℕ). p ++ more) (sym same)) in
+    record { piece_is = same; after_is = append_cancel_left piece after more rest; tokens_are = f same }
 
 -- so two readings of it agree
-pub begins_once : {place : Place} {bytes : List ℕ} (piece other behind more : List ℕ) (tokens others : List Lexed) → bytes ≡ piece ++ behind → bytes ≡ other ++ more
-    → Begins place piece behind tokens → Begins place other more others → SameFront piece other behind more tokens others
-begins_once {place} {bytes} piece other behind more tokens others is e x y = by (begins_found piece behind is x) (begins_found other more e y)
+pub begins_once : {place : Place} {bytes : List ℕ} (piece other after more : List ℕ) (tokens others : List Lexed) → bytes ≡ piece ++ after → bytes ≡ other ++ more
+    → Begins place piece after tokens → Begins place other more others → SameFront piece other after more tokens others
+begins_once {place} {bytes} piece other after more tokens others is e x y = by (begins_found piece after is x) (begins_found other more e y)
   where
-    by : IsFoundAs place piece tokens (piece_at bytes) → IsFoundAs place other others (piece_at bytes) → SameFront piece other behind more tokens others
-    by (blank f none) (blank g nor) = same_front piece other behind more tokens others is e (blank_length (length piece) (length other) (sym f ∙ g)) (λ same. none ∙ sym nor)
+    by : IsFoundAs place piece tokens (piece_at bytes) → IsFoundAs place other others (piece_at bytes) → SameFront piece other after more tokens others
+    by (blank f none) (blank g nor) = same_front piece other after more tokens others is e (blank_length (length piece) (length other) (sym f ∙ g)) (λ same. none ∙ sym nor)
     by (blank f none) (token kind g one) = let clash : Blank (length piece) ≡ Token kind (length other) = sym f ∙ g in cc
     by (token kind f one) (blank g none) = let clash : Token kind (length piece) ≡ Blank (length other) = sym f ∙ g in cc
     by (token kind f one) (token kind' g other_one) =
         let parts = token_parts kind kind' (length piece) (length other) (sym f ∙ g) in
-        same_front piece other behind more tokens others is e parts.1
+        same_front piece other after more tokens others is e parts.1
         (λ same. one ∙ (same_token kind kind' piece other parts.0 same ∙ sym other_one))
       where
         same_token : (k l : Lexeme) (p q : List ℕ) → k ≡ l → p ≡ q
@@ -103,22 +103,22 @@ begins_once {place} {bytes} piece other behind more tokens others is e x y = by 
         same_token k l p q e f = rw (e, f) refl
 
 -- where something stands in front, no offence does
-pub begins_or_stops : {place : Place} {bytes : List ℕ} (piece behind : List ℕ) {tokens : List Lexed} {offence : Offence} → bytes ≡ piece ++ behind → Begins place piece behind tokens
+pub begins_or_stops : {place : Place} {bytes : List ℕ} (piece after : List ℕ) {tokens : List Lexed} {offence : Offence} → bytes ≡ piece ++ after → Begins place piece after tokens
     → OffendsAt place bytes offence → ⊥
-begins_or_stops {place} {bytes} piece behind {tokens} {offence} is x y = by (begins_found piece behind is x) (offends_found y)
+begins_or_stops {place} {bytes} piece after {tokens} {offence} is x y = by (begins_found piece after is x) (offends_found y)
   where
     by : IsFoundAs place piece tokens (piece_at bytes) → IsStopped place bytes offence → ⊥
     by (blank f none) s = let clash : Blank (length piece) ≡ Stop offence.code s.count = sym f ∙ s.found in cc
     by (token kind f one) s = let clash : Token kind (length piece) ≡ Stop offence.code s.count = sym f ∙ s.found in cc
 
--- the place behind two pieces
+-- the place after two pieces
 pub place-append : (place : Place) (xs ys : List ℕ) → place_after place (xs ++ ys) ≡ place_after (place_after place xs) ys
-place-append place xs ys = fold-append behind_byte place xs ys
+place-append place xs ys = fold-append next_place place xs ys
 
--- the offset behind some bytes
-pub offset_behind : (place : Place) (bytes : List ℕ) → (place_after place bytes).offset ≡ place.offset + length bytes
-offset_behind place [] = omega arith
-offset_behind place (byte ∷ bytes) = let rest = offset_behind (behind_byte place byte) bytes in omega (arith, rest)
+-- the offset after some bytes
+pub offset_after : (place : Place) (bytes : List ℕ) → (place_after place bytes).offset ≡ place.offset + length bytes
+offset_after place [] = omega arith
+offset_after place (byte ∷ bytes) = let rest = offset_after (next_place place byte) bytes in omega (arith, rest)
 
 stop_parts : (code other : Code) (m n : ℕ) → Stop code m ≡ Stop other n → (code ≡ other) × (m ≡ n)
 stop_parts code other m n h = (cc, cc)
@@ -126,7 +126,7 @@ stop_parts code other m n h = (cc, cc)
 -- the offset of an offence that was found
 stopped_offset : {place : Place} {bytes : List ℕ} {offence : Offence} (x : IsStopped place bytes offence) → offence.place.offset ≡ place.offset + x.front
 stopped_offset {place} {bytes} x =
-    omega (arith, ap (λ (p : Place). p.offset) x.place_is, offset_behind place (take x.front bytes), length_front x.front bytes x.within)
+    omega (arith, ap (λ (p : Place). p.offset) x.place_is, offset_after place (take x.front bytes), length_front x.front bytes x.within)
 
 -- the offence that stops the scanner stands before all others in front
 pub stops_first : {place : Place} {bytes : List ℕ} (code : Code) (count : ℕ) {other : Offence} → piece_at bytes ≡ Stop code count → count ≤ length bytes → OffendsAt place bytes other
@@ -134,7 +134,7 @@ pub stops_first : {place : Place} {bytes : List ℕ} (code : Code) (count : ℕ)
 stops_first {place} {bytes} code count {other} found few y =
     let x = offends_found y in
     let same = stop_parts code other.code count x.count (sym found ∙ x.found) in
-    let here = offset_behind place (take count bytes) in
+    let here = offset_after place (take count bytes) in
     let long = length_front count bytes few in
     omega (arith, here, long, stopped_offset x, same.1, x.least)
 

@@ -28,21 +28,21 @@ pub record IsTaken (place : Place) (bytes : List ℕ) (count : ℕ) (tokens : Li
   pub few : count ≤ length bytes
   pub begins : Begins place (take count bytes) (drop count bytes) tokens
 
-taken_is : {place : Place} {bytes : List ℕ} (piece behind : List ℕ) (count : ℕ) (tokens : List Lexed) → bytes ≡ piece ++ behind → count ≡ length piece → Begins place piece behind tokens
-    → (take count bytes ≡ piece → drop count bytes ≡ behind → Begins place (take count bytes) (drop count bytes) tokens) → IsTaken place bytes count tokens
-taken_is {place} {bytes} piece behind count tokens is long x f =
-    let front : take count bytes ≡ piece = ap (λ (n : ℕ). take n bytes) long ∙ (ap (λ (bs : List ℕ). take (length piece) bs) is ∙ take-append_seam piece behind) in
-    let rest : piece ++ drop count bytes ≡ piece ++ behind = ap (λ (p : List ℕ). p ++ drop count bytes) (sym front) ∙ (take-append-drop count bytes ∙ is) in
-    record { some = omega (arith, long, begins_some x); few = omega (arith, long, ap length is, length-append piece behind); begins = f front (append_cancel_left piece (drop count bytes) behind rest) }
+taken_is : {place : Place} {bytes : List ℕ} (piece after : List ℕ) (count : ℕ) (tokens : List Lexed) → bytes ≡ piece ++ after → count ≡ length piece → Begins place piece after tokens
+    → (take count bytes ≡ piece → drop count bytes ≡ after → Begins place (take count bytes) (drop count bytes) tokens) → IsTaken place bytes count tokens
+taken_is {place} {bytes} piece after count tokens is long x f =
+    let front : take count bytes ≡ piece = ap (λ (n : ℕ). take n bytes) long ∙ (ap (λ (bs : List ℕ). take (length piece) bs) is ∙ take-append_seam piece after) in
+    let rest : piece ++ drop count bytes ≡ piece ++ after = ap (λ (p : List ℕ). p ++ drop count bytes) (sym front) ∙ (take-append-drop count bytes ∙ is) in
+    record { some = omega (arith, long, begins_some x); few = omega (arith, long, ap length is, length-append piece after); begins = f front (append_cancel_left piece (drop count bytes) after rest) }
 
 -- the same with the bytes in front in the place of the piece
-moved : {place : Place} {front rest piece behind : List ℕ} {tokens : List Lexed} → front ≡ piece → rest ≡ behind → Begins place piece behind tokens → Begins place front rest tokens
-moved {place} {front} {rest} {piece} {behind} {tokens} e f x =
+moved : {place : Place} {front rest piece after : List ℕ} {tokens : List Lexed} → front ≡ piece → rest ≡ after → Begins place piece after tokens → Begins place front rest tokens
+moved {place} {front} {rest} {piece} {after} {tokens} e f x =
     subst (λ (p : List ℕ). Begins place p rest tokens) (sym e) (subst (λ (b : List ℕ). Begins place piece b tokens) (sym f) x)
 
 blank_by : {place : Place} {bytes : List ℕ} {count : ℕ} → Describes bytes (Blank count) → IsTaken place bytes count []
-blank_by {place} (describes_white byte behind is w) = taken_is (byte ∷ []) behind 1 [] is refl (white byte refl w) (λ e f. moved e f (white byte refl w))
-blank_by {place} (describes_comment piece behind count is x valid long) = taken_is piece behind count [] is long (comment x valid) (λ e f. moved e f (comment x valid))
+blank_by {place} (describes_white byte after is w) = taken_is (byte ∷ []) after 1 [] is refl (white byte refl w) (λ e f. moved e f (white byte refl w))
+blank_by {place} (describes_comment piece after count is x valid long) = taken_is piece after count [] is long (comment x valid) (λ e f. moved e f (comment x valid))
 
 -- white space or a comment was found
 pub blank_taken : (place : Place) (bytes : List ℕ) (count : ℕ) → 0 < length bytes → Blank count ≡ piece_at bytes → IsTaken place bytes count []
@@ -58,13 +58,13 @@ pub record IsLexed (kind : Lexeme) (place : Place) (bytes : List ℕ) (count : �
   pub well_formed : IsWellFormed (token_at kind place count bytes)
 
 token_by : {kind : Lexeme} {place : Place} {bytes : List ℕ} {count : ℕ} → Describes bytes (Found kind count) → IsLexed kind place bytes count
-token_by {place = place} {bytes} (describes_token kind piece behind count is unopened x sound long) =
-    let begins : Begins place piece behind (record { kind = kind; place = place; bytes = piece } ∷ []) = lexeme kind (ap opens_comment (sym is) ∙ unopened) x sound in
-    let front : take count bytes ≡ piece = ap (λ (n : ℕ). take n bytes) long ∙ (ap (λ (bs : List ℕ). take (length piece) bs) is ∙ take-append_seam piece behind) in
+token_by {place = place} {bytes} (describes_token kind piece after count is unopened x sound long) =
+    let begins : Begins place piece after (record { kind = kind; place = place; bytes = piece } ∷ []) = lexeme kind (ap opens_comment (sym is) ∙ unopened) x sound in
+    let front : take count bytes ≡ piece = ap (λ (n : ℕ). take n bytes) long ∙ (ap (λ (bs : List ℕ). take (length piece) bs) is ∙ take-append_seam piece after) in
     record {
-      taken = taken_is piece behind count (token_at kind place count bytes ∷ []) is long
-          (subst (λ (p : List ℕ). Begins place piece behind (record { kind = kind; place = place; bytes = p } ∷ [])) (sym front) begins)
-          (λ e f. moved e f (subst (λ (p : List ℕ). Begins place piece behind (record { kind = kind; place = place; bytes = p } ∷ [])) (sym front) begins));
+      taken = taken_is piece after count (token_at kind place count bytes ∷ []) is long
+          (subst (λ (p : List ℕ). Begins place piece after (record { kind = kind; place = place; bytes = p } ∷ [])) (sym front) begins)
+          (λ e f. moved e f (subst (λ (p : List ℕ). Begins place piece after (record { kind = kind; place = place; bytes = p } ∷ [])) (sym front) begins));
       well_formed = subst (λ (p : List ℕ). IsWellFormed (record { kind = kind; place = place; bytes = p })) (sym front) (record { form = x.form; sound = sound });
     }
 
@@ -88,7 +88,7 @@ pub stop_refuses : {text : List ℕ} {tokens : List Lexed} (place : Place) (byte
 stop_refuses place bytes code count some lead found =
     leads_first lead (stop_by found (subst (λ (p : Piece). Describes bytes p) (sym found) (describe bytes some))).1 refl
 
--- the cut goes on behind what was taken
+-- the cut goes on after what was taken
 pub leads_on : {text : List ℕ} {tokens : List Lexed} {place : Place} {bytes : List ℕ} {count : ℕ} (front : List Lexed) → Leads text tokens place bytes → IsTaken place bytes count front
     → Leads text (tokens ++ front) (place_after place (take count bytes)) (drop count bytes)
 leads_on {tokens = tokens} {place} {bytes} {count} front lead x =

@@ -37,17 +37,17 @@ not_false false h = refl
 byte_is : (byte other : ℕ) → (byte == other) ≡ true → byte ≡ other
 byte_is byte other h = (Decides-eqb byte other).0 h
 
--- a text that closes is closed behind what stands in it
-pub closing_inside : {inside : List ℕ} (behind : List ℕ) → IsInside is_on_line inside → closing_quote (inside ++ 34 ∷ behind) ≡ Some (length inside)
+-- a text that closes is closed after what stands in it
+pub closing_inside : {inside : List ℕ} (after : List ℕ) → IsInside is_on_line inside → closing_quote (inside ++ 34 ∷ after) ≡ Some (length inside)
 unfolding closing_quote
-closing_inside behind nothing = refl
-closing_inside behind (plain byte others p h) =
+closing_inside after nothing = refl
+closing_inside after (plain byte others p h) =
     let other = is_other byte p in
-    let rest = closing_inside behind h in
+    let rest = closing_inside after h in
     rw (other.quote, other.escape, other.feed, rest) (ap (λ (n : ℕ). Some n) (omega arith))
-closing_inside behind (escaped byte others p h) =
+closing_inside after (escaped byte others p h) =
     let feed = not_true (byte == 10) p in
-    let rest = closing_inside behind h in
+    let rest = closing_inside after h in
     rw (feed, rest) (ap (λ (n : ℕ). Some n) (omega arith))
 
 -- so many more of a number is one, of which it is so many more
@@ -55,16 +55,16 @@ pub further_some : (count : ℕ) (index : Option ℕ) (n : ℕ) → increased_by
 further_some count None n h = cc
 further_some count (Some m) n h = (m, refl, cc)
 
--- a text that closes behind so many bytes
+-- a text that closes after so many bytes
 pub record Closes (bytes : List ℕ) (count : ℕ) : Type 0 where
   pub inside : List ℕ
-  pub behind : List ℕ
-  pub is : bytes ≡ inside ++ 34 ∷ behind
+  pub after : List ℕ
+  pub is : bytes ≡ inside ++ 34 ∷ after
   pub reads : IsInside is_on_line inside
   pub count_is : length inside ≡ count
 
--- the same behind a `\`
-record ClosesBehind (bytes : List ℕ) (count : ℕ) : Type 0 where
+-- the same after a `\`
+record ClosesAfter (bytes : List ℕ) (count : ℕ) : Type 0 where
   byte : ℕ
   others : List ℕ
   is : bytes ≡ byte ∷ others
@@ -74,57 +74,57 @@ record ClosesBehind (bytes : List ℕ) (count : ℕ) : Type 0 where
   count_is : count ≡ 2 + rest
 
 closes_quote : (byte : ℕ) (others : List ℕ) (n : ℕ) → (byte == 34) ≡ true → Some 0 ≡ Some n → Closes (byte ∷ others) n
-closes_quote byte others n q h = record { inside = []; behind = others; is = ap (λ (b : ℕ). b ∷ others) (byte_is byte 34 q); reads = nothing; count_is = cc }
+closes_quote byte others n q h = record { inside = []; after = others; is = ap (λ (b : ℕ). b ∷ others) (byte_is byte 34 q); reads = nothing; count_is = cc }
 
 closes_plain : (byte : ℕ) (others : List ℕ) (m n : ℕ) → is_plain byte ≡ true → Closes others m → n ≡ 1 + m → Closes (byte ∷ others) n
 closes_plain byte others m n p x e = record {
   inside = byte ∷ x.inside;
-  behind = x.behind;
+  after = x.after;
   is = ap (λ (bytes : List ℕ). byte ∷ bytes) x.is;
   reads = plain byte x.inside p x.reads;
   count_is = omega (arith, x.count_is, e);
 }
 
-closes_escaped : (byte : ℕ) (others : List ℕ) (n : ℕ) → (byte == 92) ≡ true → ClosesBehind others n → Closes (byte ∷ others) n
+closes_escaped : (byte : ℕ) (others : List ℕ) (n : ℕ) → (byte == 92) ≡ true → ClosesAfter others n → Closes (byte ∷ others) n
 closes_escaped byte others n e x = record {
   inside = 92 ∷ x.byte ∷ x.closes.inside;
-  behind = x.closes.behind;
+  after = x.closes.after;
   is = ap (λ (b : ℕ). b ∷ others) (byte_is byte 92 e) ∙ ap (λ (bytes : List ℕ). 92 ∷ bytes) (x.is ∙ ap (λ (bytes : List ℕ). x.byte ∷ bytes) x.closes.is);
   reads = escaped x.byte x.closes.inside x.line x.closes.reads;
   count_is = omega (arith, x.closes.count_is, x.count_is);
 }
 
--- by the first byte: a quote closes, a line feed ends the line, a `\` has the next byte behind it, and any other is passed
+-- by the first byte: a quote closes, a line feed ends the line, a `\` has the next byte after it, and any other is passed
 closes_by : (q f e : Bool) (byte : ℕ) (others : List ℕ) (n : ℕ) → (byte == 34) ≡ q → (byte == 10) ≡ f → (byte == 92) ≡ e → closing_quote (byte ∷ others) ≡ Some n
-    → ((m : ℕ) → closing_quote others ≡ Some m → Closes others m) → ((m : ℕ) → closing_after_escape others ≡ Some m → ClosesBehind others m) → Closes (byte ∷ others) n
+    → ((m : ℕ) → closing_quote others ≡ Some m → Closes others m) → ((m : ℕ) → closing_after_escape others ≡ Some m → ClosesAfter others m) → Closes (byte ∷ others) n
 unfolding closing_quote
-closes_by true f e byte others n a b c h reads behind = closes_quote byte others n a (rw a at h)
-closes_by false true e byte others n a b c h reads behind = let h : None ≡ Some n = rw (a, b) at h in cc
-closes_by false false true byte others n a b c h reads behind = closes_escaped byte others n c (behind n (rw (a, b, c) at h))
-closes_by false false false byte others n a b c h reads behind =
+closes_by true f e byte others n a b c h reads after = closes_quote byte others n a (rw a at h)
+closes_by false true e byte others n a b c h reads after = let h : None ≡ Some n = rw (a, b) at h in cc
+closes_by false false true byte others n a b c h reads after = closes_escaped byte others n c (after n (rw (a, b, c) at h))
+closes_by false false false byte others n a b c h reads after =
     let more = further_some 1 (closing_quote others) n (rw (a, b, c) at h) in
     closes_plain byte others more.0 n (other_is byte a c b) (reads more.0 more.1) more.2
 
-behind_by : (f : Bool) (byte : ℕ) (others : List ℕ) (n : ℕ) → (byte == 10) ≡ f → closing_after_escape (byte ∷ others) ≡ Some n
-    → ((m : ℕ) → closing_quote others ≡ Some m → Closes others m) → ClosesBehind (byte ∷ others) n
+after_by : (f : Bool) (byte : ℕ) (others : List ℕ) (n : ℕ) → (byte == 10) ≡ f → closing_after_escape (byte ∷ others) ≡ Some n
+    → ((m : ℕ) → closing_quote others ≡ Some m → Closes others m) → ClosesAfter (byte ∷ others) n
 unfolding closing_quote
-behind_by true byte others n a h reads = let h : None ≡ Some n = rw a at h in cc
-behind_by false byte others n a h reads =
+after_by true byte others n a h reads = let h : None ≡ Some n = rw a at h in cc
+after_by false byte others n a h reads =
     let more = further_some 2 (closing_quote others) n (rw a at h) in
     record { byte = byte; others = others; is = refl; line = not_false (byte == 10) a; rest = more.0; closes = reads more.0 more.1; count_is = more.2 }
 
 mutual
   unfolding closing_quote
 
-  -- where a text closes, it does so behind what stands in it
+  -- where a text closes, it does so after what stands in it
   pub closing_reads : (bytes : List ℕ) (n : ℕ) → closing_quote bytes ≡ Some n → Closes bytes n
   closing_reads [] n h = cc
   closing_reads (byte ∷ others) n h =
-      closes_by (byte == 34) (byte == 10) (byte == 92) byte others n refl refl refl h (λ m x. closing_reads others m x) (λ m x. behind_reads others m x)
+      closes_by (byte == 34) (byte == 10) (byte == 92) byte others n refl refl refl h (λ m x. closing_reads others m x) (λ m x. after_reads others m x)
 
-  behind_reads : (bytes : List ℕ) (n : ℕ) → closing_after_escape bytes ≡ Some n → ClosesBehind bytes n
-  behind_reads [] n h = cc
-  behind_reads (byte ∷ others) n h = behind_by (byte == 10) byte others n refl h (λ m x. closing_reads others m x)
+  after_reads : (bytes : List ℕ) (n : ℕ) → closing_after_escape bytes ≡ Some n → ClosesAfter bytes n
+  after_reads [] n h = cc
+  after_reads (byte ∷ others) n h = after_by (byte == 10) byte others n refl h (λ m x. closing_reads others m x)
 
 -- a byte that is no `\` is passed
 pub bad_step : (byte : ℕ) (others : List ℕ) → (byte == 92) ≡ false → bad_escape (byte ∷ others) ≡ 1 + bad_escape others
@@ -138,11 +138,11 @@ unfolding bad_escape
 bad_least byte others bad nothing = rw bad (omega arith)
 bad_least byte others bad (plain first rest p h) =
     omega (arith, bad_step first (rest ++ 92 ∷ byte ∷ others) (is_other first p).escape, bad_least byte others bad h)
-bad_least byte others bad (escaped next rest p h) = bad_behind (is_escape next) (bad_escape (rest ++ 92 ∷ byte ∷ others)) (length rest) (bad_least byte others bad h)
+bad_least byte others bad (escaped next rest p h) = bad_after (is_escape next) (bad_escape (rest ++ 92 ∷ byte ∷ others)) (length rest) (bad_least byte others bad h)
   where
-    bad_behind : (b : Bool) (m n : ℕ) → m ≤ n → cond b (2 + m) 0 ≤ suc (suc n)
-    bad_behind true m n h = omega arith
-    bad_behind false m n h = omega arith
+    bad_after : (b : Bool) (m n : ℕ) → m ≤ n → cond b (2 + m) 0 ≤ suc (suc n)
+    bad_after true m n h = omega arith
+    bad_after false m n h = omega arith
 
 -- where each escape is one, there is none that is bad
 pub bad_nowhere : {inside : List ℕ} → IsInside is_escape inside → bad_escape (inside ++ 34 ∷ []) ≡ length inside + 1
@@ -153,7 +153,7 @@ bad_nowhere (plain byte others p h) =
     omega (arith, step, bad_nowhere h)
 bad_nowhere (escaped byte others p h) = rw (p, bad_nowhere h) (omega arith)
 
--- What the scan for escapes says of what stands in a text: each is one, or behind this front stands one that is none.
+-- What the scan for escapes says of what stands in a text: each is one, or after this front stands one that is none.
 pub data Judged (inside : List ℕ) : Type 0 where
   good : IsInside is_escape inside → Judged inside
   bad : (front : List ℕ) (byte : ℕ) (others : List ℕ) → inside ≡ front ++ 92 ∷ byte ∷ others → IsInside is_on_line front → is_escape byte ≡ false

@@ -7,12 +7,12 @@ use Rattle.abs_lexer.specs.declared.lexeme.Keyword.{Keyword}
 use Rattle.abs_lexer.specs.Words.{spelling, keyword_among}
 use Rattle.abs_lexer.specs.Scans.{long_punctuator}
 
--- what is found is found, whatever stands behind it
-found_first : (found : Bool) (keyword : Keyword) (behind others : Option Keyword) → cond found (Some keyword) (option_or behind others) ≡ option_or (cond found (Some keyword) behind) others
-found_first true keyword behind others = refl
-found_first false keyword behind others = refl
+-- what is found is found, whatever stands after it
+found_first : (found : Bool) (keyword : Keyword) (after others : Option Keyword) → cond found (Some keyword) (option_or after others) ≡ option_or (cond found (Some keyword) after) others
+found_first true keyword after others = refl
+found_first false keyword after others = refl
 
--- the word of two lists, one behind the other, is that of the first one, or else that of the second
+-- the word of two lists, one after the other, is that of the first one, or else that of the second
 pub keyword_among-append : (xs ys : List Keyword) (word : List ℕ) → keyword_among (xs ++ ys) word ≡ option_or (keyword_among xs word) (keyword_among ys word)
 keyword_among-append [] ys word = refl
 keyword_among-append (x ∷ xs) ys word =

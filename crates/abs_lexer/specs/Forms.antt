@@ -82,9 +82,9 @@ EndsLine (byte ∷ others) = byte ≡ 10
 
 -- the piece occurs nowhere in the bytes
 abbrev pub NowhereIn : List ℕ → List ℕ → Type 0
-NowhereIn bytes piece = (front behind : List ℕ) → bytes ≡ front ++ (piece ++ behind) → ⊥
+NowhereIn bytes piece = (front after : List ℕ) → bytes ≡ front ++ (piece ++ after) → ⊥
 
 -- the piece is a comment, and this follows it
-pub data IsComment (piece behind : List ℕ) : Type 0 where
-  line : (inside : List ℕ) → piece ≡ codes "//" ++ inside → AllPass is_on_line inside → EndsLine behind → IsComment piece behind
-  block : (inside : List ℕ) → piece ≡ codes "/*" ++ (inside ++ codes "*/") → NowhereIn inside (codes "*/") → IsComment piece behind
+pub data IsComment (piece after : List ℕ) : Type 0 where
+  line : (inside : List ℕ) → piece ≡ codes "//" ++ inside → AllPass is_on_line inside → EndsLine after → IsComment piece after
+  block : (inside : List ℕ) → piece ≡ codes "/*" ++ (inside ++ codes "*/") → NowhereIn inside (codes "*/") → IsComment piece after

@@ -29,19 +29,19 @@ pub record IsStray (bytes : List ℕ) : Type 0 where
   pub no_white : is_white byte ≡ false
   pub no_quote : byte ≡ 34 → ⊥
   pub no_comment : opens_comment bytes ≡ false
-  pub no_token : (kind : Lexeme) (piece behind : List ℕ) → bytes ≡ piece ++ behind → IsForm kind piece → ⊥
+  pub no_token : (kind : Lexeme) (piece after : List ℕ) → bytes ≡ piece ++ after → IsForm kind piece → ⊥
 
 -- The bytes begin with a comment that does not end.
 pub record IsOpenComment (bytes : List ℕ) : Type 0 where
   pub inside : List ℕ
   pub is : bytes ≡ codes "/*" ++ inside
-  pub endless : (piece behind : List ℕ) → bytes ≡ piece ++ behind → IsComment piece behind → ⊥
+  pub endless : (piece after : List ℕ) → bytes ≡ piece ++ after → IsComment piece after → ⊥
 
 -- The bytes begin with a string that does not end on its line.
 pub record IsOpenString (bytes : List ℕ) : Type 0 where
   pub inside : List ℕ
   pub is : bytes ≡ 34 ∷ inside
-  pub endless : (piece behind : List ℕ) → bytes ≡ piece ++ behind → IsQuoted is_on_line piece → ⊥
+  pub endless : (piece after : List ℕ) → bytes ≡ piece ++ after → IsQuoted is_on_line piece → ⊥
 
 -- after this prefix of a string comes a `\` that begins no escape
 pub record IsBadEscape (piece front : List ℕ) : Type 0 where
@@ -55,8 +55,8 @@ pub record IsBadEscape (piece front : List ℕ) : Type 0 where
 
 -- this prefix of a piece is the longest one that is UTF-8
 pub record IsBroken (piece front : List ℕ) : Type 0 where
-  pub behind : List ℕ
-  pub is : piece ≡ front ++ behind
+  pub after : List ℕ
+  pub is : piece ≡ front ++ after
   pub longest : IsValidUpTo piece (length front)
 
 -- the offences of the first piece of the bytes, which begin at this place
@@ -64,20 +64,20 @@ pub data OffendsAt (place : Place) (bytes : List ℕ) : Offence → Type 0 where
   stray_byte : IsStray bytes → OffendsAt place bytes (record { code = L1; place = place })
   open_comment : IsOpenComment bytes → OffendsAt place bytes (record { code = L2; place = place })
   open_string : IsOpenString bytes → OffendsAt place bytes (record { code = L3; place = place })
-  large_number : (piece behind : List ℕ) → bytes ≡ piece ++ behind → IsLongest Number piece behind → 2 ^ 127 ≤ digits_value 10 piece
+  large_number : (piece after : List ℕ) → bytes ≡ piece ++ after → IsLongest Number piece after → 2 ^ 127 ≤ digits_value 10 piece
       → OffendsAt place bytes (record { code = L4; place = place })
-  bad_escape : (piece behind front : List ℕ) → bytes ≡ piece ++ behind → IsQuoted is_on_line piece → IsBadEscape piece front
+  bad_escape : (piece after front : List ℕ) → bytes ≡ piece ++ after → IsQuoted is_on_line piece → IsBadEscape piece front
       → OffendsAt place bytes (record { code = L1; place = place_after place front })
-  broken_string : (piece behind front : List ℕ) → bytes ≡ piece ++ behind → IsQuoted is_on_line piece → IsBroken piece front
+  broken_string : (piece after front : List ℕ) → bytes ≡ piece ++ after → IsQuoted is_on_line piece → IsBroken piece front
       → OffendsAt place bytes (record { code = L1; place = place_after place front })
-  broken_comment : (piece behind front : List ℕ) → bytes ≡ piece ++ behind → IsComment piece behind → IsBroken piece front
+  broken_comment : (piece after front : List ℕ) → bytes ≡ piece ++ after → IsComment piece after → IsBroken piece front
       → OffendsAt place bytes (record { code = L1; place = place_after place front })
 
 -- the offences of bytes that begin at this place: those of the first piece, or, if it has none, those of the rest
 pub data Offends : Place → List ℕ → Offence → Type 0 where
   here : (place : Place) (bytes : List ℕ) (offence : Offence) → OffendsAt place bytes offence → Offends place bytes offence
-  later : (place : Place) (bytes piece behind : List ℕ) (front : List Lexed) (offence : Offence) → bytes ≡ piece ++ behind → Begins place piece behind front
-      → Offends (place_after place piece) behind offence → Offends place bytes offence
+  later : (place : Place) (bytes piece after : List ℕ) (front : List Lexed) (offence : Offence) → bytes ≡ piece ++ after → Begins place piece after front
+      → Offends (place_after place piece) after offence → Offends place bytes offence
 
 -- an offence of a source, and none comes before it
 pub record IsFirstLexical (source : List ℕ) (offence : Offence) : Type 0 where

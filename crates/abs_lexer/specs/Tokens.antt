@@ -26,9 +26,9 @@ pub record TokenList : Type 0 where
   pub end : Place
 
 -- The piece has the form of a token, and it is the longest prefix of the bytes that has one.
-pub record IsLongest (kind : Lexeme) (piece behind : List ℕ) : Type 0 where
+pub record IsLongest (kind : Lexeme) (piece after : List ℕ) : Type 0 where
   pub form : IsForm kind piece
-  pub longest : (other : Lexeme) (longer more : List ℕ) → piece ++ behind ≡ longer ++ more → IsForm other longer → length longer ≤ length piece
+  pub longest : (other : Lexeme) (longer more : List ℕ) → piece ++ after ≡ longer ++ more → IsForm other longer → length longer ≤ length piece
 
 -- A number has at most 127 bits. A string is UTF-8, and each `\` in it begins an escape.
 abbrev pub IsSound : Lexeme → List ℕ → Type 0
@@ -41,17 +41,17 @@ IsSound Foreign piece = ⊤
 IsSound (PunctuatorLexeme punctuator) piece = ⊤
 
 -- The first piece of the bytes at a place, and what follows it: white space or a comment, which give no token, or a token.
-pub data Begins (place : Place) (piece behind : List ℕ) : List Lexed → Type 0 where
-  white : (byte : ℕ) → piece ≡ byte ∷ [] → is_white byte ≡ true → Begins place piece behind []
-  comment : IsComment piece behind → IsUtf8 piece → Begins place piece behind []
-  lexeme : (kind : Lexeme) → opens_comment (piece ++ behind) ≡ false → IsLongest kind piece behind → IsSound kind piece
-      → Begins place piece behind (record { kind = kind; place = place; bytes = piece } ∷ [])
+pub data Begins (place : Place) (piece after : List ℕ) : List Lexed → Type 0 where
+  white : (byte : ℕ) → piece ≡ byte ∷ [] → is_white byte ≡ true → Begins place piece after []
+  comment : IsComment piece after → IsUtf8 piece → Begins place piece after []
+  lexeme : (kind : Lexeme) → opens_comment (piece ++ after) ≡ false → IsLongest kind piece after → IsSound kind piece
+      → Begins place piece after (record { kind = kind; place = place; bytes = piece } ∷ [])
 
 -- the tokens of the bytes, which begin at this place
 pub data Lexes : Place → List ℕ → List Lexed → Type 0 where
   end : (place : Place) (bytes : List ℕ) → bytes ≡ [] → Lexes place bytes []
-  more : (place : Place) (bytes piece behind : List ℕ) (front others tokens : List Lexed) → bytes ≡ piece ++ behind → Begins place piece behind front
-      → Lexes (place_after place piece) behind others → tokens ≡ front ++ others → Lexes place bytes tokens
+  more : (place : Place) (bytes piece after : List ℕ) (front others tokens : List Lexed) → bytes ≡ piece ++ after → Begins place piece after front
+      → Lexes (place_after place piece) after others → tokens ≡ front ++ others → Lexes place bytes tokens
 
 -- the list of a source's tokens
 pub record TokensOf (source : List ℕ) (list : TokenList) : Type 0 where
@@ -61,8 +61,8 @@ pub record TokensOf (source : List ℕ) (list : TokenList) : Type 0 where
 -- a token is the piece of the source at its place
 pub record IsPieceAt (source : List ℕ) (token : Lexed) : Type 0 where
   pub front : List ℕ
-  pub behind : List ℕ
-  pub is : source ≡ front ++ (token.bytes ++ behind)
+  pub after : List ℕ
+  pub is : source ≡ front ++ (token.bytes ++ after)
   pub place : token.place ≡ place_after start front
 
 -- Tokens that are not empty, between these offsets. Each begins where the one before it ends, or later.

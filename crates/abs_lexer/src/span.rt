@@ -59,12 +59,12 @@ pub(crate) fn closing_quote(bytes: &[u8]) -> Option<usize>
             b'"' => return Some(count),
             b'\n' => return None,
             b'\\' => {
-                let (escaped, behind) = others.split_first()?;
+                let (escaped, after) = others.split_first()?;
                 if *escaped == b'\n' {
                     return None;
                 }
                 count += 2;
-                rest = behind;
+                rest = after;
             }
             _ => {
                 count += 1;
@@ -84,12 +84,12 @@ pub(crate) fn bad_escape(bytes: &[u8]) -> usize
     let mut rest = bytes;
     while let Some((byte, others)) = rest.split_first() {
         match others.split_first() {
-            Some((escaped, behind)) if *byte == b'\\' => {
+            Some((escaped, after)) if *byte == b'\\' => {
                 if !matches!(escaped, b'n' | b't' | b'r' | b'"' | b'\\') {
                     return count;
                 }
                 count += 2;
-                rest = behind;
+                rest = after;
             }
             _ => {
                 count += 1;

@@ -23,18 +23,18 @@ nothing_right [] ys e = e
 nothing_right (x ∷ xs) ys e = absurd (cc)
 
 -- the first element that passes, after those of which none does
-behind_by : (here behind : Bool) (k m : ℕ) → (behind ≡ false → k ≡ m) → (here || behind) ≡ false → cond (not here) (1 + k) 0 ≡ 1 + m
-behind_by true behind k m same none = cc
-behind_by false behind k m same none = ap (λ (n : ℕ). 1 + n) (same none)
+after_by : (here after : Bool) (k m : ℕ) → (after ≡ false → k ≡ m) → (here || after) ≡ false → cond (not here) (1 + k) 0 ≡ 1 + m
+after_by true after k m same none = cc
+after_by false after k m same none = ap (λ (n : ℕ). 1 + n) (same none)
 
 first_by : (here : Bool) (k : ℕ) → here ≡ true → cond (not here) (1 + k) 0 ≡ 0
 first_by true k passes = refl
 first_by false k passes = cc
 
-place_behind : (p : ℕ → Bool) (xs : List ℕ) (y : ℕ) → list_any p xs ≡ false → p y ≡ true → position_or_len p (xs ++ y ∷ []) ≡ length xs
-place_behind p [] y none passes = first_by (p y) 0 passes
-place_behind p (x ∷ xs) y none passes =
-    behind_by (p x) (list_any p xs) _ (length xs) (λ rest. place_behind p xs y rest passes) none ∙ omega arith
+place_at_end : (p : ℕ → Bool) (xs : List ℕ) (y : ℕ) → list_any p xs ≡ false → p y ≡ true → position_or_len p (xs ++ y ∷ []) ≡ length xs
+place_at_end p [] y none passes = first_by (p y) 0 passes
+place_at_end p (x ∷ xs) y none passes =
+    after_by (p x) (list_any p xs) _ (length xs) (λ rest. place_at_end p xs y rest passes) none ∙ omega arith
 
 -- What a declaration makes of a scope where it is no offence.
 record IsNext (scope : List ℕ) (symbol : Symbol) : Type 0 where
@@ -51,7 +51,7 @@ next_by scope symbol place true known none =
     let found : offence ∷ [] ≡ [] = rw known at none in absurd (cc)
 next_by scope symbol place false new none = record {
   longer = rw new (length-append scope (symbol.0 ∷ []));
-  slot = rw new (place_behind (nat_eq symbol.0) scope symbol.0 new (same_number symbol.0));
+  slot = rw new (place_at_end (nat_eq symbol.0) scope symbol.0 new (same_number symbol.0));
 }
 
 -- the slots of the declarations of some statements, and the scope after them

@@ -2,7 +2,7 @@
 -- is refused; for lists, for parts up to a closing token, and for each nonterminal.
 pub mod StepLemmas
 pub mod PatternSteps
-pub mod WordSteps
+pub mod KeywordSteps
 pub mod InFrontSteps
 pub mod ListSteps
 pub mod ListLemmas
@@ -22,11 +22,11 @@ pub mod PreambleSteps
 pub mod MemberSteps
 pub mod ClassSteps
 pub mod DeclarationListSteps
-pub mod WordStatementSteps
+pub mod KeywordStatementSteps
 pub mod LocalSteps
 pub mod RestSteps
 pub mod FirstSteps
 pub mod StatementSteps
 pub mod BlockSteps
-pub mod WordLemmas
+pub mod WrittenLemmas
 pub mod WholeSteps

@@ -1,8 +1,8 @@
--- What statements begin with: the variable or the field, as a place, as what a value goes to, as an expression with the arguments behind it,
+-- What statements begin with: the variable or the field, as a place, as what a value goes to, as an expression with the arguments after it,
 -- and as the statement that it begins; the tokens that begin another statement than a right side; and what was read of a block.
 --
 --   `place_of_first`, `target_of`, `phrase_of`         the variable or the field
---   `after_first`                                      the statement that it begins, by what stands behind it
+--   `after_first`                                      the statement that it begins, by what stands after it
 --   `begins_another`                                   the tokens that begin another statement
 --   `IsBlock`                                          what was read of a block
 use Rattle.std.specs.Prelude.{◌≡◌, ℕ, Bool, true, false, List, Option}

@@ -2,10 +2,10 @@
 --
 --   `nonterminal_of`, `operand_nonterminal`, `tail_nonterminal`       the nonterminals of a precedence, of its operands, and of an operator with its right operand
 --   `rank`, `looser`                                   the order of the precedences
---   `repeats`, `rest_of`                               whether a further operator may follow, and so what stands behind the first operand
+--   `repeats`, `rest_of`                               whether a further operator may follow, and so what stands after the first operand
 --   `precedence_in`, `operand_in`, `operands_in`               the trees of what was read as these
---   `precedence_of`, `sign_of`                              the precedence of an operator, and how it is written
---   `prefix_sign`                                      how an operator before an operand is written
+--   `precedence_of`, `punctuator_of`                              the precedence of an operator, and how it is written
+--   `prefix_punctuator`                                      how an operator before an operand is written
 use Rattle.std.specs.Prelude.{ℕ, Bool, true, false}
 use Rattle.abs_tree.specs.Syntax.{Phrase, Operands}
 use Rattle.abs_tree.specs.declared.syntax.expression.Operator.{Operator}
@@ -69,7 +69,7 @@ repeats precedence.Equal = false
 repeats precedence.Compare = false
 repeats _ = true
 
--- what stands behind the first operand
+-- what stands after the first operand
 abbrev pub rest_of : Precedence → Goal
 rest_of precedence.Or = Repeated OrTail
 rest_of precedence.And = Repeated AndTail
@@ -96,7 +96,7 @@ operand_in precedence.Compare = sum_in
 operand_in precedence.Sum = mul_in
 operand_in precedence.Mul = unary_in
 
--- the operators behind the first operand
+-- the operators after the first operand
 abbrev pub operands_in : Precedence → Forest → Operands
 operands_in precedence.Or = or_operands
 operands_in precedence.And = and_operands
@@ -121,23 +121,23 @@ precedence_of operator.Divide = precedence.Mul
 precedence_of operator.Remainder = precedence.Mul
 
 -- how an operator is written
-abbrev pub sign_of : Operator → Punctuator
-sign_of operator.Or = punctuator.Or
-sign_of operator.And = punctuator.And
-sign_of operator.Equal = punctuator.Equal
-sign_of operator.NotEqual = punctuator.NotEqual
-sign_of operator.Less = punctuator.Less
-sign_of operator.LessEqual = punctuator.LessEqual
-sign_of operator.Greater = punctuator.Greater
-sign_of operator.GreaterEqual = punctuator.GreaterEqual
-sign_of operator.Plus = punctuator.Plus
-sign_of operator.Minus = punctuator.Minus
-sign_of operator.Times = punctuator.Star
-sign_of operator.Divide = punctuator.Slash
-sign_of operator.Remainder = punctuator.Percent
+abbrev pub punctuator_of : Operator → Punctuator
+punctuator_of operator.Or = punctuator.Or
+punctuator_of operator.And = punctuator.And
+punctuator_of operator.Equal = punctuator.Equal
+punctuator_of operator.NotEqual = punctuator.NotEqual
+punctuator_of operator.Less = punctuator.Less
+punctuator_of operator.LessEqual = punctuator.LessEqual
+punctuator_of operator.Greater = punctuator.Greater
+punctuator_of operator.GreaterEqual = punctuator.GreaterEqual
+punctuator_of operator.Plus = punctuator.Plus
+punctuator_of operator.Minus = punctuator.Minus
+punctuator_of operator.Times = punctuator.Star
+punctuator_of operator.Divide = punctuator.Slash
+punctuator_of operator.Remainder = punctuator.Percent
 
 -- how an operator before an operand is written
-abbrev pub prefix_sign : Prefix → Punctuator
-prefix_sign prefix.Not = punctuator.Not
-prefix_sign prefix.Tilde = punctuator.Tilde
-prefix_sign prefix.Minus = punctuator.Minus
+abbrev pub prefix_punctuator : Prefix → Punctuator
+prefix_punctuator prefix.Not = punctuator.Not
+prefix_punctuator prefix.Tilde = punctuator.Tilde
+prefix_punctuator prefix.Minus = punctuator.Minus

@@ -90,11 +90,11 @@ pub data Item : Type 0 where
   Many : Nonterminal → Item
   Inside : ℕ → Item → Item
 
-abbrev pub word : Keyword → Item
-word keyword = Of (KeywordKind keyword)
+abbrev pub reserved : Keyword → Item
+reserved keyword = Of (KeywordKind keyword)
 
-abbrev pub sign : Punctuator → Item
-sign punctuator = Of (PunctuatorKind punctuator)
+abbrev pub punctuation : Punctuator → Item
+punctuation punctuator = Of (PunctuatorKind punctuator)
 
 abbrev pub lower : Item
 lower = Of LowerName
@@ -103,37 +103,37 @@ abbrev pub upper : Item
 upper = Of UpperName
 
 abbrev pub dot : Item
-dot = sign punctuator.Dot
+dot = punctuation punctuator.Dot
 
 abbrev pub comma : Item
-comma = sign punctuator.Comma
+comma = punctuation punctuator.Comma
 
 abbrev pub semicolon : Item
-semicolon = sign punctuator.Semicolon
+semicolon = punctuation punctuator.Semicolon
 
 abbrev pub equals : Item
-equals = sign punctuator.Assign
+equals = punctuation punctuator.Assign
 
 abbrev pub open_paren : Item
-open_paren = sign punctuator.OpenParen
+open_paren = punctuation punctuator.OpenParen
 
 abbrev pub close_paren : Item
-close_paren = sign punctuator.CloseParen
+close_paren = punctuation punctuator.CloseParen
 
 abbrev pub open_brace : Item
-open_brace = sign punctuator.OpenBrace
+open_brace = punctuation punctuator.OpenBrace
 
 abbrev pub close_brace : Item
-close_brace = sign punctuator.CloseBrace
+close_brace = punctuation punctuator.CloseBrace
 
 abbrev pub rule : Nonterminal → List (List Item)
 -- Program = [Module] [Import] {Decl} Block End
 rule Program = (Opt Module ∷ Opt Import ∷ Many Decl ∷ Part Block ∷ Of End ∷ []) ∷ []
 -- Module = "module" Path ";"
-rule Module = (word keyword.Module ∷ Part Path ∷ semicolon ∷ []) ∷ []
+rule Module = (reserved keyword.Module ∷ Part Path ∷ semicolon ∷ []) ∷ []
 -- Import = "import" "*" "from" "ABS" "." "StdLib" ";"
 rule Import =
-    (word keyword.Import ∷ sign punctuator.Star ∷ word keyword.From ∷ Of AbsName ∷ dot ∷ Of StdLibName ∷ semicolon ∷ []) ∷ []
+    (reserved keyword.Import ∷ punctuation punctuator.Star ∷ reserved keyword.From ∷ Of AbsName ∷ dot ∷ Of StdLibName ∷ semicolon ∷ []) ∷ []
 -- Path = UName {"." UName}
 rule Path = (upper ∷ Many DotName ∷ []) ∷ []
 rule DotName = (dot ∷ upper ∷ []) ∷ []
@@ -142,24 +142,24 @@ rule DotName = (dot ∷ upper ∷ []) ∷ []
 --      | "interface" UName ["extends" UName {"," UName}] "{" {Signature} "}"
 --      | "class" UName ["(" [Params] ")"] ["implements" UName {"," UName}] "{" {Member} "}"
 rule Decl =
-    (word keyword.Data ∷ upper ∷ Opt TypeParameters ∷ equals ∷ Part Constructor ∷ Many NextConstructor ∷ semicolon ∷ [])
-    ∷ (word keyword.Def ∷ Part Type' ∷ lower ∷ Opt TypeParameters ∷ open_paren ∷ Opt Params ∷ close_paren ∷ equals ∷ Part Expr ∷ semicolon ∷ [])
-    ∷ (word keyword.Interface ∷ upper ∷ Opt Extends ∷ open_brace ∷ Many Signature ∷ close_brace ∷ [])
-    ∷ (word keyword.Class ∷ upper ∷ Opt ClassParameters ∷ Opt Implements ∷ open_brace ∷ Many Member ∷ close_brace ∷ [])
+    (reserved keyword.Data ∷ upper ∷ Opt TypeParameters ∷ equals ∷ Part Constructor ∷ Many NextConstructor ∷ semicolon ∷ [])
+    ∷ (reserved keyword.Def ∷ Part Type' ∷ lower ∷ Opt TypeParameters ∷ open_paren ∷ Opt Params ∷ close_paren ∷ equals ∷ Part Expr ∷ semicolon ∷ [])
+    ∷ (reserved keyword.Interface ∷ upper ∷ Opt Extends ∷ open_brace ∷ Many Signature ∷ close_brace ∷ [])
+    ∷ (reserved keyword.Class ∷ upper ∷ Opt ClassParameters ∷ Opt Implements ∷ open_brace ∷ Many Member ∷ close_brace ∷ [])
     ∷ []
 -- Constructor = UName ["(" [Type {"," Type}] ")"]
 rule Constructor = (upper ∷ Opt ConstructorTypes ∷ []) ∷ []
-rule NextConstructor = (sign punctuator.Bar ∷ Part Constructor ∷ []) ∷ []
+rule NextConstructor = (punctuation punctuator.Bar ∷ Part Constructor ∷ []) ∷ []
 rule ConstructorTypes = (open_paren ∷ Opt Types ∷ close_paren ∷ []) ∷ []
 -- TypeParameters = "<" UName {"," UName} ">"
-rule TypeParameters = (sign punctuator.Less ∷ upper ∷ Many CommaUpper ∷ sign punctuator.Greater ∷ []) ∷ []
+rule TypeParameters = (punctuation punctuator.Less ∷ upper ∷ Many CommaUpper ∷ punctuation punctuator.Greater ∷ []) ∷ []
 rule CommaUpper = (comma ∷ upper ∷ []) ∷ []
 -- Params = Type LName {"," Type LName}
 rule Params = (Part Param ∷ Many CommaParam ∷ []) ∷ []
 rule Param = (Part Type' ∷ lower ∷ []) ∷ []
 rule CommaParam = (comma ∷ Part Param ∷ []) ∷ []
-rule Extends = (word keyword.Extends ∷ upper ∷ Many CommaUpper ∷ []) ∷ []
-rule Implements = (word keyword.Implements ∷ upper ∷ Many CommaUpper ∷ []) ∷ []
+rule Extends = (reserved keyword.Extends ∷ upper ∷ Many CommaUpper ∷ []) ∷ []
+rule Implements = (reserved keyword.Implements ∷ upper ∷ Many CommaUpper ∷ []) ∷ []
 rule ClassParameters = (open_paren ∷ Opt Params ∷ close_paren ∷ []) ∷ []
 -- Signature = Type LName "(" [Params] ")" ";"
 rule Signature = (Part Type' ∷ lower ∷ open_paren ∷ Opt Params ∷ close_paren ∷ semicolon ∷ []) ∷ []
@@ -172,7 +172,7 @@ rule MemberTail =
     ∷ []
 -- Type = UName ["<" Type {"," Type} ">"]
 rule Type' = (upper ∷ Opt TypeArguments ∷ []) ∷ []
-rule TypeArguments = (sign punctuator.Less ∷ Part Types ∷ sign punctuator.Greater ∷ []) ∷ []
+rule TypeArguments = (punctuation punctuator.Less ∷ Part Types ∷ punctuation punctuator.Greater ∷ []) ∷ []
 rule Types = (Part Type' ∷ Many CommaType ∷ []) ∷ []
 rule CommaType = (comma ∷ Part Type' ∷ []) ∷ []
 -- Block = "{" {Stmt} "}"
@@ -180,30 +180,30 @@ rule Block = (open_brace ∷ Many Stmt ∷ close_brace ∷ []) ∷ []
 -- Stmt = Block | "skip" ";" | "suspend" ";" | "await" Guard ";" | "return" Expr ";" | "println" "(" Expr ")" ";"
 --      | "if" "(" Expr ")" Stmt ["else" Stmt] | "while" "(" Expr ")" Stmt
 --      | Type LName ["=" Rhs] ";" | Rhs ["=" Rhs] ";"
--- The second "=" may stand only behind a variable, or "this" "." and a field, without parentheses. So what begins with a variable or
+-- The second "=" may stand only after a variable, or "this" "." and a field, without parentheses. So what begins with a variable or
 -- with "this" goes on as AfterName or AfterThis say. The variable stands in an Expr and a Unary all the same: it is part of a Rhs.
 rule Stmt =
     (Part Block ∷ [])
-    ∷ (word keyword.Skip ∷ semicolon ∷ [])
-    ∷ (word keyword.Suspend ∷ semicolon ∷ [])
-    ∷ (word keyword.Await ∷ Part Guard ∷ semicolon ∷ [])
-    ∷ (word keyword.Return ∷ Part Expr ∷ semicolon ∷ [])
-    ∷ (word keyword.Println ∷ open_paren ∷ Part Expr ∷ close_paren ∷ semicolon ∷ [])
-    ∷ (word keyword.If ∷ open_paren ∷ Part Expr ∷ close_paren ∷ Part Stmt ∷ Opt Else ∷ [])
-    ∷ (word keyword.While ∷ open_paren ∷ Part Expr ∷ close_paren ∷ Part Stmt ∷ [])
+    ∷ (reserved keyword.Skip ∷ semicolon ∷ [])
+    ∷ (reserved keyword.Suspend ∷ semicolon ∷ [])
+    ∷ (reserved keyword.Await ∷ Part Guard ∷ semicolon ∷ [])
+    ∷ (reserved keyword.Return ∷ Part Expr ∷ semicolon ∷ [])
+    ∷ (reserved keyword.Println ∷ open_paren ∷ Part Expr ∷ close_paren ∷ semicolon ∷ [])
+    ∷ (reserved keyword.If ∷ open_paren ∷ Part Expr ∷ close_paren ∷ Part Stmt ∷ Opt Else ∷ [])
+    ∷ (reserved keyword.While ∷ open_paren ∷ Part Expr ∷ close_paren ∷ Part Stmt ∷ [])
     ∷ (Part Type' ∷ lower ∷ Opt Initial ∷ semicolon ∷ [])
     ∷ (Inside 2 lower ∷ Part AfterName ∷ [])
-    ∷ (Inside 2 (word keyword.This) ∷ Part AfterThis ∷ [])
+    ∷ (Inside 2 (reserved keyword.This) ∷ Part AfterThis ∷ [])
     ∷ (Part Rhs ∷ semicolon ∷ [])
     ∷ []
-rule Else = (word keyword.Else ∷ Part Stmt ∷ []) ∷ []
+rule Else = (reserved keyword.Else ∷ Part Stmt ∷ []) ∷ []
 rule Initial = (equals ∷ Part Rhs ∷ []) ∷ []
--- behind the variable or the field of a statement: "=" Rhs ";", or the rest of a Rhs that begins with it
+-- after the variable or the field of a statement: "=" Rhs ";", or the rest of a Rhs that begins with it
 rule AfterName =
     (equals ∷ Part Rhs ∷ semicolon ∷ [])
     ∷ (Inside 2 (Opt Arguments) ∷ Part Rest ∷ [])
     ∷ []
--- behind the "this" of a statement: "." and a field or a call, or the rest of a Rhs
+-- after the "this" of a statement: "." and a field or a call, or the rest of a Rhs
 rule AfterThis =
     (Inside 2 dot ∷ Inside 2 lower ∷ Part AfterName ∷ [])
     ∷ (Part Rest ∷ [])
@@ -215,64 +215,64 @@ rule Rest =
     ∷ []
 -- Guard = Test {"&&" Test}
 rule Guard = (Part Test ∷ Many AndTest ∷ []) ∷ []
-rule AndTest = (sign punctuator.And ∷ Part Test ∷ []) ∷ []
+rule AndTest = (punctuation punctuator.And ∷ Part Test ∷ []) ∷ []
 -- Test = Equal ["?"]
 rule Test = (Part Equal ∷ Opt Question ∷ []) ∷ []
-rule Question = (sign punctuator.Question ∷ []) ∷ []
+rule Question = (punctuation punctuator.Question ∷ []) ∷ []
 -- Rhs = "new" ["cog" | "local"] UName "(" [Args] ")"
 --     | Expr ["!" LName "(" [Args] ")" | "." ("get" | LName "(" [Args] ")")]
 rule Rhs =
-    (word keyword.New ∷ Opt Where ∷ upper ∷ Part Arguments ∷ [])
+    (reserved keyword.New ∷ Opt Where ∷ upper ∷ Part Arguments ∷ [])
     ∷ (Part Expr ∷ Opt RhsTail ∷ [])
     ∷ []
-rule Where = (word keyword.Cog ∷ []) ∷ (Of LocalName ∷ []) ∷ []
+rule Where = (reserved keyword.Cog ∷ []) ∷ (Of LocalName ∷ []) ∷ []
 rule RhsTail =
-    (sign punctuator.Not ∷ lower ∷ Part Arguments ∷ [])
+    (punctuation punctuator.Not ∷ lower ∷ Part Arguments ∷ [])
     ∷ (dot ∷ Part Selected ∷ [])
     ∷ []
-rule Selected = (word keyword.Get ∷ []) ∷ (lower ∷ Part Arguments ∷ []) ∷ []
+rule Selected = (reserved keyword.Get ∷ []) ∷ (lower ∷ Part Arguments ∷ []) ∷ []
 -- Args = Expr {"," Expr}
 rule Arguments = (open_paren ∷ Opt Args ∷ close_paren ∷ []) ∷ []
 rule Args = (Part Expr ∷ Many CommaExpr ∷ []) ∷ []
 rule CommaExpr = (comma ∷ Part Expr ∷ []) ∷ []
 -- Expr = "let" "(" Type LName ")" "=" Expr "in" Expr | "if" Expr "then" Expr "else" Expr | Or
 rule Expr =
-    (word keyword.Let ∷ open_paren ∷ Part Type' ∷ lower ∷ close_paren ∷ equals ∷ Part Expr ∷ word keyword.In ∷ Part Expr ∷ [])
-    ∷ (word keyword.If ∷ Part Expr ∷ word keyword.Then ∷ Part Expr ∷ word keyword.Else ∷ Part Expr ∷ [])
+    (reserved keyword.Let ∷ open_paren ∷ Part Type' ∷ lower ∷ close_paren ∷ equals ∷ Part Expr ∷ reserved keyword.In ∷ Part Expr ∷ [])
+    ∷ (reserved keyword.If ∷ Part Expr ∷ reserved keyword.Then ∷ Part Expr ∷ reserved keyword.Else ∷ Part Expr ∷ [])
     ∷ (Part Or ∷ [])
     ∷ []
 -- Or = And {"||" And}
 rule Or = (Part And ∷ Many OrTail ∷ []) ∷ []
-rule OrTail = (sign punctuator.Or ∷ Part And ∷ []) ∷ []
+rule OrTail = (punctuation punctuator.Or ∷ Part And ∷ []) ∷ []
 -- And = Equal {"&&" Equal}
 rule And = (Part Equal ∷ Many AndTail ∷ []) ∷ []
-rule AndTail = (sign punctuator.And ∷ Part Equal ∷ []) ∷ []
+rule AndTail = (punctuation punctuator.And ∷ Part Equal ∷ []) ∷ []
 -- Equal = Compare [("==" | "!=") Compare]
 rule Equal = (Part Compare ∷ Opt EqualTail ∷ []) ∷ []
-rule EqualTail = (sign punctuator.Equal ∷ Part Compare ∷ []) ∷ (sign punctuator.NotEqual ∷ Part Compare ∷ []) ∷ []
+rule EqualTail = (punctuation punctuator.Equal ∷ Part Compare ∷ []) ∷ (punctuation punctuator.NotEqual ∷ Part Compare ∷ []) ∷ []
 -- Compare = Sum [("<" | "<=" | ">" | ">=") Sum]
 rule Compare = (Part Sum ∷ Opt CompareTail ∷ []) ∷ []
 rule CompareTail =
-    (sign punctuator.Less ∷ Part Sum ∷ [])
-    ∷ (sign punctuator.LessEqual ∷ Part Sum ∷ [])
-    ∷ (sign punctuator.Greater ∷ Part Sum ∷ [])
-    ∷ (sign punctuator.GreaterEqual ∷ Part Sum ∷ [])
+    (punctuation punctuator.Less ∷ Part Sum ∷ [])
+    ∷ (punctuation punctuator.LessEqual ∷ Part Sum ∷ [])
+    ∷ (punctuation punctuator.Greater ∷ Part Sum ∷ [])
+    ∷ (punctuation punctuator.GreaterEqual ∷ Part Sum ∷ [])
     ∷ []
 -- Sum = Mul {("+" | "-") Mul}
 rule Sum = (Part Mul ∷ Many SumTail ∷ []) ∷ []
-rule SumTail = (sign punctuator.Plus ∷ Part Mul ∷ []) ∷ (sign punctuator.Minus ∷ Part Mul ∷ []) ∷ []
+rule SumTail = (punctuation punctuator.Plus ∷ Part Mul ∷ []) ∷ (punctuation punctuator.Minus ∷ Part Mul ∷ []) ∷ []
 -- Mul = Unary {("*" | "/" | "%") Unary}
 rule Mul = (Part Unary ∷ Many MulTail ∷ []) ∷ []
 rule MulTail =
-    (sign punctuator.Star ∷ Part Unary ∷ [])
-    ∷ (sign punctuator.Slash ∷ Part Unary ∷ [])
-    ∷ (sign punctuator.Percent ∷ Part Unary ∷ [])
+    (punctuation punctuator.Star ∷ Part Unary ∷ [])
+    ∷ (punctuation punctuator.Slash ∷ Part Unary ∷ [])
+    ∷ (punctuation punctuator.Percent ∷ Part Unary ∷ [])
     ∷ []
 -- Unary = ("!" | "~" | "-") Unary | Primary
 rule Unary =
-    (sign punctuator.Not ∷ Part Unary ∷ [])
-    ∷ (sign punctuator.Tilde ∷ Part Unary ∷ [])
-    ∷ (sign punctuator.Minus ∷ Part Unary ∷ [])
+    (punctuation punctuator.Not ∷ Part Unary ∷ [])
+    ∷ (punctuation punctuator.Tilde ∷ Part Unary ∷ [])
+    ∷ (punctuation punctuator.Minus ∷ Part Unary ∷ [])
     ∷ (Part Primary ∷ [])
     ∷ []
 -- Primary = INT | TEXT | "null" | "destiny" | "this" ["." LName ["(" [Args] ")"]] | LName ["(" [Args] ")"] | UName ["(" [Args] ")"]
@@ -280,22 +280,22 @@ rule Unary =
 rule Primary =
     (Of Number ∷ [])
     ∷ (Of Text ∷ [])
-    ∷ (word keyword.Null ∷ [])
-    ∷ (word keyword.Destiny ∷ [])
-    ∷ (word keyword.This ∷ Opt ThisTail ∷ [])
+    ∷ (reserved keyword.Null ∷ [])
+    ∷ (reserved keyword.Destiny ∷ [])
+    ∷ (reserved keyword.This ∷ Opt ThisTail ∷ [])
     ∷ (lower ∷ Opt Arguments ∷ [])
     ∷ (upper ∷ Opt Arguments ∷ [])
-    ∷ (word keyword.Case ∷ Part Expr ∷ open_brace ∷ Part Branch ∷ Many Branch ∷ close_brace ∷ [])
+    ∷ (reserved keyword.Case ∷ Part Expr ∷ open_brace ∷ Part Branch ∷ Many Branch ∷ close_brace ∷ [])
     ∷ (open_paren ∷ Part Expr ∷ close_paren ∷ [])
     ∷ []
 rule ThisTail = (dot ∷ lower ∷ Opt Arguments ∷ []) ∷ []
 -- Branch = Pattern "=>" Expr ";"
-rule Branch = (Part Pattern ∷ sign punctuator.Arrow ∷ Part Expr ∷ semicolon ∷ []) ∷ []
+rule Branch = (Part Pattern ∷ punctuation punctuator.Arrow ∷ Part Expr ∷ semicolon ∷ []) ∷ []
 -- Pattern = "_" | LName | ["-"] INT | TEXT | UName ["(" [Pattern {"," Pattern}] ")"]
 rule Pattern =
-    (sign punctuator.Underscore ∷ [])
+    (punctuation punctuator.Underscore ∷ [])
     ∷ (lower ∷ [])
-    ∷ (sign punctuator.Minus ∷ Of Number ∷ [])
+    ∷ (punctuation punctuator.Minus ∷ Of Number ∷ [])
     ∷ (Of Number ∷ [])
     ∷ (Of Text ∷ [])
     ∷ (upper ∷ Opt PatternArguments ∷ [])
@@ -313,13 +313,13 @@ counts Type' = true
 counts Pattern = true
 counts _ = false
 
--- whether an item may begin with a token of a kind, given which nonterminals may, and whether what stands behind the item may
+-- whether an item may begin with a token of a kind, given which nonterminals may, and whether what stands after the item may
 abbrev item_begins : (Nonterminal → TokenKind → Bool) → Item → TokenKind → Bool → Bool
-item_begins first (Of asked) kind behind = fits asked kind
-item_begins first (Part nonterminal) kind behind = first nonterminal kind
-item_begins first (Opt nonterminal) kind behind = first nonterminal kind || behind
-item_begins first (Many nonterminal) kind behind = first nonterminal kind || behind
-item_begins first (Inside more item) kind behind = item_begins first item kind behind
+item_begins first (Of asked) kind after = fits asked kind
+item_begins first (Part nonterminal) kind after = first nonterminal kind
+item_begins first (Opt nonterminal) kind after = first nonterminal kind || after
+item_begins first (Many nonterminal) kind after = first nonterminal kind || after
+item_begins first (Inside more item) kind after = item_begins first item kind after
 
 abbrev pub items_begin : (Nonterminal → TokenKind → Bool) → List Item → TokenKind → Bool
 items_begin first [] kind = false

@@ -32,7 +32,7 @@ use Rattle.abs_parser.specs.Tokens.{Spot, place_of, TakesToken}
 use Rattle.abs_parser.specs.TreesOf.{written}
 use Rattle.abs_tree.specs.declared.source_error.SourceError.{SourceError}
 
--- the tokens that are left at a spot, and the end behind them
+-- the tokens that are left at a spot, and the end after them
 abbrev pub left_at : Spot → List Mark
 left_at spot = map Token spot.rest ++ TextEnd spot.end ∷ []
 
@@ -48,8 +48,8 @@ name_first _ name others = others
 -- the names in what was read, in their order, before others
 abbrev pub names_before : Forest → List (List ℕ) → List (List ℕ)
 names_before Empty others = others
-names_before (Leaf mark depth behind) others = name_first (token_kind mark) (written mark) (names_before behind others)
-names_before (Node goal inside behind) others = names_before inside (names_before behind others)
+names_before (Leaf mark depth after) others = name_first (token_kind mark) (written mark) (names_before after others)
+names_before (Node goal inside after) others = names_before inside (names_before after others)
 
 -- the kind of the grammar that a kind of token is asked for by
 abbrev pub asked : Lexeme → TokenKind
@@ -80,12 +80,12 @@ refusal_at code spot = refusal_of (record { code = code; place = place_of spot }
 abbrev pub wrong_at : Spot → Refusal
 wrong_at spot = refusal_at (wrong_code (next (left_at spot))) spot
 
--- This token, of this kind, is the next one at `from`, and behind it is `to`.
+-- This token, of this kind, is the next one at `from`, and after it is `to`.
 pub record TakesKind (kind : Lexeme) (token : Lexed) (from to : Spot) : Type 0 where
   pub kind_is : token.kind ≡ kind
   pub takes : TakesToken token from to
 
--- This token, which is this name with a spelling of its own, is the next one at `from`, and behind it is `to`.
+-- This token, which is this name with a spelling of its own, is the next one at `from`, and after it is `to`.
 pub record TakesFixed (name : FixedName) (token : Lexed) (from to : Spot) : Type 0 where
   pub kind_is : token_kind (Token token) ≡ fixed_kind name
   pub takes : TakesToken token from to
@@ -101,7 +101,7 @@ maybe_phrases names None = None
 maybe_phrases names (Some arguments) = Some (phrases names arguments.items)
 
 -- A part that stands in this number of counted nonterminals was read, no token in it is too deep, the table of names goes on with its names, and
--- what was read is so, whatever names come to the table behind them.
+-- what was read is so, whatever names come to the table after them.
 pub record FoundAs (goal : Goal) (depth : ℕ) (old new : List (List ℕ)) (from to : Spot) (is_read : List (List ℕ) → Forest → Type 0) : Type 0 where
   pub inside : Forest
   pub inner : List Wanted
@@ -114,9 +114,9 @@ pub record FoundAs (goal : Goal) (depth : ℕ) (old new : List (List ℕ)) (from
 -- what is wanted is refused at a token, with its code and its place
 pub record RefusedAt (items : List Wanted) (ts : List Mark) (refusal : Refusal) : Type 0 where
   pub mark : Mark
-  pub behind : List Mark
+  pub after : List Mark
   pub code : Code
-  pub refuses : Refuses items ts (mark ∷ behind) code
+  pub refuses : Refuses items ts (mark ∷ after) code
   pub refusal_is : refusal ≡ refusal_of (record { code = code; place = place_of_mark mark })
 
 abbrev pub RefusedAs : List Wanted → List Mark → SourceError → Type 0

@@ -11,7 +11,7 @@ use Rattle.abs_parser.specs.Stops.{limit, wrong_code}
 
 -- What is wanted, at these tokens, is refused where the other list begins. That list is empty where the first one was cut off.
 pub data Refuses : List Wanted → List Mark → List Mark → Code → Type 0 where
-  Behind : {mark : Mark} {ts : List Mark} {code : Code} → code ≡ wrong_code (token_kind mark) → Refuses [] (mark ∷ ts) (mark ∷ ts) code
+  Beyond : {mark : Mark} {ts : List Mark} {code : Code} → code ≡ wrong_code (token_kind mark) → Refuses [] (mark ∷ ts) (mark ∷ ts) code
   Other : {kind : TokenKind} {depth : ℕ} {items : List Wanted} {mark : Mark} {ts : List Mark} {code : Code}
       → fits kind (token_kind mark) ≡ false → code ≡ wrong_code (token_kind mark) → Refuses (Terminal kind depth ∷ items) (mark ∷ ts) (mark ∷ ts) code
   Below : {kind : TokenKind} {depth : ℕ} {items : List Wanted} {mark : Mark} {ts : List Mark}

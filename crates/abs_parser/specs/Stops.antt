@@ -18,19 +18,19 @@ limit = nesting_limit
 
 -- a token is deep: some list that is read as a program begins with those before it and it, and there it stands in more
 pub record IsDeep (before : List Mark) (mark : Mark) : Type 0 where
-  pub behind : List Mark
+  pub after : List Mark
   pub forest : Forest
-  pub reads : IsProgram (before ++ mark ∷ behind) forest
+  pub reads : IsProgram (before ++ mark ∷ after) forest
   pub depths_before : List ℕ
   pub depth : ℕ
-  pub depths_behind : List ℕ
-  pub are : depths forest ≡ depths_before ++ depth ∷ depths_behind
+  pub depths_after : List ℕ
+  pub are : depths forest ≡ depths_before ++ depth ∷ depths_after
   pub place : length depths_before ≡ length before
   pub deep : limit < depth
 
 -- it is wrong: no list that is read as a program begins so
 abbrev pub IsWrong : List Mark → Mark → Type 0
-IsWrong before mark = (behind : List Mark) (forest : Forest) → IsProgram (before ++ mark ∷ behind) forest → ⊥
+IsWrong before mark = (after : List Mark) (forest : Forest) → IsProgram (before ++ mark ∷ after) forest → ⊥
 
 -- the code of a wrong token: a word outside the profile has its own
 abbrev pub wrong_code : TokenKind → Code
@@ -44,8 +44,8 @@ pub data RefusedBy (before : List Mark) (mark : Mark) : Code → Type 0 where
 
 -- the list stops at a token, with this code: it is the first that is deep or wrong
 pub record StopsAt (ts before : List Mark) (mark : Mark) (code : Code) : Type 0 where
-  pub behind : List Mark
-  pub is : ts ≡ before ++ mark ∷ behind
+  pub after : List Mark
+  pub is : ts ≡ before ++ mark ∷ after
   pub refused : RefusedBy before mark code
   pub not_wrong : (front others : List Mark) (other : Mark) → before ≡ front ++ other ∷ others → IsWrong front other → ⊥
   pub not_deep : (front others : List Mark) (other : Mark) → before ≡ front ++ other ∷ others → IsDeep front other → ⊥

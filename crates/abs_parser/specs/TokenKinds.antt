@@ -1,7 +1,7 @@
--- What the grammar tells apart in a source: its tokens by their kinds, and its end, which is a token behind the last byte.
+-- What the grammar tells apart in a source: its tokens by their kinds, and its end, which is a token after the last byte.
 -- Three words are names with a source of their own: `local`, `ABS` and `StdLib`. Each is a kind, and stands where a name may, too.
 --
---   `Mark`, `marks`                                    the tokens of a source, and its end behind them
+--   `Mark`, `marks`                                    the tokens of a source, and its end after them
 --   `place_of_mark`                                    where a token stands
 --   `TokenKind`, `token_kind`                                  what the grammar tells apart, and which of it a token is
 --   `fits`                                             which kind may stand where one is asked for
@@ -21,7 +21,7 @@ pub data Mark : Type 0 where
   Token : Lexed → Mark
   TextEnd : Place → Mark
 
--- the tokens of a source, and its end behind them
+-- the tokens of a source, and its end after them
 abbrev pub marks : TokenList → List Mark
 marks list = map Token list.tokens ++ TextEnd list.end ∷ []
 
@@ -75,7 +75,7 @@ fits (PunctuatorKind asked) (PunctuatorKind punctuator) = bytes_eq (punctuator_b
 fits End End = true
 fits _ _ = false
 
--- the kind of the next token; behind the end there is none, which no alternative asks for
+-- the kind of the next token; after the end there is none, which no alternative asks for
 abbrev pub next : List Mark → TokenKind
 next [] = Foreign
 next (mark ∷ others) = token_kind mark

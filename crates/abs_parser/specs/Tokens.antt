@@ -3,7 +3,7 @@ use Rattle.std.specs.Prelude.{◌≡◌, List, [], ◌∷◌}
 use Rattle.abs_tree.specs.declared.place.Place.{Place}
 use Rattle.abs_lexer.specs.Tokens.{Lexed, TokenList}
 
--- the tokens that are left, and the place behind the source
+-- the tokens that are left, and the place after the source
 pub record Spot : Type 0 where
   pub rest : List Lexed
   pub end : Place
@@ -20,7 +20,7 @@ place_in (token ∷ others) end = token.place
 abbrev pub place_of : Spot → Place
 place_of spot = place_in spot.rest spot.end
 
--- This token is the next one at `from`, and behind it is `to`.
+-- This token is the next one at `from`, and after it is `to`.
 pub record TakesToken (token : Lexed) (from to : Spot) : Type 0 where
   pub rest : from.rest ≡ token ∷ to.rest
   pub end : to.end ≡ from.end

@@ -4,8 +4,8 @@
 --   `type_in`                                          types
 --   `pattern_in`                                       patterns
 --   `expr_in`, `or_in` .. `mul_in`, `unary_in`, `primary_in`  expressions, by the precedences of their operators
---   `named`, `member`, `built`                         names with the arguments behind them, or without
---   `rhs_in`, `rest_in`                                right sides, from their beginning or behind the first operand
+--   `named`, `member`, `built`                         names with the arguments after them, or without
+--   `rhs_in`, `rest_in`                                right sides, from their beginning or after the first operand
 --   `guard_in`                                         guards
 --   `statement_in`, `block_in`                         statements
 --   `decls_in`, `members_in`                           declarations and members
@@ -49,9 +49,9 @@ number_of mark = digits_value 10 (written mark)
 
 -- the place of the first token that was read
 abbrev pub first_place : Forest → Place → Place
-first_place Empty behind = behind
-first_place (Leaf mark depth others) behind = place_of_mark mark
-first_place (Node goal inside others) behind = first_place inside (first_place others behind)
+first_place Empty after = after
+first_place (Leaf mark depth others) after = place_of_mark mark
+first_place (Node goal inside others) after = first_place inside (first_place others after)
 
 abbrev pub place_in : Forest → Place
 place_in forest = first_place forest start
@@ -68,7 +68,7 @@ abbrev mutual
   type_arguments (Node _ (Leaf less _ (Node _ types _)) others) = types_in types
   type_arguments _ = NoType
 
-  -- a type, and others behind commas
+  -- a type, and others after commas
   pub types_in : Forest → TypeTrees
   types_in (Node _ first (Node _ others _)) = NextType (type_in first) (more_types others)
   types_in _ = NoType
@@ -147,7 +147,7 @@ abbrev pub named : Place → Name → Option Phrases → Phrase
 named place name None = VariableOf place (Unresolved name)
 named place name (Some arguments) = ApplyOf place name arguments
 
--- the same behind "this" and ".": a method, and a field
+-- the same after "this" and ".": a method, and a field
 abbrev pub member : Place → Place → Name → Option Phrases → Phrase
 member place name_place name None = FieldOf place name_place name
 member place name_place name (Some arguments) = OwnCallOf place name arguments
@@ -160,9 +160,9 @@ built place name (Some arguments) = BuildOf place name arguments
 abbrev mutual
   -- Expr
   pub expr_in : Forest → Phrase
-  expr_in (Leaf mark _ (Leaf opening _ (Node _ type (Leaf name _ (Leaf closing _ (Leaf equals _ (Node _ value (Leaf in_word _ (Node _ body _))))))))) =
+  expr_in (Leaf mark _ (Leaf opening _ (Node _ type (Leaf name _ (Leaf closing _ (Leaf equals _ (Node _ value (Leaf in_token _ (Node _ body _))))))))) =
       LetIn (place_of_mark mark) (type_in type) (place_of_mark name) (Unresolved (written name)) (expr_in value) (expr_in body)
-  expr_in (Leaf mark _ (Node _ test (Leaf then_word _ (Node _ first (Leaf else_word _ (Node _ second _)))))) =
+  expr_in (Leaf mark _ (Node _ test (Leaf then_token _ (Node _ first (Leaf else_token _ (Node _ second _)))))) =
       IfElse (place_of_mark mark) (expr_in test) (expr_in first) (expr_in second)
   expr_in (Node _ or _) = or_in or
   expr_in _ = NullOf start
@@ -243,7 +243,7 @@ abbrev mutual
   primary_by (PunctuatorKind punctuator.OpenParen) mark (Node _ inside _) = expr_in inside
   primary_by _ mark others = NullOf (place_of_mark mark)
 
-  -- behind "this": perhaps ".", a name, and perhaps arguments
+  -- after "this": perhaps ".", a name, and perhaps arguments
   pub this_in : Place → Forest → Phrase
   this_in place (Node _ (Leaf dot _ (Leaf name _ (Node _ arguments _))) _) = member place (place_of_mark name) (written name) (arguments_maybe arguments)
   this_in place _ = ThisOf place
@@ -291,13 +291,13 @@ abbrev pub mode_in : Forest → Mode
 mode_in (Node _ (Leaf mark _ _) _) = mode_by (token_kind mark) (place_of_mark mark)
 mode_in _ = mode.Plain
 
--- behind the ".": "get", or a name and arguments, whose call has its receiver before them
+-- after the ".": "get", or a name and arguments, whose call has its receiver before them
 abbrev pub selected_in : Place → Phrase → Forest → SideTree
 selected_in place first (Leaf name _ (Node _ arguments _)) = CallOf place (written name) (NextPhrase first (arguments_in arguments)) None
 selected_in place first (Leaf get _ _) = GetOf place (place_of_mark get) first
 selected_in place first _ = ValueOf place first
 
--- behind an expression: perhaps "!", a name and arguments; perhaps "."
+-- after an expression: perhaps "!", a name and arguments; perhaps "."
 abbrev pub tail_in : Place → Phrase → Forest → SideTree
 tail_in place first (Node _ (Leaf bang _ (Leaf name _ (Node _ arguments _))) _) = SendOf place (written name) (NextPhrase first (arguments_in arguments))
 tail_in place first (Node _ (Leaf dot _ (Node _ selected _)) _) = selected_in place first selected
@@ -346,13 +346,13 @@ abbrev pub initial_in : Forest → MaybeSide
 initial_in (Node _ (Leaf equals _ (Node _ rhs _)) _) = SomeSide (rhs_in rhs)
 initial_in _ = NoSide
 
--- behind a variable that begins a statement: "=" and a right side, or the rest of one; the statement has this index
+-- after a variable that begins a statement: "=" and a right side, or the rest of one; the statement has this index
 abbrev pub after_variable : ℕ → Place → Name → Forest → Statement
 after_variable index place name (Leaf equals _ (Node _ rhs _)) = AssignOf index place (ToVariable place (Unresolved name)) (rhs_in rhs)
 after_variable index place name (Node _ arguments (Node _ rest _)) = DoOf index place (rest_in place (named place name (arguments_maybe arguments)) rest)
 after_variable index place name _ = SkipOf index place
 
--- the same behind "this", "." and a name
+-- the same after "this", "." and a name
 abbrev pub after_field : ℕ → Place → Place → Name → Forest → Statement
 after_field index place name_place name (Leaf equals _ (Node _ rhs _)) = AssignOf index place (ToField place name_place name) (rhs_in rhs)
 after_field index place name_place name (Node _ arguments (Node _ rest _)) =
@@ -421,12 +421,12 @@ block_end _ = start
 abbrev pub declared : Mark → DeclaredTree
 declared mark = record { place = place_of_mark mark; name = written mark }
 
--- names behind commas
+-- names after commas
 abbrev pub more_names : Forest → List DeclaredTree
 more_names (Node _ (Leaf comma _ (Leaf name _ _)) (Node _ others _)) = declared name ∷ more_names others
 more_names _ = []
 
--- perhaps a word or a sign, a name, and others behind commas
+-- perhaps a word or a sign, a name, and others after commas
 abbrev pub names_maybe : Forest → List DeclaredTree
 names_maybe (Node _ (Leaf first _ (Leaf name _ (Node _ others _))) _) = declared name ∷ more_names others
 names_maybe _ = []
@@ -440,7 +440,7 @@ abbrev pub more_params : Forest → List ParamTree
 more_params (Node _ (Leaf comma _ (Node _ param _)) (Node _ others _)) = param_in param (more_params others)
 more_params _ = []
 
--- a parameter, and others behind commas
+-- a parameter, and others after commas
 abbrev pub params_in : Forest → List ParamTree
 params_in (Node _ first (Node _ others _)) = param_in first (more_params others)
 params_in _ = []
@@ -484,7 +484,7 @@ abbrev pub signatures_in : Forest → List SignatureTree
 signatures_in (Node _ signature (Node _ others _)) = signature_in signature (signatures_in others)
 signatures_in _ = []
 
--- behind the type and the name of a member: ";", a value, or parameters and a body, whose first statement has this index
+-- after the type and the name of a member: ";", a value, or parameters and a body, whose first statement has this index
 abbrev pub member_by : ℕ → TypeTree → DeclaredTree → Forest → MemberTree
 member_by index type name (Leaf opening _ (Node _ params (Leaf closing _ (Node _ block _)))) =
     MethodTree (record { result = type; name = name; params = params_maybe params }) (block_end block) (block_in index block)

@@ -60,11 +60,11 @@ pub(crate) fn arguments<'a, 'b>(
         (λ names inside. phrases names found.0.items ≡ arguments_in inside)) }
     ensures refused { IfErr result (λ error. IsRefused (Subgoal (One Arguments) depth) (spot from.entry) error) }
 {
-    let (_, behind) = from.take(Lexeme::Punctuator(Punctuator::OpenParen), depth)?;
-    if let Some((_, end)) = behind.accept(Lexeme::Punctuator(Punctuator::CloseParen)) {
+    let (_, after) = from.take(Lexeme::Punctuator(Punctuator::OpenParen), depth)?;
+    if let Some((_, end)) = after.accept(Lexeme::Punctuator(Punctuator::CloseParen)) {
         return Ok((Vec::new(alloc), end));
     }
-    let (expressions, close) = expressions(alloc, symbols, depth, behind)?;
+    let (expressions, close) = expressions(alloc, symbols, depth, after)?;
     let (_, end) = close.take(Lexeme::Punctuator(Punctuator::CloseParen), depth)?;
     Ok((expressions, end))
 }
@@ -86,8 +86,8 @@ fn expressions<'a, 'b>(
 {
     let (first, mut here) = expression(alloc, symbols, depth, from)?;
     let mut expressions = vec![in alloc; first]?;
-    while let Some((_, behind)) = here.accept(Lexeme::Punctuator(Punctuator::Comma)) {
-        let (next, end) = expression(alloc, symbols, depth, behind)?;
+    while let Some((_, after)) = here.accept(Lexeme::Punctuator(Punctuator::Comma)) {
+        let (next, end) = expression(alloc, symbols, depth, after)?;
         expressions.push(next)?;
         here = end;
     }

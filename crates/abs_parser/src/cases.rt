@@ -39,7 +39,7 @@ pub(crate) fn case_primary<'a, 'b>(
         (λ names inside. phrase names found.0 ≡ primary_in inside)) }
     ensures refused { IfErr result (λ error. IsRefused (Subgoal (One Primary) depth) (spot from.entry) error) }
 {
-    let (word, subject_at) = from.take(Lexeme::Keyword(Keyword::Case), depth)?;
+    let (token, subject_at) = from.take(Lexeme::Keyword(Keyword::Case), depth)?;
     let (subject, open) = expression(alloc, symbols, depth, subject_at)?;
     let (_, first_at) = open.take(Lexeme::Punctuator(Punctuator::OpenBrace), depth)?;
     let (first, mut here) = branch(alloc, symbols, depth, first_at)?;
@@ -52,7 +52,7 @@ pub(crate) fn case_primary<'a, 'b>(
     let (_, end) = here.take(Lexeme::Punctuator(Punctuator::CloseBrace), depth)?;
     let subject = Box::new(alloc, subject)?;
     let expr = Expr::Case {
-        place: word.place,
+        place: token.place,
         subject,
         branches,
     };

@@ -46,26 +46,26 @@ pub(crate) fn class<'a, 'b>(
     ensures few { IfOk result (λ found. found.1 + length (spot found.2).rest ≤ index + length (spot from.entry).rest) }
     ensures refused { IfErr result (λ error. IsRefused (Subgoal (One DeclSymbol) 0) (spot from.entry) error) }
 {
-    let (word, name_at) = from.take(Lexeme::Keyword(Keyword::Class), 0)?;
-    let (name, behind) = name_at.take(Lexeme::UpperName, 0)?;
+    let (token, name_at) = from.take(Lexeme::Keyword(Keyword::Class), 0)?;
+    let (name, after) = name_at.take(Lexeme::UpperName, 0)?;
     let declared = Declared {
         place: name.place,
         name: symbols.intern(name.slice)?,
     };
-    let (params, heading) = class_parameters(alloc, symbols, behind)?;
+    let (params, heading) = class_parameters(alloc, symbols, after)?;
     let (implemented, open) = interface_names(alloc, symbols, Heading::Implements, heading)?;
     let (_, mut here) = open.take(Lexeme::Punctuator(Punctuator::OpenBrace), 0)?;
     let mut members = Vec::new(alloc);
     let mut free = index;
     while !here.is(Lexeme::Punctuator(Punctuator::CloseBrace)) {
-        let (next, behind, end) = member(alloc, symbols, free, here)?;
+        let (next, after, end) = member(alloc, symbols, free, here)?;
         members.push(next)?;
-        free = behind;
+        free = after;
         here = end;
     }
     let (_, end) = here.take(Lexeme::Punctuator(Punctuator::CloseBrace), 0)?;
     let decl = Decl::Class {
-        place: word.place,
+        place: token.place,
         name: declared,
         params,
         implemented,
@@ -94,12 +94,12 @@ fn member<'a, 'b>(
     ensures refused { IfErr result (λ error. IsRefused (Subgoal (One MemberSymbol) 0) (spot from.entry) error) }
 {
     let (type_of, name_at) = type_term(alloc, symbols, 0, from)?;
-    let (name, behind) = name_at.take(Lexeme::LowerName, 0)?;
+    let (name, after) = name_at.take(Lexeme::LowerName, 0)?;
     let declared = Declared {
         place: name.place,
         name: symbols.intern(name.slice)?,
     };
-    member_tail(alloc, symbols, index, type_of, declared, behind)
+    member_tail(alloc, symbols, index, type_of, declared, after)
 }
 
 /// What follows the type and the name of a member: `;`, a value, or parameters and a block.
@@ -144,11 +144,11 @@ fn member_tail<'a, 'b>(
     let (_, inside) = from.take(Lexeme::Punctuator(Punctuator::OpenParen), 0)?;
     let (params, close) = params_maybe(alloc, symbols, inside)?;
     let (_, block_at) = close.take(Lexeme::Punctuator(Punctuator::CloseParen), 0)?;
-    let (body, behind, end) = block(alloc, symbols, index, 0, block_at)?;
+    let (body, after, end) = block(alloc, symbols, index, 0, block_at)?;
     let signature = Signature {
         result: type_of,
         name,
         params,
     };
-    Ok((Member::Method(signature, body), behind, end))
+    Ok((Member::Method(signature, body), after, end))
 }

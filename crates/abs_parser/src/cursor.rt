@@ -63,11 +63,11 @@ impl<'a, 'b> Cursor<'a, 'b> {
             return None;
         }
         let token = self.tokens.at(self.index);
-        let behind = Cursor {
+        let after = Cursor {
             tokens: self.tokens,
             index: self.index + 1,
         };
-        Some((token, behind))
+        Some((token, after))
     }
 
     /// The place of the next token; the end of the source counts as one.

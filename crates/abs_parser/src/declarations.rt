@@ -63,24 +63,24 @@ pub(crate) fn data<'a, 'b>(
     ensures none { IfOk result (λ found. (names : List Name) → decl_statements (decl_tree names found.0 ∷ []) ≡ 0) }
     ensures refused { IfErr result (λ error. IsRefused (Subgoal (One DeclSymbol) 0) (spot from.entry) error) }
 {
-    let (word, name_at) = from.take(Lexeme::Keyword(Keyword::Data), 0)?;
-    let (name, behind) = name_at.take(Lexeme::UpperName, 0)?;
+    let (token, name_at) = from.take(Lexeme::Keyword(Keyword::Data), 0)?;
+    let (name, after) = name_at.take(Lexeme::UpperName, 0)?;
     let declared = Declared {
         place: name.place,
         name: symbols.intern(name.slice)?,
     };
-    let (parameters, equals) = type_parameters(alloc, symbols, behind)?;
+    let (parameters, equals) = type_parameters(alloc, symbols, after)?;
     let (_, first_at) = equals.take(Lexeme::Punctuator(Punctuator::Assign), 0)?;
     let (first, mut here) = constructor(alloc, symbols, first_at)?;
     let mut constructors = vec![in alloc; first]?;
     while let Some((_, next_at)) = here.accept(Lexeme::Punctuator(Punctuator::Bar)) {
-        let (next, behind) = constructor(alloc, symbols, next_at)?;
+        let (next, after) = constructor(alloc, symbols, next_at)?;
         constructors.push(next)?;
-        here = behind;
+        here = after;
     }
     let (_, end) = here.take(Lexeme::Punctuator(Punctuator::Semicolon), 0)?;
     let decl = Decl::Data {
-        place: word.place,
+        place: token.place,
         name: declared,
         type_params: parameters,
         constructors,
@@ -106,14 +106,14 @@ pub(crate) fn function<'a, 'b>(
     ensures none { IfOk result (λ found. (names : List Name) → decl_statements (decl_tree names found.0 ∷ []) ≡ 0) }
     ensures refused { IfErr result (λ error. IsRefused (Subgoal (One DeclSymbol) 0) (spot from.entry) error) }
 {
-    let (word, type_at) = from.take(Lexeme::Keyword(Keyword::Def), 0)?;
+    let (token, type_at) = from.take(Lexeme::Keyword(Keyword::Def), 0)?;
     let (result, name_at) = type_term(alloc, symbols, 0, type_at)?;
-    let (name, behind) = name_at.take(Lexeme::LowerName, 0)?;
+    let (name, after) = name_at.take(Lexeme::LowerName, 0)?;
     let declared = Declared {
         place: name.place,
         name: symbols.intern(name.slice)?,
     };
-    let (parameters, open) = type_parameters(alloc, symbols, behind)?;
+    let (parameters, open) = type_parameters(alloc, symbols, after)?;
     let (_, inside) = open.take(Lexeme::Punctuator(Punctuator::OpenParen), 0)?;
     let (params, close) = params_maybe(alloc, symbols, inside)?;
     let (_, equals) = close.take(Lexeme::Punctuator(Punctuator::CloseParen), 0)?;
@@ -122,7 +122,7 @@ pub(crate) fn function<'a, 'b>(
     let (_, end) = last.take(Lexeme::Punctuator(Punctuator::Semicolon), 0)?;
     let value = Arc::new(alloc, value)?;
     let decl = Decl::Function {
-        place: word.place,
+        place: token.place,
         result,
         name: declared,
         type_params: parameters,
@@ -150,23 +150,23 @@ pub(crate) fn interface<'a, 'b>(
     ensures none { IfOk result (λ found. (names : List Name) → decl_statements (decl_tree names found.0 ∷ []) ≡ 0) }
     ensures refused { IfErr result (λ error. IsRefused (Subgoal (One DeclSymbol) 0) (spot from.entry) error) }
 {
-    let (word, name_at) = from.take(Lexeme::Keyword(Keyword::Interface), 0)?;
-    let (name, behind) = name_at.take(Lexeme::UpperName, 0)?;
+    let (token, name_at) = from.take(Lexeme::Keyword(Keyword::Interface), 0)?;
+    let (name, after) = name_at.take(Lexeme::UpperName, 0)?;
     let declared = Declared {
         place: name.place,
         name: symbols.intern(name.slice)?,
     };
-    let (extended, open) = interface_names(alloc, symbols, Heading::Extends, behind)?;
+    let (extended, open) = interface_names(alloc, symbols, Heading::Extends, after)?;
     let (_, mut here) = open.take(Lexeme::Punctuator(Punctuator::OpenBrace), 0)?;
     let mut signatures = Vec::new(alloc);
     while !here.is(Lexeme::Punctuator(Punctuator::CloseBrace)) {
-        let (next, behind) = signature(alloc, symbols, here)?;
+        let (next, after) = signature(alloc, symbols, here)?;
         signatures.push(next)?;
-        here = behind;
+        here = after;
     }
     let (_, end) = here.take(Lexeme::Punctuator(Punctuator::CloseBrace), 0)?;
     let decl = Decl::Interface {
-        place: word.place,
+        place: token.place,
         name: declared,
         extended,
         signatures,

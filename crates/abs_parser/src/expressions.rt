@@ -62,7 +62,7 @@ fn let_expression<'a, 'b>(
         (λ names inside. phrase names found.0 ≡ expr_in inside)) }
     ensures refused { IfErr result (λ error. IsRefused (Subgoal (One ExprSymbol) depth) (spot from.entry) error) }
 {
-    let (word, open) = from.take(Lexeme::Keyword(Keyword::Let), depth + 1)?;
+    let (token, open) = from.take(Lexeme::Keyword(Keyword::Let), depth + 1)?;
     let (_, type_at) = open.take(Lexeme::Punctuator(Punctuator::OpenParen), depth + 1)?;
     let (type_of, name_at) = type_term(alloc, symbols, depth + 1, type_at)?;
     let (name, close) = name_at.take(Lexeme::LowerName, depth + 1)?;
@@ -75,7 +75,7 @@ fn let_expression<'a, 'b>(
     let value = Box::new(alloc, value)?;
     let body = Box::new(alloc, body)?;
     let expr = Expr::Let {
-        place: word.place,
+        place: token.place,
         type_of,
         variable_place: name.place,
         variable,
@@ -101,7 +101,7 @@ fn if_expression<'a, 'b>(
         (λ names inside. phrase names found.0 ≡ expr_in inside)) }
     ensures refused { IfErr result (λ error. IsRefused (Subgoal (One ExprSymbol) depth) (spot from.entry) error) }
 {
-    let (word, test_at) = from.take(Lexeme::Keyword(Keyword::If), depth + 1)?;
+    let (token, test_at) = from.take(Lexeme::Keyword(Keyword::If), depth + 1)?;
     let (test, then_at) = expression(alloc, symbols, depth + 1, test_at)?;
     let (_, first_at) = then_at.take(Lexeme::Keyword(Keyword::Then), depth + 1)?;
     let (first, else_at) = expression(alloc, symbols, depth + 1, first_at)?;
@@ -111,7 +111,7 @@ fn if_expression<'a, 'b>(
     let first = Box::new(alloc, first)?;
     let second = Box::new(alloc, second)?;
     let expr = Expr::If {
-        place: word.place,
+        place: token.place,
         condition,
         first,
         second,

@@ -37,8 +37,8 @@ pub(crate) fn guard<'a, 'b>(
 {
     let (first, mut here) = test(alloc, symbols, depth, from)?;
     let mut tests = vec![in alloc; first]?;
-    while let Some((_, behind)) = here.accept(Lexeme::Punctuator(Punctuator::And)) {
-        let (next, end) = test(alloc, symbols, depth, behind)?;
+    while let Some((_, after)) = here.accept(Lexeme::Punctuator(Punctuator::And)) {
+        let (next, end) = test(alloc, symbols, depth, after)?;
         tests.push(next)?;
         here = end;
     }
@@ -61,15 +61,15 @@ fn test<'a, 'b>(
     ensures refused { IfErr result (λ error. IsRefused (Subgoal (One TestSymbol) depth) (spot from.entry) error) }
 {
     let place = from.place();
-    let (value, behind) = operators(alloc, symbols, Precedence::Equal, depth, from)?;
+    let (value, after) = operators(alloc, symbols, Precedence::Equal, depth, from)?;
     let value = Arc::new(alloc, value)?;
     let mut test = Test {
         place,
         value,
         asks: false,
     };
-    let Some((_, end)) = behind.accept(Lexeme::Punctuator(Punctuator::Question)) else {
-        return Ok((test, behind));
+    let Some((_, end)) = after.accept(Lexeme::Punctuator(Punctuator::Question)) else {
+        return Ok((test, after));
     };
     test.asks = true;
     Ok((test, end))

@@ -28,9 +28,9 @@ pub(crate) fn text(alloc: Global, literal: &[u8]) -> Result<Text, AllocError>
 {
     let mut bytes = Vec::new(alloc);
     let mut rest = literal.get(1..).unwrap_or(&[]);
-    while let Some((byte, behind)) = rest.split_first() {
-        rest = behind;
-        let plain = match (*byte, behind.split_first()) {
+    while let Some((byte, after)) = rest.split_first() {
+        rest = after;
+        let plain = match (*byte, after.split_first()) {
             (b'\\', Some((escape, others))) => {
                 rest = others;
                 escaped_byte(*escape)

@@ -42,19 +42,19 @@ pub(crate) fn interface_names<'a, 'b>(
     ensures refused { IfErr result (λ error. IsRefused (Subgoal (Optional (nonterminal_of heading)) 0)
         (spot from.entry) error) }
 {
-    let word = match heading {
+    let keyword = match heading {
         Heading::Extends => Keyword::Extends,
         Heading::Implements => Keyword::Implements,
     };
-    let Some((_, name_at)) = from.accept(Lexeme::Keyword(word)) else {
+    let Some((_, name_at)) = from.accept(Lexeme::Keyword(keyword)) else {
         return Ok((Vec::new(alloc), from));
     };
-    let (name, behind) = name_at.take(Lexeme::UpperName, 0)?;
+    let (name, after) = name_at.take(Lexeme::UpperName, 0)?;
     let first = Declared {
         place: name.place,
         name: symbols.intern(name.slice)?,
     };
-    more_names(alloc, symbols, first, behind)
+    more_names(alloc, symbols, first, after)
 }
 
 /// The parameters of a type between `<` and `>`, where there are any, and the cursor after them.
@@ -76,12 +76,12 @@ pub(crate) fn type_parameters<'a, 'b>(
     let Some((_, name_at)) = from.accept(Lexeme::Punctuator(Punctuator::Less)) else {
         return Ok((Vec::new(alloc), from));
     };
-    let (name, behind) = name_at.take(Lexeme::UpperName, 0)?;
+    let (name, after) = name_at.take(Lexeme::UpperName, 0)?;
     let first = Declared {
         place: name.place,
         name: symbols.intern(name.slice)?,
     };
-    let (parameters, close) = more_names(alloc, symbols, first, behind)?;
+    let (parameters, close) = more_names(alloc, symbols, first, after)?;
     let (_, end) = close.take(Lexeme::Punctuator(Punctuator::Greater), 0)?;
     Ok((parameters, end))
 }
@@ -103,11 +103,11 @@ fn more_names<'a, 'b>(
     let mut listed = vec![in alloc; first]?;
     let mut here = from;
     while let Some((_, name_at)) = here.accept(Lexeme::Punctuator(Punctuator::Comma)) {
-        let (name, behind) = name_at.take(Lexeme::UpperName, 0)?;
+        let (name, after) = name_at.take(Lexeme::UpperName, 0)?;
         let place = name.place;
         let name = symbols.intern(name.slice)?;
         listed.push(Declared { place, name })?;
-        here = behind;
+        here = after;
     }
     Ok((listed, here))
 }

@@ -5,7 +5,7 @@ ghost use Rattle.abs_tree.specs.SyntaxViews.{phrase, operand_trees};
 ghost use Rattle.abs_lexer.specs.declared.lexeme.Lexeme.TheVariants as lexeme;
 ghost use Rattle.abs_tree.specs.declared.syntax.expression.Operator as operator_type;
 ghost use Rattle.abs_parser.specs.TokenKinds.{PunctuatorKind, fits, next};
-ghost use Rattle.abs_parser.specs.Precedences.{rank, looser as looser_of, nonterminal_of, operand_nonterminal, rest_of, precedence_in, operand_in, operands_in, precedence_of as on_precedence, sign_of, repeats as may_repeat};
+ghost use Rattle.abs_parser.specs.Precedences.{rank, looser as looser_of, nonterminal_of, operand_nonterminal, rest_of, precedence_in, operand_in, operands_in, precedence_of as on_precedence, punctuator_of, repeats as may_repeat};
 ghost use Rattle.abs_parser.specs.Climbing.{Climbs, FailsToClimb};
 ghost use Rattle.abs_parser.specs.Readings.{One, Subgoal};
 ghost use Rattle.abs_parser.specs.ReaderAnswers.{FoundAs, IsRefused, Passes, left_at};
@@ -80,11 +80,11 @@ fn precedence_of(operator: Operator) -> Precedence
 }
 
 /// The operator that a sign is, where it is one.
-fn operator_of(sign: Punctuator) -> Option<Operator>
-    ensures some { IfSome result (λ operator. sign ≡ sign_of operator) }
-    ensures none { IfNone result ((operator : operator_type.Operator) → sign ≡ sign_of operator → ⊥) }
+fn operator_of(punctuator: Punctuator) -> Option<Operator>
+    ensures some { IfSome result (λ operator. punctuator ≡ punctuator_of operator) }
+    ensures none { IfNone result ((operator : operator_type.Operator) → punctuator ≡ punctuator_of operator → ⊥) }
 {
-    match sign {
+    match punctuator {
         Punctuator::Or => Some(Operator::Or),
         Punctuator::And => Some(Operator::And),
         Punctuator::Equal => Some(Operator::Equal),
@@ -108,34 +108,34 @@ fn operator_at<'a, 'b>(
     from: Cursor<'a, 'b>,
 ) -> Option<(Operator, Cursor<'a, 'b>)>
     ensures precedence { IfSome result (λ found. on_precedence found.0 ≡ precedence) }
-    ensures some { IfSome result (λ found. Passes (lexeme.Punctuator (sign_of found.0)) (spot from.entry)
+    ensures some { IfSome result (λ found. Passes (lexeme.Punctuator (punctuator_of found.0)) (spot from.entry)
         (spot found.1)) }
     ensures none { IfNone result ((operator : operator_type.Operator) → on_precedence operator ≡ precedence
-        → fits (PunctuatorKind (sign_of operator)) (next (left_at (spot from.entry))) ≡ false) }
+        → fits (PunctuatorKind (punctuator_of operator)) (next (left_at (spot from.entry))) ≡ false) }
 {
-    let (token, behind) = from.next()?;
-    let Lexeme::Punctuator(sign) = token.kind else {
+    let (token, after) = from.next()?;
+    let Lexeme::Punctuator(punctuator) = token.kind else {
         return None;
     };
-    let operator = operator_of(sign)?;
+    let operator = operator_of(punctuator)?;
     if precedence_of(operator) != precedence {
         return None;
     }
-    Some((operator, behind))
+    Some((operator, after))
 }
 
 /// Whether an operator between operands is the next token.
 fn operator_follows(from: Cursor<'_, '_>) -> bool
     ensures { result ≡ false → (operator : operator_type.Operator)
-        → fits (PunctuatorKind (sign_of operator)) (next (left_at (spot from.entry))) ≡ false }
+        → fits (PunctuatorKind (punctuator_of operator)) (next (left_at (spot from.entry))) ≡ false }
 {
     let Some((token, _)) = from.next() else {
         return false;
     };
-    let Lexeme::Punctuator(sign) = token.kind else {
+    let Lexeme::Punctuator(punctuator) = token.kind else {
         return false;
     };
-    operator_of(sign).is_some()
+    operator_of(punctuator).is_some()
 }
 
 /// An operator list of a precedence, and the cursor after it. Its first unary is read once, and then the operators
@@ -227,8 +227,8 @@ pub(crate) fn operators_after<'a, 'b>(
 {
     let mut operands = Vec::new(alloc);
     let mut here = from;
-    while let Some((operator, behind)) = operator_at(precedence, here) {
-        let (right, end) = operand(alloc, symbols, precedence, depth, behind)?;
+    while let Some((operator, after)) = operator_at(precedence, here) {
+        let (right, end) = operand(alloc, symbols, precedence, depth, after)?;
         operands.push(Operand { operator, right })?;
         here = end;
         if !precedence.repeats() {

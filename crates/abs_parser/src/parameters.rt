@@ -53,8 +53,8 @@ fn params<'a, 'b>(
 {
     let (first, mut here) = param(alloc, symbols, from)?;
     let mut params = vec![in alloc; first]?;
-    while let Some((_, behind)) = here.accept(Lexeme::Punctuator(Punctuator::Comma)) {
-        let (next, end) = param(alloc, symbols, behind)?;
+    while let Some((_, after)) = here.accept(Lexeme::Punctuator(Punctuator::Comma)) {
+        let (next, end) = param(alloc, symbols, after)?;
         params.push(next)?;
         here = end;
     }
@@ -98,10 +98,10 @@ pub(crate) fn class_parameters<'a, 'b>(
     ensures refused { IfErr result (λ error. IsRefused (Subgoal (Optional ClassParameters) 0)
         (spot from.entry) error) }
 {
-    let Some((_, behind)) = from.accept(Lexeme::Punctuator(Punctuator::OpenParen)) else {
+    let Some((_, after)) = from.accept(Lexeme::Punctuator(Punctuator::OpenParen)) else {
         return Ok((Vec::new(alloc), from));
     };
-    let (params, close) = params_maybe(alloc, symbols, behind)?;
+    let (params, close) = params_maybe(alloc, symbols, after)?;
     let (_, end) = close.take(Lexeme::Punctuator(Punctuator::CloseParen), 0)?;
     Ok((params, end))
 }
@@ -122,13 +122,13 @@ pub(crate) fn constructor_types<'a, 'b>(
     ensures refused { IfErr result (λ error. IsRefused (Subgoal (Optional ConstructorTypes) 0)
         (spot from.entry) error) }
 {
-    let Some((_, behind)) = from.accept(Lexeme::Punctuator(Punctuator::OpenParen)) else {
+    let Some((_, after)) = from.accept(Lexeme::Punctuator(Punctuator::OpenParen)) else {
         return Ok((Vec::new(alloc), from));
     };
-    if let Some((_, end)) = behind.accept(Lexeme::Punctuator(Punctuator::CloseParen)) {
+    if let Some((_, end)) = after.accept(Lexeme::Punctuator(Punctuator::CloseParen)) {
         return Ok((Vec::new(alloc), end));
     }
-    let (types, close) = types(alloc, symbols, 0, behind)?;
+    let (types, close) = types(alloc, symbols, 0, after)?;
     let (_, end) = close.take(Lexeme::Punctuator(Punctuator::CloseParen), 0)?;
     Ok((types, end))
 }

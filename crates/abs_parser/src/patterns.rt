@@ -58,7 +58,7 @@ pub(crate) fn pattern<'a, 'b>(
                 end,
             ))
         }
-        Lexeme::Punctuator(sign) => punctuator_pattern(depth, sign, from),
+        Lexeme::Punctuator(punctuator) => punctuator_pattern(depth, punctuator, from),
         Lexeme::Keyword(_) | Lexeme::Foreign => Err(from.wrong()),
     }
 }
@@ -94,10 +94,10 @@ fn constructor_pattern<'a, 'b>(
 /// `_`, or a number after a minus, and the cursor after it.
 fn punctuator_pattern<'a, 'b>(
     depth: u32,
-    sign: Punctuator,
+    punctuator: Punctuator,
     from: Cursor<'a, 'b>,
 ) -> Result<(Pattern, Cursor<'a, 'b>), ParseError>
-    requires begins { next (left_at (spot from)) ≡ PunctuatorKind sign }
+    requires begins { next (left_at (spot from)) ≡ PunctuatorKind punctuator }
     requires depth { depth ≤ limit }
     ensures found { IfOk result (λ found. (table : List Name) → FoundAs (One PatternSymbol) depth table table
         (spot from.entry) (spot found.1)
@@ -105,7 +105,7 @@ fn punctuator_pattern<'a, 'b>(
     ensures refused { IfErr result (λ error. IsRefused (Subgoal (One PatternSymbol) depth)
         (spot from.entry) error) }
 {
-    if sign == Punctuator::Underscore {
+    if punctuator == Punctuator::Underscore {
         let (any, end) = from.take(Lexeme::Punctuator(Punctuator::Underscore), depth + 1)?;
         return Ok((Pattern::Any(any.place), end));
     }
@@ -130,13 +130,13 @@ fn pattern_arguments<'a, 'b>(
     ensures refused { IfErr result (λ error. IsRefused (Subgoal (Optional PatternArguments) depth)
         (spot from.entry) error) }
 {
-    let Some((_, behind)) = from.accept(Lexeme::Punctuator(Punctuator::OpenParen)) else {
+    let Some((_, after)) = from.accept(Lexeme::Punctuator(Punctuator::OpenParen)) else {
         return Ok((Vec::new(alloc), from));
     };
-    if let Some((_, end)) = behind.accept(Lexeme::Punctuator(Punctuator::CloseParen)) {
+    if let Some((_, end)) = after.accept(Lexeme::Punctuator(Punctuator::CloseParen)) {
         return Ok((Vec::new(alloc), end));
     }
-    let (patterns, close) = patterns(alloc, symbols, depth, behind)?;
+    let (patterns, close) = patterns(alloc, symbols, depth, after)?;
     let (_, end) = close.take(Lexeme::Punctuator(Punctuator::CloseParen), depth)?;
     Ok((patterns, end))
 }
@@ -158,8 +158,8 @@ fn patterns<'a, 'b>(
 {
     let (first, mut here) = pattern(alloc, symbols, depth, from)?;
     let mut patterns = vec![in alloc; first]?;
-    while let Some((_, behind)) = here.accept(Lexeme::Punctuator(Punctuator::Comma)) {
-        let (next, end) = pattern(alloc, symbols, depth, behind)?;
+    while let Some((_, after)) = here.accept(Lexeme::Punctuator(Punctuator::Comma)) {
+        let (next, end) = pattern(alloc, symbols, depth, after)?;
         patterns.push(next)?;
         here = end;
     }

@@ -44,9 +44,9 @@ fn path<'a, 'b>(
     let (first, mut here) = from.take(Lexeme::UpperName, 0)?;
     symbols.intern(first.slice)?;
     while let Some((_, name_at)) = here.accept(Lexeme::Punctuator(Punctuator::Dot)) {
-        let (name, behind) = name_at.take(Lexeme::UpperName, 0)?;
+        let (name, after) = name_at.take(Lexeme::UpperName, 0)?;
         symbols.intern(name.slice)?;
-        here = behind;
+        here = after;
     }
     Ok(here)
 }
@@ -67,8 +67,8 @@ pub(crate) fn import_line<'a, 'b>(
     let Some((_, star)) = from.accept(Lexeme::Keyword(Keyword::Import)) else {
         return Ok(from);
     };
-    let (_, word) = star.take(Lexeme::Punctuator(Punctuator::Star), 0)?;
-    let (_, abs_at) = word.take(Lexeme::Keyword(Keyword::From), 0)?;
+    let (_, from_at) = star.take(Lexeme::Punctuator(Punctuator::Star), 0)?;
+    let (_, abs_at) = from_at.take(Lexeme::Keyword(Keyword::From), 0)?;
     let (abs, dot) = abs_at.take_name(FixedName::Abs)?;
     symbols.intern(abs.slice)?;
     let (_, library_at) = dot.take(Lexeme::Punctuator(Punctuator::Dot), 0)?;

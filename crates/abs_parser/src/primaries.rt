@@ -8,7 +8,7 @@ ghost use Rattle.abs_tree.specs.Syntax.{Name};
 ghost use Rattle.abs_tree.specs.SyntaxViews.{phrase};
 ghost use Rattle.abs_tree.specs.Trees.{name_of};
 ghost use Rattle.abs_parser.specs.TokenKinds.{LowerName, UpperName, KeywordKind, PunctuatorKind, fits, next, token_kind_of};
-ghost use Rattle.abs_parser.specs.Precedences.{prefix_sign};
+ghost use Rattle.abs_parser.specs.Precedences.{prefix_punctuator};
 ghost use Rattle.abs_parser.specs.Productions.{begins, Unary, Primary};
 ghost use Rattle.abs_parser.specs.Readings.{One, Subgoal};
 ghost use Rattle.abs_parser.specs.ReaderAnswers.{FoundAs, IsRefused, left_at, maybe_phrases};
@@ -30,13 +30,13 @@ use std::sync::Arc;
 
 /// The operator before an operand that a token of this kind is, where it is one.
 fn prefix_of(kind: Lexeme) -> Option<Prefix>
-    ensures some { IfSome result (λ prefix. kind ≡ lexeme.Punctuator (prefix_sign prefix)) }
-    ensures none { IfNone result ((prefix : prefix_type.Prefix) → kind ≡ lexeme.Punctuator (prefix_sign prefix) → ⊥) }
+    ensures some { IfSome result (λ prefix. kind ≡ lexeme.Punctuator (prefix_punctuator prefix)) }
+    ensures none { IfNone result ((prefix : prefix_type.Prefix) → kind ≡ lexeme.Punctuator (prefix_punctuator prefix) → ⊥) }
 {
-    let Lexeme::Punctuator(sign) = kind else {
+    let Lexeme::Punctuator(punctuator) = kind else {
         return None;
     };
-    match sign {
+    match punctuator {
         Punctuator::Not => Some(Prefix::Not),
         Punctuator::Tilde => Some(Prefix::Tilde),
         Punctuator::Minus => Some(Prefix::Minus),
@@ -68,11 +68,11 @@ pub(crate) fn unary<'a, 'b>(
     let Some(prefix) = prefix_of(first.kind) else {
         return primary(alloc, symbols, depth + 1, from);
     };
-    let (sign, behind) = from.take(first.kind, depth + 1)?;
-    let (operand, end) = unary(alloc, symbols, depth + 1, behind)?;
+    let (token, after) = from.take(first.kind, depth + 1)?;
+    let (operand, end) = unary(alloc, symbols, depth + 1, after)?;
     let operand = Box::new(alloc, operand)?;
     let prefixed = Expr::Prefixed {
-        place: sign.place,
+        place: token.place,
         prefix,
         operand,
     };
@@ -108,8 +108,8 @@ fn primary<'a, 'b>(
         }
         Lexeme::LowerName => name_primary(alloc, symbols, depth, from),
         Lexeme::UpperName => constructor_primary(alloc, symbols, depth, from),
-        Lexeme::Keyword(word) => keyword_primary(alloc, symbols, depth, word, from),
-        Lexeme::Punctuator(sign) => parenthesized(alloc, symbols, depth, sign, from),
+        Lexeme::Keyword(keyword) => keyword_primary(alloc, symbols, depth, keyword, from),
+        Lexeme::Punctuator(punctuator) => parenthesized(alloc, symbols, depth, punctuator, from),
         Lexeme::Foreign => Err(from.wrong()),
     }
 }
@@ -130,9 +130,9 @@ fn name_primary<'a, 'b>(
         (λ names inside. phrase names found.0 ≡ primary_in inside)) }
     ensures refused { IfErr result (λ error. IsRefused (Subgoal (One Primary) depth) (spot from.entry) error) }
 {
-    let (name, behind) = from.take(Lexeme::LowerName, depth)?;
+    let (name, after) = from.take(Lexeme::LowerName, depth)?;
     let symbol = symbols.intern(name.slice)?;
-    let (arguments, end) = arguments_maybe(alloc, symbols, depth, behind)?;
+    let (arguments, end) = arguments_maybe(alloc, symbols, depth, after)?;
     Ok((named(name.place, symbol, arguments), end))
 }
 
@@ -167,9 +167,9 @@ fn constructor_primary<'a, 'b>(
         (λ names inside. phrase names found.0 ≡ primary_in inside)) }
     ensures refused { IfErr result (λ error. IsRefused (Subgoal (One Primary) depth) (spot from.entry) error) }
 {
-    let (name, behind) = from.take(Lexeme::UpperName, depth)?;
+    let (name, after) = from.take(Lexeme::UpperName, depth)?;
     let symbol = symbols.intern(name.slice)?;
-    let (arguments, end) = arguments_maybe(alloc, symbols, depth, behind)?;
+    let (arguments, end) = arguments_maybe(alloc, symbols, depth, after)?;
     let arguments = match arguments {
         Some(arguments) => arguments,
         None => Vec::new(alloc),
@@ -188,10 +188,10 @@ fn keyword_primary<'a, 'b>(
     alloc: Global,
     symbols: &mut Symbols<'a>,
     depth: u32,
-    word: Keyword,
+    keyword: Keyword,
     from: Cursor<'a, 'b>,
 ) -> Result<(Expr, Cursor<'a, 'b>), ParseError>
-    requires begins { next (left_at (spot from)) ≡ KeywordKind word }
+    requires begins { next (left_at (spot from)) ≡ KeywordKind keyword }
     requires names { length symbols.old + length (spot from).rest < 2 ^ 31 }
     requires depth { depth ≤ limit + 3 }
     ensures found { IfOk result (λ found. FoundAs (One Primary) depth symbols.old symbols.new (spot from.entry)
@@ -199,7 +199,7 @@ fn keyword_primary<'a, 'b>(
         (λ names inside. phrase names found.0 ≡ primary_in inside)) }
     ensures refused { IfErr result (λ error. IsRefused (Subgoal (One Primary) depth) (spot from.entry) error) }
 {
-    match word {
+    match keyword {
         Keyword::Null => {
             let (token, end) = from.take(Lexeme::Keyword(Keyword::Null), depth)?;
             Ok((Expr::Null(token.place), end))
@@ -230,9 +230,9 @@ fn this_primary<'a, 'b>(
         (λ names inside. phrase names found.0 ≡ primary_in inside)) }
     ensures refused { IfErr result (λ error. IsRefused (Subgoal (One Primary) depth) (spot from.entry) error) }
 {
-    let (this, behind) = from.take(Lexeme::Keyword(Keyword::This), depth)?;
-    let Some((_, name_at)) = behind.accept(Lexeme::Punctuator(Punctuator::Dot)) else {
-        return Ok((Expr::This(this.place), behind));
+    let (this, after) = from.take(Lexeme::Keyword(Keyword::This), depth)?;
+    let Some((_, name_at)) = after.accept(Lexeme::Punctuator(Punctuator::Dot)) else {
+        return Ok((Expr::This(this.place), after));
     };
     let (name, open) = name_at.take(Lexeme::LowerName, depth)?;
     let symbol = symbols.intern(name.slice)?;
@@ -272,10 +272,10 @@ fn parenthesized<'a, 'b>(
     alloc: Global,
     symbols: &mut Symbols<'a>,
     depth: u32,
-    sign: Punctuator,
+    punctuator: Punctuator,
     from: Cursor<'a, 'b>,
 ) -> Result<(Expr, Cursor<'a, 'b>), ParseError>
-    requires begins { next (left_at (spot from)) ≡ PunctuatorKind sign }
+    requires begins { next (left_at (spot from)) ≡ PunctuatorKind punctuator }
     requires names { length symbols.old + length (spot from).rest < 2 ^ 31 }
     requires depth { depth ≤ limit + 3 }
     ensures found { IfOk result (λ found. FoundAs (One Primary) depth symbols.old symbols.new (spot from.entry)

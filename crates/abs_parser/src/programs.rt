@@ -45,9 +45,9 @@ pub(crate) fn declarations<'a, 'b>(
     let mut free = index;
     let mut here = from;
     while !here.is(Lexeme::Punctuator(Punctuator::OpenBrace)) {
-        let (next, behind, end) = declaration(alloc, symbols, free, here)?;
+        let (next, after, end) = declaration(alloc, symbols, free, here)?;
         declarations.push(next)?;
-        free = behind;
+        free = after;
         here = end;
     }
     Ok((declarations, free, here))
@@ -73,10 +73,10 @@ fn declaration<'a, 'b>(
     let Some((token, _)) = from.next() else {
         return Err(from.wrong());
     };
-    let Lexeme::Keyword(word) = token.kind else {
+    let Lexeme::Keyword(keyword) = token.kind else {
         return Err(from.wrong());
     };
-    let (decl, end) = match word {
+    let (decl, end) = match keyword {
         Keyword::Data => data(alloc, symbols, from)?,
         Keyword::Def => function(alloc, symbols, from)?,
         Keyword::Interface => interface(alloc, symbols, from)?,

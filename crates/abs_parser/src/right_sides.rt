@@ -41,8 +41,8 @@ pub(crate) fn right_side<'a, 'b>(
     if from.is(Lexeme::Keyword(Keyword::New)) {
         return new_object(alloc, symbols, depth, from);
     }
-    let (first, behind) = expression(alloc, symbols, depth, from)?;
-    right_side_tail(alloc, symbols, depth, from.place(), first, behind)
+    let (first, after) = expression(alloc, symbols, depth, from)?;
+    right_side_tail(alloc, symbols, depth, from.place(), first, after)
 }
 
 /// `new C(es)`, perhaps with `cog` or `local`, and the cursor after it.
@@ -60,13 +60,13 @@ fn new_object<'a, 'b>(
         (λ names inside. side_tree names found.0 ≡ rhs_in inside)) }
     ensures refused { IfErr result (λ error. IsRefused (Subgoal (One Rhs) depth) (spot from.entry) error) }
 {
-    let (word, here) = from.take(Lexeme::Keyword(Keyword::New), depth)?;
+    let (token, here) = from.take(Lexeme::Keyword(Keyword::New), depth)?;
     let (mode, name_at) = mode(symbols, here)?;
     let (name, open) = name_at.take(Lexeme::UpperName, depth)?;
     let class = symbols.intern(name.slice)?;
     let (arguments, end) = arguments(alloc, symbols, depth, open)?;
     let side = RightSide::New {
-        place: word.place,
+        place: token.place,
         mode,
         class_place: name.place,
         class,
@@ -86,12 +86,12 @@ fn mode<'a, 'b>(
         → FoundAs (Optional Where) depth symbols.old symbols.new (spot from.entry) (spot found.1)
         (λ names inside. found.0 ≡ mode_in inside)) }
 {
-    if let Some((_, behind)) = from.accept(Lexeme::Keyword(Keyword::Cog)) {
-        return Ok((Mode::Cog, behind));
+    if let Some((_, after)) = from.accept(Lexeme::Keyword(Keyword::Cog)) {
+        return Ok((Mode::Cog, after));
     }
-    if let Some((name, behind)) = from.accept_name(FixedName::Local) {
+    if let Some((name, after)) = from.accept_name(FixedName::Local) {
         symbols.intern(name.slice)?;
-        return Ok((Mode::Local(name.place), behind));
+        return Ok((Mode::Local(name.place), after));
     }
     Ok((Mode::Plain, from))
 }
@@ -116,17 +116,17 @@ pub(crate) fn right_side_tail<'a, 'b>(
         (λ names inside. side_tree names found.0 ≡ tail_in place (phrase names first) inside)) }
     ensures refused { IfErr result (λ error. IsRefused (Subgoal (Optional RhsTail) depth) (spot from.entry) error) }
 {
-    if let Some((_, behind)) = from.accept(Lexeme::Punctuator(Punctuator::Not)) {
-        let (name, open) = behind.take(Lexeme::LowerName, depth)?;
+    if let Some((_, after)) = from.accept(Lexeme::Punctuator(Punctuator::Not)) {
+        let (name, open) = after.take(Lexeme::LowerName, depth)?;
         let method = symbols.intern(name.slice)?;
         let (arguments, end) = arguments(alloc, symbols, depth, open)?;
         let row = row_of(alloc, first, arguments)?;
         return Ok((RightSide::Send { place, method, row }, end));
     }
-    let Some((_, behind)) = from.accept(Lexeme::Punctuator(Punctuator::Dot)) else {
+    let Some((_, after)) = from.accept(Lexeme::Punctuator(Punctuator::Dot)) else {
         return Ok((RightSide::Value(place, Arc::new(alloc, first)?), from));
     };
-    selected(alloc, symbols, depth, place, first, behind)
+    selected(alloc, symbols, depth, place, first, after)
 }
 
 /// What follows an expression and `.`: `get`, or a method with its arguments; and the cursor after it.
@@ -145,10 +145,10 @@ fn selected<'a, 'b>(
         (λ names inside. side_tree names found.0 ≡ selected_in place (phrase names first) inside)) }
     ensures refused { IfErr result (λ error. IsRefused (Subgoal (One Selected) depth) (spot from.entry) error) }
 {
-    if let Some((word, end)) = from.accept(Lexeme::Keyword(Keyword::Get)) {
+    if let Some((token, end)) = from.accept(Lexeme::Keyword(Keyword::Get)) {
         let side = RightSide::Get {
             place,
-            get_place: word.place,
+            get_place: token.place,
             future: Arc::new(alloc, first)?,
         };
         return Ok((side, end));

@@ -96,12 +96,12 @@ pub(crate) fn skip_statement<'a, 'b>(
     ensures shorter { IfOk result (λ found. length (spot found.1).rest < length (spot from.entry).rest) }
     ensures refused { IfErr result (λ error. IsRefused (Subgoal (One StmtSymbol) depth) (spot from.entry) error) }
 {
-    let (word, last) = from.take(Lexeme::Keyword(Keyword::Skip), depth + 1)?;
+    let (token, last) = from.take(Lexeme::Keyword(Keyword::Skip), depth + 1)?;
     let (_, end) = last.take(Lexeme::Punctuator(Punctuator::Semicolon), depth + 1)?;
     Ok((
         Stmt::Skip {
             index,
-            place: word.place,
+            place: token.place,
         },
         end,
     ))
@@ -125,12 +125,12 @@ pub(crate) fn suspend_statement<'a, 'b>(
     ensures shorter { IfOk result (λ found. length (spot found.1).rest < length (spot from.entry).rest) }
     ensures refused { IfErr result (λ error. IsRefused (Subgoal (One StmtSymbol) depth) (spot from.entry) error) }
 {
-    let (word, last) = from.take(Lexeme::Keyword(Keyword::Suspend), depth + 1)?;
+    let (token, last) = from.take(Lexeme::Keyword(Keyword::Suspend), depth + 1)?;
     let (_, end) = last.take(Lexeme::Punctuator(Punctuator::Semicolon), depth + 1)?;
     Ok((
         Stmt::Suspend {
             index,
-            place: word.place,
+            place: token.place,
         },
         end,
     ))
@@ -154,12 +154,12 @@ pub(crate) fn await_statement<'a, 'b>(
     ensures shorter { IfOk result (λ found. length (spot found.1).rest < length (spot from.entry).rest) }
     ensures refused { IfErr result (λ error. IsRefused (Subgoal (One StmtSymbol) depth) (spot from.entry) error) }
 {
-    let (word, guard_at) = from.take(Lexeme::Keyword(Keyword::Await), depth + 1)?;
+    let (token, guard_at) = from.take(Lexeme::Keyword(Keyword::Await), depth + 1)?;
     let (guard, last) = guard(alloc, symbols, depth + 1, guard_at)?;
     let (_, end) = last.take(Lexeme::Punctuator(Punctuator::Semicolon), depth + 1)?;
     let stmt = Stmt::Await {
         index,
-        place: word.place,
+        place: token.place,
         guard,
     };
     Ok((stmt, end))
@@ -183,13 +183,13 @@ pub(crate) fn return_statement<'a, 'b>(
     ensures shorter { IfOk result (λ found. length (spot found.1).rest < length (spot from.entry).rest) }
     ensures refused { IfErr result (λ error. IsRefused (Subgoal (One StmtSymbol) depth) (spot from.entry) error) }
 {
-    let (word, value_at) = from.take(Lexeme::Keyword(Keyword::Return), depth + 1)?;
+    let (token, value_at) = from.take(Lexeme::Keyword(Keyword::Return), depth + 1)?;
     let (value, last) = expression(alloc, symbols, depth + 1, value_at)?;
     let (_, end) = last.take(Lexeme::Punctuator(Punctuator::Semicolon), depth + 1)?;
     let value = Arc::new(alloc, value)?;
     let stmt = Stmt::Return {
         index,
-        place: word.place,
+        place: token.place,
         value,
     };
     Ok((stmt, end))
@@ -213,7 +213,7 @@ pub(crate) fn println_statement<'a, 'b>(
     ensures shorter { IfOk result (λ found. length (spot found.1).rest < length (spot from.entry).rest) }
     ensures refused { IfErr result (λ error. IsRefused (Subgoal (One StmtSymbol) depth) (spot from.entry) error) }
 {
-    let (word, open) = from.take(Lexeme::Keyword(Keyword::Println), depth + 1)?;
+    let (token, open) = from.take(Lexeme::Keyword(Keyword::Println), depth + 1)?;
     let (_, text_at) = open.take(Lexeme::Punctuator(Punctuator::OpenParen), depth + 1)?;
     let (text, close) = expression(alloc, symbols, depth + 1, text_at)?;
     let (_, last) = close.take(Lexeme::Punctuator(Punctuator::CloseParen), depth + 1)?;
@@ -221,7 +221,7 @@ pub(crate) fn println_statement<'a, 'b>(
     let value = Arc::new(alloc, text)?;
     let stmt = Stmt::Print {
         index,
-        place: word.place,
+        place: token.place,
         value,
     };
     Ok((stmt, end))
@@ -246,9 +246,9 @@ pub(crate) fn variable_declaration<'a, 'b>(
     ensures refused { IfErr result (λ error. IsRefused (Subgoal (One StmtSymbol) depth) (spot from.entry) error) }
 {
     let (type_of, name_at) = type_term(alloc, symbols, depth + 1, from)?;
-    let (name, behind) = name_at.take(Lexeme::LowerName, depth + 1)?;
+    let (name, after) = name_at.take(Lexeme::LowerName, depth + 1)?;
     let variable = Variable::Unresolved(symbols.intern(name.slice)?);
-    let (initial, last) = initial(alloc, symbols, depth + 1, behind)?;
+    let (initial, last) = initial(alloc, symbols, depth + 1, after)?;
     let (_, end) = last.take(Lexeme::Punctuator(Punctuator::Semicolon), depth + 1)?;
     let stmt = Stmt::Declare {
         index,
@@ -275,10 +275,10 @@ fn initial<'a, 'b>(
         (λ names inside. maybe_side names found.0 ≡ initial_in inside)) }
     ensures refused { IfErr result (λ error. IsRefused (Subgoal (Optional Initial) depth) (spot from.entry) error) }
 {
-    let Some((_, behind)) = from.accept(Lexeme::Punctuator(Punctuator::Assign)) else {
+    let Some((_, after)) = from.accept(Lexeme::Punctuator(Punctuator::Assign)) else {
         return Ok((None, from));
     };
-    let (side, end) = right_side(alloc, symbols, depth, behind)?;
+    let (side, end) = right_side(alloc, symbols, depth, after)?;
     Ok((Some(side), end))
 }
 
@@ -302,10 +302,10 @@ pub(crate) fn variable_statement<'a, 'b>(
 {
     // the name is part of a right side, and so nested in an expression and a unary too
     let side = depth + 1;
-    let (name, behind) = from.take(Lexeme::LowerName, side + 2)?;
+    let (name, after) = from.take(Lexeme::LowerName, side + 2)?;
     let symbol = symbols.intern(name.slice)?;
     let first = First::Variable(name.place, symbol);
-    after_name(alloc, symbols, index, side, first, behind)
+    after_name(alloc, symbols, index, side, first, after)
 }
 
 /// A statement that begins with `this`: `this.x = r;`, or a right side; and the cursor after it.
@@ -328,10 +328,10 @@ pub(crate) fn this_statement<'a, 'b>(
 {
     // `this` is part of a right side, and so nested in an expression and a unary too
     let side = depth + 1;
-    let (this, behind) = from.take(Lexeme::Keyword(Keyword::This), side + 2)?;
-    let Some((_, name_at)) = behind.accept(Lexeme::Punctuator(Punctuator::Dot)) else {
+    let (this, after) = from.take(Lexeme::Keyword(Keyword::This), side + 2)?;
+    let Some((_, name_at)) = after.accept(Lexeme::Punctuator(Punctuator::Dot)) else {
         let expr = Expr::This(this.place);
-        let (side, end) = rest(alloc, symbols, side, this.place, expr, behind)?;
+        let (side, end) = rest(alloc, symbols, side, this.place, expr, after)?;
         let stmt = Stmt::Do {
             index,
             place: this.place,
@@ -375,9 +375,9 @@ fn after_name<'a, 'b>(
         };
         return Ok((stmt, end));
     }
-    let (arguments, behind) = arguments_maybe(alloc, symbols, depth + 2, from)?;
+    let (arguments, after) = arguments_maybe(alloc, symbols, depth + 2, from)?;
     let operand = first.expr(alloc, arguments)?;
-    let (side, end) = rest(alloc, symbols, depth, place, operand, behind)?;
+    let (side, end) = rest(alloc, symbols, depth, place, operand, after)?;
     Ok((Stmt::Do { index, place, side }, end))
 }
 

@@ -55,11 +55,11 @@ pub(crate) fn statement<'a, 'b>(
         return Err(from.wrong());
     };
     let (stmt, end) = match token.kind {
-        Lexeme::Keyword(word) => return keyword_statement(alloc, symbols, index, depth, word, from),
+        Lexeme::Keyword(keyword) => return keyword_statement(alloc, symbols, index, depth, keyword, from),
         Lexeme::UpperName => variable_declaration(alloc, symbols, index, depth, from)?,
         Lexeme::LowerName => variable_statement(alloc, symbols, index, depth, from)?,
-        Lexeme::Punctuator(sign) => {
-            if sign == Punctuator::OpenBrace {
+        Lexeme::Punctuator(punctuator) => {
+            if punctuator == Punctuator::OpenBrace {
                 return block_statement(alloc, symbols, index, depth, from);
             }
             right_side_statement(alloc, symbols, index, depth, from)?
@@ -78,10 +78,10 @@ fn keyword_statement<'a, 'b>(
     symbols: &mut Symbols<'a>,
     index: u32,
     depth: u32,
-    word: Keyword,
+    keyword: Keyword,
     from: Cursor<'a, 'b>,
 ) -> Result<(Stmt, u32, Cursor<'a, 'b>), ParseError>
-    requires begins { next (left_at (spot from)) ≡ KeywordKind word }
+    requires begins { next (left_at (spot from)) ≡ KeywordKind keyword }
     requires names { length symbols.old + length (spot from).rest < 2 ^ 31 }
     requires few { index + length (spot from).rest < 2 ^ 31 }
     requires depth { depth ≤ limit }
@@ -93,7 +93,7 @@ fn keyword_statement<'a, 'b>(
     ensures few { IfOk result (λ found. found.1 + length (spot found.2).rest ≤ index + length (spot from.entry).rest) }
     ensures refused { IfErr result (λ error. IsRefused (Subgoal (One StmtSymbol) depth) (spot from.entry) error) }
 {
-    let (stmt, end) = match word {
+    let (stmt, end) = match keyword {
         Keyword::If => return if_statement(alloc, symbols, index, depth, from),
         Keyword::While => return while_statement(alloc, symbols, index, depth, from),
         Keyword::Skip => skip_statement(alloc, symbols, index, depth, from)?,
@@ -129,8 +129,8 @@ fn block_statement<'a, 'b>(
     ensures refused { IfErr result (λ error. IsRefused (Subgoal (One StmtSymbol) depth) (spot from.entry) error) }
 {
     let place = from.place();
-    let (body, behind, end) = block(alloc, symbols, index, depth + 1, from)?;
-    Ok((Stmt::Block(place, body.statements), behind, end))
+    let (body, after, end) = block(alloc, symbols, index, depth + 1, from)?;
+    Ok((Stmt::Block(place, body.statements), after, end))
 }
 
 /// `if (e) s`, perhaps with `else s`.
@@ -154,22 +154,22 @@ fn if_statement<'a, 'b>(
     ensures few { IfOk result (λ found. found.1 + length (spot found.2).rest ≤ index + length (spot from.entry).rest) }
     ensures refused { IfErr result (λ error. IsRefused (Subgoal (One StmtSymbol) depth) (spot from.entry) error) }
 {
-    let (word, open) = from.take(Lexeme::Keyword(Keyword::If), depth + 1)?;
+    let (token, open) = from.take(Lexeme::Keyword(Keyword::If), depth + 1)?;
     let (_, test_at) = open.take(Lexeme::Punctuator(Punctuator::OpenParen), depth + 1)?;
     let (test, close) = expression(alloc, symbols, depth + 1, test_at)?;
     let (_, first_at) = close.take(Lexeme::Punctuator(Punctuator::CloseParen), depth + 1)?;
     let (first, middle, here) = statement(alloc, symbols, index + 1, depth + 1, first_at)?;
     let condition = Arc::new(alloc, test)?;
     let first = branch(alloc, first)?;
-    let (second, behind, end) = else_branch(alloc, symbols, middle, depth + 1, here)?;
+    let (second, after, end) = else_branch(alloc, symbols, middle, depth + 1, here)?;
     let stmt = Stmt::If {
         index,
-        place: word.place,
+        place: token.place,
         condition,
         first,
         second,
     };
-    Ok((stmt, behind, end))
+    Ok((stmt, after, end))
 }
 
 /// `else s`, if it is next.
@@ -195,8 +195,8 @@ fn else_branch<'a, 'b>(
     let Some((_, other_at)) = from.accept(Lexeme::Keyword(Keyword::Else)) else {
         return Ok((None, index, from));
     };
-    let (other, behind, end) = statement(alloc, symbols, index, depth, other_at)?;
-    Ok((Some(branch(alloc, other)?), behind, end))
+    let (other, after, end) = statement(alloc, symbols, index, depth, other_at)?;
+    Ok((Some(branch(alloc, other)?), after, end))
 }
 
 /// `while (e) s`.
@@ -220,20 +220,20 @@ fn while_statement<'a, 'b>(
     ensures few { IfOk result (λ found. found.1 + length (spot found.2).rest ≤ index + length (spot from.entry).rest) }
     ensures refused { IfErr result (λ error. IsRefused (Subgoal (One StmtSymbol) depth) (spot from.entry) error) }
 {
-    let (word, open) = from.take(Lexeme::Keyword(Keyword::While), depth + 1)?;
+    let (token, open) = from.take(Lexeme::Keyword(Keyword::While), depth + 1)?;
     let (_, test_at) = open.take(Lexeme::Punctuator(Punctuator::OpenParen), depth + 1)?;
     let (test, close) = expression(alloc, symbols, depth + 1, test_at)?;
     let (_, body_at) = close.take(Lexeme::Punctuator(Punctuator::CloseParen), depth + 1)?;
-    let (body, behind, end) = statement(alloc, symbols, index + 1, depth + 1, body_at)?;
+    let (body, after, end) = statement(alloc, symbols, index + 1, depth + 1, body_at)?;
     let condition = Arc::new(alloc, test)?;
     let body = branch(alloc, body)?;
     let stmt = Stmt::While {
         index,
-        place: word.place,
+        place: token.place,
         condition,
         body,
     };
-    Ok((stmt, behind, end))
+    Ok((stmt, after, end))
 }
 
 /// The statements between `{` and `}`, with the place of the `}`; the index that is free after them; and the cursor
@@ -264,9 +264,9 @@ pub(crate) fn block<'a, 'b>(
     let mut statements = Vec::new(alloc);
     let mut free = index;
     while !here.is(Lexeme::Punctuator(Punctuator::CloseBrace)) {
-        let (next, behind, end) = statement(alloc, symbols, free, depth, here)?;
+        let (next, after, end) = statement(alloc, symbols, free, depth, here)?;
         statements.push(next)?;
-        free = behind;
+        free = after;
         here = end;
     }
     let (close, end) = here.take(Lexeme::Punctuator(Punctuator::CloseBrace), depth)?;

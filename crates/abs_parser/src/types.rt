@@ -34,9 +34,9 @@ pub(crate) fn type_term<'a, 'b>(
         (λ names inside. type_tree names found.0 ≡ type_in inside)) }
     ensures refused { IfErr result (λ error. IsRefused (Subgoal (One Type') depth) (spot from.entry) error) }
 {
-    let (name, behind) = from.take(Lexeme::UpperName, depth + 1)?;
+    let (name, after) = from.take(Lexeme::UpperName, depth + 1)?;
     let symbol = symbols.intern(name.slice)?;
-    let (arguments, end) = type_arguments(alloc, symbols, depth + 1, behind)?;
+    let (arguments, end) = type_arguments(alloc, symbols, depth + 1, after)?;
     let term = TypeTerm::Unresolved {
         place: name.place,
         name: symbol,
@@ -61,10 +61,10 @@ fn type_arguments<'a, 'b>(
     ensures refused { IfErr result (λ error. IsRefused (Subgoal (Optional ArgumentsOfType) depth)
         (spot from.entry) error) }
 {
-    let Some((_, behind)) = from.accept(Lexeme::Punctuator(Punctuator::Less)) else {
+    let Some((_, after)) = from.accept(Lexeme::Punctuator(Punctuator::Less)) else {
         return Ok((Vec::new(alloc), from));
     };
-    let (types, close) = types(alloc, symbols, depth, behind)?;
+    let (types, close) = types(alloc, symbols, depth, after)?;
     let (_, end) = close.take(Lexeme::Punctuator(Punctuator::Greater), depth)?;
     Ok((types, end))
 }
@@ -86,8 +86,8 @@ pub(crate) fn types<'a, 'b>(
 {
     let (first, mut here) = type_term(alloc, symbols, depth, from)?;
     let mut types = vec![in alloc; first]?;
-    while let Some((_, behind)) = here.accept(Lexeme::Punctuator(Punctuator::Comma)) {
-        let (next, end) = type_term(alloc, symbols, depth, behind)?;
+    while let Some((_, after)) = here.accept(Lexeme::Punctuator(Punctuator::Comma)) {
+        let (next, end) = type_term(alloc, symbols, depth, after)?;
         types.push(next)?;
         here = end;
     }

@@ -23,7 +23,7 @@ inside_of (If' _ _ _ _ row _) = (_, row)
 inside_of (While' _ _ _ _ row) = (_, row)
 inside_of _ = (_, end_of-Stmt)
 
--- what an `if` has behind its `else`
+-- what an `if` has after its `else`
 abbrev held_of : Stmt → Held-Stmt-If-4
 held_of (If' _ _ _ _ _ held) = held
 held_of _ = None'

@@ -10,19 +10,19 @@ pub data IsPartOf : List Place → List Place → Type 0 where
   kept : {place : Place} {few many : List Place} → IsPartOf few many → IsPartOf (place ∷ few) (place ∷ many)
 
 -- Some of the last of them are some of all.
-pub part_behind : {few many : List Place} (front : List Place) → IsPartOf few many → IsPartOf few (front ++ many)
-part_behind [] x = x
-part_behind (place ∷ front) x = skipped (part_behind front x)
+pub part_after : {few many : List Place} (front : List Place) → IsPartOf few many → IsPartOf few (front ++ many)
+part_after [] x = x
+part_after (place ∷ front) x = skipped (part_after front x)
 
 -- So are some of the first of them.
-pub part_before : {few many : List Place} (behind : List Place) → IsPartOf few many → IsPartOf few (many ++ behind)
-part_before behind none = none
-part_before behind (skipped x) = skipped (part_before behind x)
-part_before behind (kept x) = kept (part_before behind x)
+pub part_before : {few many : List Place} (after : List Place) → IsPartOf few many → IsPartOf few (many ++ after)
+part_before after none = none
+part_before after (skipped x) = skipped (part_before after x)
+part_before after (kept x) = kept (part_before after x)
 
--- So are some of the first of them, and behind these some of the last.
+-- So are some of the first of them, and after these some of the last.
 pub part_both : {few many fewer more : List Place} → IsPartOf few many → IsPartOf fewer more → IsPartOf (few ++ fewer) (many ++ more)
-part_both {many = many} none y = part_behind many y
+part_both {many = many} none y = part_after many y
 part_both (skipped x) y = skipped (part_both x y)
 part_both (kept x) y = kept (part_both x y)
 
@@ -34,7 +34,7 @@ part_of_part (skipped x) (kept y) = skipped (part_of_part x y)
 part_of_part (kept x) (skipped y) = skipped (part_of_part (kept x) y)
 part_of_part (kept x) (kept y) = kept (part_of_part x y)
 
--- Places that stand from one offset on, each behind the one before it.
+-- Places that stand from one offset on, each after the one before it.
 abbrev pub PlacesRise : ℕ → List Place → Type 0
 PlacesRise low [] = ⊤
 PlacesRise low (place ∷ others) = (low ≤ place.offset) × PlacesRise (place.offset + 1) others

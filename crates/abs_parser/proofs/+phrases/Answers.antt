@@ -9,9 +9,9 @@ use Rattle.abs_parser.proofs.reader.ListSteps.{first_so_far, next_so_far, all_so
 use Rattle.abs_parser.proofs.grammar.OperatorLemmas.{no_operand_read, next_operand_refused, next_operand_read, last_operand_found, operators_end, first_operand_read, precedence_found}
 use Rattle.abs_parser.proofs.reader.ClimbingLemmas.{unary_refused, precedence_refused, nothing_follows, same_precedence, other_precedence, last_precedence, next_order, next_operand}
 use Rattle.abs_parser.proofs.reader.PatternSteps.{next_taken}
-use Rattle.abs_parser.proofs.grammar.PrimaryLemmas.{other_word, no_tail, tree_by, named_tree, built_tree, member_tree, this_tree, group_tree, prefixed_tree, build_phrase, constant_phrase}
-use Rattle.abs_parser.proofs.reader.PrimarySteps.{stands, first_read, name_read, member_begins, call_found, prefix_read, prefix_refused, operand_found, operand_refused, refused_primary, refused_lower, refused_upper, refused_group, refused_word, unary_refused_at_end, primary_refused_at_end, refused_no_primary}
-use Rattle.abs_parser.proofs.reader.WordSteps.{word_refused}
+use Rattle.abs_parser.proofs.grammar.PrimaryLemmas.{other_keyword, no_tail, tree_by, named_tree, built_tree, member_tree, this_tree, group_tree, prefixed_tree, build_phrase, constant_phrase}
+use Rattle.abs_parser.proofs.reader.PrimarySteps.{stands, first_read, name_read, member_begins, call_found, prefix_read, prefix_refused, operand_found, operand_refused, refused_primary, refused_lower, refused_upper, refused_group, refused_keyword, unary_refused_at_end, primary_refused_at_end, refused_no_primary}
+use Rattle.abs_parser.proofs.reader.KeywordSteps.{keyword_refused}
 use Rattle.abs_parser.proofs.reader.StepLemmas.{token_shorter, found_shorter, opens, over_token, over_name, over_part, into_last, all_read, refused_inside, refused_first_token, found_few, passed_on}
 use Rattle.abs_parser.specs.TokenKinds.{PunctuatorKind, fits, KeywordKind}
 use Rattle.abs_parser.specs.Productions.{ThisTail, Expr, Arguments}
@@ -41,129 +41,129 @@ pub expressions::expression-returns-clause-refused : goal.expressions::expressio
 expressions::expression-returns-clause-refused t c =
     IfErr-weaker c.operators.result _ _ (λ error. or_refused c.args.depth (spot c.args.from) error (sym c.is.ensures ∙ c.if-is.false) (sym c.is-2.ensures ∙ c.if-is-2.false)) c.operators.ensures.refused
 
-pub expressions::if_expression-returns-in_err-word-clause-refused : goal.expressions::if_expression-returns-in_err-word-clause-refused
-expressions::if_expression-returns-in_err-word-clause-refused t c =
-    passed_on _ c.from_residual.result c.from_residual.ensures.1 (word_refused (One Expr) c.args.depth (spot c.args.from) _ (if_opened c.args.depth) c.requires.begins c.in_err-word.ensures.refused)
+pub expressions::if_expression-returns-in_err-token-clause-refused : goal.expressions::if_expression-returns-in_err-token-clause-refused
+expressions::if_expression-returns-in_err-token-clause-refused t c =
+    passed_on _ c.from_residual.result c.from_residual.ensures.1 (keyword_refused (One Expr) c.args.depth (spot c.args.from) _ (if_opened c.args.depth) c.requires.begins c.in_err-token.ensures.refused)
 
 pub expressions::if_expression-returns-in_err-test-clause-refused : goal.expressions::if_expression-returns-in_err-test-clause-refused
 expressions::if_expression-returns-in_err-test-clause-refused t c =
-    passed_on _ c.from_residual-in_err-test.result c.from_residual-in_err-test.ensures.1 (refused_inside (if_begins c.args.depth c.args.symbols.now c.in_ok-word.ensures.found c.in_ok-word.ensures.within) _ c.in_err-test.ensures.refused)
+    passed_on _ c.from_residual-in_err-test.result c.from_residual-in_err-test.ensures.1 (refused_inside (if_begins c.args.depth c.args.symbols.now c.in_ok-token.ensures.found c.in_ok-token.ensures.within) _ c.in_err-test.ensures.refused)
 
 pub expressions::if_expression-returns-in_err-first_at-clause-refused : goal.expressions::if_expression-returns-in_err-first_at-clause-refused
 expressions::if_expression-returns-in_err-first_at-clause-refused t c =
-    passed_on _ c.from_residual-in_err-first_at.result c.from_residual-in_err-first_at.ensures.1 (refused_inside (over_part (if_begins c.args.depth c.args.symbols.now c.in_ok-word.ensures.found c.in_ok-word.ensures.within) c.in_ok-test.ensures.found) _ c.in_err-first_at.ensures.refused)
+    passed_on _ c.from_residual-in_err-first_at.result c.from_residual-in_err-first_at.ensures.1 (refused_inside (over_part (if_begins c.args.depth c.args.symbols.now c.in_ok-token.ensures.found c.in_ok-token.ensures.within) c.in_ok-test.ensures.found) _ c.in_err-first_at.ensures.refused)
 
 pub expressions::if_expression-expression-requires-2 : goal.expressions::if_expression-expression-requires-2
 expressions::if_expression-expression-requires-2 t c =
     let few = found_few c.in_ok-test.ensures.found in
     let shorter = found_shorter c.in_ok-test.ensures.found in
-    let word = token_shorter c.in_ok-word.ensures.found.takes in
-    let then_word = token_shorter c.in_ok-first_at.ensures.found.takes in
-    (search rules, (omega arith, omega (arith, c.in_ok-word.ensures.within)))
+    let token = token_shorter c.in_ok-token.ensures.found.takes in
+    let then_token = token_shorter c.in_ok-first_at.ensures.found.takes in
+    (search rules, (omega arith, omega (arith, c.in_ok-token.ensures.within)))
 
 pub expressions::if_expression-returns-in_err-first-clause-refused : goal.expressions::if_expression-returns-in_err-first-clause-refused
 expressions::if_expression-returns-in_err-first-clause-refused t c =
-    passed_on _ c.from_residual-in_err-first.result c.from_residual-in_err-first.ensures.1 (refused_inside (if_tested c.in_ok-word.ensures.found c.in_ok-test.ensures.found c.in_ok-first_at.ensures.found c.in_ok-word.ensures.within) _ c.in_err-first.ensures.refused)
+    passed_on _ c.from_residual-in_err-first.result c.from_residual-in_err-first.ensures.1 (refused_inside (if_tested c.in_ok-token.ensures.found c.in_ok-test.ensures.found c.in_ok-first_at.ensures.found c.in_ok-token.ensures.within) _ c.in_err-first.ensures.refused)
 
 pub expressions::if_expression-returns-in_err-second_at-clause-refused : goal.expressions::if_expression-returns-in_err-second_at-clause-refused
 expressions::if_expression-returns-in_err-second_at-clause-refused t c =
-    passed_on _ c.from_residual-in_err-second_at.result c.from_residual-in_err-second_at.ensures.1 (refused_inside (over_part (if_tested c.in_ok-word.ensures.found c.in_ok-test.ensures.found c.in_ok-first_at.ensures.found c.in_ok-word.ensures.within) c.in_ok-first.ensures.found) _ c.in_err-second_at.ensures.refused)
+    passed_on _ c.from_residual-in_err-second_at.result c.from_residual-in_err-second_at.ensures.1 (refused_inside (over_part (if_tested c.in_ok-token.ensures.found c.in_ok-test.ensures.found c.in_ok-first_at.ensures.found c.in_ok-token.ensures.within) c.in_ok-first.ensures.found) _ c.in_err-second_at.ensures.refused)
 
 pub expressions::if_expression-expression-requires-3 : goal.expressions::if_expression-expression-requires-3
 expressions::if_expression-expression-requires-3 t c =
-    let read = over_part (if_tested c.in_ok-word.ensures.found c.in_ok-test.ensures.found c.in_ok-first_at.ensures.found c.in_ok-word.ensures.within) c.in_ok-first.ensures.found in
+    let read = over_part (if_tested c.in_ok-token.ensures.found c.in_ok-test.ensures.found c.in_ok-first_at.ensures.found c.in_ok-token.ensures.within) c.in_ok-first.ensures.found in
     let few = read.few in
     let shorter = read.shorter in
-    let else_word = token_shorter c.in_ok-second_at.ensures.found.takes in
-    (search rules, (omega arith, omega (arith, c.in_ok-word.ensures.within)))
+    let else_token = token_shorter c.in_ok-second_at.ensures.found.takes in
+    (search rules, (omega arith, omega (arith, c.in_ok-token.ensures.within)))
 
 pub expressions::if_expression-returns-in_err-second-clause-refused : goal.expressions::if_expression-returns-in_err-second-clause-refused
 expressions::if_expression-returns-in_err-second-clause-refused t c =
-    let tested = if_tested c.in_ok-word.ensures.found c.in_ok-test.ensures.found c.in_ok-first_at.ensures.found c.in_ok-word.ensures.within in
-    passed_on _ c.from_residual-in_err-second.result c.from_residual-in_err-second.ensures.1 (refused_inside (if_chosen tested c.in_ok-first.ensures.found c.in_ok-second_at.ensures.found c.in_ok-word.ensures.within) _ c.in_err-second.ensures.refused)
+    let tested = if_tested c.in_ok-token.ensures.found c.in_ok-test.ensures.found c.in_ok-first_at.ensures.found c.in_ok-token.ensures.within in
+    passed_on _ c.from_residual-in_err-second.result c.from_residual-in_err-second.ensures.1 (refused_inside (if_chosen tested c.in_ok-first.ensures.found c.in_ok-second_at.ensures.found c.in_ok-token.ensures.within) _ c.in_err-second.ensures.refused)
 
 pub expressions::if_expression-returns-clause-found : goal.expressions::if_expression-returns-clause-found
 expressions::if_expression-returns-clause-found t c =
     if_found c.in_ok-condition.condition.value c.in_ok-first-2.first.value c.in_ok-second-2.second.value c.in_ok-condition.ensures.ok c.in_ok-first-2.ensures.ok c.in_ok-second-2.ensures.ok
-    c.in_ok-word.ensures.found c.in_ok-test.ensures.found c.in_ok-first_at.ensures.found c.in_ok-first.ensures.found c.in_ok-second_at.ensures.found c.in_ok-second.ensures.found c.in_ok-word.ensures.within
+    c.in_ok-token.ensures.found c.in_ok-test.ensures.found c.in_ok-first_at.ensures.found c.in_ok-first.ensures.found c.in_ok-second_at.ensures.found c.in_ok-second.ensures.found c.in_ok-token.ensures.within
 
-pub expressions::let_expression-returns-in_err-word-clause-refused : goal.expressions::let_expression-returns-in_err-word-clause-refused
-expressions::let_expression-returns-in_err-word-clause-refused t c =
-    passed_on _ c.from_residual.result c.from_residual.ensures.1 (word_refused (One Expr) c.args.depth (spot c.args.from) _ (let_opened c.args.depth) c.requires.begins c.in_err-word.ensures.refused)
+pub expressions::let_expression-returns-in_err-token-clause-refused : goal.expressions::let_expression-returns-in_err-token-clause-refused
+expressions::let_expression-returns-in_err-token-clause-refused t c =
+    passed_on _ c.from_residual.result c.from_residual.ensures.1 (keyword_refused (One Expr) c.args.depth (spot c.args.from) _ (let_opened c.args.depth) c.requires.begins c.in_err-token.ensures.refused)
 
 pub expressions::let_expression-returns-in_err-type_at-clause-refused : goal.expressions::let_expression-returns-in_err-type_at-clause-refused
 expressions::let_expression-returns-in_err-type_at-clause-refused t c =
-    passed_on _ c.from_residual-in_err-type_at.result c.from_residual-in_err-type_at.ensures.1 (refused_inside (let_begins c.args.depth c.args.symbols.now c.in_ok-word.ensures.found c.in_ok-word.ensures.within) _ c.in_err-type_at.ensures.refused)
+    passed_on _ c.from_residual-in_err-type_at.result c.from_residual-in_err-type_at.ensures.1 (refused_inside (let_begins c.args.depth c.args.symbols.now c.in_ok-token.ensures.found c.in_ok-token.ensures.within) _ c.in_err-type_at.ensures.refused)
 
 pub expressions::let_expression-returns-in_err-type_of-clause-refused : goal.expressions::let_expression-returns-in_err-type_of-clause-refused
 expressions::let_expression-returns-in_err-type_of-clause-refused t c =
-    let paren = over_token {kind = lexeme.Punctuator punctuator.OpenParen} (let_begins c.args.depth c.args.symbols.now c.in_ok-word.ensures.found c.in_ok-word.ensures.within) c.in_ok-type_at.ensures.found refl refl c.in_ok-word.ensures.within in
+    let paren = over_token {kind = lexeme.Punctuator punctuator.OpenParen} (let_begins c.args.depth c.args.symbols.now c.in_ok-token.ensures.found c.in_ok-token.ensures.within) c.in_ok-type_at.ensures.found refl refl c.in_ok-token.ensures.within in
     passed_on _ c.from_residual-in_err-type_of.result c.from_residual-in_err-type_of.ensures.1 (refused_inside paren _ c.in_err-type_of.ensures.refused)
 
 pub expressions::let_expression-returns-in_err-name-clause-refused : goal.expressions::let_expression-returns-in_err-name-clause-refused
 expressions::let_expression-returns-in_err-name-clause-refused t c =
-    let paren = over_token {kind = lexeme.Punctuator punctuator.OpenParen} (let_begins c.args.depth c.args.symbols.now c.in_ok-word.ensures.found c.in_ok-word.ensures.within) c.in_ok-type_at.ensures.found refl refl c.in_ok-word.ensures.within in
+    let paren = over_token {kind = lexeme.Punctuator punctuator.OpenParen} (let_begins c.args.depth c.args.symbols.now c.in_ok-token.ensures.found c.in_ok-token.ensures.within) c.in_ok-type_at.ensures.found refl refl c.in_ok-token.ensures.within in
     passed_on _ c.from_residual-in_err-name.result c.from_residual-in_err-name.ensures.1 (refused_inside (over_part paren c.in_ok-type_of.ensures.found) _ c.in_err-name.ensures.refused)
 
 pub expressions::let_expression-intern-requires : goal.expressions::let_expression-intern-requires
 expressions::let_expression-intern-requires t c =
     let few = found_few c.in_ok-type_of.ensures.found in
-    let word = token_shorter c.in_ok-word.ensures.found.takes in
+    let token = token_shorter c.in_ok-token.ensures.found.takes in
     let paren = token_shorter c.in_ok-type_at.ensures.found.takes in
     omega arith
 
 pub expressions::let_expression-returns-in_err-equals-clause-refused : goal.expressions::let_expression-returns-in_err-equals-clause-refused
 expressions::let_expression-returns-in_err-equals-clause-refused t c =
-    let named = let_named c.in_ok-word.ensures.found c.in_ok-type_at.ensures.found c.in_ok-type_of.ensures.found c.in_ok-name.ensures.found c.in_ok-intern.ensures.names c.in_ok-word.ensures.within in
+    let named = let_named c.in_ok-token.ensures.found c.in_ok-type_at.ensures.found c.in_ok-type_of.ensures.found c.in_ok-name.ensures.found c.in_ok-intern.ensures.names c.in_ok-token.ensures.within in
     passed_on _ c.from_residual-in_err-equals.result c.from_residual-in_err-equals.ensures.1 (refused_inside named _ c.in_err-equals.ensures.refused)
 
 pub expressions::let_expression-returns-in_err-value_at-clause-refused : goal.expressions::let_expression-returns-in_err-value_at-clause-refused
 expressions::let_expression-returns-in_err-value_at-clause-refused t c =
-    let named = let_named c.in_ok-word.ensures.found c.in_ok-type_at.ensures.found c.in_ok-type_of.ensures.found c.in_ok-name.ensures.found c.in_ok-intern.ensures.names c.in_ok-word.ensures.within in
-    let close = over_token {kind = lexeme.Punctuator punctuator.CloseParen} named c.in_ok-equals.ensures.found refl refl c.in_ok-word.ensures.within in
+    let named = let_named c.in_ok-token.ensures.found c.in_ok-type_at.ensures.found c.in_ok-type_of.ensures.found c.in_ok-name.ensures.found c.in_ok-intern.ensures.names c.in_ok-token.ensures.within in
+    let close = over_token {kind = lexeme.Punctuator punctuator.CloseParen} named c.in_ok-equals.ensures.found refl refl c.in_ok-token.ensures.within in
     passed_on _ c.from_residual-in_err-value_at.result c.from_residual-in_err-value_at.ensures.1 (refused_inside close _ c.in_err-value_at.ensures.refused)
 
 pub expressions::let_expression-expression-requires : goal.expressions::let_expression-expression-requires
 expressions::let_expression-expression-requires t c =
-    let named = let_named c.in_ok-word.ensures.found c.in_ok-type_at.ensures.found c.in_ok-type_of.ensures.found c.in_ok-name.ensures.found c.in_ok-intern.ensures.names c.in_ok-word.ensures.within in
+    let named = let_named c.in_ok-token.ensures.found c.in_ok-type_at.ensures.found c.in_ok-type_of.ensures.found c.in_ok-name.ensures.found c.in_ok-intern.ensures.names c.in_ok-token.ensures.within in
     let few = named.few in
     let shorter = named.shorter in
     let close = token_shorter c.in_ok-equals.ensures.found.takes in
     let equals = token_shorter c.in_ok-value_at.ensures.found.takes in
-    (search rules, (omega arith, omega (arith, c.in_ok-word.ensures.within)))
+    (search rules, (omega arith, omega (arith, c.in_ok-token.ensures.within)))
 
 pub expressions::let_expression-returns-in_err-value-clause-refused : goal.expressions::let_expression-returns-in_err-value-clause-refused
 expressions::let_expression-returns-in_err-value-clause-refused t c =
-    let named = let_named c.in_ok-word.ensures.found c.in_ok-type_at.ensures.found c.in_ok-type_of.ensures.found c.in_ok-name.ensures.found c.in_ok-intern.ensures.names c.in_ok-word.ensures.within in
-    passed_on _ c.from_residual-in_err-value.result c.from_residual-in_err-value.ensures.1 (refused_inside (let_assigned named c.in_ok-equals.ensures.found c.in_ok-value_at.ensures.found c.in_ok-word.ensures.within) _ c.in_err-value.ensures.refused)
+    let named = let_named c.in_ok-token.ensures.found c.in_ok-type_at.ensures.found c.in_ok-type_of.ensures.found c.in_ok-name.ensures.found c.in_ok-intern.ensures.names c.in_ok-token.ensures.within in
+    passed_on _ c.from_residual-in_err-value.result c.from_residual-in_err-value.ensures.1 (refused_inside (let_assigned named c.in_ok-equals.ensures.found c.in_ok-value_at.ensures.found c.in_ok-token.ensures.within) _ c.in_err-value.ensures.refused)
 
 pub expressions::let_expression-returns-in_err-body_at-clause-refused : goal.expressions::let_expression-returns-in_err-body_at-clause-refused
 expressions::let_expression-returns-in_err-body_at-clause-refused t c =
-    let named = let_named c.in_ok-word.ensures.found c.in_ok-type_at.ensures.found c.in_ok-type_of.ensures.found c.in_ok-name.ensures.found c.in_ok-intern.ensures.names c.in_ok-word.ensures.within in
-    let assigned = let_assigned named c.in_ok-equals.ensures.found c.in_ok-value_at.ensures.found c.in_ok-word.ensures.within in
+    let named = let_named c.in_ok-token.ensures.found c.in_ok-type_at.ensures.found c.in_ok-type_of.ensures.found c.in_ok-name.ensures.found c.in_ok-intern.ensures.names c.in_ok-token.ensures.within in
+    let assigned = let_assigned named c.in_ok-equals.ensures.found c.in_ok-value_at.ensures.found c.in_ok-token.ensures.within in
     passed_on _ c.from_residual-in_err-body_at.result c.from_residual-in_err-body_at.ensures.1 (refused_inside (over_part assigned c.in_ok-value.ensures.found) _ c.in_err-body_at.ensures.refused)
 
 pub expressions::let_expression-expression-requires-2 : goal.expressions::let_expression-expression-requires-2
 expressions::let_expression-expression-requires-2 t c =
-    let named = let_named c.in_ok-word.ensures.found c.in_ok-type_at.ensures.found c.in_ok-type_of.ensures.found c.in_ok-name.ensures.found c.in_ok-intern.ensures.names c.in_ok-word.ensures.within in
-    let read = over_part (let_assigned named c.in_ok-equals.ensures.found c.in_ok-value_at.ensures.found c.in_ok-word.ensures.within) c.in_ok-value.ensures.found in
+    let named = let_named c.in_ok-token.ensures.found c.in_ok-type_at.ensures.found c.in_ok-type_of.ensures.found c.in_ok-name.ensures.found c.in_ok-intern.ensures.names c.in_ok-token.ensures.within in
+    let read = over_part (let_assigned named c.in_ok-equals.ensures.found c.in_ok-value_at.ensures.found c.in_ok-token.ensures.within) c.in_ok-value.ensures.found in
     let few = read.few in
     let shorter = read.shorter in
-    let in_word = token_shorter c.in_ok-body_at.ensures.found.takes in
-    (search rules, (omega arith, omega (arith, c.in_ok-word.ensures.within)))
+    let in_token = token_shorter c.in_ok-body_at.ensures.found.takes in
+    (search rules, (omega arith, omega (arith, c.in_ok-token.ensures.within)))
 
 pub expressions::let_expression-returns-in_err-body-clause-refused : goal.expressions::let_expression-returns-in_err-body-clause-refused
 expressions::let_expression-returns-in_err-body-clause-refused t c =
-    let named = let_named c.in_ok-word.ensures.found c.in_ok-type_at.ensures.found c.in_ok-type_of.ensures.found c.in_ok-name.ensures.found c.in_ok-intern.ensures.names c.in_ok-word.ensures.within in
-    let valued = let_valued (let_assigned named c.in_ok-equals.ensures.found c.in_ok-value_at.ensures.found c.in_ok-word.ensures.within) c.in_ok-value.ensures.found c.in_ok-body_at.ensures.found c.in_ok-word.ensures.within in
+    let named = let_named c.in_ok-token.ensures.found c.in_ok-type_at.ensures.found c.in_ok-type_of.ensures.found c.in_ok-name.ensures.found c.in_ok-intern.ensures.names c.in_ok-token.ensures.within in
+    let valued = let_valued (let_assigned named c.in_ok-equals.ensures.found c.in_ok-value_at.ensures.found c.in_ok-token.ensures.within) c.in_ok-value.ensures.found c.in_ok-body_at.ensures.found c.in_ok-token.ensures.within in
     passed_on _ c.from_residual-in_err-body.result c.from_residual-in_err-body.ensures.1 (refused_inside valued _ c.in_err-body.ensures.refused)
 
 pub expressions::let_expression-returns-clause-found : goal.expressions::let_expression-returns-clause-found
 expressions::let_expression-returns-clause-found t c =
     let named = c.in_ok-intern.ensures in
-    let_found c.in_ok-type_of.type_of c.in_ok-intern.field-0 c.in_ok-value-2.value.value c.in_ok-body-2.body.value c.in_ok-value-2.ensures.ok c.in_ok-body-2.ensures.ok c.in_ok-word.ensures.found c.in_ok-type_at.ensures.found
+    let_found c.in_ok-type_of.type_of c.in_ok-intern.field-0 c.in_ok-value-2.value.value c.in_ok-body-2.body.value c.in_ok-value-2.ensures.ok c.in_ok-body-2.ensures.ok c.in_ok-token.ensures.found c.in_ok-type_at.ensures.found
     c.in_ok-type_of.ensures.found c.in_ok-name.ensures.found named.symbol named.names c.in_ok-equals.ensures.found c.in_ok-value_at.ensures.found c.in_ok-value.ensures.found
-    c.in_ok-body_at.ensures.found c.in_ok-body.ensures.found c.in_ok-word.ensures.within
+    c.in_ok-body_at.ensures.found c.in_ok-body.ensures.found c.in_ok-token.ensures.within
 
 pub operators::operators-returns-in_err-first-clause-refused : goal.operators::operators-returns-in_err-first-clause-refused
 operators::operators-returns-in_err-first-clause-refused t c =
@@ -223,7 +223,7 @@ operators::operators_after-loop-operator-init t c = record { read = no_operand_r
 pub operators::operators_after-operand-requires : goal.operators::operators_after-operand-requires
 operators::operators_after-operand-requires t c =
     let few = c.loop-operator.invariant.read.read.few in
-    let sign = token_shorter c.in-Some.ensures.some.takes.takes in
+    let punctuator = token_shorter c.in-Some.ensures.some.takes.takes in
     let shorter = c.loop-operator.invariant.read.read.shorter in
     let depth = c.requires.depth in
     (search rules, omega arith)
@@ -234,7 +234,7 @@ operators::operators_after-returns-in_err-right-clause-refused t c =
 
 pub operators::operators_after-loop-operator-smaller : goal.operators::operators_after-loop-operator-smaller
 operators::operators_after-loop-operator-smaller t c =
-    let sign = token_shorter c.in-Some.ensures.some.takes.takes in
+    let punctuator = token_shorter c.in-Some.ensures.some.takes.takes in
     let right = found_shorter c.in_ok-right.ensures.found in
     omega arith
 
@@ -275,7 +275,7 @@ primaries::constructor_primary-returns-clause-found t c =
 
 pub primaries::parenthesized-returns-in_err-inside-clause-refused : goal.primaries::parenthesized-returns-in_err-inside-clause-refused
 primaries::parenthesized-returns-in_err-inside-clause-refused t c =
-    passed_on _ c.from_residual.result c.from_residual.ensures.1 (refused_group c.args.depth (spot c.args.from) _ c.args.sign c.requires.begins c.in_err-inside.ensures.refused)
+    passed_on _ c.from_residual.result c.from_residual.ensures.1 (refused_group c.args.depth (spot c.args.from) _ c.args.punctuator c.requires.begins c.in_err-inside.ensures.refused)
 
 pub primaries::parenthesized-returns-in_err-expr-clause-refused : goal.primaries::parenthesized-returns-in_err-expr-clause-refused
 primaries::parenthesized-returns-in_err-expr-clause-refused t c =
@@ -342,12 +342,12 @@ primaries::primary-returns-in-Foreign-clause-refused t c =
 
 pub primaries::this_primary-returns-in_err-this-clause-refused : goal.primaries::this_primary-returns-in_err-this-clause-refused
 primaries::this_primary-returns-in_err-this-clause-refused t c =
-    passed_on _ c.from_residual.result c.from_residual.ensures.1 (refused_word keyword.This c.args.depth (spot c.args.from) _ refl c.requires.begins c.in_err-this.ensures.refused)
+    passed_on _ c.from_residual.result c.from_residual.ensures.1 (refused_keyword keyword.This c.args.depth (spot c.args.from) _ refl c.requires.begins c.in_err-this.ensures.refused)
 
 pub primaries::this_primary-returns-in_default-clause-found : goal.primaries::this_primary-returns-in_default-clause-found
 primaries::this_primary-returns-in_default-clause-found t c =
     let this = c.in_ok-this.ensures.found in
-    let none = opens (Optional ThisTail) c.args.depth c.args.symbols.now (spot c.in_ok-this.behind) _ (no_tail c.args.depth _ c.in_default.ensures.other) in
+    let none = opens (Optional ThisTail) c.args.depth c.args.symbols.now (spot c.in_ok-this.after) _ (no_tail c.args.depth _ c.in_default.ensures.other) in
     all_read (into_last (first_read c.args.depth c.args.symbols.now this refl refl c.in_ok-this.ensures.within) none) (λ names more. this_tree (lexed c.in_ok-this.this) c.args.depth this.kind_is)
 
 pub primaries::this_primary-returns-in_err-name-clause-refused : goal.primaries::this_primary-returns-in_err-name-clause-refused
@@ -388,24 +388,24 @@ primaries::unary-returns-in_default-prefix_of-clause-refused t c =
 pub primaries::unary-take-requires : goal.primaries::unary-take-requires
 primaries::unary-take-requires t c = record { asked = ap is_asked c.in-Some-prefix_of.ensures.some }
 
-pub primaries::unary-returns-in_err-sign-clause-refused : goal.primaries::unary-returns-in_err-sign-clause-refused
-primaries::unary-returns-in_err-sign-clause-refused t c =
-    passed_on _ c.from_residual.result c.from_residual.ensures.1 (prefix_refused c.in-Some-prefix_of.prefix c.args.depth _ c.in-Some.ensures.some c.in-Some-prefix_of.ensures.some c.in_err-sign.ensures.refused)
+pub primaries::unary-returns-in_err-token-clause-refused : goal.primaries::unary-returns-in_err-token-clause-refused
+primaries::unary-returns-in_err-token-clause-refused t c =
+    passed_on _ c.from_residual.result c.from_residual.ensures.1 (prefix_refused c.in-Some-prefix_of.prefix c.args.depth _ c.in-Some.ensures.some c.in-Some-prefix_of.ensures.some c.in_err-token.ensures.refused)
 
 pub primaries::unary-returns-in_err-operand-clause-refused : goal.primaries::unary-returns-in_err-operand-clause-refused
 primaries::unary-returns-in_err-operand-clause-refused t c =
-    passed_on _ c.from_residual-in_err-operand.result c.from_residual-in_err-operand.ensures.1 (refused_inside (prefix_read c.in-Some-prefix_of.prefix c.args.depth c.args.symbols.now (stands c.in_ok-sign.ensures.found.takes (c.in_ok-sign.ensures.found.kind_is ∙ c.in-Some-prefix_of.ensures.some)) c.in_ok-sign.ensures.within) _ c.in_err-operand.ensures.refused)
+    passed_on _ c.from_residual-in_err-operand.result c.from_residual-in_err-operand.ensures.1 (refused_inside (prefix_read c.in-Some-prefix_of.prefix c.args.depth c.args.symbols.now (stands c.in_ok-token.ensures.found.takes (c.in_ok-token.ensures.found.kind_is ∙ c.in-Some-prefix_of.ensures.some)) c.in_ok-token.ensures.within) _ c.in_err-operand.ensures.refused)
 
 pub primaries::unary-returns-clause-found : goal.primaries::unary-returns-clause-found
 primaries::unary-returns-clause-found t c =
-    let takes = stands c.in_ok-sign.ensures.found.takes (c.in_ok-sign.ensures.found.kind_is ∙ c.in-Some-prefix_of.ensures.some) in
+    let takes = stands c.in_ok-token.ensures.found.takes (c.in_ok-token.ensures.found.kind_is ∙ c.in-Some-prefix_of.ensures.some) in
     let found = c.in_ok-operand.ensures.found in
-    all_read (over_part (prefix_read c.in-Some-prefix_of.prefix c.args.depth c.args.symbols.now takes c.in_ok-sign.ensures.within) found) (λ names more.
-    prefixed_tree c.in-Some-prefix_of.prefix (lexed c.in_ok-sign.sign) (c.args.depth + 1) found.inside takes.kind_is (ap (phrase names) c.in_ok-operand-2.ensures.ok ∙ found.is names more))
+    all_read (over_part (prefix_read c.in-Some-prefix_of.prefix c.args.depth c.args.symbols.now takes c.in_ok-token.ensures.within) found) (λ names more.
+    prefixed_tree c.in-Some-prefix_of.prefix (lexed c.in_ok-token.token) (c.args.depth + 1) found.inside takes.kind_is (ap (phrase names) c.in_ok-operand-2.ensures.ok ∙ found.is names more))
 
 pub primaries::keyword_primary-returns-in_err-token-in-Null-clause-refused : goal.primaries::keyword_primary-returns-in_err-token-in-Null-clause-refused
 primaries::keyword_primary-returns-in_err-token-in-Null-clause-refused t c =
-    passed_on _ c.from_residual.result c.from_residual.ensures.1 (refused_word keyword.Null c.args.depth (spot c.args.from) _ refl (ap (fits (KeywordKind keyword.Null)) (c.requires.begins ∙ ap KeywordKind c.in-Null.is)) c.in_err-token-in-Null.ensures.refused)
+    passed_on _ c.from_residual.result c.from_residual.ensures.1 (refused_keyword keyword.Null c.args.depth (spot c.args.from) _ refl (ap (fits (KeywordKind keyword.Null)) (c.requires.begins ∙ ap KeywordKind c.in-Null.is)) c.in_err-token-in-Null.ensures.refused)
 
 pub primaries::keyword_primary-returns-in_ok-token-in-Null-clause-found : goal.primaries::keyword_primary-returns-in_ok-token-in-Null-clause-found
 primaries::keyword_primary-returns-in_ok-token-in-Null-clause-found t c =
@@ -414,7 +414,7 @@ primaries::keyword_primary-returns-in_ok-token-in-Null-clause-found t c =
 
 pub primaries::keyword_primary-returns-in_err-token-in-Destiny-clause-refused : goal.primaries::keyword_primary-returns-in_err-token-in-Destiny-clause-refused
 primaries::keyword_primary-returns-in_err-token-in-Destiny-clause-refused t c =
-    passed_on _ c.from_residual-in_err-token-in-Destiny.result c.from_residual-in_err-token-in-Destiny.ensures.1 (refused_word keyword.Destiny c.args.depth (spot c.args.from) _ refl (ap (fits (KeywordKind keyword.Destiny)) (c.requires.begins ∙ ap KeywordKind c.in-Destiny.is)) c.in_err-token-in-Destiny.ensures.refused)
+    passed_on _ c.from_residual-in_err-token-in-Destiny.result c.from_residual-in_err-token-in-Destiny.ensures.1 (refused_keyword keyword.Destiny c.args.depth (spot c.args.from) _ refl (ap (fits (KeywordKind keyword.Destiny)) (c.requires.begins ∙ ap KeywordKind c.in-Destiny.is)) c.in_err-token-in-Destiny.ensures.refused)
 
 pub primaries::keyword_primary-returns-in_ok-token-in-Destiny-clause-found : goal.primaries::keyword_primary-returns-in_ok-token-in-Destiny-clause-found
 primaries::keyword_primary-returns-in_ok-token-in-Destiny-clause-found t c =
@@ -424,8 +424,8 @@ primaries::keyword_primary-returns-in_ok-token-in-Destiny-clause-found t c =
 pub primaries::keyword_primary-returns-in_default : goal.primaries::keyword_primary-returns-in_default
 primaries::keyword_primary-returns-in_default t c = record {
   found = tt;
-  refused = refused_no_primary (lexeme.Keyword c.args.word) [] c.args.depth (spot c.args.from) _ c.wrong.ensures c.requires.begins
-      (sym (other_word c.args.word c.in_default.not-Null c.in_default.not-Destiny c.in_default.not-This c.in_default.not-Case));
+  refused = refused_no_primary (lexeme.Keyword c.args.keyword) [] c.args.depth (spot c.args.from) _ c.wrong.ensures c.requires.begins
+      (sym (other_keyword c.args.keyword c.in_default.not-Null c.in_default.not-Destiny c.in_default.not-This c.in_default.not-Case));
 }
 
 pub cases::branch-returns-in_err-pattern-clause-refused : goal.cases::branch-returns-in_err-pattern-clause-refused
@@ -458,34 +458,34 @@ cases::branch-returns-clause-found t c =
     let branch : Branch = record { pattern = c.in_ok-pattern.pattern; value = c.in_ok-value.value } in
     branch_found branch c.in_ok-pattern.ensures.found c.in_ok-value_at.ensures.found c.in_ok-value.ensures.found c.in_ok-end.ensures.found c.requires.depth
 
-pub cases::case_primary-returns-in_err-word-clause-refused : goal.cases::case_primary-returns-in_err-word-clause-refused
-cases::case_primary-returns-in_err-word-clause-refused t c =
-    passed_on _ c.from_residual.result c.from_residual.ensures.1 (refused_word keyword.Case c.args.depth (spot c.args.from) _ refl c.requires.begins c.in_err-word.ensures.refused)
+pub cases::case_primary-returns-in_err-token-clause-refused : goal.cases::case_primary-returns-in_err-token-clause-refused
+cases::case_primary-returns-in_err-token-clause-refused t c =
+    passed_on _ c.from_residual.result c.from_residual.ensures.1 (refused_keyword keyword.Case c.args.depth (spot c.args.from) _ refl c.requires.begins c.in_err-token.ensures.refused)
 
 pub cases::case_primary-returns-in_err-subject-clause-refused : goal.cases::case_primary-returns-in_err-subject-clause-refused
 cases::case_primary-returns-in_err-subject-clause-refused t c =
-    passed_on _ c.from_residual-in_err-subject.result c.from_residual-in_err-subject.ensures.1 (refused_inside (case_begins c.args.depth c.args.symbols.now c.in_ok-word.ensures.found c.in_ok-word.ensures.within) _ c.in_err-subject.ensures.refused)
+    passed_on _ c.from_residual-in_err-subject.result c.from_residual-in_err-subject.ensures.1 (refused_inside (case_begins c.args.depth c.args.symbols.now c.in_ok-token.ensures.found c.in_ok-token.ensures.within) _ c.in_err-subject.ensures.refused)
 
 pub cases::case_primary-returns-in_err-first_at-clause-refused : goal.cases::case_primary-returns-in_err-first_at-clause-refused
 cases::case_primary-returns-in_err-first_at-clause-refused t c =
-    let subject = over_part (case_begins c.args.depth c.args.symbols.now c.in_ok-word.ensures.found c.in_ok-word.ensures.within) c.in_ok-subject.ensures.found in
+    let subject = over_part (case_begins c.args.depth c.args.symbols.now c.in_ok-token.ensures.found c.in_ok-token.ensures.within) c.in_ok-subject.ensures.found in
     passed_on _ c.from_residual-in_err-first_at.result c.from_residual-in_err-first_at.ensures.1 (refused_inside subject _ c.in_err-first_at.ensures.refused)
 
 pub cases::case_primary-branch-alloc-requires : goal.cases::case_primary-branch-alloc-requires
 cases::case_primary-branch-alloc-requires t c =
     let few = found_few c.in_ok-subject.ensures.found in
     let shorter = found_shorter c.in_ok-subject.ensures.found in
-    let word = token_shorter c.in_ok-word.ensures.found.takes in
+    let token = token_shorter c.in_ok-token.ensures.found.takes in
     let brace = token_shorter c.in_ok-first_at.ensures.found.takes in
-    (search rules, (omega arith, c.in_ok-word.ensures.within))
+    (search rules, (omega arith, c.in_ok-token.ensures.within))
 
 pub cases::case_primary-returns-in_err-first-clause-refused : goal.cases::case_primary-returns-in_err-first-clause-refused
 cases::case_primary-returns-in_err-first-clause-refused t c =
-    passed_on _ c.from_residual-in_err-first.result c.from_residual-in_err-first.ensures.1 (refused_inside (case_asked c.in_ok-word.ensures.found c.in_ok-subject.ensures.found c.in_ok-first_at.ensures.found c.in_ok-word.ensures.within) _ c.in_err-first.ensures.refused)
+    passed_on _ c.from_residual-in_err-first.result c.from_residual-in_err-first.ensures.1 (refused_inside (case_asked c.in_ok-token.ensures.found c.in_ok-subject.ensures.found c.in_ok-first_at.ensures.found c.in_ok-token.ensures.within) _ c.in_err-first.ensures.refused)
 
 pub cases::case_primary-loop-symbols-init : goal.cases::case_primary-loop-symbols-init
 cases::case_primary-loop-symbols-init t c = record {
-  read = first_branch c.in_ok-first.first c.in_ok-branches.ensures.items c.in_ok-word.ensures.found c.in_ok-subject.ensures.found c.in_ok-first_at.ensures.found c.in_ok-first.ensures.found c.in_ok-word.ensures.within;
+  read = first_branch c.in_ok-first.first c.in_ok-branches.ensures.items c.in_ok-token.ensures.found c.in_ok-subject.ensures.found c.in_ok-first_at.ensures.found c.in_ok-first.ensures.found c.in_ok-token.ensures.within;
 }
 
 pub cases::case_primary-loop-symbols-preserved : goal.cases::case_primary-loop-symbols-preserved
@@ -495,7 +495,7 @@ pub cases::case_primary-branch-alloc-requires-in-loop-symbols : goal.cases::case
 cases::case_primary-branch-alloc-requires-in-loop-symbols t c =
     let few = c.loop-symbols.invariant.read.read.few in
     let shorter = c.loop-symbols.invariant.read.shorter in
-    (search rules, (omega arith, c.in_ok-word.ensures.within))
+    (search rules, (omega arith, c.in_ok-token.ensures.within))
 
 pub cases::case_primary-returns-in_err-next-clause-refused : goal.cases::case_primary-returns-in_err-next-clause-refused
 cases::case_primary-returns-in_err-next-clause-refused t c =
@@ -512,37 +512,37 @@ cases::case_primary-returns-in_err-end-clause-refused t c =
 
 pub cases::case_primary-returns-clause-found : goal.cases::case_primary-returns-clause-found
 cases::case_primary-returns-clause-found t c =
-    case_found c.in_ok-subject-2.subject c.loop-symbols.branches c.in_ok-subject-2.ensures.ok c.loop-symbols.invariant.read c.in_ok-end.ensures.found c.in_ok-word.ensures.within
+    case_found c.in_ok-subject-2.subject c.loop-symbols.branches c.in_ok-subject-2.ensures.ok c.loop-symbols.invariant.read c.in_ok-end.ensures.found c.in_ok-token.ensures.within
 
-pub arguments::arguments-returns-in_err-behind-clause-refused : goal.arguments::arguments-returns-in_err-behind-clause-refused
-arguments::arguments-returns-in_err-behind-clause-refused t c =
+pub arguments::arguments-returns-in_err-after-clause-refused : goal.arguments::arguments-returns-in_err-after-clause-refused
+arguments::arguments-returns-in_err-after-clause-refused t c =
     passed_on _ c.from_residual.result c.from_residual.ensures.1 (refused_first_token (PunctuatorKind punctuator.OpenParen) c.args.depth (One Arguments) c.args.depth (spot c.args.from) _
-    (parentheses_opened arguments _ c.args.depth) (parentheses_shut arguments _ c.args.depth) c.in_err-behind.ensures.refused)
+    (parentheses_opened arguments _ c.args.depth) (parentheses_shut arguments _ c.args.depth) c.in_err-after.ensures.refused)
 
 pub arguments::arguments-returns-in-Some-clause-found : goal.arguments::arguments-returns-in-Some-clause-found
 arguments::arguments-returns-in-Some-clause-found t c =
     let close = c.in-Some.ensures.found in
     let none = nothing_between arguments c.args.depth c.args.symbols.now close in
-    let so = over_part (parenthesis_read arguments c.args.depth c.args.symbols.now c.in_ok-behind.ensures.found c.in_ok-behind.ensures.within) none in
-    all_read (over_token {kind = lexeme.Punctuator punctuator.CloseParen} so close refl refl c.in_ok-behind.ensures.within) (λ names more. ap (phrases names) c.new.ensures.items ∙ sym (ap args_maybe (none.is names more)))
+    let so = over_part (parenthesis_read arguments c.args.depth c.args.symbols.now c.in_ok-after.ensures.found c.in_ok-after.ensures.within) none in
+    all_read (over_token {kind = lexeme.Punctuator punctuator.CloseParen} so close refl refl c.in_ok-after.ensures.within) (λ names more. ap (phrases names) c.new.ensures.items ∙ sym (ap args_maybe (none.is names more)))
 
 pub arguments::arguments-returns-in_err-expressions-clause-refused : goal.arguments::arguments-returns-in_err-expressions-clause-refused
 arguments::arguments-returns-in_err-expressions-clause-refused t c =
-    passed_on _ c.from_residual-in_err-expressions.result c.from_residual-in_err-expressions.ensures.1 (refused_between list_of_expressions _ (parenthesis_read arguments c.args.depth c.args.symbols.now c.in_ok-behind.ensures.found c.in_ok-behind.ensures.within) c.in_default.ensures.other
+    passed_on _ c.from_residual-in_err-expressions.result c.from_residual-in_err-expressions.ensures.1 (refused_between list_of_expressions _ (parenthesis_read arguments c.args.depth c.args.symbols.now c.in_ok-after.ensures.found c.in_ok-after.ensures.within) c.in_default.ensures.other
     c.in_err-expressions.ensures.refused)
 
 pub arguments::arguments-returns-in_err-end-clause-refused : goal.arguments::arguments-returns-in_err-end-clause-refused
 arguments::arguments-returns-in_err-end-clause-refused t c =
     passed_on _ c.from_residual-in_err-end.result c.from_residual-in_err-end.ensures.1 (refused_inside
-    (over_part (parenthesis_read arguments c.args.depth c.args.symbols.now c.in_ok-behind.ensures.found c.in_ok-behind.ensures.within) (maybe_found list_of_expressions c.in_ok-expressions.ensures.found)) _
+    (over_part (parenthesis_read arguments c.args.depth c.args.symbols.now c.in_ok-after.ensures.found c.in_ok-after.ensures.within) (maybe_found list_of_expressions c.in_ok-expressions.ensures.found)) _
     c.in_err-end.ensures.refused)
 
 pub arguments::arguments-returns-clause-found : goal.arguments::arguments-returns-clause-found
 arguments::arguments-returns-clause-found t c =
     let found = c.in_ok-expressions.ensures.found in
     let maybe = maybe_found list_of_expressions found in
-    let so = over_part (parenthesis_read arguments c.args.depth c.args.symbols.now c.in_ok-behind.ensures.found c.in_ok-behind.ensures.within) maybe in
-    all_read (over_token {kind = lexeme.Punctuator punctuator.CloseParen} so c.in_ok-end.ensures.found refl refl c.in_ok-behind.ensures.within) (λ names more. found.is names more ∙ sym (ap args_maybe (maybe.is names more)))
+    let so = over_part (parenthesis_read arguments c.args.depth c.args.symbols.now c.in_ok-after.ensures.found c.in_ok-after.ensures.within) maybe in
+    all_read (over_token {kind = lexeme.Punctuator punctuator.CloseParen} so c.in_ok-end.ensures.found refl refl c.in_ok-after.ensures.within) (λ names more. found.is names more ∙ sym (ap args_maybe (maybe.is names more)))
 
 pub arguments::arguments_maybe-returns-then-not-is-clause-found : goal.arguments::arguments_maybe-returns-then-not-is-clause-found
 arguments::arguments_maybe-returns-then-not-is-clause-found t c =
@@ -566,7 +566,7 @@ arguments::expressions-returns-in_err-first-clause-refused t c =
 
 pub arguments::expressions-expression-requires-in-Some : goal.arguments::expressions-expression-requires-in-Some
 arguments::expressions-expression-requires-in-Some t c =
-    let so = c.loop-behind.invariant.read.read in
+    let so = c.loop-after.invariant.read.read in
     let few = so.few in
     let shorter = so.shorter in
     let comma = token_shorter c.in-Some.ensures.found.takes in
@@ -574,21 +574,21 @@ arguments::expressions-expression-requires-in-Some t c =
 
 pub arguments::expressions-returns-in_err-next-clause-refused : goal.arguments::expressions-returns-in_err-next-clause-refused
 arguments::expressions-returns-in_err-next-clause-refused t c =
-    passed_on _ c.from_residual-in_err-next.result c.from_residual-in_err-next.ensures.1 (refused_next c.loop-behind.invariant.read c.in-Some.ensures.found c.requires.depth _ c.in_err-next.ensures.refused)
+    passed_on _ c.from_residual-in_err-next.result c.from_residual-in_err-next.ensures.1 (refused_next c.loop-after.invariant.read c.in-Some.ensures.found c.requires.depth _ c.in_err-next.ensures.refused)
 
-pub arguments::expressions-loop-behind-smaller : goal.arguments::expressions-loop-behind-smaller
-arguments::expressions-loop-behind-smaller t c =
+pub arguments::expressions-loop-after-smaller : goal.arguments::expressions-loop-after-smaller
+arguments::expressions-loop-after-smaller t c =
     let comma = token_shorter c.in-Some.ensures.found.takes in
     let next = found_shorter c.in_ok-next.ensures.found in
     omega arith
 
 pub arguments::expressions-returns-clause-found : goal.arguments::expressions-returns-clause-found
-arguments::expressions-returns-clause-found t c = all_so_far c.loop-behind.invariant.read c.in_default.ensures.other
+arguments::expressions-returns-clause-found t c = all_so_far c.loop-after.invariant.read c.in_default.ensures.other
 
-pub arguments::expressions-loop-behind-init : goal.arguments::expressions-loop-behind-init
-arguments::expressions-loop-behind-init t c = record {
+pub arguments::expressions-loop-after-init : goal.arguments::expressions-loop-after-init
+arguments::expressions-loop-after-init t c = record {
   read = first_so_far list_of_expressions trees_of_expressions c.in_ok-expressions.ensures.items c.in_ok-first.ensures.found;
 }
 
-pub arguments::expressions-loop-behind-preserved : goal.arguments::expressions-loop-behind-preserved
-arguments::expressions-loop-behind-preserved t c = record { read = next_so_far c.loop-behind.invariant.read c.in_ok-push.ensures.items c.in-Some.ensures.found c.requires.depth c.in_ok-next.ensures.found }
+pub arguments::expressions-loop-after-preserved : goal.arguments::expressions-loop-after-preserved
+arguments::expressions-loop-after-preserved t c = record { read = next_so_far c.loop-after.invariant.read c.in_ok-push.ensures.items c.in-Some.ensures.found c.requires.depth c.in_ok-next.ensures.found }

@@ -25,38 +25,38 @@ use Rattle.abs_tree.specs.declared.source_error.SourceError.{SourceError}
 use Rattle.abs_tree.specs.declared.source_error.SourceError.TheVariants.{Refused}
 
 -- each word is looked up by its spelling
-word_found : (word : Keyword) → keyword_among keywords (spelling word) ≡ Some word
-word_found keyword.Module = refl
-word_found _ = refl
+keyword_found : (which : Keyword) → keyword_among keywords (spelling which) ≡ Some which
+keyword_found keyword.Module = refl
+keyword_found _ = refl
 
 -- so two words that are spelled alike are one
 spelled_alike : (a b : Keyword) → bytes_eq (spelling a) (spelling b) ≡ true → a ≡ b
 spelled_alike a b alike =
     let same : spelling a ≡ spelling b = (bytes_eq-Decides (spelling a) (spelling b)).0 alike in
-    let found : Some a ≡ Some b = sym (word_found a) ∙ (ap (keyword_among keywords) same ∙ word_found b) in
+    let found : Some a ≡ Some b = sym (keyword_found a) ∙ (ap (keyword_among keywords) same ∙ keyword_found b) in
     cc
 
 -- each sign is looked up by its text
-sign_is_among : (sign : Punctuator) → punctuator_among (long_punctuators ++ short_punctuators) (punctuator_bytes sign) ≡ Some sign
-sign_is_among punctuator.OpenParen = refl
-sign_is_among _ = refl
+punctuator_is_among : (which : Punctuator) → punctuator_among (long_punctuators ++ short_punctuators) (punctuator_bytes which) ≡ Some which
+punctuator_is_among punctuator.OpenParen = refl
+punctuator_is_among _ = refl
 
 -- so two signs that are written alike are one
 written_alike : (a b : Punctuator) → bytes_eq (punctuator_bytes a) (punctuator_bytes b) ≡ true → a ≡ b
 written_alike a b alike =
     let same : punctuator_bytes a ≡ punctuator_bytes b = (bytes_eq-Decides (punctuator_bytes a) (punctuator_bytes b)).0 alike in
-    let found : Some a ≡ Some b = sym (sign_is_among a) ∙ (ap (punctuator_among (long_punctuators ++ short_punctuators)) same ∙ sign_is_among b) in
+    let found : Some a ≡ Some b = sym (punctuator_is_among a) ∙ (ap (punctuator_among (long_punctuators ++ short_punctuators)) same ∙ punctuator_is_among b) in
     cc
 
 -- what fits a keyword is this keyword
-pub word_fits : (word : Keyword) (found : TokenKind) → fits (KeywordKind word) found ≡ true → found ≡ KeywordKind word
-word_fits word (KeywordKind other) e = ap KeywordKind (sym (spelled_alike word other e))
-word_fits word _ e = cc
+pub keyword_fits : (keyword : Keyword) (found : TokenKind) → fits (KeywordKind keyword) found ≡ true → found ≡ KeywordKind keyword
+keyword_fits keyword (KeywordKind other) e = ap KeywordKind (sym (spelled_alike keyword other e))
+keyword_fits keyword _ e = cc
 
 -- and what fits a punctuator is this punctuator
-pub sign_fits : (sign : Punctuator) (found : TokenKind) → fits (PunctuatorKind sign) found ≡ true → found ≡ PunctuatorKind sign
-sign_fits sign (PunctuatorKind other) e = ap PunctuatorKind (sym (written_alike sign other e))
-sign_fits sign _ e = cc
+pub punctuator_fits : (punctuator : Punctuator) (found : TokenKind) → fits (PunctuatorKind punctuator) found ≡ true → found ≡ PunctuatorKind punctuator
+punctuator_fits punctuator (PunctuatorKind other) e = ap PunctuatorKind (sym (written_alike punctuator other e))
+punctuator_fits punctuator _ e = cc
 
 -- the kind of token that a kind of the grammar is of; at the end there is none
 lexeme_of : TokenKind → Option Lexeme
@@ -67,9 +67,9 @@ lexeme_of AbsName = Some lexeme.UpperName
 lexeme_of StdLibName = Some lexeme.UpperName
 lexeme_of Number = Some lexeme.Number
 lexeme_of Text = Some lexeme.Text
-lexeme_of (KeywordKind word) = Some (lexeme.Keyword word)
+lexeme_of (KeywordKind keyword) = Some (lexeme.Keyword keyword)
 lexeme_of Foreign = Some lexeme.Foreign
-lexeme_of (PunctuatorKind sign) = Some (lexeme.Punctuator sign)
+lexeme_of (PunctuatorKind punctuator) = Some (lexeme.Punctuator punctuator)
 lexeme_of End = None
 
 -- a lower-case name is one, with a spelling of its own or without
@@ -92,9 +92,9 @@ of_token lexeme.LowerName bytes = lower_of (bytes_eq bytes (codes "local"))
 of_token lexeme.UpperName bytes = upper_of (bytes_eq bytes (codes "ABS")) (bytes_eq bytes (codes "StdLib"))
 of_token lexeme.Number bytes = refl
 of_token lexeme.Text bytes = refl
-of_token (lexeme.Keyword word) bytes = refl
+of_token (lexeme.Keyword keyword) bytes = refl
 of_token lexeme.Foreign bytes = refl
-of_token (lexeme.Punctuator sign) bytes = refl
+of_token (lexeme.Punctuator punctuator) bytes = refl
 
 -- what fits a kind that is asked for is of that kind
 of_asked : (kind : Lexeme) (found : TokenKind) → fits (asked kind) found ≡ true → lexeme_of found ≡ Some kind
@@ -110,11 +110,11 @@ of_asked lexeme.Number Number e = refl
 of_asked lexeme.Number _ e = cc
 of_asked lexeme.Text Text e = refl
 of_asked lexeme.Text _ e = cc
-of_asked (lexeme.Keyword word) (KeywordKind other) e = ap (λ (found : Keyword). Some (lexeme.Keyword found)) (sym (spelled_alike word other e))
-of_asked (lexeme.Keyword word) _ e = cc
+of_asked (lexeme.Keyword keyword) (KeywordKind other) e = ap (λ (found : Keyword). Some (lexeme.Keyword found)) (sym (spelled_alike keyword other e))
+of_asked (lexeme.Keyword keyword) _ e = cc
 of_asked lexeme.Foreign _ e = cc
-of_asked (lexeme.Punctuator sign) (PunctuatorKind other) e = ap (λ (found : Punctuator). Some (lexeme.Punctuator found)) (sym (written_alike sign other e))
-of_asked (lexeme.Punctuator sign) _ e = cc
+of_asked (lexeme.Punctuator punctuator) (PunctuatorKind other) e = ap (λ (found : Punctuator). Some (lexeme.Punctuator found)) (sym (written_alike punctuator other e))
+of_asked (lexeme.Punctuator punctuator) _ e = cc
 
 -- a token of another kind does not fit the kind that is asked for
 pub other_kind : (kind : Lexeme) (token : Lexed) → (token.kind ≡ kind → ⊥) → fits (asked kind) (token_kind_of token.kind token.bytes) ≡ false
@@ -133,10 +133,10 @@ end_is_other _ = refl
 refused_at_first : (kind : TokenKind) (depth : ℕ) (items : List Wanted) (rest : List Lexed) (end : Place)
     → fits kind (next (left_at (record { rest = rest; end = end }))) ≡ false
     → RefusedAt (Terminal kind depth ∷ items) (left_at (record { rest = rest; end = end })) (wrong_at (record { rest = rest; end = end }))
-refused_at_first kind depth items [] end unfit = record { mark = TextEnd end; behind = []; code = S1; refuses = Other unfit refl; refusal_is = refl }
+refused_at_first kind depth items [] end unfit = record { mark = TextEnd end; after = []; code = S1; refuses = Other unfit refl; refusal_is = refl }
 refused_at_first kind depth items (token ∷ others) end unfit = record {
   mark = Token token;
-  behind = left_at (record { rest = others; end = end });
+  after = left_at (record { rest = others; end = end });
   code = wrong_code (token_kind (Token token));
   refuses = Other unfit refl;
   refusal_is = refl;

@@ -15,8 +15,8 @@ use Rattle.abs_parser.proofs.grammar.FirstTokens.{BeginsBy, begins_as}
 
 -- whether a pattern may begin with a token of a kind
 abbrev pub may_begin : Lexeme → Bool
-may_begin (lexeme.Punctuator sign) = cond (sameb the_type sign punctuator.Underscore) true (sameb the_type sign punctuator.Minus)
-may_begin (lexeme.Keyword word) = false
+may_begin (lexeme.Punctuator which) = cond (sameb the_type which punctuator.Underscore) true (sameb the_type which punctuator.Minus)
+may_begin (lexeme.Keyword keyword) = false
 may_begin lexeme.Foreign = false
 may_begin _ = true
 
@@ -33,6 +33,6 @@ unfolding begins begins_within
 first_kinds = record { told = may_begin_told; local_too = refl; abs_too = refl; library_too = refl }
 
 -- words begin none
-pub words_do_not : {kind : Lexeme} → ((word : Keyword) × (kind ≡ lexeme.Keyword word)) ⊎ (kind ≡ lexeme.Foreign) → (bytes : List ℕ) → false ≡ begins Pattern (token_kind_of kind bytes)
-words_do_not (inl (word, e)) = begins_as first_kinds (lexeme.Keyword word) e refl
-words_do_not (inr e) = begins_as first_kinds lexeme.Foreign e refl
+pub keywords_do_not : {kind : Lexeme} → ((keyword : Keyword) × (kind ≡ lexeme.Keyword keyword)) ⊎ (kind ≡ lexeme.Foreign) → (bytes : List ℕ) → false ≡ begins Pattern (token_kind_of kind bytes)
+keywords_do_not (inl (keyword, e)) = begins_as first_kinds (lexeme.Keyword keyword) e refl
+keywords_do_not (inr e) = begins_as first_kinds lexeme.Foreign e refl

@@ -26,18 +26,18 @@ found_fits test [] one e = cc
 found_fits test (x ∷ others) one e = at (cases_Bool (test x)) (found_fits test others one)
   where
     at : (test x ≡ true) ⊎ (test x ≡ false) → (find test others ≡ Some one → test one ≡ true) → test one ≡ true
-    at (inl is) behind =
+    at (inl is) after =
         let here : Some x ≡ Some one = sym (cond-true (test x) (Some x) (find test others) is) ∙ e in
         let same : x ≡ one = cc in
         subst (λ y. test y ≡ true) same is
-    at (inr is_not) behind = behind (sym (cond-false (test x) (Some x) (find test others) is_not) ∙ e)
+    at (inr is_not) after = after (sym (cond-false (test x) (Some x) (find test others) is_not) ∙ e)
 
--- whether what is wanted may begin with a token of a kind, given whether what stands behind it may
+-- whether what is wanted may begin with a token of a kind, given whether what stands after it may
 abbrev pub one_may : Wanted → TokenKind → Bool → Bool
-one_may (Terminal asked depth) kind behind = fits asked kind
-one_may (Subgoal (One nonterminal) depth) kind behind = begins nonterminal kind
-one_may (Subgoal (Optional nonterminal) depth) kind behind = begins nonterminal kind || behind
-one_may (Subgoal (Repeated nonterminal) depth) kind behind = begins nonterminal kind || behind
+one_may (Terminal asked depth) kind after = fits asked kind
+one_may (Subgoal (One nonterminal) depth) kind after = begins nonterminal kind
+one_may (Subgoal (Optional nonterminal) depth) kind after = begins nonterminal kind || after
+one_may (Subgoal (Repeated nonterminal) depth) kind after = begins nonterminal kind || after
 
 -- the same of a list
 abbrev pub may : List Wanted → TokenKind → Bool
@@ -99,17 +99,17 @@ one_opened nonterminal kind least depth inner below is = at (chosen nonterminal 
         let same : inner ≡ place deeper items = cc in
         rw same (items_may items deeper kind ∙ found_fits (λ (list : List Item). items_begin begins list kind) (rule nonterminal) items some, items_below items least deeper (inner_below (counts nonterminal) least depth below))
 
--- A part is opened to what may begin with the next token, or it is left out, and then what stands behind it may.
-pub data OpenedTo (least : ℕ) (kind : TokenKind) (behind : Bool) (inner : List Wanted) : Type 0 where
-  Standing : may inner kind ≡ true → AllBelow least inner → OpenedTo least kind behind inner
-  LeftOut : inner ≡ [] → behind ≡ true → OpenedTo least kind behind inner
+-- A part is opened to what may begin with the next token, or it is left out, and then what stands after it may.
+pub data OpenedTo (least : ℕ) (kind : TokenKind) (after : Bool) (inner : List Wanted) : Type 0 where
+  Standing : may inner kind ≡ true → AllBelow least inner → OpenedTo least kind after inner
+  LeftOut : inner ≡ [] → after ≡ true → OpenedTo least kind after inner
 
 -- a part that may be left out is the nonterminal first where that may begin
-maybe_opened : {inner : List Wanted} (nonterminal : Nonterminal) (kind : TokenKind) (least depth : ℕ) (behind : Bool) (others : List Wanted) → least ≤ depth → AllBelow least others
-    → cond (begins nonterminal kind) (Some (Subgoal (One nonterminal) depth ∷ others)) (Some []) ≡ Some inner → (begins nonterminal kind || behind) ≡ true → OpenedTo least kind behind inner
-maybe_opened {inner} nonterminal kind least depth behind others below all is starts = at (cases_Bool (begins nonterminal kind))
+maybe_opened : {inner : List Wanted} (nonterminal : Nonterminal) (kind : TokenKind) (least depth : ℕ) (after : Bool) (others : List Wanted) → least ≤ depth → AllBelow least others
+    → cond (begins nonterminal kind) (Some (Subgoal (One nonterminal) depth ∷ others)) (Some []) ≡ Some inner → (begins nonterminal kind || after) ≡ true → OpenedTo least kind after inner
+maybe_opened {inner} nonterminal kind least depth after others below all is starts = at (cases_Bool (begins nonterminal kind))
   where
-    at : (begins nonterminal kind ≡ true) ⊎ (begins nonterminal kind ≡ false) → OpenedTo least kind behind inner
+    at : (begins nonterminal kind ≡ true) ⊎ (begins nonterminal kind ≡ false) → OpenedTo least kind after inner
     at (inl stands) =
         let opens = cond-true (begins nonterminal kind) (Some (Subgoal (One nonterminal) depth ∷ others)) (Some []) stands in
         let same : inner ≡ Subgoal (One nonterminal) depth ∷ others = cc in
@@ -120,11 +120,11 @@ maybe_opened {inner} nonterminal kind least depth behind others below all is sta
         LeftOut same (rw missing at starts)
 
 -- each part is opened so
-pub part_opened : (goal : Goal) (kind : TokenKind) (least depth : ℕ) (behind : Bool) (inner : List Wanted) → least ≤ depth → opened goal kind depth ≡ Some inner
-    → one_may (Subgoal goal depth) kind behind ≡ true → OpenedTo least kind behind inner
-part_opened (One nonterminal) kind least depth behind inner below is starts = let inside = one_opened nonterminal kind least depth inner below is in Standing inside.0 inside.1
-part_opened (Optional nonterminal) kind least depth behind inner below is starts = maybe_opened nonterminal kind least depth behind [] below tt is starts
-part_opened (Repeated nonterminal) kind least depth behind inner below is starts = maybe_opened nonterminal kind least depth behind (Subgoal (Repeated nonterminal) depth ∷ []) below (below, tt) is starts
+pub part_opened : (goal : Goal) (kind : TokenKind) (least depth : ℕ) (after : Bool) (inner : List Wanted) → least ≤ depth → opened goal kind depth ≡ Some inner
+    → one_may (Subgoal goal depth) kind after ≡ true → OpenedTo least kind after inner
+part_opened (One nonterminal) kind least depth after inner below is starts = let inside = one_opened nonterminal kind least depth inner below is in Standing inside.0 inside.1
+part_opened (Optional nonterminal) kind least depth after inner below is starts = maybe_opened nonterminal kind least depth after [] below tt is starts
+part_opened (Repeated nonterminal) kind least depth after inner below is starts = maybe_opened nonterminal kind least depth after (Subgoal (Repeated nonterminal) depth ∷ []) below (below, tt) is starts
 
 -- the place of the first of some tokens
 abbrev place_first : List Mark → Place
@@ -133,25 +133,25 @@ place_first (mark ∷ others) = place_of_mark mark
 
 -- What was read begins with the first of the tokens, which stands in no fewer counted nonterminals than this, and fewer of them are left.
 pub record BeginsWith (least : ℕ) (ts rest : List Mark) (forest : Forest) : Type 0 where
-  pub place_is : (behind : Place) → first_place forest behind ≡ place_first ts
+  pub place_is : (after : Place) → first_place forest after ≡ place_first ts
   pub within : AllWithin (depths forest) → least ≤ limit
   pub fewer : length rest < length ts
 
 -- with a part that is left out in front it begins so too
 left_out : (items : List Wanted) {least : ℕ} {goal : Goal} {ts middle rest : List Mark} {inside forest : Forest} → Reads [] ts inside middle → may items (next ts) ≡ true
     → (may items (next middle) ≡ true → BeginsWith least middle rest forest) → BeginsWith least ts rest (Node goal inside forest)
-left_out items Nothing starts behind = record { place_is = λ place. (behind starts).place_is place; within = λ all. (behind starts).within all; fewer = (behind starts).fewer }
+left_out items Nothing starts after = record { place_is = λ place. (after starts).place_is place; within = λ all. (after starts).within all; fewer = (after starts).fewer }
 
--- so does a part with what stands behind it
+-- so does a part with what stands after it
 part_first : (items : List Wanted) {least : ℕ} {goal : Goal} {inner : List Wanted} {ts middle rest : List Mark} {inside forest : Forest} → OpenedTo least (next ts) (may items (next ts)) inner
     → Reads inner ts inside middle → Reads items middle forest rest → (may inner (next ts) ≡ true → AllBelow least inner → BeginsWith least ts middle inside)
     → (may items (next middle) ≡ true → BeginsWith least middle rest forest) → BeginsWith least ts rest (Node goal inside forest)
-part_first items {inside = inside} {forest = forest} (Standing starts below) reads others first behind = record {
+part_first items {inside = inside} {forest = forest} (Standing starts below) reads others first after = record {
   place_is = λ place. (first starts below).place_is (first_place forest place);
   within = λ all. (first starts below).within (within_first (depths inside) (depths forest) all);
   fewer = omega (arith, (first starts below).fewer, reads_shorter others);
 }
-part_first items (LeftOut none starts) reads others first behind = left_out items (rw none at reads) starts behind
+part_first items (LeftOut none starts) reads others first after = left_out items (rw none at reads) starts after
 
 -- what may begin with the next token begins with it
 pub first_read : {wanted : List Wanted} {ts rest : List Mark} {forest : Forest} (least : ℕ) → may wanted (next ts) ≡ true → AllBelow least wanted → Reads wanted ts forest rest → BeginsWith least ts rest forest

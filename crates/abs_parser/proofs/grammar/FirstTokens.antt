@@ -42,9 +42,9 @@ begins_by_kind by lexeme.LowerName bytes = by.told lexeme.LowerName ∙ lower_al
 begins_by_kind by lexeme.UpperName bytes = by.told lexeme.UpperName ∙ upper_alike by (bytes_eq bytes (codes "ABS")) (bytes_eq bytes (codes "StdLib"))
 begins_by_kind by lexeme.Number bytes = by.told lexeme.Number
 begins_by_kind by lexeme.Text bytes = by.told lexeme.Text
-begins_by_kind by (lexeme.Keyword word) bytes = by.told (lexeme.Keyword word)
+begins_by_kind by (lexeme.Keyword keyword) bytes = by.told (lexeme.Keyword keyword)
 begins_by_kind by lexeme.Foreign bytes = by.told lexeme.Foreign
-begins_by_kind by (lexeme.Punctuator sign) bytes = by.told (lexeme.Punctuator sign)
+begins_by_kind by (lexeme.Punctuator punctuator) bytes = by.told (lexeme.Punctuator punctuator)
 
 -- so a token of a kind that is known is told
 pub begins_as : {nonterminal : Nonterminal} {test : Lexeme → Bool} {kind : Lexeme} → BeginsBy nonterminal test → (known : Lexeme) {answer : Bool} → kind ≡ known → answer ≡ test known
@@ -52,7 +52,7 @@ pub begins_as : {nonterminal : Nonterminal} {test : Lexeme → Bool} {kind : Lex
 begins_as {test = test} by known is answers bytes = answers ∙ (ap test (sym is) ∙ begins_by_kind by _ bytes)
 
 -- and so is the next one
-pub begins_next : {nonterminal : Nonterminal} {test : Lexeme → Bool} {token : Lexed} {from behind : Spot} → BeginsBy nonterminal test → (known : Lexeme) {answer : Bool} → TakesToken token from behind
+pub begins_next : {nonterminal : Nonterminal} {test : Lexeme → Bool} {token : Lexed} {from after : Spot} → BeginsBy nonterminal test → (known : Lexeme) {answer : Bool} → TakesToken token from after
     → token.kind ≡ known → answer ≡ test known → answer ≡ begins nonterminal (next (left_at from))
 begins_next {nonterminal} {token = token} by known takes is answers = begins_as by known is answers token.bytes ∙ sym (ap (begins nonterminal) (next_is takes))
 

@@ -8,10 +8,10 @@ use denote.Enum.Declared.{Choice}
 use denote.Enum.Compared.{Each, by}
 use Rattle.abs_lexer.specs.contracts.lexeme.Keyword.{the_type as keyword}
 use Rattle.abs_lexer.specs.declared.lexeme.Keyword.{Keyword}
-use Rattle.abs_lexer.specs.declared.lexeme.Keyword.TheVariants as word
+use Rattle.abs_lexer.specs.declared.lexeme.Keyword.TheVariants as the_keyword
 use Rattle.abs_lexer.specs.declared.lexeme.Lexeme.TheVariants as lexeme
 use Rattle.abs_lexer.specs.declared.lexeme.Punctuator.{Punctuator}
-use Rattle.abs_lexer.specs.declared.lexeme.Punctuator.TheVariants as sign
+use Rattle.abs_lexer.specs.declared.lexeme.Punctuator.TheVariants as the_punctuator
 use Rattle.abs_lexer.specs.contracts.lexeme.Lexeme.{enum}
 use Rattle.abs_lexer.specs.contracts.lexeme.LexemePartialEq.TheImpl.{ghosts}
 use Rattle.abs_lexer.specs.contracts.lexeme.Punctuator.{the_type as punctuator}
@@ -53,8 +53,8 @@ all_tell = (
       (
         no_field,
         (
-          λ x y same. ap (λ word. (word, tt)) (same_true keyword tt x.0 y.0 same),
-          (no_field, (λ x y same. ap (λ sign. (sign, tt)) (same_true punctuator tt x.0 y.0 same), tt)),
+          λ x y same. ap (λ which. (which, tt)) (same_true keyword tt x.0 y.0 same),
+          (no_field, (λ x y same. ap (λ which. (which, tt)) (same_true punctuator tt x.0 y.0 same), tt)),
         ),
       ),
     ),
@@ -81,14 +81,14 @@ pub kind_equal : (k l : Lexeme) (equal : Bool) → equal ≡ ghosts.eq k l → e
 kind_equal k l equal is same = same_kind k l (sym is ∙ same)
 
 -- a word compares as equal with itself
-same_word : (w : Keyword) → sameb keyword w w ≡ true
-same_word word.Module = refl
-same_word _ = refl
+same_keyword : (w : Keyword) → sameb keyword w w ≡ true
+same_keyword the_keyword.Module = refl
+same_keyword _ = refl
 
 -- so does a sign
-same_sign : (s : Punctuator) → sameb punctuator s s ≡ true
-same_sign sign.OpenParen = refl
-same_sign _ = refl
+same_punctuator : (s : Punctuator) → sameb punctuator s s ≡ true
+same_punctuator the_punctuator.OpenParen = refl
+same_punctuator _ = refl
 
 -- and so does any kind
 kind_self : (k : Lexeme) → ghosts.eq k k ≡ true
@@ -96,14 +96,14 @@ kind_self lexeme.LowerName = refl
 kind_self lexeme.UpperName = refl
 kind_self lexeme.Number = refl
 kind_self lexeme.Text = refl
-kind_self (lexeme.Keyword w) = same_word w
+kind_self (lexeme.Keyword w) = same_keyword w
 kind_self lexeme.Foreign = refl
-kind_self (lexeme.Punctuator s) = same_sign s
+kind_self (lexeme.Punctuator s) = same_punctuator s
 
 -- so kinds whose comparison answers false are different
 pub kind_other : (k l : Lexeme) (equal : Bool) → equal ≡ ghosts.eq k l → equal ≡ false → k ≡ l → ⊥
 kind_other k l equal is differ same = let clash : true ≡ false = sym (kind_self l) ∙ (ap (λ (j : Lexeme). ghosts.eq j l) (sym same) ∙ (sym is ∙ differ)) in cc
 
 -- a sign that compares as equal with another is that one
-pub sign_is : {kind : Lexeme} (one wanted : Punctuator) {is : Bool} → kind ≡ lexeme.Punctuator one → is ≡ sameb punctuator one wanted → is ≡ true → kind ≡ lexeme.Punctuator wanted
-sign_is one wanted kind_is tells holds = kind_is ∙ ap lexeme.Punctuator (same_true punctuator tt one wanted (sym tells ∙ holds))
+pub punctuator_is : {kind : Lexeme} (one wanted : Punctuator) {is : Bool} → kind ≡ lexeme.Punctuator one → is ≡ sameb punctuator one wanted → is ≡ true → kind ≡ lexeme.Punctuator wanted
+punctuator_is one wanted kind_is tells holds = kind_is ∙ ap lexeme.Punctuator (same_true punctuator tt one wanted (sym tells ∙ holds))

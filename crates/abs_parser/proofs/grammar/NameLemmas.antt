@@ -30,14 +30,14 @@ goes_on_added : (table : List (List ℕ)) (name : List ℕ) → GoesOn table (wi
 goes_on_added table name = added_by (list_any (bytes_eq name) table) table name
 
 -- a table with more names goes on with it
-pub goes_on_all : (table words : List (List ℕ)) → GoesOn table (fold with_name table words)
+pub goes_on_all : (table added : List (List ℕ)) → GoesOn table (fold with_name table added)
 goes_on_all table [] = goes_on_itself table
-goes_on_all table (word ∷ words) = goes_on_further (goes_on_added table word) (goes_on_all (with_name table word) words)
+goes_on_all table (name ∷ added) = goes_on_further (goes_on_added table name) (goes_on_all (with_name table name) added)
 
--- one more element in front, where the place behind it stays
-kept_by : (here behind : Bool) (k m : ℕ) → (behind ≡ true → k ≡ m) → (here || behind) ≡ true → cond (not here) (1 + k) 0 ≡ cond (not here) (1 + m) 0
-kept_by true behind k m same found = refl
-kept_by false behind k m same found = ap (λ (n : ℕ). 1 + n) (same found)
+-- one more element in front, where the place after it stays
+kept_by : (here after : Bool) (k m : ℕ) → (after ≡ true → k ≡ m) → (here || after) ≡ true → cond (not here) (1 + k) 0 ≡ cond (not here) (1 + m) 0
+kept_by true after k m same found = refl
+kept_by false after k m same found = ap (λ (n : ℕ). 1 + n) (same found)
 
 -- where an element passes, its place stays when more follow
 place_kept : (p : List ℕ → Bool) (xs ys : List (List ℕ)) → list_any p xs ≡ true → position_or_len p (xs ++ ys) ≡ position_or_len p xs
@@ -45,16 +45,16 @@ place_kept p [] ys found = cc
 place_kept p (x ∷ xs) ys found = kept_by (p x) (list_any p xs) _ _ (place_kept p xs ys) found
 
 -- the same where none passes
-new_by : (here behind : Bool) (k m : ℕ) → (behind ≡ false → k ≡ m) → (here || behind) ≡ false → cond (not here) (1 + k) 0 ≡ cond (not here) (1 + m) 0
-new_by true behind k m same found = cc
-new_by false behind k m same found = ap (λ (n : ℕ). 1 + n) (same found)
+new_by : (here after : Bool) (k m : ℕ) → (after ≡ false → k ≡ m) → (here || after) ≡ false → cond (not here) (1 + k) 0 ≡ cond (not here) (1 + m) 0
+new_by true after k m same found = cc
+new_by false after k m same found = ap (λ (n : ℕ). 1 + n) (same found)
 
 -- an element that passes is the first
 first_by : (here : Bool) (k : ℕ) → here ≡ true → cond (not here) (1 + k) 0 ≡ 0
 first_by true k passes = refl
 first_by false k passes = cc
 
--- where none passes, the next element that does stands behind all of them
+-- where none passes, the next element that does stands after all of them
 place_new : (p : List ℕ → Bool) (xs : List (List ℕ)) (y : List ℕ) (ys : List (List ℕ)) → p y ≡ true → list_any p xs ≡ false → position_or_len p (xs ++ y ∷ ys) ≡ position_or_len p xs
 place_new p [] y ys passes none = first_by (p y) (position_or_len p ys) passes
 place_new p (x ∷ xs) y ys passes none = new_by (p x) (list_any p xs) _ _ (place_new p xs y ys passes) none
@@ -78,18 +78,18 @@ few_by true table name = omega arith
 few_by false table name = omega (arith, length-append table (name ∷ []))
 
 -- a table has no more new names than were read
-pub few_more : (table words : List (List ℕ)) → length (fold with_name table words) ≤ length table + length words
+pub few_more : (table added : List (List ℕ)) → length (fold with_name table added) ≤ length table + length added
 few_more table [] = omega arith
-few_more table (word ∷ words) = omega (arith, few_by (list_any (bytes_eq word) table) table word, few_more (with_name table word) words)
+few_more table (name ∷ added) = omega (arith, few_by (list_any (bytes_eq name) table) table name, few_more (with_name table name) added)
 
 -- what holds of each name and of the one that is added
 all_by : (P : List ℕ → Type 0) (found : Bool) (table : List (List ℕ)) (name : List ℕ) → All P table → P name → All P (cond found table (table ++ name ∷ []))
 all_by P true table name each here = each
 all_by P false table name each here = All-push P table name each here
 
--- what holds of each name of a table and of each that was read holds of each name of the table behind them
-pub all_named : (P : List ℕ → Type 0) (table words : List (List ℕ)) → All P table → All P words → All P (fold with_name table words)
+-- what holds of each name of a table and of each that was read holds of each name of the table after them
+pub all_named : (P : List ℕ → Type 0) (table added : List (List ℕ)) → All P table → All P added → All P (fold with_name table added)
 all_named P table [] each read = each
-all_named P table (word ∷ words) each read =
-    all_named P (with_name table word) words
-    (all_by P (list_any (bytes_eq word) table) table word each (All-head P word words read)) (All-tail P word words read)
+all_named P table (name ∷ added) each read =
+    all_named P (with_name table name) added
+    (all_by P (list_any (bytes_eq name) table) table name each (All-head P name added read)) (All-tail P name added read)

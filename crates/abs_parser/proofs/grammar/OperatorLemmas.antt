@@ -1,6 +1,6 @@
--- What the readers of operators rest on: what a precedence and the operators behind its first operand consist of, by the next token; which trees
--- stand for what was read of them; and the steps of a reader, behind a first operand over each operator with its operand, and over a first
--- operand and what stands behind it.
+-- What the readers of operators rest on: what a precedence and the operators after its first operand consist of, by the next token; which trees
+-- stand for what was read of them; and the steps of a reader, after a first operand over each operator with its operand, and over a first
+-- operand and what stands after it.
 use Rattle.std.proofs.Common.{◌≡◌, ◌≤◌, ◌<◌, ℕ, Bool, true, false, cond, List, [], ◌∷◌, ◌++◌, length, Some, None, refl, sym, ap, ◌∙◌, arith}
 use Rattle.std.proofs.lemmas.List.{append-nil}
 use Rattle.std.proofs.lemmas.Bool.{cond-true, cond-false}
@@ -16,7 +16,7 @@ use Rattle.abs_lexer.specs.declared.lexeme.Lexeme.TheVariants as lexeme
 use Rattle.abs_lexer.specs.Tokens.{Lexed}
 use Rattle.abs_parser.specs.Answers.{GoesOn}
 use Rattle.abs_parser.specs.TokenKinds.{Mark, Token, TokenKind, PunctuatorKind, token_kind, token_kind_of, fits, next}
-use Rattle.abs_parser.specs.Precedences.{nonterminal_of, operand_nonterminal, tail_nonterminal, repeats, rest_of, precedence_in, operand_in, operands_in, precedence_of, sign_of}
+use Rattle.abs_parser.specs.Precedences.{nonterminal_of, operand_nonterminal, tail_nonterminal, repeats, rest_of, precedence_in, operand_in, operands_in, precedence_of, punctuator_of}
 use Rattle.abs_parser.specs.Productions.{Or, OrTail, And, AndTail, Equal, EqualTail, Compare, CompareTail, Sum, SumTail, Mul, MulTail, begins, chosen, begins_within}
 use Rattle.abs_parser.specs.Readings.{Goal, One, Wanted, Terminal, Subgoal, opened, Forest, Empty, Leaf, Node}
 use Rattle.abs_parser.specs.ReaderAnswers.{left_at, TakesKind, FoundAs, IsRefused}
@@ -41,7 +41,7 @@ node_is names place first (operand ∷ others) some = refl
 
 -- What a precedence consists of
 
--- where an operand may begin, a precedence is an operand and what stands behind it
+-- where an operand may begin, a precedence is an operand and what stands after it
 precedence_opened : (precedence : Precedence) (kind : TokenKind) (depth : ℕ) → begins (operand_nonterminal precedence) kind ≡ true
     → opened (One (nonterminal_of precedence)) kind depth ≡ Some (Subgoal (One (operand_nonterminal precedence)) depth ∷ Subgoal (rest_of precedence) depth ∷ [])
 unfolding chosen
@@ -65,26 +65,26 @@ precedence_begins precedence.Mul kind = begins_with_part Mul kind refl
 precedence_shut : (precedence : Precedence) (kind : TokenKind) (depth : ℕ) → begins (operand_nonterminal precedence) kind ≡ false → opened (One (nonterminal_of precedence)) kind depth ≡ None
 precedence_shut precedence kind depth none = part_shut (nonterminal_of precedence) kind depth (precedence_begins precedence kind ∙ none)
 
--- behind an operator and its operand further ones are read where operators of the precedence repeat
+-- after an operator and its operand further ones are read where operators of the precedence repeat
 abbrev further : Precedence → ℕ → List Wanted
 further precedence depth = cond (repeats precedence) (Subgoal (rest_of precedence) depth ∷ []) []
 
--- an operator opens what stands behind the first operand of its precedence
+-- an operator opens what stands after the first operand of its precedence
 rest_opened : (operator : Operator) (depth : ℕ)
-    → opened (rest_of (precedence_of operator)) (PunctuatorKind (sign_of operator)) depth ≡ Some (Subgoal (One (tail_nonterminal (precedence_of operator))) depth ∷ further (precedence_of operator) depth)
+    → opened (rest_of (precedence_of operator)) (PunctuatorKind (punctuator_of operator)) depth ≡ Some (Subgoal (One (tail_nonterminal (precedence_of operator))) depth ∷ further (precedence_of operator) depth)
 unfolding begins chosen begins_within
 rest_opened operator.Or depth = refl
 rest_opened _ depth = refl
 
 -- and it stands before an operand
 tail_opened : (operator : Operator) (depth : ℕ)
-    → opened (One (tail_nonterminal (precedence_of operator))) (PunctuatorKind (sign_of operator)) depth ≡ Some (Terminal (PunctuatorKind (sign_of operator)) depth ∷ Subgoal (One (operand_nonterminal (precedence_of operator))) depth ∷ [])
+    → opened (One (tail_nonterminal (precedence_of operator))) (PunctuatorKind (punctuator_of operator)) depth ≡ Some (Terminal (PunctuatorKind (punctuator_of operator)) depth ∷ Subgoal (One (operand_nonterminal (precedence_of operator))) depth ∷ [])
 unfolding begins chosen begins_within
 tail_opened operator.Or depth = refl
 tail_opened _ depth = refl
 
--- where no operator of the precedence stands, nothing is read behind the operands
-rest_ends : (precedence : Precedence) (kind : TokenKind) (depth : ℕ) → ((operator : Operator) → precedence_of operator ≡ precedence → fits (PunctuatorKind (sign_of operator)) kind ≡ false) → opened (rest_of precedence) kind depth ≡ Some []
+-- where no operator of the precedence stands, nothing is read after the operands
+rest_ends : (precedence : Precedence) (kind : TokenKind) (depth : ℕ) → ((operator : Operator) → precedence_of operator ≡ precedence → fits (PunctuatorKind (punctuator_of operator)) kind ≡ false) → opened (rest_of precedence) kind depth ≡ Some []
 unfolding begins begins_within
 rest_ends precedence.Or kind depth none = rw (none operator.Or refl) refl
 rest_ends precedence.And kind depth none = rw (none operator.And refl) refl
@@ -98,7 +98,7 @@ some_of_either : {A : Type 0} (is : Bool) (x y : A) → cond is (Some x) (Some y
 some_of_either true x y = refl
 some_of_either false x y = refl
 
--- what stands behind a first operand is opened by each token: to an operator with its operand, or to nothing
+-- what stands after a first operand is opened by each token: to an operator with its operand, or to nothing
 rest_is_opened : (precedence : Precedence) (kind : TokenKind) (depth : ℕ)
     → opened (rest_of precedence) kind depth ≡ Some (cond (begins (tail_nonterminal precedence) kind) (Subgoal (One (tail_nonterminal precedence)) depth ∷ further precedence depth) [])
 rest_is_opened precedence.Or kind depth = some_of_either (begins OrTail kind) _ _
@@ -110,12 +110,12 @@ rest_is_opened precedence.Mul kind depth = some_of_either (begins MulTail kind) 
 
 -- The trees
 
--- the tree of a precedence is that of its first operand with the operators behind it
+-- the tree of a precedence is that of its first operand with the operators after it
 precedence_tree : (precedence : Precedence) (part rest : Goal) (first others : Forest) → precedence_in precedence (Node part first (Node rest others Empty)) ≡ with_operators (place_in first) (operand_in precedence first) (operands_in precedence others)
 precedence_tree precedence.Or part rest first others = refl
 precedence_tree _ part rest first others = refl
 
--- without anything behind the first operand there is no operator
+-- without anything after the first operand there is no operator
 no_links : (precedence : Precedence) → operands_in precedence Empty ≡ NoOperands
 no_links precedence.Or = refl
 no_links _ = refl
@@ -135,14 +135,14 @@ last_tree precedence.Compare tail part mark depth right once = refl
 last_tree _ tail part mark depth right once = absurd cc
 
 -- an operator is the one that its sign stands for
-sign_read : (operator : Operator) → operator_of (PunctuatorKind (sign_of operator)) ≡ operator
-sign_read operator.Or = refl
-sign_read _ = refl
+punctuator_read : (operator : Operator) → operator_of (PunctuatorKind (punctuator_of operator)) ≡ operator
+punctuator_read operator.Or = refl
+punctuator_read _ = refl
 
 -- the operators and operands that were read, before others
 abbrev links_before : List Name → List Operand → Operands → Operands
-links_before names [] behind = behind
-links_before names (operand ∷ others) behind = NextOperand operand.operator (phrase names operand.right) (links_before names others behind)
+links_before names [] after = after
+links_before names (operand ∷ others) after = NextOperand operand.operator (phrase names operand.right) (links_before names others after)
 
 -- before those of a list they are those of both
 links_of_both : (names : List Name) (operands more : List Operand) → links_before names operands (operand_trees names more) ≡ operand_trees names (operands ++ more)
@@ -150,10 +150,10 @@ links_of_both names [] more = refl
 links_of_both names (operand ∷ others) more = ap (NextOperand operand.operator (phrase names operand.right)) (links_of_both names others more)
 
 -- one more operand stands before the others
-one_before : (names : List Name) (operands : List Operand) (operand : Operand) (behind : Operands)
-    → links_before names (operands ++ operand ∷ []) behind ≡ links_before names operands (NextOperand operand.operator (phrase names operand.right) behind)
-one_before names [] operand behind = refl
-one_before names (first ∷ others) operand behind = ap (NextOperand first.operator (phrase names first.right)) (one_before names others operand behind)
+one_before : (names : List Name) (operands : List Operand) (operand : Operand) (after : Operands)
+    → links_before names (operands ++ operand ∷ []) after ≡ links_before names operands (NextOperand operand.operator (phrase names operand.right) after)
+one_before names [] operand after = refl
+one_before names (first ∷ others) operand after = ap (NextOperand first.operator (phrase names first.right)) (one_before names others operand after)
 
 -- The steps
 
@@ -163,23 +163,23 @@ pub first_operand_refused : (precedence : Precedence) (depth : ℕ) (from : Spot
 first_operand_refused precedence depth from error refused =
     refused_in_front (operand_nonterminal precedence) depth (One (nonterminal_of precedence)) depth from error (precedence_opened precedence _ depth) (precedence_shut precedence _ depth) refused
 
--- an operator opens what stands behind the operands before it
-rest_begins : {precedence : Precedence} {token : Lexed} {here behind : Spot} (operator : Operator) (depth : ℕ) (table : List (List ℕ)) (left : List Wanted) → precedence_of operator ≡ precedence
-    → TakesKind (lexeme.Punctuator (sign_of operator)) token here behind → further precedence depth ≡ left
+-- an operator opens what stands after the operands before it
+rest_begins : {precedence : Precedence} {token : Lexed} {here after : Spot} (operator : Operator) (depth : ℕ) (table : List (List ℕ)) (left : List Wanted) → precedence_of operator ≡ precedence
+    → TakesKind (lexeme.Punctuator (punctuator_of operator)) token here after → further precedence depth ≡ left
     → HasRead (rest_of precedence) depth table table here (λ rest. rest) (Subgoal (One (tail_nonterminal precedence)) depth ∷ left) here
 rest_begins {here = here} operator depth table left is takes are =
     rw (← are, ← is) (opens (rest_of (precedence_of operator)) depth table here _ (ap (λ (kind : TokenKind). opened (rest_of (precedence_of operator)) kind depth) (next_taken takes) ∙ rest_opened operator depth))
 
 -- over an operator
-operator_read : {precedence : Precedence} {token : Lexed} {here behind : Spot} (operator : Operator) (depth : ℕ) (table : List (List ℕ)) → precedence_of operator ≡ precedence
-    → TakesKind (lexeme.Punctuator (sign_of operator)) token here behind → depth ≤ limit
-    → HasRead (One (tail_nonterminal precedence)) depth table table here (λ rest. Leaf (Token token) depth rest) (Subgoal (One (operand_nonterminal precedence)) depth ∷ []) behind
+operator_read : {precedence : Precedence} {token : Lexed} {here after : Spot} (operator : Operator) (depth : ℕ) (table : List (List ℕ)) → precedence_of operator ≡ precedence
+    → TakesKind (lexeme.Punctuator (punctuator_of operator)) token here after → depth ≤ limit
+    → HasRead (One (tail_nonterminal precedence)) depth table table here (λ rest. Leaf (Token token) depth rest) (Subgoal (One (operand_nonterminal precedence)) depth ∷ []) after
 operator_read {here = here} operator depth table is takes within =
-    rw (← is) (over_token {kind = lexeme.Punctuator (sign_of operator)}
+    rw (← is) (over_token {kind = lexeme.Punctuator (punctuator_of operator)}
     (opens (One (tail_nonterminal (precedence_of operator))) depth table here _ (ap (λ (kind : TokenKind). opened (One (tail_nonterminal (precedence_of operator))) kind depth) (next_taken takes) ∙ tail_opened operator depth))
     takes refl refl within)
 
--- What was read up to here of what stands behind a first operand, with the operators and operands that the code has of it: whatever else is
+-- What was read up to here of what stands after a first operand, with the operators and operands that the code has of it: whatever else is
 -- read completes it.
 pub record OperatorsSoFar (precedence : Precedence) (depth : ℕ) (old now : List (List ℕ)) (from here : Spot) (operands : List Operand) : Type 0 where
   pub make : Forest → Forest
@@ -195,10 +195,10 @@ no_operand_read precedence depth table from none = rw none (record {
   is = λ names more inside. refl;
 })
 
--- behind an operator, what stands behind a first operand is refused where the next one is
-pub next_operand_refused : {precedence : Precedence} {depth : ℕ} {old now : List (List ℕ)} {from here behind : Spot} {operands : List Operand} {token : Lexed} (operator : Operator) (error : SourceError)
-    → OperatorsSoFar precedence depth old now from here operands → precedence_of operator ≡ precedence → TakesKind (lexeme.Punctuator (sign_of operator)) token here behind → depth ≤ limit
-    → IsRefused (Subgoal (One (operand_nonterminal precedence)) depth) behind error → IsRefused (Subgoal (rest_of precedence) depth) from error
+-- after an operator, what stands after a first operand is refused where the next one is
+pub next_operand_refused : {precedence : Precedence} {depth : ℕ} {old now : List (List ℕ)} {from here after : Spot} {operands : List Operand} {token : Lexed} (operator : Operator) (error : SourceError)
+    → OperatorsSoFar precedence depth old now from here operands → precedence_of operator ≡ precedence → TakesKind (lexeme.Punctuator (punctuator_of operator)) token here after → depth ≤ limit
+    → IsRefused (Subgoal (One (operand_nonterminal precedence)) depth) after error → IsRefused (Subgoal (rest_of precedence) depth) from error
 next_operand_refused {precedence} {depth} {now = now} operator error so is takes within refused =
     refused_inside so.read error (refused_inside (rest_begins operator depth now (further precedence depth) is takes refl) error (refused_inside (operator_read operator depth now is takes within) error refused))
 
@@ -209,12 +209,12 @@ IsLink precedence operand names inside =
     × (repeats precedence ≡ false → operands_in precedence (Node (One (tail_nonterminal precedence)) inside Empty) ≡ NextOperand operand.operator (phrase names operand.right) NoOperands)
 
 -- an operator with its operand was read
-operand_found : {precedence : Precedence} {depth : ℕ} {now new : List (List ℕ)} {here behind to : Spot} {token : Lexed} (operand : Operand) → precedence_of operand.operator ≡ precedence
-    → TakesKind (lexeme.Punctuator (sign_of operand.operator)) token here behind → depth ≤ limit
-    → FoundAs (One (operand_nonterminal precedence)) depth now new behind to (λ names inside. phrase names operand.right ≡ operand_in precedence inside)
+operand_found : {precedence : Precedence} {depth : ℕ} {now new : List (List ℕ)} {here after to : Spot} {token : Lexed} (operand : Operand) → precedence_of operand.operator ≡ precedence
+    → TakesKind (lexeme.Punctuator (punctuator_of operand.operator)) token here after → depth ≤ limit
+    → FoundAs (One (operand_nonterminal precedence)) depth now new after to (λ names inside. phrase names operand.right ≡ operand_in precedence inside)
     → FoundAs (One (tail_nonterminal precedence)) depth now new here to (IsLink precedence operand)
 operand_found {precedence} {depth} {now} {new} {token = token} operand is takes within found =
-    let operation : operator_of (token_kind (Token token)) ≡ operand.operator = ap (λ (kind : Lexeme). operator_of (token_kind_of kind token.bytes)) takes.kind_is ∙ sign_read operand.operator in
+    let operation : operator_of (token_kind (Token token)) ≡ operand.operator = ap (λ (kind : Lexeme). operator_of (token_kind_of kind token.bytes)) takes.kind_is ∙ punctuator_read operand.operator in
     let link = λ (names : List (List ℕ)) (more : GoesOn new names) (others : Operands).
     ap (λ (operator : Operator). NextOperand operator (operand_in precedence found.inside) others) operation ∙ ap (λ (tree : Phrase). NextOperand operand.operator tree others) (sym (found.is names more)) in
     all_read (over_part (operator_read operand.operator depth now is takes within) found) (λ names more. (
@@ -223,9 +223,9 @@ operand_found {precedence} {depth} {now} {new} {token = token} operand is takes 
     ))
 
 -- and one more operator with its operand, where operators of the precedence repeat
-pub next_operand_read : {precedence : Precedence} {depth : ℕ} {old now new : List (List ℕ)} {from here behind to : Spot} {token : Lexed} (operands : List Operand) (operand : Operand)
-    → OperatorsSoFar precedence depth old now from here operands → precedence_of operand.operator ≡ precedence → TakesKind (lexeme.Punctuator (sign_of operand.operator)) token here behind → depth ≤ limit
-    → FoundAs (One (operand_nonterminal precedence)) depth now new behind to (λ names inside. phrase names operand.right ≡ operand_in precedence inside) → repeats precedence ≡ true
+pub next_operand_read : {precedence : Precedence} {depth : ℕ} {old now new : List (List ℕ)} {from here after to : Spot} {token : Lexed} (operands : List Operand) (operand : Operand)
+    → OperatorsSoFar precedence depth old now from here operands → precedence_of operand.operator ≡ precedence → TakesKind (lexeme.Punctuator (punctuator_of operand.operator)) token here after → depth ≤ limit
+    → FoundAs (One (operand_nonterminal precedence)) depth now new after to (λ names inside. phrase names operand.right ≡ operand_in precedence inside) → repeats precedence ≡ true
     → OperatorsSoFar precedence depth old new from to (operands ++ operand ∷ [])
 next_operand_read {precedence} {depth} {now = now} operands operand so is takes within found again =
     let one = operand_found operand is takes within found in
@@ -238,18 +238,18 @@ next_operand_read {precedence} {depth} {now = now} operands operand so is takes 
           ∙ (ap (links_before names operands) ((one.is names more).0 again inside) ∙ sym (one_before names operands operand (operands_in precedence inside)));
     }
 
--- this is the expression of a first operand and of the operators and operands behind it
+-- this is the expression of a first operand and of the operators and operands after it
 abbrev IsNode : Place → Expr → List Operand → Expr → Type 0
 IsNode place first operands expr = (names : List (List ℕ)) → phrase names expr ≡ with_operators place (phrase names first) (operand_trees names operands)
 
--- what stands behind a first operand was read so: with it, it is this expression
-abbrev pub IsBehind : Precedence → Place → Expr → Expr → List (List ℕ) → Forest → Type 0
-IsBehind precedence place first expr names inside = phrase names expr ≡ with_operators place (phrase names first) (operands_in precedence inside)
+-- what stands after a first operand was read so: with it, it is this expression
+abbrev pub IsAfter : Precedence → Place → Expr → Expr → List (List ℕ) → Forest → Type 0
+IsAfter precedence place first expr names inside = phrase names expr ≡ with_operators place (phrase names first) (operands_in precedence inside)
 
--- what stands behind a first operand is found with what is read behind the operands so far
+-- what stands after a first operand is found with what is read after the operands so far
 operators_found : {precedence : Precedence} {depth : ℕ} {old now new : List (List ℕ)} {from here to : Spot} {items operands : List Operand} (place : Place) (first expr : Expr) (others : List Operand)
     → OperatorsSoFar precedence depth old now from here operands → FoundAs (rest_of precedence) depth now new here to (λ names inside. operands_in precedence inside ≡ operand_trees names others)
-    → items ≡ operands ++ others → IsNode place first items expr → FoundAs (rest_of precedence) depth old new from to (IsBehind precedence place first expr)
+    → items ≡ operands ++ others → IsNode place first items expr → FoundAs (rest_of precedence) depth old new from to (IsAfter precedence place first expr)
 operators_found {operands = operands} place first expr others so found are is =
     all_read (over_part so.read found) (λ names more.
     is names
@@ -257,10 +257,10 @@ operators_found {operands = operands} place first expr others so found are is =
     (ap (operand_trees names) are ∙ (sym (links_of_both names operands others) ∙ (sym (ap (links_before names operands) (found.is names more)) ∙ sym (so.is names (goes_on_further (found_goes_on found) more) found.inside)))))
 
 -- so it is with one more operator and its operand, where operators of the precedence do not repeat
-pub last_operand_found : {precedence : Precedence} {depth : ℕ} {old now new : List (List ℕ)} {from here behind to : Spot} {items operands : List Operand} {token : Lexed} (place : Place) (first expr : Expr) (operand : Operand)
-    → OperatorsSoFar precedence depth old now from here operands → precedence_of operand.operator ≡ precedence → TakesKind (lexeme.Punctuator (sign_of operand.operator)) token here behind → depth ≤ limit
-    → FoundAs (One (operand_nonterminal precedence)) depth now new behind to (λ names inside. phrase names operand.right ≡ operand_in precedence inside) → repeats precedence ≡ false
-    → items ≡ operands ++ operand ∷ [] → IsNode place first items expr → FoundAs (rest_of precedence) depth old new from to (IsBehind precedence place first expr)
+pub last_operand_found : {precedence : Precedence} {depth : ℕ} {old now new : List (List ℕ)} {from here after to : Spot} {items operands : List Operand} {token : Lexed} (place : Place) (first expr : Expr) (operand : Operand)
+    → OperatorsSoFar precedence depth old now from here operands → precedence_of operand.operator ≡ precedence → TakesKind (lexeme.Punctuator (punctuator_of operand.operator)) token here after → depth ≤ limit
+    → FoundAs (One (operand_nonterminal precedence)) depth now new after to (λ names inside. phrase names operand.right ≡ operand_in precedence inside) → repeats precedence ≡ false
+    → items ≡ operands ++ operand ∷ [] → IsNode place first items expr → FoundAs (rest_of precedence) depth old new from to (IsAfter precedence place first expr)
 last_operand_found {precedence} {depth} {now = now} place first expr operand so is takes within found once =
     let one = operand_found operand is takes within found in
     operators_found place first expr (operand ∷ []) so
@@ -268,8 +268,8 @@ last_operand_found {precedence} {depth} {now = now} place first expr operand so 
 
 -- and with nothing more, where no operator of the precedence stands
 pub operators_end : {precedence : Precedence} {depth : ℕ} {old now : List (List ℕ)} {from here : Spot} {items operands : List Operand} (place : Place) (first expr : Expr)
-    → OperatorsSoFar precedence depth old now from here operands → ((operator : Operator) → precedence_of operator ≡ precedence → fits (PunctuatorKind (sign_of operator)) (next (left_at here)) ≡ false)
-    → items ≡ operands → IsNode place first items expr → FoundAs (rest_of precedence) depth old now from here (IsBehind precedence place first expr)
+    → OperatorsSoFar precedence depth old now from here operands → ((operator : Operator) → precedence_of operator ≡ precedence → fits (PunctuatorKind (punctuator_of operator)) (next (left_at here)) ≡ false)
+    → items ≡ operands → IsNode place first items expr → FoundAs (rest_of precedence) depth old now from here (IsAfter precedence place first expr)
 operators_end {precedence} {depth} {now = now} {here = here} {operands = operands} place first expr so none are =
     operators_found place first expr [] so (all_read (opens (rest_of precedence) depth now here [] (rest_ends precedence _ depth none)) (λ names more. no_links precedence)) (are ∙ sym (append-nil operands))
 
@@ -279,21 +279,21 @@ pub first_operand_read : {depth : ℕ} {old now : List (List ℕ)} {from here : 
 first_operand_read {depth} {old} {from = from} precedence found =
     over_part (opens (One (nonterminal_of precedence)) depth old from _ (precedence_opened precedence _ depth (part_begun (operand_nonterminal precedence) _ depth found.rule_is))) found
 
--- with what stands behind it that is the precedence
+-- with what stands after it that is the precedence
 pub precedence_found : {depth : ℕ} {old now new : List (List ℕ)} {from here to : Spot} (precedence : Precedence) (place : Place) (first expr : Expr)
     → FoundAs (One (operand_nonterminal precedence)) depth old now from here (λ names inside. phrase names first ≡ operand_in precedence inside) → place ≡ place_of from
-    → FoundAs (rest_of precedence) depth now new here to (IsBehind precedence place first expr)
+    → FoundAs (rest_of precedence) depth now new here to (IsAfter precedence place first expr)
     → FoundAs (One (nonterminal_of precedence)) depth old new from to (λ names inside. phrase names expr ≡ precedence_in precedence inside)
-precedence_found precedence place first expr found at behind =
-    all_read (over_part (first_operand_read precedence found) behind) (λ names more.
-    behind.is names more
-    ∙ (ap (λ (tree : Phrase). with_operators place tree (operands_in precedence behind.inside)) (found.is names (goes_on_further (found_goes_on behind) more))
-    ∙ (ap (λ (p : Place). with_operators p (operand_in precedence found.inside) (operands_in precedence behind.inside)) (at ∙ sym (first_place_found found))
-    ∙ sym (precedence_tree precedence (One (operand_nonterminal precedence)) (rest_of precedence) found.inside behind.inside))))
+precedence_found precedence place first expr found at after =
+    all_read (over_part (first_operand_read precedence found) after) (λ names more.
+    after.is names more
+    ∙ (ap (λ (tree : Phrase). with_operators place tree (operands_in precedence after.inside)) (found.is names (goes_on_further (found_goes_on after) more))
+    ∙ (ap (λ (p : Place). with_operators p (operand_in precedence found.inside) (operands_in precedence after.inside)) (at ∙ sym (first_place_found found))
+    ∙ sym (precedence_tree precedence (One (operand_nonterminal precedence)) (rest_of precedence) found.inside after.inside))))
 
--- where no operator of a precedence follows, nothing is read behind its first operand
+-- where no operator of a precedence follows, nothing is read after its first operand
 pub no_operators : {depth : ℕ} {table : List (List ℕ)} {here : Spot} (precedence : Precedence) (place : Place) (first : Expr)
-    → ((operator : Operator) → precedence_of operator ≡ precedence → fits (PunctuatorKind (sign_of operator)) (next (left_at here)) ≡ false)
-    → FoundAs (rest_of precedence) depth table table here here (IsBehind precedence place first first)
+    → ((operator : Operator) → precedence_of operator ≡ precedence → fits (PunctuatorKind (punctuator_of operator)) (next (left_at here)) ≡ false)
+    → FoundAs (rest_of precedence) depth table table here here (IsAfter precedence place first first)
 no_operators {depth} {table} {here} precedence place first none =
     all_read (opens (rest_of precedence) depth table here [] (rest_ends precedence _ depth none)) (λ names more. sym (ap (with_operators place (phrase names first)) (no_links precedence)))

@@ -18,11 +18,11 @@ use Rattle.abs_parser.specs.ReaderAnswers.{asked}
 use Rattle.abs_parser.specs.TreesOf.{written, unescaped, pattern_in, pattern_by, pattern_arguments}
 use Rattle.abs_parser.proofs.reader.StepLemmas.{asked_fits}
 
--- behind the token of a kind that begins a pattern stands this
-abbrev pub behind_first : Lexeme → ℕ → List Wanted
-behind_first lexeme.UpperName depth = Subgoal (Optional PatternArguments) depth ∷ []
-behind_first (lexeme.Punctuator punctuator.Minus) depth = Terminal Number depth ∷ []
-behind_first _ depth = []
+-- after the token of a kind that begins a pattern stands this
+abbrev pub after_first : Lexeme → ℕ → List Wanted
+after_first lexeme.UpperName depth = Subgoal (Optional PatternArguments) depth ∷ []
+after_first (lexeme.Punctuator punctuator.Minus) depth = Terminal Number depth ∷ []
+after_first _ depth = []
 
 -- a lower-case name opens a pattern, whichever it is
 lower_opened : (kind : TokenKind) (depth : ℕ) → fits LowerName kind ≡ true → opened (One Pattern) kind depth ≡ Some (Terminal LowerName (depth + 1) ∷ [])
@@ -41,7 +41,7 @@ constructor_opened _ depth fit = absurd cc
 
 -- a token that begins a pattern opens it
 pub pattern_opened : (kind : Lexeme) (bytes : List ℕ) (depth : ℕ) → begins Pattern (token_kind_of kind bytes) ≡ true
-    → opened (One Pattern) (token_kind_of kind bytes) depth ≡ Some (Terminal (asked kind) (depth + 1) ∷ behind_first kind (depth + 1))
+    → opened (One Pattern) (token_kind_of kind bytes) depth ≡ Some (Terminal (asked kind) (depth + 1) ∷ after_first kind (depth + 1))
 unfolding begins chosen begins_within
 pattern_opened lexeme.LowerName bytes depth is = lower_opened _ depth (asked_fits lexeme.LowerName bytes refl)
 pattern_opened lexeme.UpperName bytes depth is = constructor_opened _ depth (asked_fits lexeme.UpperName bytes refl)
@@ -62,11 +62,11 @@ unfolding begins chosen begins_within
 minus_opened depth = refl
 
 -- no other sign does
-pub sign_shut : (sign : Punctuator) (depth : ℕ) → sameb the_type sign punctuator.Underscore ≡ false → fits (PunctuatorKind punctuator.Minus) (PunctuatorKind sign) ≡ false → opened (One Pattern) (PunctuatorKind sign) depth ≡ None
+pub punctuator_shut : (which : Punctuator) (depth : ℕ) → sameb the_type which punctuator.Underscore ≡ false → fits (PunctuatorKind punctuator.Minus) (PunctuatorKind which) ≡ false → opened (One Pattern) (PunctuatorKind which) depth ≡ None
 unfolding begins chosen begins_within
-sign_shut punctuator.Underscore depth other differs = absurd cc
-sign_shut punctuator.Minus depth other differs = absurd cc
-sign_shut _ depth other differs = refl
+punctuator_shut punctuator.Underscore depth other differs = absurd cc
+punctuator_shut punctuator.Minus depth other differs = absurd cc
+punctuator_shut _ depth other differs = refl
 
 -- no pattern begins with the end of the source
 pub end_shut : (depth : ℕ) → opened (One Pattern) End depth ≡ None
@@ -103,7 +103,7 @@ built_tree token at goal arguments is =
 pub number_tree : (token : Lexed) (at : ℕ) → token.kind ≡ lexeme.Number → pattern_in (Leaf (Token token) at Empty) ≡ SameNumber token.place (pos (digits_value 10 token.bytes))
 number_tree token at is = ap (λ (kind : Lexeme). pattern_by (token_kind_of kind token.bytes) (Token token) Empty) is
 
--- digits behind a minus are a negative number
+-- digits after a minus are a negative number
 pub minus_tree : (token digits : Lexed) (at below : ℕ) → token.kind ≡ lexeme.Punctuator punctuator.Minus
     → pattern_in (Leaf (Token token) at (Leaf (Token digits) below Empty)) ≡ SameNumber token.place (neg_ℤ (pos (digits_value 10 digits.bytes)))
 minus_tree token digits at below is = ap (λ (kind : Lexeme). pattern_by (token_kind_of kind token.bytes) (Token token) (Leaf (Token digits) below Empty)) is

@@ -26,7 +26,7 @@ use Rattle.abs_tree.specs.SyntaxViews.{phrase, phrases}
 use Rattle.abs_tree.specs.Trees.{name_of}
 use Rattle.abs_tree.proofs.SyntaxLemmas.{phrase-build}
 use Rattle.abs_parser.specs.TokenKinds.{Mark, Token, TokenKind, token_kind_of, LowerName, LocalName, UpperName, AbsName, StdLibName, Number, Text, KeywordKind, PunctuatorKind, End, place_of_mark, fits}
-use Rattle.abs_parser.specs.Precedences.{prefix_sign}
+use Rattle.abs_parser.specs.Precedences.{prefix_punctuator}
 use Rattle.abs_parser.specs.Productions.{begins, begins_within, chosen, Unary, Primary, ThisTail, Arguments, Expr, Branch}
 use Rattle.abs_parser.specs.Readings.{One, Optional, Repeated, Wanted, Terminal, Subgoal, opened, Forest, Empty, Leaf, Node}
 use Rattle.abs_parser.specs.ReaderAnswers.{asked, maybe_phrases, is_asked}
@@ -35,14 +35,14 @@ use Rattle.abs_parser.proofs.grammar.FirstTokens.{BeginsBy, none_found}
 use Rattle.abs_parser.proofs.reader.StepLemmas.{asked_fits}
 
 -- these words begin a primary
-abbrev first_words : List Keyword
-first_words = keyword.Null ∷ keyword.Destiny ∷ keyword.This ∷ keyword.Case ∷ []
+abbrev first_keywords : List Keyword
+first_keywords = keyword.Null ∷ keyword.Destiny ∷ keyword.This ∷ keyword.Case ∷ []
 
 -- whether a primary may begin with a token of a kind
 abbrev pub may_begin : Lexeme → Bool
-may_begin (lexeme.Keyword word) = list_any (sameb keywords word) first_words
+may_begin (lexeme.Keyword keyword) = list_any (sameb keywords keyword) first_keywords
 may_begin lexeme.Foreign = false
-may_begin (lexeme.Punctuator sign) = sameb punctuators sign punctuator.OpenParen
+may_begin (lexeme.Punctuator which) = sameb punctuators which punctuator.OpenParen
 may_begin _ = true
 
 -- that is so for each kind
@@ -58,21 +58,21 @@ unfolding begins begins_within
 first_kinds = record { told = may_begin_told; local_too = refl; abs_too = refl; library_too = refl }
 
 -- no other word begins one
-pub other_word : (word : Keyword) → (word ≡ keyword.Null → ⊥) → (word ≡ keyword.Destiny → ⊥) → (word ≡ keyword.This → ⊥) → (word ≡ keyword.Case → ⊥) → false ≡ may_begin (lexeme.Keyword word)
-other_word word not_null not_destiny not_this not_case = none_found keywords tt first_words word (not_null, (not_destiny, (not_this, (not_case, tt))))
+pub other_keyword : (which : Keyword) → (which ≡ keyword.Null → ⊥) → (which ≡ keyword.Destiny → ⊥) → (which ≡ keyword.This → ⊥) → (which ≡ keyword.Case → ⊥) → false ≡ may_begin (lexeme.Keyword which)
+other_keyword which not_null not_destiny not_this not_case = none_found keywords tt first_keywords which (not_null, (not_destiny, (not_this, (not_case, tt))))
 
 -- What they consist of, by the next token
 
--- behind the token of a kind that begins a primary stands this
-abbrev pub behind_first : Lexeme → ℕ → List Wanted
-behind_first lexeme.LowerName depth = Subgoal (Optional Arguments) depth ∷ []
-behind_first lexeme.UpperName depth = Subgoal (Optional Arguments) depth ∷ []
-behind_first (lexeme.Keyword keyword.This) depth = Subgoal (Optional ThisTail) depth ∷ []
-behind_first (lexeme.Keyword keyword.Case) depth =
+-- after the token of a kind that begins a primary stands this
+abbrev pub after_first : Lexeme → ℕ → List Wanted
+after_first lexeme.LowerName depth = Subgoal (Optional Arguments) depth ∷ []
+after_first lexeme.UpperName depth = Subgoal (Optional Arguments) depth ∷ []
+after_first (lexeme.Keyword keyword.This) depth = Subgoal (Optional ThisTail) depth ∷ []
+after_first (lexeme.Keyword keyword.Case) depth =
     Subgoal (One Expr) depth ∷ Terminal (PunctuatorKind punctuator.OpenBrace) depth ∷ Subgoal (One Branch) depth ∷ Subgoal (Repeated Branch) depth
     ∷ Terminal (PunctuatorKind punctuator.CloseBrace) depth ∷ []
-behind_first (lexeme.Punctuator punctuator.OpenParen) depth = Subgoal (One Expr) depth ∷ Terminal (PunctuatorKind punctuator.CloseParen) depth ∷ []
-behind_first _ depth = []
+after_first (lexeme.Punctuator punctuator.OpenParen) depth = Subgoal (One Expr) depth ∷ Terminal (PunctuatorKind punctuator.CloseParen) depth ∷ []
+after_first _ depth = []
 
 -- a lower-case name opens a primary, whichever it is
 pub lower_opened : (kind : TokenKind) (depth : ℕ) → fits LowerName kind ≡ true → opened (One Primary) kind depth ≡ Some (Terminal LowerName depth ∷ Subgoal (Optional Arguments) depth ∷ [])
@@ -91,7 +91,7 @@ upper_opened _ depth fit = absurd cc
 
 -- a token that may begin a primary opens it
 pub primary_opened : (kind : Lexeme) (bytes : List ℕ) (depth : ℕ) → may_begin kind ≡ true
-    → opened (One Primary) (token_kind_of kind bytes) depth ≡ Some (Terminal (asked kind) depth ∷ behind_first kind depth)
+    → opened (One Primary) (token_kind_of kind bytes) depth ≡ Some (Terminal (asked kind) depth ∷ after_first kind depth)
 unfolding begins chosen begins_within
 primary_opened lexeme.LowerName bytes depth is = lower_opened _ depth (asked_fits lexeme.LowerName bytes refl)
 primary_opened lexeme.UpperName bytes depth is = upper_opened _ depth (asked_fits lexeme.UpperName bytes refl)
@@ -129,7 +129,7 @@ unfolding begins chosen begins_within
 primary_end depth = refl
 
 -- of the signs only "(" opens one
-pub group_shut : (sign : Punctuator) (depth : ℕ) → fits (PunctuatorKind punctuator.OpenParen) (PunctuatorKind sign) ≡ false → opened (One Primary) (PunctuatorKind sign) depth ≡ None
+pub group_shut : (which : Punctuator) (depth : ℕ) → fits (PunctuatorKind punctuator.OpenParen) (PunctuatorKind which) ≡ false → opened (One Primary) (PunctuatorKind which) depth ≡ None
 unfolding begins chosen begins_within
 group_shut punctuator.OpenParen depth differs = absurd cc
 group_shut _ depth differs = refl
@@ -151,16 +151,16 @@ operand_opened (KeywordKind keyword.Case) depth is = refl
 operand_opened (PunctuatorKind punctuator.OpenParen) depth is = refl
 operand_opened _ depth is = absurd cc
 
--- an operator before an operand opens a unary, and behind it stands another
+-- an operator before an operand opens a unary, and after it stands another
 pub prefix_opened : (operation : Prefix) (depth : ℕ)
-    → opened (One Unary) (PunctuatorKind (prefix_sign operation)) depth ≡ Some (Terminal (PunctuatorKind (prefix_sign operation)) (depth + 1) ∷ Subgoal (One Unary) (depth + 1) ∷ [])
+    → opened (One Unary) (PunctuatorKind (prefix_punctuator operation)) depth ≡ Some (Terminal (PunctuatorKind (prefix_punctuator operation)) (depth + 1) ∷ Subgoal (One Unary) (depth + 1) ∷ [])
 unfolding begins chosen begins_within
 prefix_opened prefix.Not depth = refl
 prefix_opened prefix.Tilde depth = refl
 prefix_opened prefix.Minus depth = refl
 
 -- what is no such operator and may begin no primary opens no unary
-pub unary_shut : (kind : Lexeme) (bytes : List ℕ) (depth : ℕ) → may_begin kind ≡ false → ((operation : Prefix) → kind ≡ lexeme.Punctuator (prefix_sign operation) → ⊥)
+pub unary_shut : (kind : Lexeme) (bytes : List ℕ) (depth : ℕ) → may_begin kind ≡ false → ((operation : Prefix) → kind ≡ lexeme.Punctuator (prefix_punctuator operation) → ⊥)
     → opened (One Unary) (token_kind_of kind bytes) depth ≡ None
 unfolding begins chosen begins_within
 unary_shut lexeme.LowerName bytes depth is none = absurd cc
@@ -182,7 +182,7 @@ pub unary_end : (depth : ℕ) → opened (One Unary) End depth ≡ None
 unfolding begins chosen begins_within
 unary_end depth = refl
 
--- behind "this" a dot opens what may be left out
+-- after "this" a dot opens what may be left out
 pub tail_follows : (depth : ℕ) (kind : TokenKind) → fits (PunctuatorKind punctuator.Dot) kind ≡ true → opened (Optional ThisTail) kind depth ≡ Some (Subgoal (One ThisTail) depth ∷ [])
 unfolding begins begins_within
 tail_follows depth kind fit = rw fit refl
@@ -200,7 +200,7 @@ no_tail depth kind other = rw other refl
 
 -- The trees
 
--- the tree of a primary is that of its first token and of what stands behind it
+-- the tree of a primary is that of its first token and of what stands after it
 pub tree_by : {kind : Lexeme} (token : Lexed) (at : ℕ) (others : Forest) → token.kind ≡ kind
     → primary_in (Leaf (Token token) at others) ≡ primary_by (token_kind_of kind token.bytes) (Token token) others
 tree_by token at others is = ap (λ (kind : Lexeme). primary_by (token_kind_of kind token.bytes) (Token token) others) is
@@ -251,13 +251,13 @@ pub group_tree : (opening closing : Lexed) (at : ℕ) (inside : Forest) {tree : 
 group_tree opening closing at inside is trees = trees ∙ sym (tree_by opening at (Node (One Expr) inside (Leaf (Token closing) at Empty)) is)
 
 -- an operator before an operand is told by its sign
-prefix_told : (operation : Prefix) → prefix_of (PunctuatorKind (prefix_sign operation)) ≡ operation
+prefix_told : (operation : Prefix) → prefix_of (PunctuatorKind (prefix_punctuator operation)) ≡ operation
 prefix_told prefix.Not = refl
 prefix_told prefix.Tilde = refl
 prefix_told prefix.Minus = refl
 
--- the tree of an operator and the unary behind it
-pub prefixed_tree : (operation : Prefix) (token : Lexed) (at : ℕ) (operand : Forest) {tree : Phrase} → token.kind ≡ lexeme.Punctuator (prefix_sign operation) → tree ≡ unary_in operand
+-- the tree of an operator and the unary after it
+pub prefixed_tree : (operation : Prefix) (token : Lexed) (at : ℕ) (operand : Forest) {tree : Phrase} → token.kind ≡ lexeme.Punctuator (prefix_punctuator operation) → tree ≡ unary_in operand
     → Prefixed token.place operation tree ≡ unary_in (Leaf (Token token) at (Node (One Unary) operand Empty))
 prefixed_tree operation token at operand is trees =
     ap (Prefixed token.place operation) trees

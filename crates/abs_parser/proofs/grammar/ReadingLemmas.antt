@@ -13,44 +13,44 @@ a_program = Subgoal (One Program) 0 ∷ []
 
 -- Two forests stand side by side as one.
 abbrev join : Forest → Forest → Forest
-join Empty behind = behind
-join (Leaf mark depth before) behind = Leaf mark depth (join before behind)
-join (Node goal inside before) behind = Node goal inside (join before behind)
+join Empty after = after
+join (Leaf mark depth before) after = Leaf mark depth (join before after)
+join (Node goal inside before) after = Node goal inside (join before after)
 
 -- The tokens of both stand as deep as they did.
-depths_join : (before behind : Forest) → depths (join before behind) ≡ depths before ++ depths behind
-depths_join Empty behind = refl
-depths_join (Leaf mark depth before) behind = ap (λ (levels : List ℕ). depth ∷ levels) (depths_join before behind)
-depths_join (Node goal inside before) behind =
-    ap (λ (levels : List ℕ). depths inside ++ levels) (depths_join before behind) ∙ sym (append_assoc (depths inside) (depths before) (depths behind))
+depths_join : (before after : Forest) → depths (join before after) ≡ depths before ++ depths after
+depths_join Empty after = refl
+depths_join (Leaf mark depth before) after = ap (λ (levels : List ℕ). depth ∷ levels) (depths_join before after)
+depths_join (Node goal inside before) after =
+    ap (λ (levels : List ℕ). depths inside ++ levels) (depths_join before after) ∙ sym (append_assoc (depths inside) (depths before) (depths after))
 
--- Two readings, one behind the other, are one of the items of both.
-reads_join : {first second : List Wanted} {ts middle rest : List Mark} {before behind : Forest} → Reads first ts before middle → Reads second middle behind rest
-    → Reads (first ++ second) ts (join before behind) rest
+-- Two readings, one after the other, are one of the items of both.
+reads_join : {first second : List Wanted} {ts middle rest : List Mark} {before after : Forest} → Reads first ts before middle → Reads second middle after rest
+    → Reads (first ++ second) ts (join before after) rest
 reads_join Nothing others = others
 reads_join (Taken fit reads) others = Taken fit (reads_join reads others)
 reads_join (Opened is inside reads) others = Opened is inside (reads_join reads others)
 
--- A forest is that of a reading of the first items, and of one of the second items behind it.
+-- A forest is that of a reading of the first items, and of one of the second items after it.
 record Split (first second : List Wanted) (ts rest : List Mark) (forest : Forest) : Type 0 where
   middle : List Mark
   before : Forest
-  behind : Forest
+  after : Forest
   reads_before : Reads first ts before middle
-  reads_behind : Reads second middle behind rest
-  is : forest ≡ join before behind
+  reads_after : Reads second middle after rest
+  is : forest ≡ join before after
 
 -- A reading of items before others falls into one of each.
 split : (first second : List Wanted) {ts rest : List Mark} {forest : Forest} → Reads (first ++ second) ts forest rest → Split first second ts rest forest
-split [] second reads = record { middle = _; before = Empty; behind = _; reads_before = Nothing; reads_behind = reads; is = refl }
+split [] second reads = record { middle = _; before = Empty; after = _; reads_before = Nothing; reads_after = reads; is = refl }
 split (Terminal kind depth ∷ first) second (Taken {mark = mark} fit reads) =
     let parts = split first second reads in
     record {
       middle = parts.middle;
       before = Leaf mark depth parts.before;
-      behind = parts.behind;
+      after = parts.after;
       reads_before = Taken fit parts.reads_before;
-      reads_behind = parts.reads_behind;
+      reads_after = parts.reads_after;
       is = ap (Leaf mark depth) parts.is;
     }
 split (Subgoal goal depth ∷ first) second (Opened {inside = inside} is reads_inside reads) =
@@ -58,9 +58,9 @@ split (Subgoal goal depth ∷ first) second (Opened {inside = inside} is reads_i
     record {
       middle = parts.middle;
       before = Node goal inside parts.before;
-      behind = parts.behind;
+      after = parts.after;
       reads_before = Opened is reads_inside parts.reads_before;
-      reads_behind = parts.reads_behind;
+      reads_after = parts.reads_after;
       is = ap (Node goal inside) parts.is;
     }
 
@@ -74,8 +74,8 @@ one_reading (Taken fit reads) (Taken other_fit other_reads) =
 one_reading (Opened {inner = inner} is inside reads) (Opened {inner = other_inner} other_is other_inside other_reads) =
     let alike : other_inner ≡ inner = cc in
     let within = one_reading inside (rw alike at other_inside) in
-    let behind = one_reading reads (rw (← within.1) at other_reads) in
-    (cc (within.0, behind.0), behind.1)
+    let after = one_reading reads (rw (← within.1) at other_reads) in
+    (cc (within.0, after.0), after.1)
 
 -- The whole list is read as these items, and its tokens stand at these depths.
 pub record WholeReading (items : List Wanted) (ts : List Mark) (levels : List ℕ) : Type 0 where
@@ -89,12 +89,12 @@ pub part_closed : {goal : Goal} {depth : ℕ} {inner items : List Wanted} {ts : 
 part_closed {goal} {depth} {inner} {items} is reading =
     let parts = split inner items reading.reads in
     record {
-      forest = Node goal parts.before parts.behind;
-      reads = Opened is parts.reads_before parts.reads_behind;
-      are = sym (ap depths parts.is ∙ depths_join parts.before parts.behind) ∙ reading.are;
+      forest = Node goal parts.before parts.after;
+      reads = Opened is parts.reads_before parts.reads_after;
+      are = sym (ap depths parts.is ∙ depths_join parts.before parts.after) ∙ reading.are;
     }
 
--- What is read inside a part, with what is read behind it, is a whole reading of what the part consists of.
+-- What is read inside a part, with what is read after it, is a whole reading of what the part consists of.
 inside_joined : {goal : Goal} {depth : ℕ} {inner items : List Wanted} {ts : List Mark} {forest : Forest} {levels : List ℕ} → opened goal (next ts) depth ≡ Some inner
     → Reads (Subgoal goal depth ∷ items) ts forest [] → depths forest ≡ levels → WholeReading (inner ++ items) ts levels
 inside_joined {inner = inner} is (Opened {inner = other_inner} {inside = inside} {forest = forest} other_is reads_inside reads) are =
@@ -106,17 +106,17 @@ pub part_opened : {goal : Goal} {depth : ℕ} {inner items : List Wanted} {ts : 
     → WholeReading (Subgoal goal depth ∷ items) ts levels → WholeReading (inner ++ items) ts levels
 part_opened is reading = inside_joined is reading.reads reading.are
 
--- A token fits and stands at the first of these depths, and the list behind it is read as the other items.
+-- A token fits and stands at the first of these depths, and the list after it is read as the other items.
 pub record TokenTaken (kind : TokenKind) (depth : ℕ) (items : List Wanted) (mark : Mark) (ts : List Mark) (levels : List ℕ) : Type 0 where
   pub fit : fits kind (token_kind mark) ≡ true
   pub others : List ℕ
   pub are : levels ≡ depth ∷ others
-  pub behind : WholeReading items ts others
+  pub after : WholeReading items ts others
 
--- A reading that begins with a token is one of it and of the list behind it.
+-- A reading that begins with a token is one of it and of the list after it.
 first_taken : {kind : TokenKind} {depth : ℕ} {items : List Wanted} {mark : Mark} {ts : List Mark} {forest : Forest} {levels : List ℕ}
     → Reads (Terminal kind depth ∷ items) (mark ∷ ts) forest [] → depths forest ≡ levels → TokenTaken kind depth items mark ts levels
-first_taken (Taken {forest = forest} fit reads) are = record { fit = fit; others = depths forest; are = sym are; behind = record { forest = forest; reads = reads; are = refl } }
+first_taken (Taken {forest = forest} fit reads) are = record { fit = fit; others = depths forest; are = sym are; after = record { forest = forest; reads = reads; are = refl } }
 
 -- So is a whole reading that begins with one.
 pub token_taken : {kind : TokenKind} {depth : ℕ} {items : List Wanted} {mark : Mark} {ts : List Mark} {levels : List ℕ}

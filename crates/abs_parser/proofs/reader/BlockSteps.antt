@@ -28,19 +28,19 @@ use Rattle.abs_parser.proofs.grammar.NonterminalLemmas.{part_begun, repeated_ope
 
 -- the trees of statements, before others
 abbrev pub statements_before : List Name → List CodeStmt → Statements → Statements
-statements_before names [] behind = behind
-statements_before names (stmt ∷ others) behind = NextStatement (statement names stmt) (statements_before names others behind)
+statements_before names [] after = after
+statements_before names (stmt ∷ others) after = NextStatement (statement names stmt) (statements_before names others after)
 
--- with nothing behind them they are the trees of the statements
+-- with nothing after them they are the trees of the statements
 all_statements : (names : List Name) (listed : List CodeStmt) → statements_before names listed NoStatement ≡ statements names listed
 all_statements names [] = refl
 all_statements names (stmt ∷ others) = ap (NextStatement (statement names stmt)) (all_statements names others)
 
 -- one more statement stands before the others
-one_statement : (names : List Name) (listed : List CodeStmt) (stmt : CodeStmt) (behind : Statements)
-    → statements_before names (listed ++ stmt ∷ []) behind ≡ statements_before names listed (NextStatement (statement names stmt) behind)
-one_statement names [] stmt behind = refl
-one_statement names (first ∷ others) stmt behind = ap (NextStatement (statement names first)) (one_statement names others stmt behind)
+one_statement : (names : List Name) (listed : List CodeStmt) (stmt : CodeStmt) (after : Statements)
+    → statements_before names (listed ++ stmt ∷ []) after ≡ statements_before names listed (NextStatement (statement names stmt) after)
+one_statement names [] stmt after = refl
+one_statement names (first ∷ others) stmt after = ap (NextStatement (statement names first)) (one_statement names others stmt after)
 
 -- statements before others are numbered up to these
 before_count : (names : List Name) (listed : List CodeStmt) (stmt : CodeStmt) → statement_count (statements names (listed ++ stmt ∷ [])) ≡ statement_count (statements names listed) + count_of (statement names stmt)
@@ -48,7 +48,7 @@ before_count names [] stmt = omega arith
 before_count names (first ∷ others) stmt = omega (arith, before_count names others stmt)
 
 -- What was read of a block up to here, with the trees of its statements from a first index: whatever further statements are read, from the
--- index that is free then, and the "}" behind them, complete it.
+-- index that is free then, and the "}" after them, complete it.
 pub record ReadsBlock (index depth : ℕ) (old now : List (List ℕ)) (from here : Spot) (listed : List CodeStmt) : Type 0 where
   pub make : Forest → Forest
   pub read : HasRead (One Block) depth old now from make (Subgoal (Repeated Stmt) depth ∷ Terminal (PunctuatorKind punctuator.CloseBrace) depth ∷ []) here
@@ -57,7 +57,7 @@ pub record ReadsBlock (index depth : ℕ) (old now : List (List ℕ)) (from here
       → statements_before names listed (statements_in (index + statement_count (statements names listed)) inside) ≡ block_in index (make (Node (Repeated Stmt) inside (Leaf mark at Empty)))
   pub end_is : (inside : Forest) (mark : Mark) (at : ℕ) → place_of_mark mark ≡ block_end (make (Node (Repeated Stmt) inside (Leaf mark at Empty)))
 
--- the index that is free behind none is the first
+-- the index that is free after none is the first
 none_counted : (index : ℕ) (inside : Forest) → statements_in (index + 0) inside ≡ statements_in index inside
 none_counted index inside = let same : index + 0 ≡ index = omega arith in rw same refl
 
@@ -97,10 +97,10 @@ next_statement {index} {depth} {listed = listed} stmt same so is_free found = rw
   end_is = λ inside mark at. so.end_is (Node (One Stmt) found.inside (Node (Repeated Stmt) inside Empty)) mark at;
 })
 
--- the index that is free behind one more
-pub next_free : {free behind : ℕ} {longer : List CodeStmt} (index : ℕ) (listed : List CodeStmt) (stmt : CodeStmt) → longer ≡ listed ++ stmt ∷ [] → ((names : List Name) → free ≡ index + statement_count (statements names listed))
-    → ((names : List Name) → behind ≡ free + count_of (statement names stmt)) → (names : List Name) → behind ≡ index + statement_count (statements names longer)
-next_free index listed stmt same is_free is_behind names = rw same (omega (arith, is_free names, is_behind names, before_count names listed stmt))
+-- the index that is free after one more
+pub next_free : {free after : ℕ} {longer : List CodeStmt} (index : ℕ) (listed : List CodeStmt) (stmt : CodeStmt) → longer ≡ listed ++ stmt ∷ [] → ((names : List Name) → free ≡ index + statement_count (statements names listed))
+    → ((names : List Name) → after ≡ free + count_of (statement names stmt)) → (names : List Name) → after ≡ index + statement_count (statements names longer)
+next_free index listed stmt same is_free is_after names = rw same (omega (arith, is_free names, is_after names, before_count names listed stmt))
 
 -- where the "}" is not next, the block is refused where the next statement is
 pub refused_statement : {depth : ℕ} {old now : List (List ℕ)} {index : ℕ} {from here : Spot} {listed : List CodeStmt} (error : SourceError) → ReadsBlock index depth old now from here listed
@@ -122,7 +122,7 @@ pub refused_brace : {depth : ℕ} {old now : List (List ℕ)} {index : ℕ} {fro
     → fits (PunctuatorKind punctuator.CloseBrace) (next (left_at here)) ≡ true → IsRefused (Terminal (PunctuatorKind punctuator.CloseBrace) depth) here error → IsRefused (Subgoal (One Block) depth) from error
 refused_brace {depth} {now = now} {here = here} error so closes refused = refused_inside (over_part so.read (no_statement depth now here closes)) error refused
 
--- behind its "}" the block is found
+-- after its "}" the block is found
 pub block_found : {brace : Lexed} {depth : ℕ} {old now : List (List ℕ)} {index : ℕ} {from here end : Spot} (body : Body) → body.end ≡ brace.place → ReadsBlock index depth old now from here body.statements.items
     → TakesKind (lexeme.Punctuator punctuator.CloseBrace) brace here end → depth ≤ limit
     → FoundAs (One Block) depth old now from end (λ names inside. IsBlock index names body inside)

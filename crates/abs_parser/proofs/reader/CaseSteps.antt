@@ -29,7 +29,7 @@ use Rattle.abs_parser.proofs.grammar.NameLemmas.{goes_on_further}
 use Rattle.abs_parser.proofs.reader.StepLemmas.{HasRead, opens, over_token, over_part, all_read, refused_inside, fits_next, found_goes_on, found_shorter, token_shorter}
 use Rattle.abs_parser.proofs.grammar.NonterminalLemmas.{begins_with_part, part_shut, part_begun, part_opened, repeated_opened}
 use Rattle.abs_parser.proofs.reader.InFrontSteps.{refused_in_front}
-use Rattle.abs_parser.proofs.reader.WordSteps.{word_read}
+use Rattle.abs_parser.proofs.reader.KeywordSteps.{keyword_read}
 use Rattle.abs_parser.proofs.reader.RepeatSteps.{in_front, over_one_more, refused_up_to, none_before, row_shorter}
 use Rattle.abs_parser.proofs.reader.ExpressionSteps.{IsExpression}
 
@@ -79,47 +79,47 @@ branch_found branch pattern arrow value semicolon within =
 
 -- the trees of branches, before others
 abbrev pub branches_before : List (List ℕ) → List code_branch.Branch → Branches → Branches
-branches_before names [] behind = behind
-branches_before names (branch ∷ others) behind = NextBranch (pattern_tree names branch.pattern) (phrase names branch.value) (branches_before names others behind)
+branches_before names [] after = after
+branches_before names (branch ∷ others) after = NextBranch (pattern_tree names branch.pattern) (phrase names branch.value) (branches_before names others after)
 
--- with nothing behind them they are the trees of the branches
+-- with nothing after them they are the trees of the branches
 all_branches : (names : List (List ℕ)) (arms : List code_branch.Branch) → branches_before names arms NoBranch ≡ branches names arms
 all_branches names [] = refl
 all_branches names (branch ∷ others) = ap (NextBranch (pattern_tree names branch.pattern) (phrase names branch.value)) (all_branches names others)
 
 -- one more branch stands before the others
-one_branch : (names : List (List ℕ)) (arms : List code_branch.Branch) (branch : code_branch.Branch) (behind : Branches)
-    → branches_before names (arms ++ branch ∷ []) behind ≡ branches_before names arms (NextBranch (pattern_tree names branch.pattern) (phrase names branch.value) behind)
-one_branch names [] branch behind = refl
-one_branch names (first ∷ others) branch behind = ap (NextBranch (pattern_tree names first.pattern) (phrase names first.value)) (one_branch names others branch behind)
+one_branch : (names : List (List ℕ)) (arms : List code_branch.Branch) (branch : code_branch.Branch) (after : Branches)
+    → branches_before names (arms ++ branch ∷ []) after ≡ branches_before names arms (NextBranch (pattern_tree names branch.pattern) (phrase names branch.value) after)
+one_branch names [] branch after = refl
+one_branch names (first ∷ others) branch after = ap (NextBranch (pattern_tree names first.pattern) (phrase names first.value)) (one_branch names others branch after)
 
 -- A `case`
 
--- behind the keyword of a `case` stands this
-abbrev behind_case : ℕ → List Wanted
-behind_case at =
+-- after the keyword of a `case` stands this
+abbrev after_case : ℕ → List Wanted
+after_case at =
     Subgoal (One ExprSymbol) at ∷ Terminal (PunctuatorKind punctuator.OpenBrace) at ∷ Subgoal (One Branch) at ∷ Subgoal (Repeated Branch) at ∷ Terminal (PunctuatorKind punctuator.CloseBrace) at ∷ []
 
 -- `case` opens a primary
-case_opened : (depth : ℕ) → opened (One Primary) (KeywordKind keyword.Case) depth ≡ Some (Terminal (KeywordKind keyword.Case) depth ∷ behind_case depth)
+case_opened : (depth : ℕ) → opened (One Primary) (KeywordKind keyword.Case) depth ≡ Some (Terminal (KeywordKind keyword.Case) depth ∷ after_case depth)
 unfolding begins chosen begins_within
 case_opened depth = refl
 
 -- over the keyword of a `case`
-pub case_begins : {word : Lexed} {from behind : Spot} (depth : ℕ) (table : List (List ℕ)) → TakesKind (lexeme.Keyword keyword.Case) word from behind → depth ≤ limit
-    → HasRead (One Primary) depth table table from (λ rest. Leaf (Token word) depth rest) (behind_case depth) behind
-case_begins depth table takes within = word_read depth table (case_opened depth) takes within
+pub case_begins : {token : Lexed} {from after : Spot} (depth : ℕ) (table : List (List ℕ)) → TakesKind (lexeme.Keyword keyword.Case) token from after → depth ≤ limit
+    → HasRead (One Primary) depth table table from (λ rest. Leaf (Token token) depth rest) (after_case depth) after
+case_begins depth table takes within = keyword_read depth table (case_opened depth) takes within
 
 -- over its expression and "{"
-pub case_asked : {word brace : Lexed} {from subject_at brace_at first_at : Spot} {depth : ℕ} {old now : List (List ℕ)} {is_read : List (List ℕ) → Forest → Type 0}
-    → TakesKind (lexeme.Keyword keyword.Case) word from subject_at → (subject : FoundAs (One ExprSymbol) depth old now subject_at brace_at is_read)
+pub case_asked : {token brace : Lexed} {from subject_at brace_at first_at : Spot} {depth : ℕ} {old now : List (List ℕ)} {is_read : List (List ℕ) → Forest → Type 0}
+    → TakesKind (lexeme.Keyword keyword.Case) token from subject_at → (subject : FoundAs (One ExprSymbol) depth old now subject_at brace_at is_read)
     → TakesKind (lexeme.Punctuator punctuator.OpenBrace) brace brace_at first_at → depth ≤ limit
-    → HasRead (One Primary) depth old now from (λ rest. Leaf (Token word) depth (Node (One ExprSymbol) subject.inside (Leaf (Token brace) depth rest)))
+    → HasRead (One Primary) depth old now from (λ rest. Leaf (Token token) depth (Node (One ExprSymbol) subject.inside (Leaf (Token brace) depth rest)))
     (Subgoal (One Branch) depth ∷ Subgoal (Repeated Branch) depth ∷ Terminal (PunctuatorKind punctuator.CloseBrace) depth ∷ []) first_at
-case_asked {depth = depth} {old} word subject brace within = over_token (over_part (case_begins depth old word within) subject) brace refl refl within
+case_asked {depth = depth} {old} token subject brace within = over_token (over_part (case_begins depth old token within) subject) brace refl refl within
 
 -- What was read of a `case` up to here, with the trees of its expression and of these branches: whatever further branches are read, and
--- the token behind them, complete it.
+-- the token after them, complete it.
 pub record ReadsCase (depth : ℕ) (old now : List (List ℕ)) (from here : Spot) (place : Place) (subject : Expr) (arms : List code_branch.Branch) : Type 0 where
   pub make : Forest → Forest
   pub read : HasRead (One Primary) depth old now from make (Subgoal (Repeated Branch) depth ∷ Terminal (PunctuatorKind punctuator.CloseBrace) depth ∷ []) here
@@ -128,18 +128,18 @@ pub record ReadsCase (depth : ℕ) (old now : List (List ℕ)) (from here : Spot
       → primary_in (make (Node (Repeated Branch) inside (Leaf mark at Empty))) ≡ CaseOf place (phrase names subject) (branches_before names arms (branches_in inside))
 
 -- so far the first branch
-pub first_branch : {word brace : Lexed} {from subject_at brace_at first_at here : Spot} {depth : ℕ} {old now new : List (List ℕ)} {subject : Expr} (first : code_branch.Branch) {arms : List code_branch.Branch} → arms ≡ first ∷ []
-    → TakesKind (lexeme.Keyword keyword.Case) word from subject_at → FoundAs (One ExprSymbol) depth old now subject_at brace_at (IsExpression subject)
-    → TakesKind (lexeme.Punctuator punctuator.OpenBrace) brace brace_at first_at → FoundAs (One Branch) depth now new first_at here (IsBranch first) → depth ≤ limit → ReadsCase depth old new from here word.place subject arms
-first_branch {word} {brace} {depth = depth} {subject = expr} branch same takes subject takes_brace first within = rw same (record {
-  make = λ rest. Leaf (Token word) depth (Node (One ExprSymbol) subject.inside (Leaf (Token brace) depth (Node (One Branch) first.inside rest)));
+pub first_branch : {token brace : Lexed} {from subject_at brace_at first_at here : Spot} {depth : ℕ} {old now new : List (List ℕ)} {subject : Expr} (first : code_branch.Branch) {arms : List code_branch.Branch} → arms ≡ first ∷ []
+    → TakesKind (lexeme.Keyword keyword.Case) token from subject_at → FoundAs (One ExprSymbol) depth old now subject_at brace_at (IsExpression subject)
+    → TakesKind (lexeme.Punctuator punctuator.OpenBrace) brace brace_at first_at → FoundAs (One Branch) depth now new first_at here (IsBranch first) → depth ≤ limit → ReadsCase depth old new from here token.place subject arms
+first_branch {token} {brace} {depth = depth} {subject = expr} branch same takes subject takes_brace first within = rw same (record {
+  make = λ rest. Leaf (Token token) depth (Node (One ExprSymbol) subject.inside (Leaf (Token brace) depth (Node (One Branch) first.inside rest)));
   read = over_part (case_asked takes subject takes_brace within) first;
   shorter = omega (arith, token_shorter takes.takes, found_shorter subject, token_shorter takes_brace.takes, found_shorter first);
   is = λ names more inside mark at.
-      ap (λ (kind : Lexeme). primary_by (token_kind_of kind word.bytes) (Token word)
+      ap (λ (kind : Lexeme). primary_by (token_kind_of kind token.bytes) (Token token)
       (Node (One ExprSymbol) subject.inside (Leaf (Token brace) depth (Node (One Branch) first.inside (Node (Repeated Branch) inside (Leaf mark at Empty)))))) takes.kind_is
-      ∙ (ap (λ (tree : Phrase). CaseOf word.place tree (branch_in first.inside (branches_in inside))) (sym (subject.is names (goes_on_further (found_goes_on first) more)))
-      ∙ ap (CaseOf word.place (phrase names expr)) (sym (first.is names more (branches_in inside))));
+      ∙ (ap (λ (tree : Phrase). CaseOf token.place tree (branch_in first.inside (branches_in inside))) (sym (subject.is names (goes_on_further (found_goes_on first) more)))
+      ∙ ap (CaseOf token.place (phrase names expr)) (sym (first.is names more (branches_in inside))));
 })
 
 -- and one more branch
@@ -177,7 +177,7 @@ pub refused_brace : {depth : ℕ} {old now : List (List ℕ)} {from here : Spot}
     → IsRefused (Subgoal (One Primary) depth) from error
 refused_brace {depth} {now = now} {here = here} error so closes refused = refused_inside (over_part so.read (no_branch depth now here closes)) error refused
 
--- behind the last branch and "}" a `case` is found, as it is held in memory
+-- after the last branch and "}" a `case` is found, as it is held in memory
 pub case_found : {brace : Lexed} {depth : ℕ} {old now : List (List ℕ)} {from here end : Spot} {place : Place} {subject : Expr} (held : Box Expr Global) (arms : Vec code_branch.Branch Global) → held.value ≡ subject
     → ReadsCase depth old now from here place subject arms.items → TakesKind (lexeme.Punctuator punctuator.CloseBrace) brace here end → depth ≤ limit
     → FoundAs (One Primary) depth old now from end (λ names inside. phrase names (code_expr.Case place held arms) ≡ primary_in inside)

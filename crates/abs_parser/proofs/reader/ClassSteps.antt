@@ -23,7 +23,7 @@ use Rattle.abs_parser.specs.Stops.{limit}
 use Rattle.abs_parser.specs.Tokens.{Spot}
 use Rattle.abs_parser.specs.TreesOf.{class_params_maybe, names_maybe, member_in, members_in}
 use Rattle.abs_parser.proofs.reader.NameListSteps.{declared_kept}
-use Rattle.abs_parser.proofs.reader.DeclarationSteps.{Parts, ReadsParts, next_part, heading_read, by_word}
+use Rattle.abs_parser.proofs.reader.DeclarationSteps.{Parts, ReadsParts, next_part, heading_read, by_keyword}
 use Rattle.abs_parser.proofs.reader.MemberSteps.{IsMember}
 use Rattle.abs_parser.proofs.reader.RepeatSteps.{ends_at}
 use Rattle.abs_parser.proofs.grammar.NameLemmas.{goes_on_further}
@@ -47,14 +47,14 @@ members_of = record {
   trees_none = λ index before. refl;
 }
 
--- behind the name of a class stands this
-abbrev pub behind_class : ℕ → List Wanted
-behind_class at =
+-- after the name of a class stands this
+abbrev pub after_class : ℕ → List Wanted
+after_class at =
     Subgoal (Optional ClassParameters) at ∷ Subgoal (Optional Implements) at ∷ Terminal (PunctuatorKind punctuator.OpenBrace) at
     ∷ Subgoal (Repeated Member) at ∷ Terminal (PunctuatorKind punctuator.CloseBrace) at ∷ []
 
 -- `class` opens a declaration
-pub class_opened : (depth : ℕ) → opened (One Decl) (KeywordKind keyword.Class) depth ≡ Some (Terminal (KeywordKind keyword.Class) depth ∷ Terminal UpperName depth ∷ behind_class depth)
+pub class_opened : (depth : ℕ) → opened (One Decl) (KeywordKind keyword.Class) depth ≡ Some (Terminal (KeywordKind keyword.Class) depth ∷ Terminal UpperName depth ∷ after_class depth)
 unfolding begins chosen begins_within
 class_opened depth = refl
 
@@ -69,31 +69,31 @@ class_made : {name held_name : DeclaredTree} {params held_params : List ParamTre
 class_made place members others name params implemented = rw (name, params, implemented) refl
 
 -- over the keyword, the name and the parameters of a class
-pub class_begun : {word name : Lexed} {from name_at behind heading_at : Spot} {depth : ℕ} {old table now : List (List ℕ)} {is_read : List (List ℕ) → Forest → Type 0}
-    → TakesKind (lexeme.Keyword keyword.Class) word from name_at → TakesKind lexeme.UpperName name name_at behind → table ≡ with_name old name.bytes
-    → (params : FoundAs (Optional ClassParameters) depth table now behind heading_at is_read) → depth ≤ limit
-    → HasRead (One Decl) depth old now from (λ rest. Leaf (Token word) depth (Leaf (Token name) depth (Node (Optional ClassParameters) params.inside rest)))
+pub class_begun : {token name : Lexed} {from name_at after heading_at : Spot} {depth : ℕ} {old table now : List (List ℕ)} {is_read : List (List ℕ) → Forest → Type 0}
+    → TakesKind (lexeme.Keyword keyword.Class) token from name_at → TakesKind lexeme.UpperName name name_at after → table ≡ with_name old name.bytes
+    → (params : FoundAs (Optional ClassParameters) depth table now after heading_at is_read) → depth ≤ limit
+    → HasRead (One Decl) depth old now from (λ rest. Leaf (Token token) depth (Leaf (Token name) depth (Node (Optional ClassParameters) params.inside rest)))
     (Subgoal (Optional Implements) depth ∷ Terminal (PunctuatorKind punctuator.OpenBrace) depth ∷ Subgoal (Repeated Member) depth ∷ Terminal (PunctuatorKind punctuator.CloseBrace) depth ∷ []) heading_at
-class_begun {depth = depth} word name is params within = over_part (heading_read (class_opened depth) word name is within) params
+class_begun {depth = depth} token name is params within = over_part (heading_read (class_opened depth) token name is within) params
 
 -- a class was read up to its first member
-pub first_member : {word name brace : Lexed} {from name_at behind heading_at open_at here : Spot} {depth : ℕ} {old table one now : List (List ℕ)} {members : List CodeMember}
+pub first_member : {token name brace : Lexed} {from name_at after heading_at open_at here : Spot} {depth : ℕ} {old table one now : List (List ℕ)} {members : List CodeMember}
     (index : ℕ) (symbol : NameSymbol) (params : List Param) (listed : List Declared) → members ≡ []
-    → TakesKind (lexeme.Keyword keyword.Class) word from name_at → TakesKind lexeme.UpperName name name_at behind → symbol.0 ≡ number_of_name old name.bytes → table ≡ with_name old name.bytes
-    → FoundAs (Optional ClassParameters) depth table one behind heading_at (λ names inside. map (param_tree names) params ≡ class_params_maybe inside)
+    → TakesKind (lexeme.Keyword keyword.Class) token from name_at → TakesKind lexeme.UpperName name name_at after → symbol.0 ≡ number_of_name old name.bytes → table ≡ with_name old name.bytes
+    → FoundAs (Optional ClassParameters) depth table one after heading_at (λ names inside. map (param_tree names) params ≡ class_params_maybe inside)
     → FoundAs (Optional Implements) depth one now heading_at open_at (λ names inside. map (declared_tree names) listed ≡ names_maybe inside)
     → TakesKind (lexeme.Punctuator punctuator.OpenBrace) brace open_at here → depth ≤ limit
-    → ReadsParts members_of (λ at. at ≡ index) (class_of word.place (record { place = name.place; name = symbol }) params listed) depth old now from here members
-first_member {word} {name} {brace} {depth = depth} {old} index symbol params listed same takes takes_name number is found implemented takes_brace within = rw same (record {
+    → ReadsParts members_of (λ at. at ≡ index) (class_of token.place (record { place = name.place; name = symbol }) params listed) depth old now from here members
+first_member {token} {name} {brace} {depth = depth} {old} index symbol params listed same takes takes_name number is found implemented takes_brace within = rw same (record {
   make = λ rest.
-      Leaf (Token word) depth (Leaf (Token name) depth (Node (Optional ClassParameters) found.inside (Node (Optional Implements) implemented.inside (Leaf (Token brace) depth rest))));
+      Leaf (Token token) depth (Leaf (Token name) depth (Node (Optional ClassParameters) found.inside (Node (Optional Implements) implemented.inside (Leaf (Token brace) depth rest))));
   read = over_token (over_part (class_begun takes takes_name is found within) implemented) takes_brace refl refl within;
   is = λ first starts names more inside mark at others.
       let from_params = goes_on_further (found_goes_on implemented) more in
-      by_word first depth _ others takes
-      ∙ (class_made word.place (members_in first inside) others (declared_kept old name symbol number is names (goes_on_further (found_goes_on found) from_params))
+      by_keyword first depth _ others takes
+      ∙ (class_made token.place (members_in first inside) others (declared_kept old name symbol number is names (goes_on_further (found_goes_on found) from_params))
       (found.is names from_params) (implemented.is names more)
-      ∙ ap (λ (n : ℕ). class_of word.place (record { place = name.place; name = symbol }) params listed names (members_in n inside) ∷ others) (omega arith));
+      ∙ ap (λ (n : ℕ). class_of token.place (record { place = name.place; name = symbol }) params listed names (members_in n inside) ∷ others) (omega arith));
 })
 
 -- the statements of members before others are those of both
@@ -102,14 +102,14 @@ members_counted [] others = omega arith
 members_counted (MethodTree signature end body ∷ first) others = omega (arith, members_counted first others)
 members_counted (FieldTree type name initial ∷ first) others = members_counted first others
 
--- those of one more are behind them
+-- those of one more are after them
 pub one_member_counted : (names : List Name) (listed : List CodeMember) (one : CodeMember)
     → member_statements (map (member_tree names) (listed ++ one ∷ [])) ≡ member_statements (map (member_tree names) listed) + member_statements (member_tree names one ∷ [])
 one_member_counted names listed one = ap member_statements (map-append (member_tree names) listed (one ∷ [])) ∙ members_counted (map (member_tree names) listed) (member_tree names one ∷ [])
 
 -- one more member, before those that follow from the next index
 member_in_turn : (names : List Name) (index free : ℕ) (listed : List CodeMember) (one : CodeMember) (found others : Forest) → free ≡ index + member_statements (map (member_tree names) listed)
-    → ((behind : List MemberTree) → member_tree names one ∷ behind ≡ member_in free found behind)
+    → ((after : List MemberTree) → member_tree names one ∷ after ≡ member_in free found after)
     → member_tree names one ∷ members_in (index + member_statements (map (member_tree names) (listed ++ one ∷ []))) others
     ≡ members_in (index + member_statements (map (member_tree names) listed)) (Node (One Member) found (Node (Repeated Member) others Empty))
 member_in_turn names index free listed one found others is_free is =
@@ -127,8 +127,8 @@ next_member {index} {free} {members = members} one same so is_free found =
     next_part one same so found (λ first starts names more others.
     rw starts (member_in_turn names index free members one found.inside others (is_free names) (found.is names more)))
 
--- the index that is free behind one more
-pub next_member_free : {free behind : ℕ} {longer : List CodeMember} (index : ℕ) (members : List CodeMember) (one : CodeMember) → longer ≡ members ++ one ∷ []
-    → ((names : List Name) → free ≡ index + member_statements (map (member_tree names) members)) → ((names : List Name) → behind ≡ free + member_statements (member_tree names one ∷ []))
-    → (names : List Name) → behind ≡ index + member_statements (map (member_tree names) longer)
-next_member_free index members one same is_free is_behind names = rw same (omega (arith, is_free names, is_behind names, one_member_counted names members one))
+-- the index that is free after one more
+pub next_member_free : {free after : ℕ} {longer : List CodeMember} (index : ℕ) (members : List CodeMember) (one : CodeMember) → longer ≡ members ++ one ∷ []
+    → ((names : List Name) → free ≡ index + member_statements (map (member_tree names) members)) → ((names : List Name) → after ≡ free + member_statements (member_tree names one ∷ []))
+    → (names : List Name) → after ≡ index + member_statements (map (member_tree names) longer)
+next_member_free index members one same is_free is_after names = rw same (omega (arith, is_free names, is_after names, one_member_counted names members one))

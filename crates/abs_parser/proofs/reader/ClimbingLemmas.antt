@@ -8,7 +8,7 @@ use Rattle.abs_tree.specs.declared.syntax.expression.Expr.{Expr}
 use Rattle.abs_tree.specs.declared.syntax.expression.Operator.{Operator}
 use Rattle.abs_tree.specs.declared.source_error.SourceError.{SourceError}
 use Rattle.abs_parser.specs.TokenKinds.{PunctuatorKind, fits, next}
-use Rattle.abs_parser.specs.Precedences.{rank, looser, nonterminal_of, operand_nonterminal, precedence_in, operand_in, sign_of}
+use Rattle.abs_parser.specs.Precedences.{rank, looser, nonterminal_of, operand_nonterminal, precedence_in, operand_in, punctuator_of}
 use Rattle.abs_parser.specs.Productions.{Unary}
 use Rattle.abs_parser.specs.Readings.{One, Subgoal, Forest}
 use Rattle.abs_parser.specs.ReaderAnswers.{left_at, FoundAs, IsRefused}
@@ -28,7 +28,7 @@ IsPrecedence precedence expr names inside = phrase names expr ≡ precedence_in 
 
 -- no operator is the next token
 abbrev pub NoOperatorAt : Spot → Type 0
-NoOperatorAt spot = (operator : Operator) → fits (PunctuatorKind (sign_of operator)) (next (left_at spot)) ≡ false
+NoOperatorAt spot = (operator : Operator) → fits (PunctuatorKind (punctuator_of operator)) (next (left_at spot)) ≡ false
 
 -- What holds of a precedence, and goes over from each precedence to the next that binds less, holds of each precedence that binds as much or less
 

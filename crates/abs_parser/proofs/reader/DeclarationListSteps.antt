@@ -1,5 +1,5 @@
--- The steps of the readers of declarations, one behind another: which tokens begin one; and what was read up to a next
--- one, with the trees of those that the code has, and the index that is free behind them.
+-- The steps of the readers of declarations, one after another: which tokens begin one; and what was read up to a next
+-- one, with the trees of those that the code has, and the index that is free after them.
 use Rattle.std.proofs.Common.{◌≡◌, ◌≤◌, ◌<◌, ℕ, ◌+◌, Bool, true, false, List, [], ◌∷◌, ◌++◌, length, map, refl, sym, ap, ◌∙◌, arith}
 use Rattle.std.proofs.lemmas.List.{append-nil, map-append}
 use Rattle.std.specs.List.{list_any}
@@ -36,12 +36,12 @@ use Rattle.abs_parser.proofs.grammar.NonterminalLemmas.{part_shut, part_begun, r
 -- The first token
 
 -- these words begin a declaration
-abbrev pub declaration_words : List Keyword
-declaration_words = keyword.Data ∷ keyword.Def ∷ keyword.Interface ∷ keyword.Class ∷ []
+abbrev pub declaration_keywords : List Keyword
+declaration_keywords = keyword.Data ∷ keyword.Def ∷ keyword.Interface ∷ keyword.Class ∷ []
 
 -- whether a declaration may begin with a token of a kind
 abbrev begins_declaration : Lexeme → Bool
-begins_declaration (lexeme.Keyword word) = list_any (sameb keywords word) declaration_words
+begins_declaration (lexeme.Keyword keyword) = list_any (sameb keywords keyword) declaration_keywords
 begins_declaration _ = false
 
 -- that is so for each kind
@@ -56,19 +56,19 @@ unfolding begins begins_within
 declaration_kinds = record { told = declaration_told; local_too = refl; abs_too = refl; library_too = refl }
 
 -- with another word none begins
-pub no_declaration_word : {token : Lexed} {from behind : Spot} (word : Keyword) → TakesToken token from behind → token.kind ≡ lexeme.Keyword word → IsNoneOf declaration_words word
+pub no_declaration_keyword : {token : Lexed} {from after : Spot} (keyword : Keyword) → TakesToken token from after → token.kind ≡ lexeme.Keyword keyword → IsNoneOf declaration_keywords keyword
     → false ≡ begins Decl (next (left_at from))
-no_declaration_word word takes is none = begins_next declaration_kinds (lexeme.Keyword word) takes is (none_found keywords tt declaration_words word none)
+no_declaration_keyword keyword takes is none = begins_next declaration_kinds (lexeme.Keyword keyword) takes is (none_found keywords tt declaration_keywords keyword none)
 
 -- what is no word begins none
-no_word_begins : (kind : Lexeme) → ((word : Keyword) → kind ≡ lexeme.Keyword word → ⊥) → false ≡ begins_declaration kind
-no_word_begins (lexeme.Keyword word) no_word = absurd (no_word word refl)
-no_word_begins _ no_word = refl
+no_keyword_begins : (kind : Lexeme) → ((keyword : Keyword) → kind ≡ lexeme.Keyword keyword → ⊥) → false ≡ begins_declaration kind
+no_keyword_begins (lexeme.Keyword keyword) no_word = absurd (no_word keyword refl)
+no_keyword_begins _ no_word = refl
 
 -- nor does a token that is none
-pub no_declaration_kind : {token : Lexed} {from behind : Spot} → TakesToken token from behind → ((word : Keyword) → token.kind ≡ lexeme.Keyword word → ⊥)
+pub no_declaration_kind : {token : Lexed} {from after : Spot} → TakesToken token from after → ((keyword : Keyword) → token.kind ≡ lexeme.Keyword keyword → ⊥)
     → false ≡ begins Decl (next (left_at from))
-no_declaration_kind {token} takes no_word = begins_next declaration_kinds token.kind takes refl (no_word_begins token.kind no_word)
+no_declaration_kind {token} takes no_word = begins_next declaration_kinds token.kind takes refl (no_keyword_begins token.kind no_word)
 
 -- nor with the end of the source
 pub no_declaration_at_end : (from : Spot) → from.rest ≡ [] → false ≡ begins Decl (next (left_at from))
@@ -89,8 +89,8 @@ IsDeclaration index decl names inside = (others : List DeclTree) → decl_tree n
 -- what is read with a tree has a token
 token_read : {items : List Wanted} {ts to : List Mark} {inside : Forest} {tree : DeclTree} (index : ℕ) → Reads items ts inside to → tree ∷ [] ≡ decl_in index inside [] → length to < length ts
 token_read {inside = Empty} index reads is = absurd cc
-token_read {inside = Leaf mark depth behind} index (Taken fit reads) is = omega (arith, reads_shorter reads)
-token_read {inside = Node goal first behind} index reads is = absurd cc
+token_read {inside = Leaf mark depth after} index (Taken fit reads) is = omega (arith, reads_shorter reads)
+token_read {inside = Node goal first after} index reads is = absurd cc
 
 -- so a declaration leaves fewer tokens than there were
 pub declaration_shorter : {from to : Spot} {old new : List (List ℕ)} (index : ℕ) (decl : CodeDecl) → FoundAs (One Decl) 0 old new from to (IsDeclaration index decl) → length to.rest < length from.rest
@@ -100,8 +100,8 @@ declaration_shorter {from} {to} {new = new} index decl found =
 
 -- Declarations
 
--- Declarations were read up to here from a first index, with the trees of those that the code has and the index that is free behind them:
--- what is read as further ones has its trees behind these.
+-- Declarations were read up to here from a first index, with the trees of those that the code has and the index that is free after them:
+-- what is read as further ones has its trees after these.
 pub record DeclsSoFar (old now : List (List ℕ)) (index free : ℕ) (from here : Spot) (listed : List CodeDecl) : Type 0 where
   pub make : Forest → Forest
   pub read : HasRead (Repeated Decl) 0 old now from make (Subgoal (Repeated Decl) 0 ∷ []) here
@@ -137,32 +137,32 @@ decls_counted (DataTree place name parameters constructors ∷ first) others = d
 decls_counted (FunctionTree place result name parameters params value ∷ first) others = decls_counted first others
 decls_counted (InterfaceTree place name extended signatures ∷ first) others = decls_counted first others
 
--- those of one more are behind them
+-- those of one more are after them
 one_declaration_counted : (names : List (List ℕ)) (listed : List CodeDecl) (decl : CodeDecl)
     → decl_statements (map (decl_tree names) (listed ++ decl ∷ [])) ≡ decl_statements (map (decl_tree names) listed) + decl_statements (decl_tree names decl ∷ [])
 one_declaration_counted names listed decl =
     ap decl_statements (map-append (decl_tree names) listed (decl ∷ [])) ∙ decls_counted (map (decl_tree names) listed) (decl_tree names decl ∷ [])
 
 -- one more declaration, before those that follow from the next index
-declaration_in_turn : (names : List (List ℕ)) (free behind : ℕ) (decl : CodeDecl) (found inside : Forest) → behind ≡ free + decl_statements (decl_tree names decl ∷ [])
+declaration_in_turn : (names : List (List ℕ)) (free after : ℕ) (decl : CodeDecl) (found inside : Forest) → after ≡ free + decl_statements (decl_tree names decl ∷ [])
     → ((others : List DeclTree) → decl_tree names decl ∷ others ≡ decl_in free found others)
-    → decls_in free (Node (One Decl) found (Node (Repeated Decl) inside Empty)) ≡ decl_tree names decl ∷ decls_in behind inside
-declaration_in_turn names free behind decl found inside is_behind is =
-    let next : free + decl_statements (decl_in free found []) ≡ behind = ap (λ (trees : List DeclTree). free + decl_statements trees) (sym (is [])) ∙ sym is_behind in
+    → decls_in free (Node (One Decl) found (Node (Repeated Decl) inside Empty)) ≡ decl_tree names decl ∷ decls_in after inside
+declaration_in_turn names free after decl found inside is_after is =
+    let next : free + decl_statements (decl_in free found []) ≡ after = ap (λ (trees : List DeclTree). free + decl_statements trees) (sym (is [])) ∙ sym is_after in
     sym (is (decls_in (free + decl_statements (decl_in free found [])) inside)) ∙ ap (λ (n : ℕ). decl_tree names decl ∷ decls_in n inside) next
 
 -- over one more declaration
-pub next_declaration : {old now new : List (List ℕ)} {index free behind : ℕ} {from here to : Spot} {listed longer : List CodeDecl} (decl : CodeDecl) → longer ≡ listed ++ decl ∷ []
+pub next_declaration : {old now new : List (List ℕ)} {index free after : ℕ} {from here to : Spot} {listed longer : List CodeDecl} (decl : CodeDecl) → longer ≡ listed ++ decl ∷ []
     → DeclsSoFar old now index free from here listed → FoundAs (One Decl) 0 now new here to (IsDeclaration free decl)
-    → ((names : List (List ℕ)) → behind ≡ free + decl_statements (decl_tree names decl ∷ [])) → behind + length to.rest ≤ free + length here.rest → DeclsSoFar old new index behind from to longer
-next_declaration {index = index} {free} {behind} {listed = listed} decl same so found is_behind few = rw same (record {
+    → ((names : List (List ℕ)) → after ≡ free + decl_statements (decl_tree names decl ∷ [])) → after + length to.rest ≤ free + length here.rest → DeclsSoFar old new index after from to longer
+next_declaration {index = index} {free} {after} {listed = listed} decl same so found is_after few = rw same (record {
   make = λ rest. so.make (in_front Decl found.inside rest);
   read = over_one_more so.read (repeated_opened Decl _ 0 (part_begun Decl _ 0 found.rule_is)) found;
   is = λ names more inside.
       so.is names (goes_on_further (found_goes_on found) more) (Node (One Decl) found.inside (Node (Repeated Decl) inside Empty))
-      ∙ (ap (λ (trees : List DeclTree). map (decl_tree names) listed ++ trees) (declaration_in_turn names free behind decl found.inside inside (is_behind names) (found.is names more))
-      ∙ sym (one_more (decl_tree names) listed decl (decls_in behind inside)));
-  is_free = λ names. omega (arith, so.is_free names, is_behind names, one_declaration_counted names listed decl);
+      ∙ (ap (λ (trees : List DeclTree). map (decl_tree names) listed ++ trees) (declaration_in_turn names free after decl found.inside inside (is_after names) (found.is names more))
+      ∙ sym (one_more (decl_tree names) listed decl (decls_in after inside)));
+  is_free = λ names. omega (arith, so.is_free names, is_after names, one_declaration_counted names listed decl);
   few = omega (arith, so.few, few);
 })
 

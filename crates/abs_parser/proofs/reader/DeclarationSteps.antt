@@ -32,7 +32,7 @@ use Rattle.abs_parser.proofs.grammar.NonterminalLemmas.{begins_with_token, part_
 use Rattle.abs_parser.proofs.reader.PatternSteps.{next_taken, nothing_found}
 use Rattle.abs_parser.proofs.reader.RepeatSteps.{in_front, over_one_more, refused_up_to, ends_at}
 use Rattle.abs_parser.proofs.reader.NameListSteps.{declared_kept}
-use Rattle.abs_parser.proofs.reader.WordSteps.{word_read}
+use Rattle.abs_parser.proofs.reader.KeywordSteps.{keyword_read}
 
 -- Parts that repeat up to a token that closes
 
@@ -41,7 +41,7 @@ abbrev pub AnyIndex : ℕ → Type 0
 AnyIndex index = ⊤
 
 -- The parts of a declaration that repeat up to a token that closes: which nonterminal they are, which token closes, and the trees of one of them
--- in the code and of those that were read, from the index that is free before the declaration and behind those of these trees.
+-- in the code and of those that were read, from the index that is free before the declaration and after those of these trees.
 pub record Parts (Listed Tree : Type 0) : Type 0 where
   pub nonterminal : Nonterminal
   pub closing : Lexeme
@@ -53,7 +53,7 @@ pub record Parts (Listed Tree : Type 0) : Type 0 where
   pub trees_none : (index : ℕ) (before : List Tree) → trees_in index before Empty ≡ []
 
 -- What was read of a declaration up to here, with the trees of those of the parts that the code has, and the tree of the whole by them:
--- whatever further parts are read, and the token behind them, complete it, where the declaration has one of these first indexes.
+-- whatever further parts are read, and the token after them, complete it, where the declaration has one of these first indexes.
 pub record ReadsParts {Listed Tree : Type 0} (parts : Parts Listed Tree) (Starts : ℕ → Type 0) (whole : List Name → List Tree → DeclTree) (depth : ℕ) (old now : List (List ℕ)) (from here : Spot) (listed : List Listed) : Type 0 where
   pub make : Forest → Forest
   pub read : HasRead (One Decl) depth old now from make (Subgoal (Repeated parts.nonterminal) depth ∷ Terminal (asked parts.closing) depth ∷ []) here
@@ -61,9 +61,9 @@ pub record ReadsParts {Listed Tree : Type 0} (parts : Parts Listed Tree) (Starts
       → decl_in index (make (Node (Repeated parts.nonterminal) inside (Leaf mark at Empty))) others
       ≡ whole names (map (parts.tree names) listed ++ parts.trees_in index (map (parts.tree names) listed) inside) ∷ others
 
--- the tree of one more stands behind those of the others
-pub one_more : {Listed Tree : Type 0} (tree : Listed → Tree) (listed : List Listed) (one : Listed) (behind : List Tree) → map tree (listed ++ one ∷ []) ++ behind ≡ map tree listed ++ tree one ∷ behind
-one_more tree listed one behind = ap (λ trees. trees ++ behind) (map-append tree listed (one ∷ [])) ∙ append_assoc (map tree listed) (tree one ∷ []) behind
+-- the tree of one more stands after those of the others
+pub one_more : {Listed Tree : Type 0} (tree : Listed → Tree) (listed : List Listed) (one : Listed) (after : List Tree) → map tree (listed ++ one ∷ []) ++ after ≡ map tree listed ++ tree one ∷ after
+one_more tree listed one after = ap (λ trees. trees ++ after) (map-append tree listed (one ∷ [])) ∙ append_assoc (map tree listed) (tree one ∷ []) after
 
 -- over one more of the parts
 pub next_part : {Listed Tree : Type 0} {parts : Parts Listed Tree} {Starts : ℕ → Type 0} {whole : List Name → List Tree → DeclTree} {depth : ℕ} {old now new : List (List ℕ)} {from here to : Spot} {listed longer : List Listed}
@@ -99,7 +99,7 @@ pub refused_closing : {Listed Tree : Type 0} {parts : Parts Listed Tree} {Starts
     → IsRefused (Subgoal (One Decl) depth) from error
 refused_closing {parts = parts} {depth = depth} {now = now} {here = here} error so ends refused = refused_inside (over_part so.read (no_part parts.nonterminal depth now here ends)) error refused
 
--- behind the token that closes, the declaration is found
+-- after the token that closes, the declaration is found
 pub all_parts : {Listed Tree : Type 0} {parts : Parts Listed Tree} {Starts : ℕ → Type 0} {whole : List Name → List Tree → DeclTree} {depth : ℕ} {old now : List (List ℕ)} {from here end : Spot} {token : Lexed} {listed : List Listed}
     → ReadsParts parts Starts whole depth old now from here listed → TakesKind parts.closing token here end → depth ≤ limit
     → FoundAs (One Decl) depth old now from end (λ names inside. (index : ℕ) → Starts index → (others : List DeclTree) → whole names (map (parts.tree names) listed) ∷ others ≡ decl_in index inside others)
@@ -113,17 +113,17 @@ all_parts {parts = parts} {whole = whole} {depth} {now = now} {here = here} {tok
 
 -- The first token of a declaration
 
--- over the keyword that opens a declaration, and the name behind it
-pub heading_read : {word : Keyword} {left : List Wanted} {token name : Lexed} {from name_at behind : Spot} {depth : ℕ} {old table : List (List ℕ)}
-    → opened (One Decl) (KeywordKind word) depth ≡ Some (Terminal (KeywordKind word) depth ∷ Terminal UpperName depth ∷ left) → TakesKind (lexeme.Keyword word) token from name_at
-    → TakesKind lexeme.UpperName name name_at behind → table ≡ with_name old name.bytes → depth ≤ limit
-    → HasRead (One Decl) depth old table from (λ rest. Leaf (Token token) depth (Leaf (Token name) depth rest)) left behind
-heading_read {depth = depth} {old} is word name named within = over_name (word_read depth old is word within) name refl refl within named
+-- over the keyword that opens a declaration, and the name after it
+pub heading_read : {keyword : Keyword} {left : List Wanted} {token name : Lexed} {from name_at after : Spot} {depth : ℕ} {old table : List (List ℕ)}
+    → opened (One Decl) (KeywordKind keyword) depth ≡ Some (Terminal (KeywordKind keyword) depth ∷ Terminal UpperName depth ∷ left) → TakesKind (lexeme.Keyword keyword) token from name_at
+    → TakesKind lexeme.UpperName name name_at after → table ≡ with_name old name.bytes → depth ≤ limit
+    → HasRead (One Decl) depth old table from (λ rest. Leaf (Token token) depth (Leaf (Token name) depth rest)) left after
+heading_read {depth = depth} {old} is keyword name named within = over_name (keyword_read depth old is keyword within) name refl refl within named
 
 -- the tree of a declaration is the one for its keyword
-pub by_word : {word : Keyword} {token : Lexed} {from behind : Spot} (index depth : ℕ) (inside : Forest) (others : List DeclTree) → TakesKind (lexeme.Keyword word) token from behind
-    → decl_in index (Leaf (Token token) depth inside) others ≡ decl_by index (KeywordKind word) token.place inside others
-by_word {token = token} index depth inside others takes = ap (λ (kind : Lexeme). decl_by index (token_kind_of kind token.bytes) token.place inside others) takes.kind_is
+pub by_keyword : {keyword : Keyword} {token : Lexed} {from after : Spot} (index depth : ℕ) (inside : Forest) (others : List DeclTree) → TakesKind (lexeme.Keyword keyword) token from after
+    → decl_in index (Leaf (Token token) depth inside) others ≡ decl_by index (KeywordKind keyword) token.place inside others
+by_keyword {token = token} index depth inside others takes = ap (λ (kind : Lexeme). decl_by index (token_kind_of kind token.bytes) token.place inside others) takes.kind_is
 
 -- Constructors
 
@@ -144,8 +144,8 @@ pub constructor_shut : (kind : TokenKind) (depth : ℕ) → fits UpperName kind 
 constructor_shut kind depth differs = part_shut Constructor kind depth (constructor_begins kind ∙ differs)
 
 -- over the name of a constructor
-pub constructor_named : {name : Lexed} {from behind : Spot} {depth : ℕ} {old table : List (List ℕ)} → TakesKind lexeme.UpperName name from behind → table ≡ with_name old name.bytes → depth ≤ limit
-    → HasRead (One Constructor) depth old table from (λ rest. Leaf (Token name) depth rest) (Subgoal (Optional ConstructorTypes) depth ∷ []) behind
+pub constructor_named : {name : Lexed} {from after : Spot} {depth : ℕ} {old table : List (List ℕ)} → TakesKind lexeme.UpperName name from after → table ≡ with_name old name.bytes → depth ≤ limit
+    → HasRead (One Constructor) depth old table from (λ rest. Leaf (Token name) depth rest) (Subgoal (Optional ConstructorTypes) depth ∷ []) after
 constructor_named {from = from} {depth = depth} {old} name is within =
     over_name (opens (One Constructor) depth old from _ (constructor_opened _ depth (fits_next refl name))) name refl refl within is
 
@@ -183,18 +183,18 @@ pub next_constructor_begins : (kind : TokenKind) → begins NextConstructor kind
 next_constructor_begins kind = begins_with_token NextConstructor kind refl
 
 -- over "|"
-bar_read : {bar : Lexed} {from behind : Spot} (depth : ℕ) (table : List (List ℕ)) → TakesKind (lexeme.Punctuator punctuator.Bar) bar from behind → depth ≤ limit
-    → HasRead (One NextConstructor) depth table table from (λ rest. Leaf (Token bar) depth rest) (Subgoal (One Constructor) depth ∷ []) behind
+bar_read : {bar : Lexed} {from after : Spot} (depth : ℕ) (table : List (List ℕ)) → TakesKind (lexeme.Punctuator punctuator.Bar) bar from after → depth ≤ limit
+    → HasRead (One NextConstructor) depth table table from (λ rest. Leaf (Token bar) depth rest) (Subgoal (One Constructor) depth ∷ []) after
 bar_read {from = from} depth table takes within =
     over_token (opens (One NextConstructor) depth table from _ (part_opened NextConstructor _ depth refl refl (next_constructor_begins _ ∙ fits_next refl takes))) takes refl refl within
 
--- behind the name of data stands this
-abbrev pub behind_data : ℕ → List Wanted
-behind_data at =
+-- after the name of data stands this
+abbrev pub after_data : ℕ → List Wanted
+after_data at =
     Subgoal (Optional TypeParameters) at ∷ Terminal (PunctuatorKind punctuator.Assign) at ∷ Subgoal (One Constructor) at ∷ Subgoal (Repeated NextConstructor) at ∷ Terminal (PunctuatorKind punctuator.Semicolon) at ∷ []
 
 -- `data` opens a declaration
-pub data_opened : (depth : ℕ) → opened (One Decl) (KeywordKind keyword.Data) depth ≡ Some (Terminal (KeywordKind keyword.Data) depth ∷ Terminal UpperName depth ∷ behind_data depth)
+pub data_opened : (depth : ℕ) → opened (One Decl) (KeywordKind keyword.Data) depth ≡ Some (Terminal (KeywordKind keyword.Data) depth ∷ Terminal UpperName depth ∷ after_data depth)
 unfolding begins chosen begins_within
 data_opened depth = refl
 
@@ -203,12 +203,12 @@ abbrev pub data_of : Place → Declared → List Declared → List Name → List
 data_of place name parameters names constructors = DataTree place (declared_tree names name) (map (declared_tree names) parameters) constructors
 
 -- over the parameters of data and "="
-pub data_assigned : {word name equals : Lexed} {from name_at behind equals_at first_at : Spot} {depth : ℕ} {old table now : List (List ℕ)} {is_read : List (List ℕ) → Forest → Type 0}
-    → TakesKind (lexeme.Keyword keyword.Data) word from name_at → TakesKind lexeme.UpperName name name_at behind → table ≡ with_name old name.bytes
-    → (parameters : FoundAs (Optional TypeParameters) depth table now behind equals_at is_read) → TakesKind (lexeme.Punctuator punctuator.Assign) equals equals_at first_at → depth ≤ limit
-    → HasRead (One Decl) depth old now from (λ rest. Leaf (Token word) depth (Leaf (Token name) depth (Node (Optional TypeParameters) parameters.inside (Leaf (Token equals) depth rest))))
+pub data_assigned : {token name equals : Lexed} {from name_at after equals_at first_at : Spot} {depth : ℕ} {old table now : List (List ℕ)} {is_read : List (List ℕ) → Forest → Type 0}
+    → TakesKind (lexeme.Keyword keyword.Data) token from name_at → TakesKind lexeme.UpperName name name_at after → table ≡ with_name old name.bytes
+    → (parameters : FoundAs (Optional TypeParameters) depth table now after equals_at is_read) → TakesKind (lexeme.Punctuator punctuator.Assign) equals equals_at first_at → depth ≤ limit
+    → HasRead (One Decl) depth old now from (λ rest. Leaf (Token token) depth (Leaf (Token name) depth (Node (Optional TypeParameters) parameters.inside (Leaf (Token equals) depth rest))))
     (Subgoal (One Constructor) depth ∷ Subgoal (Repeated NextConstructor) depth ∷ Terminal (PunctuatorKind punctuator.Semicolon) depth ∷ []) first_at
-data_assigned {depth = depth} word name is parameters equals within = over_token (over_part (heading_read (data_opened depth) word name is within) parameters) equals refl refl within
+data_assigned {depth = depth} token name is parameters equals within = over_token (over_part (heading_read (data_opened depth) token name is within) parameters) equals refl refl within
 
 -- the tree of data is made of those of its parts
 data_made : {name held_name : DeclaredTree} {parameters held_parameters : List DeclaredTree} {constructors held_constructors : List ConstructorTree} (place : Place) (others : List DeclTree)
@@ -216,22 +216,22 @@ data_made : {name held_name : DeclaredTree} {parameters held_parameters : List D
 data_made place others name parameters constructors = rw (name, parameters, constructors) refl
 
 -- data was read up to its first constructor
-pub first_constructor : {word name equals : Lexed} {from name_at behind equals_at first_at here : Spot} {depth : ℕ} {old table now new : List (List ℕ)} {constructors : List CodeConstructor}
-    (symbol : NameSymbol) (listed : List Declared) (first : CodeConstructor) → constructors ≡ first ∷ [] → TakesKind (lexeme.Keyword keyword.Data) word from name_at → TakesKind lexeme.UpperName name name_at behind
+pub first_constructor : {token name equals : Lexed} {from name_at after equals_at first_at here : Spot} {depth : ℕ} {old table now new : List (List ℕ)} {constructors : List CodeConstructor}
+    (symbol : NameSymbol) (listed : List Declared) (first : CodeConstructor) → constructors ≡ first ∷ [] → TakesKind (lexeme.Keyword keyword.Data) token from name_at → TakesKind lexeme.UpperName name name_at after
     → symbol.0 ≡ number_of_name old name.bytes → table ≡ with_name old name.bytes
-    → FoundAs (Optional TypeParameters) depth table now behind equals_at (λ names inside. map (declared_tree names) listed ≡ names_maybe inside)
+    → FoundAs (Optional TypeParameters) depth table now after equals_at (λ names inside. map (declared_tree names) listed ≡ names_maybe inside)
     → TakesKind (lexeme.Punctuator punctuator.Assign) equals equals_at first_at → FoundAs (One Constructor) depth now new first_at here (IsConstructor first) → depth ≤ limit
-    → ReadsParts constructors_of AnyIndex (data_of word.place (record { place = name.place; name = symbol }) listed) depth old new from here constructors
-first_constructor {word} {name} {equals} {depth = depth} {old} symbol listed first same takes takes_name number is parameters takes_equals found within = rw same (record {
-  make = λ rest. Leaf (Token word) depth (Leaf (Token name) depth (Node (Optional TypeParameters) parameters.inside (Leaf (Token equals) depth (Node (One Constructor) found.inside rest))));
+    → ReadsParts constructors_of AnyIndex (data_of token.place (record { place = name.place; name = symbol }) listed) depth old new from here constructors
+first_constructor {token} {name} {equals} {depth = depth} {old} symbol listed first same takes takes_name number is parameters takes_equals found within = rw same (record {
+  make = λ rest. Leaf (Token token) depth (Leaf (Token name) depth (Node (Optional TypeParameters) parameters.inside (Leaf (Token equals) depth (Node (One Constructor) found.inside rest))));
   read = over_part (data_assigned takes takes_name is parameters takes_equals within) found;
   is = λ index starts names more inside mark at others.
       let since = goes_on_further (found_goes_on found) more in
-      by_word index depth _ others takes
-      ∙ data_made word.place others (declared_kept old name symbol number is names (goes_on_further (found_goes_on parameters) since)) (parameters.is names since) (found.is names more (more_constructors inside));
+      by_keyword index depth _ others takes
+      ∙ data_made token.place others (declared_kept old name symbol number is names (goes_on_further (found_goes_on parameters) since)) (parameters.is names since) (found.is names more (more_constructors inside));
 })
 
--- and up to one more behind "|"
+-- and up to one more after "|"
 pub next_constructor : {whole : List Name → List ConstructorTree → DeclTree} {bar : Lexed} {from here constructor_at to : Spot} {depth : ℕ} {old now new : List (List ℕ)} {constructors longer : List CodeConstructor}
     (constructor : CodeConstructor) → longer ≡ constructors ++ constructor ∷ [] → ReadsParts constructors_of AnyIndex whole depth old now from here constructors → TakesKind (lexeme.Punctuator punctuator.Bar) bar here constructor_at
     → FoundAs (One Constructor) depth now new constructor_at to (IsConstructor constructor) → depth ≤ limit → ReadsParts constructors_of AnyIndex whole depth old new from to longer
@@ -242,7 +242,7 @@ next_constructor {bar = bar} {depth = depth} {now = now} {new = new} constructor
     found.is names more (more_constructors others)
     ∙ sym (ap (λ inside. more_constructors (Node (One NextConstructor) inside (Node (Repeated NextConstructor) others Empty))) (next.is names more)))
 
--- behind "|" data is refused where the constructor is
+-- after "|" data is refused where the constructor is
 pub refused_constructor : {whole : List Name → List ConstructorTree → DeclTree} {bar : Lexed} {from here constructor_at : Spot} {depth : ℕ} {old now : List (List ℕ)} {constructors : List CodeConstructor} (error : SourceError)
     → ReadsParts constructors_of AnyIndex whole depth old now from here constructors → TakesKind (lexeme.Punctuator punctuator.Bar) bar here constructor_at → depth ≤ limit
     → IsRefused (Subgoal (One Constructor) depth) constructor_at error → IsRefused (Subgoal (One Decl) depth) from error

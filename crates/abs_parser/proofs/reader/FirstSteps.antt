@@ -1,5 +1,5 @@
 -- The steps of the readers of statements that begin with a variable or with `this`: over the token or the tokens that begin one; over `=` and
--- a right side, or arguments that may be left out and the rest of a right side, behind a variable or a field; and where each is refused.
+-- a right side, or arguments that may be left out and the rest of a right side, after a variable or a field; and where each is refused.
 use Rattle.std.proofs.Common.{◌≡◌, ◌≤◌, ℕ, ◌+◌, Bool, true, false, ◌||◌, cond, List, [], ◌∷◌, Option, Some, None, refl, sym, ap, ◌∙◌}
 use Rattle.std.proofs.lemmas.Bool.{or_parts}
 use Rattle.std.specs.Prelude.{codes}
@@ -53,9 +53,9 @@ do_tree : (index : ℕ) (names : List Name) (start : First) (part last : Goal) (
 do_tree index names (first.Variable place symbol) part last arguments rest others = refl
 do_tree index names (first.Field place name_place symbol) part last arguments rest others = refl
 
--- Behind a variable or a field
+-- Beyond a variable or a field
 
--- `=` opens what stands behind a variable or a field
+-- `=` opens what stands after a variable or a field
 assign_opened : (depth : ℕ) → opened (One AfterName) (PunctuatorKind punctuator.Assign) depth
     ≡ Some (Terminal (PunctuatorKind punctuator.Assign) depth ∷ Subgoal (One Rhs) depth ∷ Terminal (PunctuatorKind punctuator.Semicolon) depth ∷ [])
 unfolding begins chosen begins_within
@@ -92,7 +92,7 @@ assign_found {equals} {semicolon} {depth = depth} {old} index start place target
     all_read (over_token {kind = lexeme.Punctuator punctuator.Semicolon} (over_part (assign_begins depth old assigns within) found) ends refl refl within) (λ names more.
     rw (at, goes_to names, found.is names more) (sym (assign_tree index names start (Token equals) depth (One Rhs) found.inside (Leaf (Token semicolon) depth Empty))))
 
--- What stands behind a variable or a field, and is no `=`, begins with arguments, which may be left out.
+-- What stands after a variable or a field, and is no `=`, begins with arguments, which may be left out.
 pub after_begins : (depth : ℕ) (table : List (List ℕ)) (from : Spot) → fits (PunctuatorKind punctuator.Assign) (next (left_at from)) ≡ false
     → MayHaveRead (goes_on_by (next (left_at from))) (One AfterName) depth table table from (λ rest. rest)
     (Subgoal (Optional Arguments) (depth + 2) ∷ Subgoal (One Rest) depth ∷ []) from
@@ -108,27 +108,27 @@ pub arguments_refused : (depth : ℕ) (from : Spot) (error : SourceError) → fi
 arguments_refused depth from error no_equals refused = refused_left_out (after_begins depth [] from no_equals) (no_arguments _ (depth + 2)) error refused
 
 -- over the arguments
-over_arguments : {from behind : Spot} {depth : ℕ} {old now : List (List ℕ)} {is_read : List (List ℕ) → Forest → Type 0} → fits (PunctuatorKind punctuator.Assign) (next (left_at from)) ≡ false
-    → (found : FoundAs (Optional Arguments) (depth + 2) old now from behind is_read)
+over_arguments : {from after : Spot} {depth : ℕ} {old now : List (List ℕ)} {is_read : List (List ℕ) → Forest → Type 0} → fits (PunctuatorKind punctuator.Assign) (next (left_at from)) ≡ false
+    → (found : FoundAs (Optional Arguments) (depth + 2) old now from after is_read)
     → MayHaveRead (goes_on_by (next (left_at from))) (One AfterName) depth old now from (λ rest. Node (Optional Arguments) found.inside rest)
-    (Subgoal (One Rest) depth ∷ []) behind
+    (Subgoal (One Rest) depth ∷ []) after
 over_arguments {from} {depth = depth} {old} no_equals found = over_left_out (after_begins depth old from no_equals) (no_arguments _ (depth + 2)) found
 
--- it is refused where the rest behind them is
-pub rest_refused : {from behind : Spot} {old now : List (List ℕ)} {is_read : List (List ℕ) → Forest → Type 0} (depth : ℕ) (error : SourceError)
-    → fits (PunctuatorKind punctuator.Assign) (next (left_at from)) ≡ false → FoundAs (Optional Arguments) (depth + 2) old now from behind is_read
-    → IsRefused (Subgoal (One Rest) depth) behind error → IsRefused (Subgoal (One AfterName) depth) from error
+-- it is refused where the rest after them is
+pub rest_refused : {from after : Spot} {old now : List (List ℕ)} {is_read : List (List ℕ) → Forest → Type 0} (depth : ℕ) (error : SourceError)
+    → fits (PunctuatorKind punctuator.Assign) (next (left_at from)) ≡ false → FoundAs (Optional Arguments) (depth + 2) old now from after is_read
+    → IsRefused (Subgoal (One Rest) depth) after error → IsRefused (Subgoal (One AfterName) depth) from error
 rest_refused {from} depth error no_equals found refused =
     refused_either_way (over_arguments no_equals found) error refused (λ none same.
     refused_alike (One Rest) depth (One AfterName) depth from error (part_shut Rest _ depth (or_parts _ _ none).1) (after_shut _ depth no_equals none)
     (refused_there (Subgoal (One Rest) depth) _ from error same refused))
 
 -- a right side that begins with a variable or a field is found
-pub side_found : {from behind to : Spot} {depth : ℕ} {old now new : List (List ℕ)} (index : ℕ) (start : First) (place : Place) (given : Option (Vec code_expr.Expr Global))
+pub side_found : {from after to : Spot} {depth : ℕ} {old now new : List (List ℕ)} (index : ℕ) (start : First) (place : Place) (given : Option (Vec code_expr.Expr Global))
     (expr : code_expr.Expr) (side : RightSide) → fits (PunctuatorKind punctuator.Assign) (next (left_at from)) ≡ false → place ≡ place_of_first start
     → ((names : List Name) → phrase names expr ≡ phrase_of names start (maybe_phrases names given))
-    → FoundAs (Optional Arguments) (depth + 2) old now from behind (λ names inside. maybe_phrases names given ≡ arguments_maybe inside)
-    → FoundAs (One Rest) depth now new behind to (λ names inside. side_tree names side ≡ rest_in place (phrase names expr) inside)
+    → FoundAs (Optional Arguments) (depth + 2) old now from after (λ names inside. maybe_phrases names given ≡ arguments_maybe inside)
+    → FoundAs (One Rest) depth now new after to (λ names inside. side_tree names side ≡ rest_in place (phrase names expr) inside)
     → FoundAs (One AfterName) depth old new from to (λ names inside. DoOf index place (side_tree names side) ≡ after_first index names start inside)
 side_found {from} {depth = depth} index start place given expr side no_equals at is arguments rest =
     let begun = part_begun Rest _ depth rest.rule_is in
@@ -157,13 +157,13 @@ pub variable_refused : (depth : ℕ) (from : Spot) (error : SourceError) → fit
 variable_refused depth from error fit refused = refused_inside (opens (One Stmt) depth [] from _ (variable_opened _ depth fit)) error refused
 
 -- over the name, which the table has then
-pub variable_begins : {name : Lexed} {from behind : Spot} {names : List (List ℕ)} (depth : ℕ) (table : List (List ℕ)) → TakesKind lexeme.LowerName name from behind
+pub variable_begins : {name : Lexed} {from after : Spot} {names : List (List ℕ)} (depth : ℕ) (table : List (List ℕ)) → TakesKind lexeme.LowerName name from after
     → depth + 1 + 2 ≤ limit → names ≡ with_name table name.bytes
-    → HasRead (One Stmt) depth table names from (λ rest. Leaf (Token name) (depth + 1 + 2) rest) (Subgoal (One AfterName) (depth + 1) ∷ []) behind
+    → HasRead (One Stmt) depth table names from (λ rest. Leaf (Token name) (depth + 1 + 2) rest) (Subgoal (One AfterName) (depth + 1) ∷ []) after
 variable_begins {from = from} depth table name within is =
     over_name (opens (One Stmt) depth table from _ (variable_opened _ depth (fits_next {kind = lexeme.LowerName} refl name))) name refl refl within is
 
--- each kind of lower-case name is a variable before what stands behind it
+-- each kind of lower-case name is a variable before what stands after it
 variable_by : (index : ℕ) (is_local : Bool) (mark : Mark) (part : Goal) (after others : Forest)
     → statement_by index (cond is_local LocalName LowerName) mark (Node part after others) ≡ after_variable index (place_of_mark mark) (written mark) after
 variable_by index true mark part after others = refl
@@ -176,10 +176,10 @@ variable_tree index name at part after others is =
     ap (λ (kind : Lexeme). statement_by index (token_kind_of kind name.bytes) (Token name) (Node part after others)) is
     ∙ variable_by index (bytes_eq name.bytes (codes "local")) (Token name) part after others
 
--- a statement is found with what stands behind its variable
-pub variable_found : {name : Lexed} {from behind to : Spot} {depth : ℕ} {now new : List (List ℕ)} (index : ℕ) (old : List (List ℕ)) (symbol : code_symbol.Symbol) (tree : List Name → Statement)
-    → TakesKind lexeme.LowerName name from behind → depth + 1 + 2 ≤ limit → symbol.0 ≡ number_of_name old name.bytes → now ≡ with_name old name.bytes
-    → FoundAs (One AfterName) (depth + 1) now new behind to (λ names inside. tree names ≡ after_variable index name.place (name_of names symbol) inside)
+-- a statement is found with what stands after its variable
+pub variable_found : {name : Lexed} {from after to : Spot} {depth : ℕ} {now new : List (List ℕ)} (index : ℕ) (old : List (List ℕ)) (symbol : code_symbol.Symbol) (tree : List Name → Statement)
+    → TakesKind lexeme.LowerName name from after → depth + 1 + 2 ≤ limit → symbol.0 ≡ number_of_name old name.bytes → now ≡ with_name old name.bytes
+    → FoundAs (One AfterName) (depth + 1) now new after to (λ names inside. tree names ≡ after_variable index name.place (name_of names symbol) inside)
     → FoundAs (One Stmt) depth old new from to (λ names inside. tree names ≡ statement_in index inside)
 variable_found {name} {depth = depth} index old symbol tree takes within number is found =
     all_read (over_part (variable_begins depth old takes within is) found) (λ names more.
@@ -195,13 +195,13 @@ unfolding begins chosen begins_within
 this_opened depth = refl
 
 -- over `this`
-pub this_begins : {this : Lexed} {from behind : Spot} (depth : ℕ) (table : List (List ℕ)) → TakesKind (lexeme.Keyword keyword.This) this from behind → depth + 1 + 2 ≤ limit
-    → HasRead (One Stmt) depth table table from (λ rest. Leaf (Token this) (depth + 1 + 2) rest) (Subgoal (One AfterThis) (depth + 1) ∷ []) behind
+pub this_begins : {this : Lexed} {from after : Spot} (depth : ℕ) (table : List (List ℕ)) → TakesKind (lexeme.Keyword keyword.This) this from after → depth + 1 + 2 ≤ limit
+    → HasRead (One Stmt) depth table table from (λ rest. Leaf (Token this) (depth + 1 + 2) rest) (Subgoal (One AfterThis) (depth + 1) ∷ []) after
 this_begins {from = from} depth table this within =
     over_token {kind = lexeme.Keyword keyword.This}
     (opens (One Stmt) depth table from _ (ap (λ (k : TokenKind). opened (One Stmt) k depth) (next_taken this) ∙ this_opened depth)) this refl refl within
 
--- a dot opens what stands behind it
+-- a dot opens what stands after it
 dot_opened : (depth : ℕ)
     → opened (One AfterThis) (PunctuatorKind punctuator.Dot) depth ≡ Some (Terminal (PunctuatorKind punctuator.Dot) (depth + 2) ∷ Terminal LowerName (depth + 2) ∷ Subgoal (One AfterName) depth ∷ [])
 unfolding begins chosen begins_within
@@ -218,51 +218,51 @@ alone_shut : (kind : TokenKind) (depth : ℕ) → fits (PunctuatorKind punctuato
 unfolding chosen
 alone_shut kind depth no_dot none = rw (no_dot, none) refl
 
--- the tree of a statement that begins with `this` is that of what stands behind it
+-- the tree of a statement that begins with `this` is that of what stands after it
 this_tree : (index : ℕ) (this : Lexed) (at : ℕ) (part : Goal) (after others : Forest) → this.kind ≡ lexeme.Keyword keyword.This
     → statement_in index (Leaf (Token this) at (Node part after others)) ≡ after_this index this.place after
 this_tree index this at part after others is = ap (λ (kind : Lexeme). statement_by index (token_kind_of kind this.bytes) (Token this) (Node part after others)) is
 
--- where no dot stands behind `this`, the statement is refused where the rest of the right side is
-pub alone_refused : {this : Lexed} {from behind : Spot} (depth : ℕ) (error : SourceError) → TakesKind (lexeme.Keyword keyword.This) this from behind → depth + 1 + 2 ≤ limit
-    → fits (PunctuatorKind punctuator.Dot) (next (left_at behind)) ≡ false → IsRefused (Subgoal (One Rest) (depth + 1)) behind error → IsRefused (Subgoal (One Stmt) depth) from error
-alone_refused {behind = behind} depth error this within no_dot refused =
+-- where no dot stands after `this`, the statement is refused where the rest of the right side is
+pub alone_refused : {this : Lexed} {from after : Spot} (depth : ℕ) (error : SourceError) → TakesKind (lexeme.Keyword keyword.This) this from after → depth + 1 + 2 ≤ limit
+    → fits (PunctuatorKind punctuator.Dot) (next (left_at after)) ≡ false → IsRefused (Subgoal (One Rest) (depth + 1)) after error → IsRefused (Subgoal (One Stmt) depth) from error
+alone_refused {after = after} depth error this within no_dot refused =
     refused_inside (this_begins depth [] this within) error
-    (refused_in_front Rest (depth + 1) (One AfterThis) (depth + 1) behind error (alone_opened _ (depth + 1) no_dot) (alone_shut _ (depth + 1) no_dot) refused)
+    (refused_in_front Rest (depth + 1) (One AfterThis) (depth + 1) after error (alone_opened _ (depth + 1) no_dot) (alone_shut _ (depth + 1) no_dot) refused)
 
 -- and found with it
-pub alone_found : {this : Lexed} {from behind to : Spot} {depth : ℕ} {old new : List (List ℕ)} (index : ℕ) (place : Place) (start : code_expr.Expr) (side : RightSide)
-    → TakesKind (lexeme.Keyword keyword.This) this from behind → depth + 1 + 2 ≤ limit → fits (PunctuatorKind punctuator.Dot) (next (left_at behind)) ≡ false → place ≡ this.place
+pub alone_found : {this : Lexed} {from after to : Spot} {depth : ℕ} {old new : List (List ℕ)} (index : ℕ) (place : Place) (start : code_expr.Expr) (side : RightSide)
+    → TakesKind (lexeme.Keyword keyword.This) this from after → depth + 1 + 2 ≤ limit → fits (PunctuatorKind punctuator.Dot) (next (left_at after)) ≡ false → place ≡ this.place
     → ((names : List Name) → phrase names start ≡ ThisOf place)
-    → FoundAs (One Rest) (depth + 1) old new behind to (λ names inside. side_tree names side ≡ rest_in place (phrase names start) inside)
+    → FoundAs (One Rest) (depth + 1) old new after to (λ names inside. side_tree names side ≡ rest_in place (phrase names start) inside)
     → FoundAs (One Stmt) depth old new from to (λ names inside. DoOf index place (side_tree names side) ≡ statement_in index inside)
-alone_found {this} {behind = behind} {depth = depth} {old} index place start side takes within no_dot at is rest =
+alone_found {this} {after = after} {depth = depth} {old} index place start side takes within no_dot at is rest =
     all_read (into_last (this_begins depth old takes within)
-    (over_part (opens (One AfterThis) (depth + 1) old behind _ (alone_opened _ (depth + 1) no_dot (part_begun Rest _ (depth + 1) rest.rule_is))) rest)) (λ names more.
+    (over_part (opens (One AfterThis) (depth + 1) old after _ (alone_opened _ (depth + 1) no_dot (part_begun Rest _ (depth + 1) rest.rule_is))) rest)) (λ names more.
     rw (rest.is names more, is names, at) (sym (this_tree index this (depth + 1 + 2) (One AfterThis) (Node (One Rest) rest.inside Empty) Empty takes.kind_is)))
 
--- over `this` and a dot, behind which a name is to stand
-pub field_begins : {this dot : Lexed} {from behind name_at : Spot} (depth : ℕ) (table : List (List ℕ)) → TakesKind (lexeme.Keyword keyword.This) this from behind
-    → TakesKind (lexeme.Punctuator punctuator.Dot) dot behind name_at → depth + 1 + 2 ≤ limit
+-- over `this` and a dot, after which a name is to stand
+pub field_begins : {this dot : Lexed} {from after name_at : Spot} (depth : ℕ) (table : List (List ℕ)) → TakesKind (lexeme.Keyword keyword.This) this from after
+    → TakesKind (lexeme.Punctuator punctuator.Dot) dot after name_at → depth + 1 + 2 ≤ limit
     → HasRead (One Stmt) depth table table from (λ rest. Leaf (Token this) (depth + 1 + 2) (Node (One AfterThis) (Leaf (Token dot) (depth + 1 + 2) rest) Empty))
     (Terminal LowerName (depth + 1 + 2) ∷ Subgoal (One AfterName) (depth + 1) ∷ []) name_at
-field_begins {behind = behind} depth table this dot within =
+field_begins {after = after} depth table this dot within =
     into_last (this_begins depth table this within)
     (over_token {kind = lexeme.Punctuator punctuator.Dot}
-    (opens (One AfterThis) (depth + 1) table behind _ (ap (λ (k : TokenKind). opened (One AfterThis) k (depth + 1)) (next_taken dot) ∙ dot_opened (depth + 1))) dot refl refl within)
+    (opens (One AfterThis) (depth + 1) table after _ (ap (λ (k : TokenKind). opened (One AfterThis) k (depth + 1)) (next_taken dot) ∙ dot_opened (depth + 1))) dot refl refl within)
 
 -- over the name, which the table has then
-pub field_named : {this dot name : Lexed} {from behind name_at last : Spot} {names : List (List ℕ)} (depth : ℕ) (table : List (List ℕ))
-    → TakesKind (lexeme.Keyword keyword.This) this from behind → TakesKind (lexeme.Punctuator punctuator.Dot) dot behind name_at → TakesKind lexeme.LowerName name name_at last
+pub field_named : {this dot name : Lexed} {from after name_at last : Spot} {names : List (List ℕ)} (depth : ℕ) (table : List (List ℕ))
+    → TakesKind (lexeme.Keyword keyword.This) this from after → TakesKind (lexeme.Punctuator punctuator.Dot) dot after name_at → TakesKind lexeme.LowerName name name_at last
     → depth + 1 + 2 ≤ limit → names ≡ with_name table name.bytes
     → HasRead (One Stmt) depth table names from
     (λ rest. Leaf (Token this) (depth + 1 + 2) (Node (One AfterThis) (Leaf (Token dot) (depth + 1 + 2) (Leaf (Token name) (depth + 1 + 2) rest)) Empty))
     (Subgoal (One AfterName) (depth + 1) ∷ []) last
 field_named depth table this dot name within is = over_name {kind = lexeme.LowerName} (field_begins depth table this dot within) name refl refl within is
 
--- a statement is found with what stands behind its field
-pub field_found : {this dot name : Lexed} {from behind name_at last to : Spot} {depth : ℕ} {now new : List (List ℕ)} (index : ℕ) (old : List (List ℕ)) (symbol : code_symbol.Symbol)
-    (tree : List Name → Statement) → TakesKind (lexeme.Keyword keyword.This) this from behind → TakesKind (lexeme.Punctuator punctuator.Dot) dot behind name_at
+-- a statement is found with what stands after its field
+pub field_found : {this dot name : Lexed} {from after name_at last to : Spot} {depth : ℕ} {now new : List (List ℕ)} (index : ℕ) (old : List (List ℕ)) (symbol : code_symbol.Symbol)
+    (tree : List Name → Statement) → TakesKind (lexeme.Keyword keyword.This) this from after → TakesKind (lexeme.Punctuator punctuator.Dot) dot after name_at
     → TakesKind lexeme.LowerName name name_at last → depth + 1 + 2 ≤ limit → symbol.0 ≡ number_of_name old name.bytes → now ≡ with_name old name.bytes
     → FoundAs (One AfterName) (depth + 1) now new last to (λ names inside. tree names ≡ after_field index this.place name.place (name_of names symbol) inside)
     → FoundAs (One Stmt) depth old new from to (λ names inside. tree names ≡ statement_in index inside)

@@ -1,4 +1,4 @@
--- The steps of the readers of guards: over the value of a test, and over the `?` that may stand behind it; and a test as one of the list.
+-- The steps of the readers of guards: over the value of a test, and over the `?` that may stand after it; and a test as one of the list.
 use Rattle.std.proofs.Common.{◌≡◌, ◌≤◌, ℕ, Bool, true, false, List, [], ◌∷◌, Some, refl, sym, ap, ◌∙◌}
 use Rattle.abs_lexer.specs.declared.lexeme.Lexeme.TheVariants as lexeme
 use Rattle.abs_lexer.specs.declared.lexeme.Punctuator.TheVariants as punctuator
@@ -23,7 +23,7 @@ use Rattle.abs_parser.proofs.reader.PatternSteps.{nothing_found}
 use Rattle.abs_parser.proofs.reader.StepLemmas.{opens, over_token, over_part, into_last, all_read, fits_next, found_weaker, found_goes_on}
 use Rattle.abs_parser.proofs.grammar.NonterminalLemmas.{begins_with_token, begins_with_part, part_shut, part_begun, part_opened, optional_opened, optional_left_out}
 
--- where a value may begin, a test is it and what may stand behind it
+-- where a value may begin, a test is it and what may stand after it
 test_opened : (kind : TokenKind) (depth : ℕ) → begins Equal kind ≡ true
     → opened (One Test) kind depth ≡ Some (Subgoal (One Equal) depth ∷ Subgoal (Optional Question) depth ∷ [])
 test_opened kind depth may = part_opened Test kind depth refl refl (begins_with_part Test kind refl ∙ may)
@@ -51,7 +51,7 @@ question_left_out depth table from other =
 abbrev IsTest : code_test.Test → List (List ℕ) → Forest → Type 0
 IsTest test names inside = (others : Tests) → NextTest test.place (phrase names test.value.value) test.asks others ≡ test_in inside others
 
--- a test is found with its value and what may stand behind it
+-- a test is found with its value and what may stand after it
 pub test_found : {depth : ℕ} {old now new : List (List ℕ)} {from here to : Spot} {value : Expr} (test : code_test.Test) → test.place ≡ place_of from → test.value.value ≡ value
     → FoundAs (One Equal) depth old now from here (λ names inside. phrase names value ≡ equal_in inside)
     → FoundAs (Optional Question) depth now new here to (λ names inside. is_asked inside ≡ test.asks) → FoundAs (One Test) depth old new from to (IsTest test)

@@ -40,9 +40,9 @@ trees_of_types = record {
   one_in = type_in;
   list_in = types_in;
   others_in = more_types;
-  list_is = λ one behind first others. refl;
+  list_is = λ one after first others. refl;
   others_none = refl;
-  others_more = λ next one behind mark depth first others. refl;
+  others_more = λ next one after mark depth first others. refl;
 }
 
 -- Patterns
@@ -72,9 +72,9 @@ trees_of_patterns = record {
   one_in = pattern_in;
   list_in = patterns_in;
   others_in = more_patterns;
-  list_is = λ one behind first others. refl;
+  list_is = λ one after first others. refl;
   others_none = refl;
-  others_more = λ next one behind mark depth first others. refl;
+  others_more = λ next one after mark depth first others. refl;
 }
 
 -- no pattern begins with a parenthesis that closes
@@ -113,9 +113,9 @@ trees_of_expressions = record {
   one_in = expr_in;
   list_in = args_in;
   others_in = more_args;
-  list_is = λ one behind first others. refl;
+  list_is = λ one after first others. refl;
   others_none = refl;
-  others_more = λ next one behind mark depth first others. refl;
+  others_more = λ next one after mark depth first others. refl;
 }
 
 -- no expression begins with a parenthesis that closes
@@ -150,10 +150,10 @@ test_before NoTest others = others
 -- what was read as a test stands before others as it does alone
 pub test_in_front : (inside : Forest) (others : Tests) → test_in inside others ≡ test_before (test_in inside NoTest) others
 test_in_front Empty others = refl
-test_in_front (Leaf mark depth behind) others = refl
+test_in_front (Leaf mark depth after) others = refl
 test_in_front (Node equal inside Empty) others = refl
-test_in_front (Node equal inside (Leaf mark depth behind)) others = refl
-test_in_front (Node equal inside (Node question asks behind)) others = refl
+test_in_front (Node equal inside (Leaf mark depth after)) others = refl
+test_in_front (Node equal inside (Node question asks after)) others = refl
 
 -- and these are its trees
 abbrev pub trees_of_tests : ListTrees code_test.Test Tests Tests
@@ -167,7 +167,7 @@ trees_of_tests = record {
   one_in = λ inside. test_in inside NoTest;
   list_in = guard_in;
   others_in = more_tests;
-  list_is = λ one behind first others. test_in_front first (more_tests others);
+  list_is = λ one after first others. test_in_front first (more_tests others);
   others_none = refl;
-  others_more = λ next one behind mark depth first others. test_in_front first (more_tests others);
+  others_more = λ next one after mark depth first others. test_in_front first (more_tests others);
 }

@@ -10,7 +10,7 @@ use Rattle.abs_lexer.specs.Tokens.{Lexed}
 use Rattle.abs_tree.specs.Syntax.{Name}
 use Rattle.abs_parser.specs.Answers.{GoesOn}
 use Rattle.abs_parser.specs.TokenKinds.{Mark, Token, TokenKind, PunctuatorKind, fits, next}
-use Rattle.abs_parser.specs.Productions.{Nonterminal, Part, Opt, Many, sign, open_paren, close_paren, rule, counts, begins}
+use Rattle.abs_parser.specs.Productions.{Nonterminal, Part, Opt, Many, punctuation, open_paren, close_paren, rule, counts, begins}
 use Rattle.abs_parser.specs.Readings.{Goal, One, Optional, Repeated, Wanted, Terminal, Subgoal, opened, Forest, Empty, Leaf, Node}
 use Rattle.abs_parser.specs.ReaderAnswers.{left_at, TakesKind, FoundAs, IsRefused}
 use Rattle.abs_parser.specs.Stops.{limit}
@@ -30,10 +30,10 @@ pub record SeparatedList : Type 0 where
   pub next : Nonterminal
   pub list_is : rule list ≡ (Part one ∷ Many next ∷ []) ∷ []
   pub list_counts : counts list ≡ false
-  pub next_is : rule next ≡ (sign separator ∷ Part one ∷ []) ∷ []
+  pub next_is : rule next ≡ (punctuation separator ∷ Part one ∷ []) ∷ []
   pub next_counts : counts next ≡ false
 
--- The trees of such a list: of one and of several in the code, by the names; and of what was read as one, as the list, and as those behind
+-- The trees of such a list: of one and of several in the code, by the names; and of what was read as one, as the list, and as those after
 -- the signs.
 pub record ListTrees (Listed Tree Trees : Type 0) : Type 0 where
   pub tree : List Name → Listed → Tree
@@ -45,10 +45,10 @@ pub record ListTrees (Listed Tree Trees : Type 0) : Type 0 where
   pub one_in : Forest → Tree
   pub list_in : Forest → Trees
   pub others_in : Forest → Trees
-  pub list_is : (one behind : Goal) (first others : Forest) → list_in (Node one first (Node behind others Empty)) ≡ more (one_in first) (others_in others)
+  pub list_is : (one after : Goal) (first others : Forest) → list_in (Node one first (Node after others Empty)) ≡ more (one_in first) (others_in others)
   pub others_none : others_in Empty ≡ none
-  pub others_more : (next one behind : Goal) (mark : Mark) (depth : ℕ) (first others : Forest)
-      → others_in (Node next (Leaf mark depth (Node one first Empty)) (Node behind others Empty)) ≡ more (one_in first) (others_in others)
+  pub others_more : (next one after : Goal) (mark : Mark) (depth : ℕ) (first others : Forest)
+      → others_in (Node next (Leaf mark depth (Node one first Empty)) (Node after others Empty)) ≡ more (one_in first) (others_in others)
 
 -- What the nonterminals are opened to
 
@@ -60,7 +60,7 @@ list_begins so kind = begins_with_part so.list kind so.list_is
 next_begins : (so : SeparatedList) (kind : TokenKind) → begins so.next kind ≡ fits (PunctuatorKind so.separator) kind
 next_begins so kind = begins_with_token so.next kind so.next_is
 
--- where one may begin, the list is it and others behind signs
+-- where one may begin, the list is it and others after signs
 list_opened : (so : SeparatedList) (kind : TokenKind) (depth : ℕ) → begins so.one kind ≡ true
     → opened (One so.list) kind depth ≡ Some (Subgoal (One so.one) depth ∷ Subgoal (Repeated so.next) depth ∷ [])
 list_opened so kind depth may = part_opened so.list kind depth so.list_is so.list_counts (list_begins so kind ∙ may)
@@ -87,7 +87,7 @@ all_before : {Listed Tree Trees : Type 0} (trees : ListTrees Listed Tree Trees) 
 all_before trees names [] = sym (trees.trees_none names)
 all_before trees names (first ∷ listed) = ap (trees.more (trees.tree names first)) (all_before trees names listed) ∙ sym (trees.trees_more names first listed)
 
--- What was read of a list up to here, with the trees of what the code has of it: whatever is read behind further signs completes it.
+-- What was read of a list up to here, with the trees of what the code has of it: whatever is read after further signs completes it.
 pub record ReadsSoFar (so : SeparatedList) {Listed Tree Trees : Type 0} (trees : ListTrees Listed Tree Trees) (depth : ℕ) (old now : List (List ℕ)) (from here : Spot) (listed : List Listed) : Type 0 where
   pub make : Forest → Forest
   pub read : HasRead (One so.list) depth old now from make (Subgoal (Repeated so.next) depth ∷ []) here
@@ -105,22 +105,22 @@ first_so_far so trees {depth} {old} {from = from} items found = record {
 }
 
 -- over a sign
-sign_read : (so : SeparatedList) {token : Lexed} {here behind : Spot} (depth : ℕ) (table : List (List ℕ)) → TakesKind (lexeme.Punctuator so.separator) token here behind → depth ≤ limit
-    → HasRead (One so.next) depth table table here (λ rest. Leaf (Token token) depth rest) (Subgoal (One so.one) depth ∷ []) behind
-sign_read so {here = here} depth table takes within = over_token (opens (One so.next) depth table here _ (part_opened so.next _ depth so.next_is so.next_counts (next_begins so _ ∙ fits_next refl takes))) takes refl refl within
+separator_read : (so : SeparatedList) {token : Lexed} {here after : Spot} (depth : ℕ) (table : List (List ℕ)) → TakesKind (lexeme.Punctuator so.separator) token here after → depth ≤ limit
+    → HasRead (One so.next) depth table table here (λ rest. Leaf (Token token) depth rest) (Subgoal (One so.one) depth ∷ []) after
+separator_read so {here = here} depth table takes within = over_token (opens (One so.next) depth table here _ (part_opened so.next _ depth so.next_is so.next_counts (next_begins so _ ∙ fits_next refl takes))) takes refl refl within
 
 -- a sign opens others
-others_begin : (so : SeparatedList) {token : Lexed} {here behind : Spot} (depth : ℕ) (table : List (List ℕ)) → TakesKind (lexeme.Punctuator so.separator) token here behind
+others_begin : (so : SeparatedList) {token : Lexed} {here after : Spot} (depth : ℕ) (table : List (List ℕ)) → TakesKind (lexeme.Punctuator so.separator) token here after
     → HasRead (Repeated so.next) depth table table here (λ rest. rest) (Subgoal (One so.next) depth ∷ Subgoal (Repeated so.next) depth ∷ []) here
 others_begin so {here = here} depth table takes = opens (Repeated so.next) depth table here _ (repeated_opened so.next _ depth (next_begins so _ ∙ fits_next refl takes))
 
--- and one more behind a sign
-pub next_so_far : {so : SeparatedList} {Listed Tree Trees : Type 0} {trees : ListTrees Listed Tree Trees} {depth : ℕ} {old now new : List (List ℕ)} {from here behind to : Spot} {token : Lexed} {listed longer : List Listed} {last : Listed}
-    → ReadsSoFar so trees depth old now from here listed → longer ≡ listed ++ last ∷ [] → TakesKind (lexeme.Punctuator so.separator) token here behind → depth ≤ limit
-    → FoundAs (One so.one) depth now new behind to (λ names inside. trees.tree names last ≡ trees.one_in inside) → ReadsSoFar so trees depth old new from to longer
+-- and one more after a sign
+pub next_so_far : {so : SeparatedList} {Listed Tree Trees : Type 0} {trees : ListTrees Listed Tree Trees} {depth : ℕ} {old now new : List (List ℕ)} {from here after to : Spot} {token : Lexed} {listed longer : List Listed} {last : Listed}
+    → ReadsSoFar so trees depth old now from here listed → longer ≡ listed ++ last ∷ [] → TakesKind (lexeme.Punctuator so.separator) token here after → depth ≤ limit
+    → FoundAs (One so.one) depth now new after to (λ names inside. trees.tree names last ≡ trees.one_in inside) → ReadsSoFar so trees depth old new from to longer
 next_so_far {so} {trees = trees} {depth} {now = now} {new = new} {here = here} {to = to} {token = token} {listed = listed} {last = last} before items takes within found =
     let next : FoundAs (One so.next) depth now new here to (λ names inside. inside ≡ Leaf (Token token) depth (Node (One so.one) found.inside Empty)) =
-    all_read (over_part (sign_read so depth now takes within) found) (λ names more. refl) in
+    all_read (over_part (separator_read so depth now takes within) found) (λ names more. refl) in
     record {
       make = λ rest. before.make (Node (Repeated so.next) (Node (One so.next) next.inside rest) Empty);
       read = into_last before.read (over_part (others_begin so depth now takes) next);
@@ -146,12 +146,12 @@ all_so_far {so} {trees = trees} {depth} {now = now} {here = here} {listed = list
 pub refused_first : (so : SeparatedList) (depth : ℕ) (from : Spot) (error : SourceError) → IsRefused (Subgoal (One so.one) depth) from error → IsRefused (Subgoal (One so.list) depth) from error
 refused_first so depth from error refused = refused_in_front so.one depth (One so.list) depth from error (list_opened so _ depth) (list_shut so _ depth) refused
 
--- behind a sign it is refused where the next one is
-pub refused_next : {so : SeparatedList} {Listed Tree Trees : Type 0} {trees : ListTrees Listed Tree Trees} {depth : ℕ} {old now : List (List ℕ)} {from here behind : Spot} {token : Lexed} {listed : List Listed}
-    → ReadsSoFar so trees depth old now from here listed → TakesKind (lexeme.Punctuator so.separator) token here behind → depth ≤ limit → (error : SourceError)
-    → IsRefused (Subgoal (One so.one) depth) behind error → IsRefused (Subgoal (One so.list) depth) from error
+-- after a sign it is refused where the next one is
+pub refused_next : {so : SeparatedList} {Listed Tree Trees : Type 0} {trees : ListTrees Listed Tree Trees} {depth : ℕ} {old now : List (List ℕ)} {from here after : Spot} {token : Lexed} {listed : List Listed}
+    → ReadsSoFar so trees depth old now from here listed → TakesKind (lexeme.Punctuator so.separator) token here after → depth ≤ limit → (error : SourceError)
+    → IsRefused (Subgoal (One so.one) depth) after error → IsRefused (Subgoal (One so.list) depth) from error
 refused_next {so} {depth = depth} {now = now} before takes within error refused =
-    refused_inside before.read error (refused_inside (others_begin so depth now takes) error (refused_inside (sign_read so depth now takes within) error refused))
+    refused_inside before.read error (refused_inside (others_begin so depth now takes) error (refused_inside (separator_read so depth now takes within) error refused))
 
 -- A list between parentheses
 
@@ -192,36 +192,36 @@ pub parentheses_shut : {so : SeparatedList} (within : InParentheses so) (kind : 
 parentheses_shut within kind depth other = part_shut within.nonterminal kind depth (parentheses_begin within kind ∙ other)
 
 -- over the parenthesis that opens it
-pub parenthesis_read : {so : SeparatedList} (within : InParentheses so) {token : Lexed} {from behind : Spot} (depth : ℕ) (table : List (List ℕ)) → TakesKind (lexeme.Punctuator punctuator.OpenParen) token from behind → depth ≤ limit
-    → HasRead (One within.nonterminal) depth table table from (λ rest. Leaf (Token token) depth rest) (Subgoal (Optional so.list) depth ∷ Terminal (PunctuatorKind punctuator.CloseParen) depth ∷ []) behind
+pub parenthesis_read : {so : SeparatedList} (within : InParentheses so) {token : Lexed} {from after : Spot} (depth : ℕ) (table : List (List ℕ)) → TakesKind (lexeme.Punctuator punctuator.OpenParen) token from after → depth ≤ limit
+    → HasRead (One within.nonterminal) depth table table from (λ rest. Leaf (Token token) depth rest) (Subgoal (Optional so.list) depth ∷ Terminal (PunctuatorKind punctuator.CloseParen) depth ∷ []) after
 parenthesis_read within {from = from} depth table takes shallow =
     over_token (opens (One within.nonterminal) depth table from _ (parentheses_opened within _ depth (fits_next refl takes))) takes refl refl shallow
 
 -- the same where it may be left out
-pub parenthesis_read_maybe : {so : SeparatedList} (within : InParentheses so) {token : Lexed} {from behind : Spot} (depth : ℕ) (table : List (List ℕ)) → TakesKind (lexeme.Punctuator punctuator.OpenParen) token from behind → depth ≤ limit
+pub parenthesis_read_maybe : {so : SeparatedList} (within : InParentheses so) {token : Lexed} {from after : Spot} (depth : ℕ) (table : List (List ℕ)) → TakesKind (lexeme.Punctuator punctuator.OpenParen) token from after → depth ≤ limit
     → HasRead (Optional within.nonterminal) depth table table from (λ rest. Node (One within.nonterminal) (Leaf (Token token) depth rest) Empty)
-    (Subgoal (Optional so.list) depth ∷ Terminal (PunctuatorKind punctuator.CloseParen) depth ∷ []) behind
+    (Subgoal (Optional so.list) depth ∷ Terminal (PunctuatorKind punctuator.CloseParen) depth ∷ []) after
 parenthesis_read_maybe within {from = from} depth table takes shallow =
     into_last (opens (Optional within.nonterminal) depth table from _ (parentheses_follow within _ depth (fits_next refl takes))) (parenthesis_read within depth table takes shallow)
 
 -- where the parenthesis stands that closes it, there is nothing between
-pub nothing_between : {so : SeparatedList} (within : InParentheses so) {token : Lexed} {from behind : Spot} (depth : ℕ) (table : List (List ℕ)) → TakesKind (lexeme.Punctuator punctuator.CloseParen) token from behind
+pub nothing_between : {so : SeparatedList} (within : InParentheses so) {token : Lexed} {from after : Spot} (depth : ℕ) (table : List (List ℕ)) → TakesKind (lexeme.Punctuator punctuator.CloseParen) token from after
     → FoundAs (Optional so.list) depth table table from from (λ names inside. inside ≡ Empty)
 nothing_between {so} within {from = from} depth table close =
     nothing_found (Optional so.list) depth table from (optional_left_out so.list _ depth (list_begins so _ ∙ (ap (begins so.one) (next_taken close) ∙ within.none_closes)))
 
 -- before a token that does not close it, a list that may be left out is refused where it is, whether one may begin there or not
-between_by : (may : Bool) (so : SeparatedList) {goal : Goal} {depth at : ℕ} {old now : List (List ℕ)} {from behind : Spot} {make : Forest → Forest} {asked : TokenKind} {left : List Wanted} (error : SourceError)
-    → begins so.one (next (left_at behind)) ≡ may → HasRead goal depth old now from make (Subgoal (Optional so.list) at ∷ Terminal asked at ∷ left) behind
-    → fits asked (next (left_at behind)) ≡ false → IsRefused (Subgoal (One so.list) at) behind error → IsRefused (Subgoal goal depth) from error
-between_by true so {at = at} {now = now} {behind = behind} error e before differs refused =
-    refused_inside before error (refused_inside (opens (Optional so.list) at now behind _ (optional_opened so.list _ at (list_begins so _ ∙ e))) error refused)
-between_by false so {at = at} {now = now} {behind = behind} {asked = asked} error e before differs refused =
-    refused_inside (over_part before (nothing_found (Optional so.list) at now behind (optional_left_out so.list _ at (list_begins so _ ∙ e)))) error
-    (refused_unfit (One so.list) at asked at behind error (list_shut so _ at e) differs refused)
+between_by : (may : Bool) (so : SeparatedList) {goal : Goal} {depth at : ℕ} {old now : List (List ℕ)} {from after : Spot} {make : Forest → Forest} {asked : TokenKind} {left : List Wanted} (error : SourceError)
+    → begins so.one (next (left_at after)) ≡ may → HasRead goal depth old now from make (Subgoal (Optional so.list) at ∷ Terminal asked at ∷ left) after
+    → fits asked (next (left_at after)) ≡ false → IsRefused (Subgoal (One so.list) at) after error → IsRefused (Subgoal goal depth) from error
+between_by true so {at = at} {now = now} {after = after} error e before differs refused =
+    refused_inside before error (refused_inside (opens (Optional so.list) at now after _ (optional_opened so.list _ at (list_begins so _ ∙ e))) error refused)
+between_by false so {at = at} {now = now} {after = after} {asked = asked} error e before differs refused =
+    refused_inside (over_part before (nothing_found (Optional so.list) at now after (optional_left_out so.list _ at (list_begins so _ ∙ e)))) error
+    (refused_unfit (One so.list) at asked at after error (list_shut so _ at e) differs refused)
 
 -- before a token that does not close it, a list that may be left out is refused where it is
-pub refused_between : (so : SeparatedList) {goal : Goal} {depth at : ℕ} {old now : List (List ℕ)} {from behind : Spot} {make : Forest → Forest} {asked : TokenKind} {left : List Wanted} (error : SourceError)
-    → HasRead goal depth old now from make (Subgoal (Optional so.list) at ∷ Terminal asked at ∷ left) behind
-    → fits asked (next (left_at behind)) ≡ false → IsRefused (Subgoal (One so.list) at) behind error → IsRefused (Subgoal goal depth) from error
+pub refused_between : (so : SeparatedList) {goal : Goal} {depth at : ℕ} {old now : List (List ℕ)} {from after : Spot} {make : Forest → Forest} {asked : TokenKind} {left : List Wanted} (error : SourceError)
+    → HasRead goal depth old now from make (Subgoal (Optional so.list) at ∷ Terminal asked at ∷ left) after
+    → fits asked (next (left_at after)) ≡ false → IsRefused (Subgoal (One so.list) at) after error → IsRefused (Subgoal goal depth) from error
 refused_between so error before differs refused = between_by _ so error refl before differs refused

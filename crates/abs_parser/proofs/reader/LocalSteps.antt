@@ -1,5 +1,5 @@
 -- The steps of the readers of the declarations of local variables: what such a statement consists of, where a type begins it, over its type and
--- its name, and that it is found with what stands behind the name; and the right side behind "=", where there is one.
+-- its name, and that it is found with what stands after the name; and the right side after "=", where there is one.
 use Rattle.std.proofs.Common.{◌≡◌, ◌≤◌, ℕ, ◌+◌, true, false, List, [], ◌∷◌, Option, Some, refl, sym, ap, ◌∙◌}
 use Rattle.abs_tree.specs.Names.{with_name, number_of_name}
 use Rattle.abs_tree.specs.Syntax.{Name, TypeTree, Unresolved, NoSide, SomeSide, MaybeSide, DeclareOf}
@@ -25,19 +25,19 @@ use Rattle.abs_parser.proofs.grammar.NameLemmas.{goes_on_further}
 use Rattle.abs_parser.proofs.reader.StepLemmas.{HasRead, opens, over_token, over_name, over_part, into_last, all_read, fits_next, found_goes_on, symbol_kept}
 use Rattle.abs_parser.proofs.grammar.NonterminalLemmas.{begins_with_token, part_opened, optional_opened, optional_left_out}
 
--- What stands behind the name
+-- What stands after the name
 
--- over "=", behind which a right side is to stand
-pub initial_begins : {equals : Lexed} {from behind : Spot} (depth : ℕ) (table : List (List ℕ)) → TakesKind (lexeme.Punctuator punctuator.Assign) equals from behind → depth ≤ limit
-    → HasRead (Optional Initial) depth table table from (λ rest. Node (One Initial) (Leaf (Token equals) depth rest) Empty) (Subgoal (One Rhs) depth ∷ []) behind
+-- over "=", after which a right side is to stand
+pub initial_begins : {equals : Lexed} {from after : Spot} (depth : ℕ) (table : List (List ℕ)) → TakesKind (lexeme.Punctuator punctuator.Assign) equals from after → depth ≤ limit
+    → HasRead (Optional Initial) depth table table from (λ rest. Node (One Initial) (Leaf (Token equals) depth rest) Empty) (Subgoal (One Rhs) depth ∷ []) after
 initial_begins {from = from} depth table equals within =
     let begun = begins_with_token Initial _ refl ∙ fits_next refl equals in
     into_last (opens (Optional Initial) depth table from _ (optional_opened Initial _ depth begun))
     (over_token (opens (One Initial) depth table from _ (part_opened Initial _ depth refl refl begun)) equals refl refl within)
 
--- the right side behind "=" is found
-pub initial_found : {equals : Lexed} {from behind to : Spot} {depth : ℕ} {old new : List (List ℕ)} (side : RightSide)
-    → TakesKind (lexeme.Punctuator punctuator.Assign) equals from behind → depth ≤ limit → FoundAs (One Rhs) depth old new behind to (λ names inside. side_tree names side ≡ rhs_in inside)
+-- the right side after "=" is found
+pub initial_found : {equals : Lexed} {from after to : Spot} {depth : ℕ} {old new : List (List ℕ)} (side : RightSide)
+    → TakesKind (lexeme.Punctuator punctuator.Assign) equals from after → depth ≤ limit → FoundAs (One Rhs) depth old new after to (λ names inside. side_tree names side ≡ rhs_in inside)
     → FoundAs (Optional Initial) depth old new from to (λ names inside. SomeSide (side_tree names side) ≡ initial_in inside)
 initial_found {depth = depth} {old} side equals within found = all_read (over_part (initial_begins depth old equals within) found) (λ names more. ap SomeSide (found.is names more))
 
@@ -49,13 +49,13 @@ no_initial_found depth table from other =
 
 -- The declaration of a variable
 
--- behind the name of a variable stands this
-abbrev behind_variable : ℕ → List Wanted
-behind_variable at = Subgoal (Optional Initial) at ∷ Terminal (PunctuatorKind punctuator.Semicolon) at ∷ []
+-- after the name of a variable stands this
+abbrev after_declared : ℕ → List Wanted
+after_declared at = Subgoal (Optional Initial) at ∷ Terminal (PunctuatorKind punctuator.Semicolon) at ∷ []
 
 -- where a type begins a statement, that is the declaration of a variable
 local_opened : (kind : TokenKind) (depth : ℕ) → fits UpperName kind ≡ true
-    → opened (One Stmt) kind depth ≡ Some (Subgoal (One Type') (depth + 1) ∷ Terminal LowerName (depth + 1) ∷ behind_variable (depth + 1))
+    → opened (One Stmt) kind depth ≡ Some (Subgoal (One Type') (depth + 1) ∷ Terminal LowerName (depth + 1) ∷ after_declared (depth + 1))
 unfolding begins chosen begins_within
 local_opened UpperName depth fit = refl
 local_opened AbsName depth fit = refl
@@ -64,20 +64,20 @@ local_opened _ depth fit = absurd cc
 
 -- it begins with its type
 pub local_begins : (depth : ℕ) (table : List (List ℕ)) (from : Spot) → fits UpperName (next (left_at from)) ≡ true
-    → HasRead (One Stmt) depth table table from (λ rest. rest) (Subgoal (One Type') (depth + 1) ∷ Terminal LowerName (depth + 1) ∷ behind_variable (depth + 1)) from
+    → HasRead (One Stmt) depth table table from (λ rest. rest) (Subgoal (One Type') (depth + 1) ∷ Terminal LowerName (depth + 1) ∷ after_declared (depth + 1)) from
 local_begins depth table from fit = opens (One Stmt) depth table from _ (local_opened _ depth fit)
 
 -- over its type
 pub local_typed : {from name_at : Spot} {depth : ℕ} {old now : List (List ℕ)} {is_read : List (List ℕ) → Forest → Type 0} → fits UpperName (next (left_at from)) ≡ true
     → (type : FoundAs (One Type') (depth + 1) old now from name_at is_read)
-    → HasRead (One Stmt) depth old now from (λ rest. Node (One Type') type.inside rest) (Terminal LowerName (depth + 1) ∷ behind_variable (depth + 1)) name_at
+    → HasRead (One Stmt) depth old now from (λ rest. Node (One Type') type.inside rest) (Terminal LowerName (depth + 1) ∷ after_declared (depth + 1)) name_at
 local_typed {from = from} {depth = depth} {old} fit type = over_part (local_begins depth old from fit) type
 
 -- over the name of the variable, which the table has then
-pub local_named : {name : Lexed} {from name_at behind : Spot} {depth : ℕ} {old now table : List (List ℕ)} {is_read : List (List ℕ) → Forest → Type 0}
-    → fits UpperName (next (left_at from)) ≡ true → (type : FoundAs (One Type') (depth + 1) old now from name_at is_read) → TakesKind lexeme.LowerName name name_at behind
+pub local_named : {name : Lexed} {from name_at after : Spot} {depth : ℕ} {old now table : List (List ℕ)} {is_read : List (List ℕ) → Forest → Type 0}
+    → fits UpperName (next (left_at from)) ≡ true → (type : FoundAs (One Type') (depth + 1) old now from name_at is_read) → TakesKind lexeme.LowerName name name_at after
     → table ≡ with_name now name.bytes → depth + 1 ≤ limit
-    → HasRead (One Stmt) depth old table from (λ rest. Node (One Type') type.inside (Leaf (Token name) (depth + 1) rest)) (behind_variable (depth + 1)) behind
+    → HasRead (One Stmt) depth old table from (λ rest. Node (One Type') type.inside (Leaf (Token name) (depth + 1) rest)) (after_declared (depth + 1)) after
 local_named fit type name is within = over_name (local_typed fit type) name refl refl within is
 
 -- the tree of a declaration is made of those of its parts
@@ -86,12 +86,12 @@ local_tree : {place held_place : Place} {type held_type : TypeTree} {name held_n
     → DeclareOf index held_place held_type name_place (Unresolved held_name) held_initial ≡ DeclareOf index place type name_place (Unresolved name) initial
 local_tree index name_place place type name initial = rw (place, type, name, initial) refl
 
--- a declaration with its type, its name and what stands behind it is found
-pub local_found : {name semicolon : Lexed} {from name_at behind last_at end : Spot} {depth : ℕ} {old now table new : List (List ℕ)} {place : Place}
+-- a declaration with its type, its name and what stands after it is found
+pub local_found : {name semicolon : Lexed} {from name_at after last_at end : Spot} {depth : ℕ} {old now table new : List (List ℕ)} {place : Place}
     (index : ℕ) (type_term : TypeTerm) (symbol : NameSymbol) (initial : Option RightSide) → fits UpperName (next (left_at from)) ≡ true → place ≡ place_of from
     → FoundAs (One Type') (depth + 1) old now from name_at (λ names inside. type_tree names type_term ≡ type_in inside)
-    → TakesKind lexeme.LowerName name name_at behind → symbol.0 ≡ number_of_name now name.bytes → table ≡ with_name now name.bytes
-    → FoundAs (Optional Initial) (depth + 1) table new behind last_at (λ names inside. maybe_side names initial ≡ initial_in inside)
+    → TakesKind lexeme.LowerName name name_at after → symbol.0 ≡ number_of_name now name.bytes → table ≡ with_name now name.bytes
+    → FoundAs (Optional Initial) (depth + 1) table new after last_at (λ names inside. maybe_side names initial ≡ initial_in inside)
     → TakesKind (lexeme.Punctuator punctuator.Semicolon) semicolon last_at end → depth + 1 ≤ limit
     → FoundAs (One Stmt) depth old new from end
     (λ names inside. DeclareOf index place (type_tree names type_term) name.place (Unresolved (name_of names symbol)) (maybe_side names initial) ≡ statement_in index inside)

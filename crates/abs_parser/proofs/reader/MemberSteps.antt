@@ -1,4 +1,4 @@
--- The steps of the readers of the members of a class: what stands behind the type and the name of a member, by the token that begins it; what a
+-- The steps of the readers of the members of a class: what stands after the type and the name of a member, by the token that begins it; what a
 -- member consists of, over its type and its name; and which trees stand for what was read of them.
 use Rattle.std.proofs.Common.{◌≡◌, ◌≤◌, ◌<◌, length, ℕ, true, false, List, [], ◌∷◌, map, Some, None, refl, sym, ap, ◌∙◌}
 use Rattle.std.specs.declared.alloc.Global.{Global}
@@ -32,21 +32,21 @@ use Rattle.abs_parser.proofs.reader.NameListSteps.{declared_kept}
 use Rattle.abs_parser.proofs.reader.ExpressionSteps.{goes_on_name}
 use Rattle.abs_parser.proofs.reader.InFrontSteps.{refused_in_front}
 use Rattle.abs_parser.proofs.grammar.NameLemmas.{goes_on_further}
-use Rattle.abs_parser.proofs.grammar.AskedLemmas.{sign_fits}
+use Rattle.abs_parser.proofs.grammar.AskedLemmas.{punctuator_fits}
 use Rattle.abs_parser.proofs.reader.PatternSteps.{next_taken}
 use Rattle.abs_parser.proofs.reader.RepeatSteps.{row_shorter}
 use Rattle.abs_parser.proofs.reader.SignatureSteps.{parameters_read}
 use Rattle.abs_parser.proofs.reader.StepLemmas.{HasRead, opens, over_token, over_name, over_part, all_read, refused_first_token, found_goes_on}
 use Rattle.abs_parser.proofs.grammar.NonterminalLemmas.{begins_with_part, part_shut, part_begun, part_opened}
 
--- What stands behind the type and the name
+-- What stands after the type and the name
 
 -- `;` opens what may stand there
 field_opened : (depth : ℕ) → opened (One MemberTail) (PunctuatorKind punctuator.Semicolon) depth ≡ Some (Terminal (PunctuatorKind punctuator.Semicolon) depth ∷ [])
 unfolding begins chosen begins_within
 field_opened depth = refl
 
--- so does `=`, with a value behind it
+-- so does `=`, with a value after it
 pub value_opened : (depth : ℕ) → opened (One MemberTail) (PunctuatorKind punctuator.Assign) depth
     ≡ Some (Terminal (PunctuatorKind punctuator.Assign) depth ∷ Subgoal (One Expr) depth ∷ Terminal (PunctuatorKind punctuator.Semicolon) depth ∷ [])
 unfolding begins chosen begins_within
@@ -69,18 +69,18 @@ pub refused_tail : (depth : ℕ) (from : Spot) (error : SourceError) → fits (P
     → fits (PunctuatorKind punctuator.Assign) (next (left_at from)) ≡ false → IsRefused (Terminal (PunctuatorKind punctuator.OpenParen) depth) from error → IsRefused (Subgoal (One MemberTail) depth) from error
 refused_tail depth from error no_semicolon no_equals refused =
     refused_first_token (PunctuatorKind punctuator.OpenParen) depth (One MemberTail) depth from error
-    (λ fit. ap (λ (k : TokenKind). opened (One MemberTail) k depth) (sign_fits punctuator.OpenParen _ fit) ∙ method_opened depth) (tail_shut _ depth no_semicolon no_equals) refused
+    (λ fit. ap (λ (k : TokenKind). opened (One MemberTail) k depth) (punctuator_fits punctuator.OpenParen _ fit) ∙ method_opened depth) (tail_shut _ depth no_semicolon no_equals) refused
 
 -- whichever sign opens it begins it
-tail_begins : {sign : Punctuator} {left : List Wanted} {from : Spot} {token : Lexed} {behind : Spot} (depth : ℕ) (table : List (List ℕ))
-    → opened (One MemberTail) (PunctuatorKind sign) depth ≡ Some (Terminal (PunctuatorKind sign) depth ∷ left) → TakesKind (lexeme.Punctuator sign) token from behind
-    → HasRead (One MemberTail) depth table table from (λ rest. rest) (Terminal (PunctuatorKind sign) depth ∷ left) from
+tail_begins : {punctuator : Punctuator} {left : List Wanted} {from : Spot} {token : Lexed} {after : Spot} (depth : ℕ) (table : List (List ℕ))
+    → opened (One MemberTail) (PunctuatorKind punctuator) depth ≡ Some (Terminal (PunctuatorKind punctuator) depth ∷ left) → TakesKind (lexeme.Punctuator punctuator) token from after
+    → HasRead (One MemberTail) depth table table from (λ rest. rest) (Terminal (PunctuatorKind punctuator) depth ∷ left) from
 tail_begins {from = from} depth table is takes = opens (One MemberTail) depth table from _ (ap (λ (k : TokenKind). opened (One MemberTail) k depth) (next_taken takes) ∙ is)
 
 -- and is read
-pub tail_begun : {sign : Punctuator} {left : List Wanted} {from : Spot} {token : Lexed} {behind : Spot} (depth : ℕ) (table : List (List ℕ))
-    → opened (One MemberTail) (PunctuatorKind sign) depth ≡ Some (Terminal (PunctuatorKind sign) depth ∷ left) → TakesKind (lexeme.Punctuator sign) token from behind → depth ≤ limit
-    → HasRead (One MemberTail) depth table table from (λ rest. Leaf (Token token) depth rest) left behind
+pub tail_begun : {punctuator : Punctuator} {left : List Wanted} {from : Spot} {token : Lexed} {after : Spot} (depth : ℕ) (table : List (List ℕ))
+    → opened (One MemberTail) (PunctuatorKind punctuator) depth ≡ Some (Terminal (PunctuatorKind punctuator) depth ∷ left) → TakesKind (lexeme.Punctuator punctuator) token from after → depth ≤ limit
+    → HasRead (One MemberTail) depth table table from (λ rest. Leaf (Token token) depth rest) left after
 tail_begun depth table is takes within = over_token (tail_begins depth table is takes) takes refl refl within
 
 -- `;` is found
@@ -102,11 +102,11 @@ field_with_value_found {depth = depth} {old} index type_of name held same equals
     ap (λ (phrase : Phrase). FieldTree (type_tree names type_of) (declared_tree names name) (Value phrase)) (ap (phrase names) same ∙ found.is names more))
 
 -- over parameters between parentheses
-pub method_read : {opening closing : Lexed} {from inside_at close_at behind : Spot} {depth : ℕ} {old new : List (List ℕ)} {is_read : List (List ℕ) → Forest → Type 0}
+pub method_read : {opening closing : Lexed} {from inside_at close_at after : Spot} {depth : ℕ} {old new : List (List ℕ)} {is_read : List (List ℕ) → Forest → Type 0}
     → TakesKind (lexeme.Punctuator punctuator.OpenParen) opening from inside_at → (params : FoundAs (Optional Params) depth old new inside_at close_at is_read)
-    → TakesKind (lexeme.Punctuator punctuator.CloseParen) closing close_at behind → depth ≤ limit
+    → TakesKind (lexeme.Punctuator punctuator.CloseParen) closing close_at after → depth ≤ limit
     → HasRead (One MemberTail) depth old new from (λ rest. Leaf (Token opening) depth (Node (Optional Params) params.inside (Leaf (Token closing) depth rest)))
-    (Subgoal (One Block) depth ∷ []) behind
+    (Subgoal (One Block) depth ∷ []) after
 method_read {depth = depth} {old} opening params closing within = parameters_read (tail_begins depth old (method_opened depth) opening) opening params closing within
 
 -- the tree of a method is made of those of its parts
@@ -137,7 +137,7 @@ IsMember index one names inside = (others : List MemberTree) → member_tree nam
 member_begins : (kind : TokenKind) → begins Member kind ≡ begins Type' kind
 member_begins kind = begins_with_part Member kind refl
 
--- a member is a type, a name, and what stands behind it
+-- a member is a type, a name, and what stands after it
 member_opened : (kind : TokenKind) (depth : ℕ) → begins Type' kind ≡ true
     → opened (One Member) kind depth ≡ Some (Subgoal (One Type') depth ∷ Terminal LowerName depth ∷ Subgoal (One MemberTail) depth ∷ [])
 member_opened kind depth may = part_opened Member kind depth refl refl (member_begins kind ∙ may)
@@ -161,21 +161,21 @@ pub member_typed : {depth : ℕ} {old now : List (List ℕ)} {from name_at : Spo
 member_typed {depth} {old} {from = from} type = over_part (opens (One Member) depth old from _ (member_opened _ depth (part_begun Type' _ depth type.rule_is))) type
 
 -- over its name
-pub member_named : {name : Lexed} {from name_at behind : Spot} {depth : ℕ} {old now table : List (List ℕ)} {is_read : List (List ℕ) → Forest → Type 0}
-    → (type : FoundAs (One Type') depth old now from name_at is_read) → TakesKind lexeme.LowerName name name_at behind → table ≡ with_name now name.bytes → depth ≤ limit
-    → HasRead (One Member) depth old table from (λ rest. Node (One Type') type.inside (Leaf (Token name) depth rest)) (Subgoal (One MemberTail) depth ∷ []) behind
+pub member_named : {name : Lexed} {from name_at after : Spot} {depth : ℕ} {old now table : List (List ℕ)} {is_read : List (List ℕ) → Forest → Type 0}
+    → (type : FoundAs (One Type') depth old now from name_at is_read) → TakesKind lexeme.LowerName name name_at after → table ≡ with_name now name.bytes → depth ≤ limit
+    → HasRead (One Member) depth old table from (λ rest. Node (One Type') type.inside (Leaf (Token name) depth rest)) (Subgoal (One MemberTail) depth ∷ []) after
 member_named type name is within = over_name (member_typed type) name refl refl within is
 
--- what stands behind the type and the name of a member makes its tree of theirs
+-- what stands after the type and the name of a member makes its tree of theirs
 member_made : {type held_type : TypeTree} {name held_name : DeclaredTree} (index : ℕ) (inside : Forest) (others : List MemberTree) → held_type ≡ type → held_name ≡ name
     → member_by index held_type held_name inside ∷ others ≡ member_by index type name inside ∷ others
 member_made index inside others type name = rw (type, name) refl
 
--- a member with its type, its name and what stands behind it is found
-pub member_found : {name : Lexed} {from name_at behind to : Spot} {depth : ℕ} {old now table new : List (List ℕ)} (index : ℕ) (type_of : TypeTerm) (symbol : NameSymbol) (one : CodeMember)
-    → FoundAs (One Type') depth old now from name_at (λ names inside. type_tree names type_of ≡ type_in inside) → TakesKind lexeme.LowerName name name_at behind
+-- a member with its type, its name and what stands after it is found
+pub member_found : {name : Lexed} {from name_at after to : Spot} {depth : ℕ} {old now table new : List (List ℕ)} (index : ℕ) (type_of : TypeTerm) (symbol : NameSymbol) (one : CodeMember)
+    → FoundAs (One Type') depth old now from name_at (λ names inside. type_tree names type_of ≡ type_in inside) → TakesKind lexeme.LowerName name name_at after
     → symbol.0 ≡ number_of_name now name.bytes → table ≡ with_name now name.bytes → depth ≤ limit
-    → FoundAs (One MemberTail) depth table new behind to
+    → FoundAs (One MemberTail) depth table new after to
     (λ names inside. member_tree names one ≡ member_by index (type_tree names type_of) (declared_tree names (record { place = name.place; name = symbol })) inside)
     → FoundAs (One Member) depth old new from to (IsMember index one)
 member_found {name} {now = now} index type_of symbol one type takes number is within tail =

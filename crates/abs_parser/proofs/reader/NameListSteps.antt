@@ -1,6 +1,6 @@
--- The steps of the readers of lists of upper-case names: of one more name behind a sign (`JoinsName`); of names behind commas
+-- The steps of the readers of lists of upper-case names: of one more name after a sign (`JoinsName`); of names after commas
 -- (`NamesSoFar`), for every depth at once, since no part of such a list counts; and of the nonterminals that are a token, a name, and others
--- behind commas (`HasNames`), up to what stands behind these.
+-- after commas (`HasNames`), up to what stands after these.
 use Rattle.std.proofs.Common.{◌≡◌, ◌≤◌, ℕ, true, false, List, [], ◌∷◌, ◌++◌, ◌+◌, length, map, refl, sym, ap, ◌∙◌, append_assoc, arith}
 use Rattle.std.proofs.lemmas.List.{append-nil, map-append}
 use Rattle.abs_lexer.specs.declared.lexeme.Keyword.{Keyword}
@@ -18,7 +18,7 @@ use Rattle.abs_tree.specs.declared.syntax.declaration.Declared.{Declared}
 use Rattle.abs_parser.specs.Answers.{GoesOn}
 use Rattle.abs_parser.specs.Headings.{nonterminal_of}
 use Rattle.abs_parser.specs.TokenKinds.{Token, TokenKind, UpperName, PunctuatorKind, fits, next}
-use Rattle.abs_parser.specs.Productions.{Nonterminal, Item, Of, Many, CommaUpper, TypeParameters, upper, sign, rule, counts, begins}
+use Rattle.abs_parser.specs.Productions.{Nonterminal, Item, Of, Many, CommaUpper, TypeParameters, upper, punctuation, rule, counts, begins}
 use Rattle.abs_parser.specs.Readings.{One, Optional, Repeated, Terminal, Subgoal, place, Forest, Empty, Leaf, Node}
 use Rattle.abs_parser.specs.ReaderAnswers.{left_at, asked, TakesKind, FoundAs, IsRefused, is_asked}
 use Rattle.abs_parser.specs.Stops.{limit}
@@ -39,11 +39,11 @@ declared_kept old token symbol number is names more =
     let tree : Name → DeclaredTree = λ name. record { place = token.place; name = name } in
     ap tree (symbol_kept old symbol number is names more)
 
--- One more name behind a sign
+-- One more name after a sign
 
--- The table says that a nonterminal is this sign and an upper-case name behind it, and that it does not count.
+-- The table says that a nonterminal is this sign and an upper-case name after it, and that it does not count.
 pub record JoinsName (symbol : Nonterminal) (joint : Punctuator) : Type 0 where
-  pub nonterminal_is : rule symbol ≡ (sign joint ∷ upper ∷ []) ∷ []
+  pub nonterminal_is : rule symbol ≡ (punctuation joint ∷ upper ∷ []) ∷ []
   pub nonterminal_counts : counts symbol ≡ false
 
 -- one more begins with the sign
@@ -51,36 +51,36 @@ pub joint_begins : {symbol : Nonterminal} {joint : Punctuator} → JoinsName sym
 joint_begins {symbol} so kind = begins_with_token symbol kind so.nonterminal_is
 
 -- over the sign
-pub joint_read : {symbol : Nonterminal} {joint : Punctuator} {token : Lexed} {from behind : Spot} (depth : ℕ) (table : List (List ℕ)) → JoinsName symbol joint
-    → TakesKind (lexeme.Punctuator joint) token from behind → depth ≤ limit
-    → HasRead (One symbol) depth table table from (λ rest. Leaf (Token token) depth rest) (Terminal UpperName depth ∷ []) behind
+pub joint_read : {symbol : Nonterminal} {joint : Punctuator} {token : Lexed} {from after : Spot} (depth : ℕ) (table : List (List ℕ)) → JoinsName symbol joint
+    → TakesKind (lexeme.Punctuator joint) token from after → depth ≤ limit
+    → HasRead (One symbol) depth table table from (λ rest. Leaf (Token token) depth rest) (Terminal UpperName depth ∷ []) after
 joint_read {symbol} {from = from} depth table so takes within =
     over_token (opens (One symbol) depth table from _ (part_opened symbol _ depth so.nonterminal_is so.nonterminal_counts (joint_begins so _ ∙ fits_next refl takes))) takes refl refl within
 
--- over the name behind it
-pub joined_name_found : {symbol : Nonterminal} {joint : Punctuator} {token name : Lexed} {from name_at behind : Spot} {old table : List (List ℕ)} (depth : ℕ) → JoinsName symbol joint
-    → TakesKind (lexeme.Punctuator joint) token from name_at → TakesKind lexeme.UpperName name name_at behind → table ≡ with_name old name.bytes → depth ≤ limit
-    → FoundAs (One symbol) depth old table from behind (λ names inside. inside ≡ Leaf (Token token) depth (Leaf (Token name) depth Empty))
+-- over the name after it
+pub joined_name_found : {symbol : Nonterminal} {joint : Punctuator} {token name : Lexed} {from name_at after : Spot} {old table : List (List ℕ)} (depth : ℕ) → JoinsName symbol joint
+    → TakesKind (lexeme.Punctuator joint) token from name_at → TakesKind lexeme.UpperName name name_at after → table ≡ with_name old name.bytes → depth ≤ limit
+    → FoundAs (One symbol) depth old table from after (λ names inside. inside ≡ Leaf (Token token) depth (Leaf (Token name) depth Empty))
 joined_name_found {old = old} depth so joint takes is within = all_read (over_name (joint_read depth old so joint within) takes refl refl within is) (λ names more. refl)
 
--- Names behind commas
+-- Names after commas
 
 -- a comma joins them
 joined_by_comma : JoinsName CommaUpper punctuator.Comma
 joined_by_comma = record { nonterminal_is = refl; nonterminal_counts = refl }
 
--- a comma opens the names behind commas
-commas_begin : {comma : Lexed} {from behind : Spot} (depth : ℕ) (table : List (List ℕ)) → TakesKind (lexeme.Punctuator punctuator.Comma) comma from behind
+-- a comma opens the names after commas
+commas_begin : {comma : Lexed} {from after : Spot} (depth : ℕ) (table : List (List ℕ)) → TakesKind (lexeme.Punctuator punctuator.Comma) comma from after
     → HasRead (Repeated CommaUpper) depth table table from (λ rest. rest) (Subgoal (One CommaUpper) depth ∷ Subgoal (Repeated CommaUpper) depth ∷ []) from
 commas_begin {from = from} depth table comma = opens (Repeated CommaUpper) depth table from _ (repeated_opened CommaUpper _ depth (joint_begins joined_by_comma _ ∙ fits_next refl comma))
 
 -- the trees of names with one more are those of the names before it
-one_behind : (names : List Name) (listed : List Declared) (last : Declared) (others : List DeclaredTree)
+one_after : (names : List Name) (listed : List Declared) (last : Declared) (others : List DeclaredTree)
     → map (declared_tree names) (listed ++ last ∷ []) ++ others ≡ map (declared_tree names) listed ++ declared_tree names last ∷ others
-one_behind names listed last others =
+one_after names listed last others =
     ap (λ (trees : List DeclaredTree). trees ++ others) (map-append (declared_tree names) listed (last ∷ [])) ∙ append_assoc (map (declared_tree names) listed) (declared_tree names last ∷ []) others
 
--- Names behind commas were read up to here, and the code has them behind a first one: what is found here as further ones is found with them
+-- Names after commas were read up to here, and the code has them after a first one: what is found here as further ones is found with them
 -- in front, and what refuses further ones refuses all.
 pub record NamesSoFar (old now : List (List ℕ)) (from here : Spot) (first : Declared) (listed : List Declared) : Type 0 where
   pub few : length now + length here.rest ≤ length old + length from.rest
@@ -100,11 +100,11 @@ first_name_so_far table from first items = record {
 }
 
 -- one more name, and what is found as further ones
-next_name_found : {comma name : Lexed} {from name_at behind to : Spot} {old table new : List (List ℕ)} (symbol : code_symbol.Symbol) (depth : ℕ) (others : List Name → List DeclaredTree)
-    → TakesKind (lexeme.Punctuator punctuator.Comma) comma from name_at → TakesKind lexeme.UpperName name name_at behind → symbol.0 ≡ number_of_name old name.bytes → table ≡ with_name old name.bytes → depth ≤ limit
-    → FoundAs (Repeated CommaUpper) depth table new behind to (λ names inside. others names ≡ more_names inside)
+next_name_found : {comma name : Lexed} {from name_at after to : Spot} {old table new : List (List ℕ)} (symbol : code_symbol.Symbol) (depth : ℕ) (others : List Name → List DeclaredTree)
+    → TakesKind (lexeme.Punctuator punctuator.Comma) comma from name_at → TakesKind lexeme.UpperName name name_at after → symbol.0 ≡ number_of_name old name.bytes → table ≡ with_name old name.bytes → depth ≤ limit
+    → FoundAs (Repeated CommaUpper) depth table new after to (λ names inside. others names ≡ more_names inside)
     → FoundAs (Repeated CommaUpper) depth old new from to (λ names inside. declared_tree names (record { place = name.place; name = symbol }) ∷ others names ≡ more_names inside)
-next_name_found {name = name} {from = from} {behind = behind} {old} {table} symbol depth others comma takes number is within found =
+next_name_found {name = name} {from = from} {after = after} {old} {table} symbol depth others comma takes number is within found =
     let one = joined_name_found depth joined_by_comma comma takes is within in
     all_read (over_part (over_part (commas_begin depth old comma) one) found) (λ names more.
     let since = goes_on_further (found_goes_on found) more in
@@ -112,21 +112,21 @@ next_name_found {name = name} {from = from} {behind = behind} {old} {table} symb
     ∙ (ap (λ (trees : List DeclaredTree). declared (Token name) ∷ trees) (found.is names more)
     ∙ sym (ap (λ (inside : Forest). more_names (Node (One CommaUpper) inside (Node (Repeated CommaUpper) found.inside Empty))) (one.is names since))))
 
--- and one more behind a comma
-pub next_name_so_far : {comma name : Lexed} {old now table : List (List ℕ)} {from here name_at behind : Spot} {first : Declared} {listed longer : List Declared} (symbol : code_symbol.Symbol)
+-- and one more after a comma
+pub next_name_so_far : {comma name : Lexed} {old now table : List (List ℕ)} {from here name_at after : Spot} {first : Declared} {listed longer : List Declared} (symbol : code_symbol.Symbol)
     → NamesSoFar old now from here first listed → longer ≡ listed ++ record { place = name.place; name = symbol } ∷ []
-    → TakesKind (lexeme.Punctuator punctuator.Comma) comma here name_at → TakesKind lexeme.UpperName name name_at behind → symbol.0 ≡ number_of_name now name.bytes → table ≡ with_name now name.bytes
-    → NamesSoFar old table from behind first longer
+    → TakesKind (lexeme.Punctuator punctuator.Comma) comma here name_at → TakesKind lexeme.UpperName name name_at after → symbol.0 ≡ number_of_name now name.bytes → table ≡ with_name now name.bytes
+    → NamesSoFar old table from after first longer
 next_name_so_far {name = name} {now = now} {listed = listed} symbol before items comma takes number is = record {
   few = omega (arith, before.few, token_shorter comma.takes, token_shorter takes.takes, ap length is, few_more now (name.bytes ∷ []));
   found = λ depth within others found.
       let last : Declared = record { place = name.place; name = symbol } in
       found_weaker (before.found depth within (λ names. declared_tree names last ∷ others names) (next_name_found symbol depth others comma takes number is within found)) (λ names more same.
-      ap (λ (l : List Declared). map (declared_tree names) l ++ others names) items ∙ (one_behind names listed last (others names) ∙ same));
+      ap (λ (l : List Declared). map (declared_tree names) l ++ others names) items ∙ (one_after names listed last (others names) ∙ same));
   refused = λ depth within error refused. before.refused depth within error (refused_inside (over_part (commas_begin depth now comma) (joined_name_found depth joined_by_comma comma takes is within)) error refused);
 }
 
--- behind a comma they are refused where no name stands
+-- after a comma they are refused where no name stands
 pub refused_next_name : {comma : Lexed} {old now : List (List ℕ)} {from here name_at : Spot} {first : Declared} {listed : List Declared} (depth : ℕ) (error : SourceError)
     → NamesSoFar old now from here first listed → TakesKind (lexeme.Punctuator punctuator.Comma) comma here name_at → depth ≤ limit → IsRefused (Terminal UpperName depth) name_at error
     → IsRefused (Subgoal (Repeated CommaUpper) depth) from error
@@ -141,29 +141,29 @@ all_names_found {now = now} {here = here} {listed = listed} depth before other w
     let none = nothing_found (Repeated CommaUpper) depth now here (repeated_ends CommaUpper _ depth (joint_begins joined_by_comma _ ∙ other)) in
     found_weaker (before.found depth within (λ names. []) (found_weaker none (λ names more is. sym (ap more_names is)))) (λ names more same. sym (append-nil (map (declared_tree names) listed)) ∙ same)
 
--- Such names behind a token and a first one
+-- Such names after a token and a first one
 
--- The table says that a nonterminal is a token of this kind, a name, any number behind commas, and these items; and that it does not count.
+-- The table says that a nonterminal is a token of this kind, a name, any number after commas, and these items; and that it does not count.
 pub record HasNames (symbol : Nonterminal) (kind : Lexeme) (items : List Item) : Type 0 where
   pub nonterminal_is : rule symbol ≡ (Of (asked kind) ∷ upper ∷ Many CommaUpper ∷ items) ∷ []
   pub nonterminal_counts : counts symbol ≡ false
   pub kind_asked : is_asked kind ≡ true
   pub no_name : is_name kind ≡ false
 
--- the list behind a word before interfaces is so
+-- the list after a word before interfaces is so
 abbrev pub HeadsNames : Heading → Keyword → Type 0
-HeadsNames of word = HasNames (nonterminal_of of) (lexeme.Keyword word) []
+HeadsNames of keyword = HasNames (nonterminal_of of) (lexeme.Keyword keyword) []
 
--- behind `extends`
-pub extends_names : {of : Heading} {word : Keyword} → of ≡ heading.Extends → word ≡ keyword.Extends → HeadsNames of word
+-- after `extends`
+pub extends_names : {of : Heading} {which : Keyword} → of ≡ heading.Extends → which ≡ keyword.Extends → HeadsNames of which
 extends_names of_is word_is = rw (of_is, word_is) (record { nonterminal_is = refl; nonterminal_counts = refl; kind_asked = refl; no_name = refl })
 
--- and behind `implements`
-pub implements_names : {of : Heading} {word : Keyword} → of ≡ heading.Implements → word ≡ keyword.Implements → HeadsNames of word
+-- and after `implements`
+pub implements_names : {of : Heading} {which : Keyword} → of ≡ heading.Implements → which ≡ keyword.Implements → HeadsNames of which
 implements_names of_is word_is = rw (of_is, word_is) (record { nonterminal_is = refl; nonterminal_counts = refl; kind_asked = refl; no_name = refl })
 
 -- the parameters of a type are so, before ">"
-pub type_parameter_names : HasNames TypeParameters (lexeme.Punctuator punctuator.Less) (sign punctuator.Greater ∷ [])
+pub type_parameter_names : HasNames TypeParameters (lexeme.Punctuator punctuator.Less) (punctuation punctuator.Greater ∷ [])
 type_parameter_names = record { nonterminal_is = refl; nonterminal_counts = refl; kind_asked = refl; no_name = refl }
 
 -- without the token they are left out
@@ -184,17 +184,17 @@ names_begin {symbol} {from = from} depth table so takes within =
     into_last (opens (Optional symbol) depth table from _ (optional_opened symbol _ depth begun))
     (over_token (opens (One symbol) depth table from _ (part_opened symbol _ depth so.nonterminal_is so.nonterminal_counts begun)) takes so.kind_asked so.no_name within)
 
--- The names were read, with their trees, and these items are left behind them.
+-- The names were read, with their trees, and these items are left after them.
 pub record NamesRead (symbol : Nonterminal) (depth : ℕ) (old new : List (List ℕ)) (from to : Spot) (items : List Item) (trees : List Name → List DeclaredTree) : Type 0 where
   pub make : Forest → Forest
   pub read : HasRead (Optional symbol) depth old new from make (place depth items) to
   pub is : (names : List Name) → GoesOn new names → (rest : Forest) → trees names ≡ names_maybe (make rest)
 
--- over the first name and those behind commas
-pub names_read : {symbol : Nonterminal} {kind : Lexeme} {items : List Item} {first name : Lexed} {from name_at behind to : Spot} {old table new : List (List ℕ)} {depth : ℕ}
+-- over the first name and those after commas
+pub names_read : {symbol : Nonterminal} {kind : Lexeme} {items : List Item} {first name : Lexed} {from name_at after to : Spot} {old table new : List (List ℕ)} {depth : ℕ}
     (of_name : code_symbol.Symbol) (trees : List Name → List DeclaredTree) → HasNames symbol kind items
-    → TakesKind kind first from name_at → TakesKind lexeme.UpperName name name_at behind → of_name.0 ≡ number_of_name old name.bytes → table ≡ with_name old name.bytes → depth ≤ limit
-    → FoundAs (Repeated CommaUpper) depth table new behind to (λ names inside. trees names ≡ declared_tree names (record { place = name.place; name = of_name }) ∷ more_names inside)
+    → TakesKind kind first from name_at → TakesKind lexeme.UpperName name name_at after → of_name.0 ≡ number_of_name old name.bytes → table ≡ with_name old name.bytes → depth ≤ limit
+    → FoundAs (Repeated CommaUpper) depth table new after to (λ names inside. trees names ≡ declared_tree names (record { place = name.place; name = of_name }) ∷ more_names inside)
     → NamesRead symbol depth old new from to items trees
 names_read {name = name} {old = old} {depth = depth} of_name trees so first takes number is within found = record {
   make = λ rest. Node (One _) (Leaf (Token _) depth (Leaf (Token name) depth (Node (Repeated CommaUpper) found.inside rest))) Empty;

@@ -48,7 +48,7 @@ pub param_typed : {depth : ℕ} {old now : List (List ℕ)} {from name_at : Spot
     → HasRead (One Param) depth old now from (λ rest. Node (One Type') type.inside rest) (Terminal LowerName depth ∷ []) name_at
 param_typed {depth} {old} {from = from} type = over_part (opens (One Param) depth old from _ (param_opened _ depth (part_begun Type' _ depth type.rule_is))) type
 
--- the tree of a parameter is made of that of its type and of its name, whatever others stand behind it
+-- the tree of a parameter is made of that of its type and of its name, whatever others stand after it
 param_kept : {held_type type : TypeTree} {held_name name : Name} (place : Place) (others : List ParamTree) → held_type ≡ type → held_name ≡ name
     → record { type_of = held_type; place = place; variable = Unresolved held_name } ∷ others ≡ record { type_of = type; place = place; variable = Unresolved name } ∷ others
 param_kept {held_type} {name = name} place others type_is name_is =
@@ -92,9 +92,9 @@ trees_of_params = record {
   one_in = param_in;
   list_in = params_in;
   others_in = more_params;
-  list_is = λ one behind first others. refl;
+  list_is = λ one after first others. refl;
   others_none = refl;
-  others_more = λ next one behind mark depth first others. refl;
+  others_more = λ next one after mark depth first others. refl;
 }
 
 -- parameters begin with an upper-case name

@@ -24,8 +24,8 @@ use Rattle.abs_parser.proofs.grammar.BeginningLemmas.{may_begin, first_kinds}
 use Rattle.abs_parser.proofs.grammar.DigitLemmas.{narrowed}
 use Rattle.abs_parser.proofs.grammar.FirstTokens.{begins_by_kind}
 use Rattle.abs_parser.proofs.reader.StepLemmas.{HasRead, opens, all_read, refused_inside, refused_first_token, refused_shut, next_is}
-use Rattle.abs_parser.proofs.grammar.PatternLemmas.{behind_first, pattern_opened, any_opened, minus_opened, sign_shut, end_shut}
-use Rattle.abs_parser.proofs.grammar.AskedLemmas.{sign_fits}
+use Rattle.abs_parser.proofs.grammar.PatternLemmas.{after_first, pattern_opened, any_opened, minus_opened, punctuator_shut, end_shut}
+use Rattle.abs_parser.proofs.grammar.AskedLemmas.{punctuator_fits}
 use Rattle.abs_parser.proofs.grammar.NonterminalLemmas.{part_shut}
 
 -- the next token has the kind that it is taken for
@@ -37,8 +37,8 @@ pub next_end : (spot : Spot) → spot.rest ≡ [] → next (left_at spot) ≡ En
 next_end spot e = rw e refl
 
 -- a pattern is opened by the token that begins it
-pub pattern_begins : {kind : Lexeme} {token : Lexed} {from behind : Spot} (depth : ℕ) (table : List (List ℕ)) → TakesKind kind token from behind → may_begin kind ≡ true
-    → HasRead (One Pattern) depth table table from (λ rest. rest) (Terminal (asked kind) (depth + 1) ∷ behind_first kind (depth + 1)) from
+pub pattern_begins : {kind : Lexeme} {token : Lexed} {from after : Spot} (depth : ℕ) (table : List (List ℕ)) → TakesKind kind token from after → may_begin kind ≡ true
+    → HasRead (One Pattern) depth table table from (λ rest. rest) (Terminal (asked kind) (depth + 1) ∷ after_first kind (depth + 1)) from
 pattern_begins {kind} {token} {from} depth table takes is =
     opens (One Pattern) depth table from _
     (ap (λ (k : TokenKind). opened (One Pattern) k depth) (next_taken takes) ∙ pattern_opened kind token.bytes depth (sym (begins_by_kind first_kinds kind token.bytes) ∙ is))
@@ -49,30 +49,30 @@ refused_at_end depth from error is none =
     rw is (refused_shut (One Pattern) depth from (ap (λ (k : TokenKind). opened (One Pattern) k depth) (next_end from none) ∙ end_shut depth))
 
 -- a token that begins no pattern is refused
-pub refused_no_pattern : {token : Lexed} {from behind : Spot} (depth : ℕ) (error : SourceError) → error ≡ Refused (wrong_at from) → TakesToken token from behind
+pub refused_no_pattern : {token : Lexed} {from after : Spot} (depth : ℕ) (error : SourceError) → error ≡ Refused (wrong_at from) → TakesToken token from after
     → begins Pattern (token_kind_of token.kind token.bytes) ≡ false → IsRefused (Subgoal (One Pattern) depth) from error
 refused_no_pattern {token} {from} depth error is takes none =
     rw is (refused_shut (One Pattern) depth from (part_shut Pattern (next (left_at from)) depth (ap (begins Pattern) (next_is takes) ∙ none)))
 
 -- where the token that begins a pattern is refused, so is the pattern
-pub refused_pattern : {kind : Lexeme} {token : Lexed} {from behind : Spot} (depth : ℕ) (error : SourceError) → TakesKind kind token from behind → may_begin kind ≡ true
+pub refused_pattern : {kind : Lexeme} {token : Lexed} {from after : Spot} (depth : ℕ) (error : SourceError) → TakesKind kind token from after → may_begin kind ≡ true
     → IsRefused (Terminal (asked kind) (depth + 1)) from error → IsRefused (Subgoal (One Pattern) depth) from error
 refused_pattern depth error takes is refused = refused_inside (pattern_begins depth [] takes is) error refused
 
 -- and so it is for an underscore
-pub refused_underscore : (depth : ℕ) (from : Spot) (error : SourceError) (sign : Punctuator) {is : Bool} → next (left_at from) ≡ PunctuatorKind sign → is ≡ sameb the_type sign punctuator.Underscore → is ≡ true
+pub refused_underscore : (depth : ℕ) (from : Spot) (error : SourceError) (which : Punctuator) {is : Bool} → next (left_at from) ≡ PunctuatorKind which → is ≡ sameb the_type which punctuator.Underscore → is ≡ true
     → IsRefused (Terminal (PunctuatorKind punctuator.Underscore) (depth + 1)) from error → IsRefused (Subgoal (One Pattern) depth) from error
-refused_underscore depth from error sign stands tells holds refused =
+refused_underscore depth from error which stands tells holds refused =
     refused_inside (opens (One Pattern) depth [] from _
-    (ap (λ (k : TokenKind). opened (One Pattern) k depth) (stands ∙ ap PunctuatorKind (same_true the_type tt sign punctuator.Underscore (sym tells ∙ holds))) ∙ any_opened depth)) error refused
+    (ap (λ (k : TokenKind). opened (One Pattern) k depth) (stands ∙ ap PunctuatorKind (same_true the_type tt which punctuator.Underscore (sym tells ∙ holds))) ∙ any_opened depth)) error refused
 
 -- any other sign is refused where a minus is
-pub refused_minus : (depth : ℕ) (from : Spot) (error : SourceError) (sign : Punctuator) {is : Bool} → next (left_at from) ≡ PunctuatorKind sign → is ≡ sameb the_type sign punctuator.Underscore → is ≡ false
+pub refused_minus : (depth : ℕ) (from : Spot) (error : SourceError) (which : Punctuator) {is : Bool} → next (left_at from) ≡ PunctuatorKind which → is ≡ sameb the_type which punctuator.Underscore → is ≡ false
     → IsRefused (Terminal (PunctuatorKind punctuator.Minus) (depth + 1)) from error → IsRefused (Subgoal (One Pattern) depth) from error
-refused_minus depth from error sign stands tells fails refused =
+refused_minus depth from error which stands tells fails refused =
     refused_first_token (PunctuatorKind punctuator.Minus) (depth + 1) (One Pattern) depth from error
-    (λ fit. ap (λ (k : TokenKind). opened (One Pattern) k depth) (sign_fits punctuator.Minus _ fit) ∙ minus_opened depth)
-    (λ other. ap (λ (k : TokenKind). opened (One Pattern) k depth) stands ∙ sign_shut sign depth (sym tells ∙ fails) (ap (fits (PunctuatorKind punctuator.Minus)) (sym stands) ∙ other)) refused
+    (λ fit. ap (λ (k : TokenKind). opened (One Pattern) k depth) (punctuator_fits punctuator.Minus _ fit) ∙ minus_opened depth)
+    (λ other. ap (λ (k : TokenKind). opened (One Pattern) k depth) stands ∙ punctuator_shut which depth (sym tells ∙ fails) (ap (fits (PunctuatorKind punctuator.Minus)) (sym stands) ∙ other)) refused
 
 -- a part of nothing is found where the next token leaves it out
 pub nothing_found : (goal : Goal) (depth : ℕ) (table : List (List ℕ)) (from : Spot) → opened goal (next (left_at from)) depth ≡ Some []
@@ -91,7 +91,7 @@ pub refused_unfit : (part : Goal) (at : ℕ) (kind : TokenKind) (depth : ℕ) (s
     → fits kind (next (left_at spot)) ≡ false → IsRefused (Subgoal part at) spot error → IsRefused (Terminal kind depth) spot error
 refused_unfit part at kind depth spot (Refused refusal) closed differs refused = λ items.
     let found = refused items in
-    record { mark = found.mark; behind = found.behind; code = found.code; refuses = unfit_by kind depth closed differs found.refuses; refusal_is = found.refusal_is }
+    record { mark = found.mark; after = found.after; code = found.code; refuses = unfit_by kind depth closed differs found.refuses; refusal_is = found.refusal_is }
 refused_unfit part at kind depth spot Memory closed differs refused = λ items. tt
 
 -- a negative number of 127 bits is one of the signed type of 128

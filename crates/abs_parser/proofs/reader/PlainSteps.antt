@@ -1,5 +1,5 @@
 -- The steps of the reader of a right side as a statement: what the statement consists of, where the next token begins no other statement;
--- where it is refused; and how it is the right side with the semicolon behind it.
+-- where it is refused; and how it is the right side with the semicolon after it.
 use Rattle.std.proofs.Common.{◌≡◌, ◌≤◌, ℕ, ◌+◌, true, false, cond, List, [], ◌∷◌, Some, None, refl, sym, ◌∙◌}
 use Rattle.std.proofs.lemmas.Bool.{cond-true, cond-false}
 use Rattle.abs_lexer.specs.declared.lexeme.Keyword.TheVariants as keyword
@@ -54,15 +54,15 @@ pub plain_refused : (depth : ℕ) (from : Spot) (error : SourceError) → begins
 plain_refused depth from error no_other refused = refused_in_front Rhs (depth + 1) (One Stmt) depth from error (plain_opened _ depth no_other) (plain_shut _ depth no_other) refused
 
 -- over the right side
-pub plain_begins : {from behind : Spot} {depth : ℕ} {old now : List (List ℕ)} {is_read : List (List ℕ) → Forest → Type 0} → begins_another (next (left_at from)) ≡ false
-    → (side : FoundAs (One Rhs) (depth + 1) old now from behind is_read)
-    → HasRead (One Stmt) depth old now from (λ rest. Node (One Rhs) side.inside rest) (Terminal (PunctuatorKind punctuator.Semicolon) (depth + 1) ∷ []) behind
+pub plain_begins : {from after : Spot} {depth : ℕ} {old now : List (List ℕ)} {is_read : List (List ℕ) → Forest → Type 0} → begins_another (next (left_at from)) ≡ false
+    → (side : FoundAs (One Rhs) (depth + 1) old now from after is_read)
+    → HasRead (One Stmt) depth old now from (λ rest. Node (One Rhs) side.inside rest) (Terminal (PunctuatorKind punctuator.Semicolon) (depth + 1) ∷ []) after
 plain_begins {from} {depth = depth} {old} no_other side = over_part (opens (One Stmt) depth old from _ (plain_opened _ depth no_other (part_begun Rhs _ (depth + 1) side.rule_is))) side
 
--- the right side with the semicolon behind it is found as a statement
-pub plain_found : {semicolon : Lexed} {from behind to : Spot} {depth : ℕ} {old now : List (List ℕ)} {place : Place} (index : ℕ) (side : RightSide)
-    → begins_another (next (left_at from)) ≡ false → place ≡ place_of from → FoundAs (One Rhs) (depth + 1) old now from behind (λ names inside. side_tree names side ≡ rhs_in inside)
-    → TakesKind (lexeme.Punctuator punctuator.Semicolon) semicolon behind to → depth + 1 ≤ limit
+-- the right side with the semicolon after it is found as a statement
+pub plain_found : {semicolon : Lexed} {from after to : Spot} {depth : ℕ} {old now : List (List ℕ)} {place : Place} (index : ℕ) (side : RightSide)
+    → begins_another (next (left_at from)) ≡ false → place ≡ place_of from → FoundAs (One Rhs) (depth + 1) old now from after (λ names inside. side_tree names side ≡ rhs_in inside)
+    → TakesKind (lexeme.Punctuator punctuator.Semicolon) semicolon after to → depth + 1 ≤ limit
     → FoundAs (One Stmt) depth old now from to (λ names inside. DoOf index place (side_tree names side) ≡ statement_in index inside)
 plain_found index side no_other at found semicolon within =
     all_read (over_token (plain_begins no_other found) semicolon refl refl within) (λ names more. rw (at, sym (first_place_found found), found.is names more) refl)

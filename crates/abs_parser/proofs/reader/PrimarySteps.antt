@@ -1,4 +1,4 @@
--- The steps of the readers of unaries and primaries: over the token that begins one, and over what stands behind `this`; where they are
+-- The steps of the readers of unaries and primaries: over the token that begins one, and over what stands after `this`; where they are
 -- refused; and how a unary is the primary that it consists of.
 use Rattle.std.proofs.Common.{◌≡◌, ◌≤◌, ℕ, ◌+◌, true, false, List, [], ◌∷◌, Option, Some, refl, sym, ap, subst, ◌∙◌}
 use Rattle.std.specs.declared.alloc.Global.{Global}
@@ -15,7 +15,7 @@ use Rattle.abs_tree.specs.Names.{with_name, number_of_name}
 use Rattle.abs_tree.specs.SyntaxViews.{phrase}
 use Rattle.abs_tree.specs.Trees.{name_of}
 use Rattle.abs_parser.specs.TokenKinds.{Token, TokenKind, token_kind_of, LowerName, UpperName, KeywordKind, PunctuatorKind, fits, next}
-use Rattle.abs_parser.specs.Precedences.{prefix_sign}
+use Rattle.abs_parser.specs.Precedences.{prefix_punctuator}
 use Rattle.abs_parser.specs.Productions.{begins, Unary, Primary, ThisTail, Arguments}
 use Rattle.abs_parser.specs.Readings.{One, Optional, Terminal, Subgoal, opened, Forest, Empty, Leaf, Node}
 use Rattle.abs_parser.specs.ReaderAnswers.{left_at, asked, maybe_phrases, wrong_at, TakesKind, FoundAs, IsRefused}
@@ -29,48 +29,48 @@ use Rattle.abs_parser.proofs.grammar.NameLemmas.{goes_on_further}
 use Rattle.abs_parser.proofs.reader.StepLemmas.{HasRead, opens, over_token, over_name, over_part, into_last, all_read, refused_inside, refused_first_token, refused_shut, next_is, is_name, found_goes_on, symbol_kept, fits_next}
 use Rattle.abs_lexer.specs.declared.lexeme.Keyword.{Keyword}
 use Rattle.abs_lexer.specs.declared.lexeme.Punctuator.{Punctuator}
-use Rattle.abs_parser.proofs.grammar.AskedLemmas.{sign_fits}
+use Rattle.abs_parser.proofs.grammar.AskedLemmas.{punctuator_fits}
 use Rattle.abs_parser.proofs.reader.InFrontSteps.{refused_in_front}
 use Rattle.abs_parser.proofs.grammar.NonterminalLemmas.{part_begun}
-use Rattle.abs_parser.proofs.reader.WordSteps.{word_refused}
+use Rattle.abs_parser.proofs.reader.KeywordSteps.{keyword_refused}
 use Rattle.abs_parser.proofs.reader.PatternSteps.{next_taken, next_end}
-use Rattle.abs_parser.proofs.grammar.PrimaryLemmas.{may_begin, first_kinds, behind_first, primary_opened, lower_opened, upper_opened, first_asked, primary_shut, primary_end, group_shut, operand_opened, prefix_opened, unary_shut, unary_end, tail_follows, tail_opened}
+use Rattle.abs_parser.proofs.grammar.PrimaryLemmas.{may_begin, first_kinds, after_first, primary_opened, lower_opened, upper_opened, first_asked, primary_shut, primary_end, group_shut, operand_opened, prefix_opened, unary_shut, unary_end, tail_follows, tail_opened}
 
 -- the next token is one of a kind, where its kind is known
-pub stands : {kind : Lexeme} {token : Lexed} {from behind : Spot} → TakesToken token from behind → token.kind ≡ kind → TakesKind kind token from behind
+pub stands : {kind : Lexeme} {token : Lexed} {from after : Spot} → TakesToken token from after → token.kind ≡ kind → TakesKind kind token from after
 stands takes is = record { kind_is = is; takes = takes }
 
 -- a primary is opened by the token that begins it
-primary_begins : {kind : Lexeme} {token : Lexed} {from behind : Spot} (depth : ℕ) → TakesKind kind token from behind → may_begin kind ≡ true
-    → opened (One Primary) (next (left_at from)) depth ≡ Some (Terminal (asked kind) depth ∷ behind_first kind depth)
+primary_begins : {kind : Lexeme} {token : Lexed} {from after : Spot} (depth : ℕ) → TakesKind kind token from after → may_begin kind ≡ true
+    → opened (One Primary) (next (left_at from)) depth ≡ Some (Terminal (asked kind) depth ∷ after_first kind depth)
 primary_begins {kind} {token} depth takes is =
     ap (λ (k : TokenKind). opened (One Primary) k depth) (next_taken takes) ∙ primary_opened kind token.bytes depth is
 
 -- over the token that begins it, where that is no name
-pub first_read : {kind : Lexeme} {token : Lexed} {from behind : Spot} (depth : ℕ) (table : List (List ℕ)) → TakesKind kind token from behind → may_begin kind ≡ true → is_name kind ≡ false
-    → depth ≤ limit → HasRead (One Primary) depth table table from (λ rest. Leaf (Token token) depth rest) (behind_first kind depth) behind
+pub first_read : {kind : Lexeme} {token : Lexed} {from after : Spot} (depth : ℕ) (table : List (List ℕ)) → TakesKind kind token from after → may_begin kind ≡ true → is_name kind ≡ false
+    → depth ≤ limit → HasRead (One Primary) depth table table from (λ rest. Leaf (Token token) depth rest) (after_first kind depth) after
 first_read {kind} {from = from} depth table takes is no_name within =
     over_token {kind = kind} (opens (One Primary) depth table from _ (primary_begins depth takes is)) takes (first_asked kind is) no_name within
 
 -- over the name that begins it, which the table has then
-pub name_read : {kind : Lexeme} {token : Lexed} {from behind : Spot} {names : List (List ℕ)} (depth : ℕ) (table : List (List ℕ)) → TakesKind kind token from behind → may_begin kind ≡ true
+pub name_read : {kind : Lexeme} {token : Lexed} {from after : Spot} {names : List (List ℕ)} (depth : ℕ) (table : List (List ℕ)) → TakesKind kind token from after → may_begin kind ≡ true
     → is_name kind ≡ true → depth ≤ limit → names ≡ with_name table token.bytes
-    → HasRead (One Primary) depth table names from (λ rest. Leaf (Token token) depth rest) (behind_first kind depth) behind
+    → HasRead (One Primary) depth table names from (λ rest. Leaf (Token token) depth rest) (after_first kind depth) after
 name_read {kind} {from = from} depth table takes is named within more =
     over_name {kind = kind} (opens (One Primary) depth table from _ (primary_begins depth takes is)) takes (first_asked kind is) named within more
 
--- over `this` and a dot, behind which a name is to stand
-pub member_begins : {this dot : Lexed} {from behind name_at : Spot} (depth : ℕ) (table : List (List ℕ))
-    → TakesKind (lexeme.Keyword keyword.This) this from behind → TakesKind (lexeme.Punctuator punctuator.Dot) dot behind name_at → depth ≤ limit
+-- over `this` and a dot, after which a name is to stand
+pub member_begins : {this dot : Lexed} {from after name_at : Spot} (depth : ℕ) (table : List (List ℕ))
+    → TakesKind (lexeme.Keyword keyword.This) this from after → TakesKind (lexeme.Punctuator punctuator.Dot) dot after name_at → depth ≤ limit
     → HasRead (One Primary) depth table table from (λ rest. Leaf (Token this) depth (Node (Optional ThisTail) (Node (One ThisTail) (Leaf (Token dot) depth rest) Empty) Empty))
     (Terminal LowerName depth ∷ Subgoal (Optional Arguments) depth ∷ []) name_at
-member_begins {behind = behind} depth table takes dotted within =
+member_begins {after = after} depth table takes dotted within =
     let fit = fits_next refl dotted in
     into_last (first_read depth table takes refl refl within)
-    (into_last (opens (Optional ThisTail) depth table behind _ (tail_follows depth _ fit))
-    (over_token {kind = lexeme.Punctuator punctuator.Dot} (opens (One ThisTail) depth table behind _ (tail_opened depth _ fit)) dotted refl refl within))
+    (into_last (opens (Optional ThisTail) depth table after _ (tail_follows depth _ fit))
+    (over_token {kind = lexeme.Punctuator punctuator.Dot} (opens (One ThisTail) depth table after _ (tail_opened depth _ fit)) dotted refl refl within))
 
--- a name with the arguments behind it, where there are any, is found
+-- a name with the arguments after it, where there are any, is found
 pub call_found : {depth : ℕ} {old table new : List (List ℕ)} {from here to : Spot} {make : Forest → Forest} {name : List ℕ} (now : List (List ℕ)) (symbol : Symbol) (given : Option (Vec Expr Global)) (expr : Expr)
     → HasRead (One Primary) depth old table from make (Subgoal (Optional Arguments) depth ∷ []) here → symbol.0 ≡ number_of_name now name → table ≡ with_name now name
     → (found : FoundAs (Optional Arguments) depth table new here to (λ names inside. maybe_phrases names given ≡ arguments_maybe inside))
@@ -81,14 +81,14 @@ call_found now symbol given expr so number more found is =
     all_read (over_part so found) (λ names further. is names (symbol_kept now symbol number more names (goes_on_further (found_goes_on found) further)) (found.is names further))
 
 -- over an operator before an operand
-pub prefix_read : {token : Lexed} {from behind : Spot} (operation : Prefix) (depth : ℕ) (table : List (List ℕ)) → TakesKind (lexeme.Punctuator (prefix_sign operation)) token from behind → depth + 1 ≤ limit
-    → HasRead (One Unary) depth table table from (λ rest. Leaf (Token token) (depth + 1) rest) (Subgoal (One Unary) (depth + 1) ∷ []) behind
+pub prefix_read : {token : Lexed} {from after : Spot} (operation : Prefix) (depth : ℕ) (table : List (List ℕ)) → TakesKind (lexeme.Punctuator (prefix_punctuator operation)) token from after → depth + 1 ≤ limit
+    → HasRead (One Unary) depth table table from (λ rest. Leaf (Token token) (depth + 1) rest) (Subgoal (One Unary) (depth + 1) ∷ []) after
 prefix_read {from = from} operation depth table takes within =
-    over_token {kind = lexeme.Punctuator (prefix_sign operation)}
+    over_token {kind = lexeme.Punctuator (prefix_punctuator operation)}
     (opens (One Unary) depth table from _ (ap (λ (k : TokenKind). opened (One Unary) k depth) (next_taken takes) ∙ prefix_opened operation depth)) takes refl refl within
 
 -- where the operator before an operand is refused, so is the unary
-pub prefix_refused : {token : Lexed} {from behind : Spot} (operation : Prefix) (depth : ℕ) (error : SourceError) → TakesToken token from behind → token.kind ≡ lexeme.Punctuator (prefix_sign operation)
+pub prefix_refused : {token : Lexed} {from after : Spot} (operation : Prefix) (depth : ℕ) (error : SourceError) → TakesToken token from after → token.kind ≡ lexeme.Punctuator (prefix_punctuator operation)
     → IsRefused (Terminal (asked token.kind) (depth + 1)) from error → IsRefused (Subgoal (One Unary) depth) from error
 prefix_refused {from = from} operation depth error takes is refused =
     refused_inside (opens (One Unary) depth [] from _ (ap (λ (k : TokenKind). opened (One Unary) k depth) (next_taken (stands takes is)) ∙ prefix_opened operation depth)) error
@@ -100,7 +100,7 @@ pub operand_found : {from to : Spot} {old new : List (List ℕ)} (depth : ℕ) (
 operand_found {from} {old = old} depth expr found = all_read (over_part (opens (One Unary) depth old from _ (operand_opened _ depth (part_begun Primary _ (depth + 1) found.rule_is))) found) found.is
 
 -- and where that is refused, so is the unary
-pub operand_refused : {token : Lexed} {from behind : Spot} (depth : ℕ) (error : SourceError) → TakesToken token from behind → ((operation : Prefix) → token.kind ≡ lexeme.Punctuator (prefix_sign operation) → ⊥)
+pub operand_refused : {token : Lexed} {from after : Spot} (depth : ℕ) (error : SourceError) → TakesToken token from after → ((operation : Prefix) → token.kind ≡ lexeme.Punctuator (prefix_punctuator operation) → ⊥)
     → IsRefused (Subgoal (One Primary) (depth + 1)) from error → IsRefused (Subgoal (One Unary) depth) from error
 operand_refused {token} {from} depth error takes no_prefix refused =
     refused_in_front Primary (depth + 1) (One Unary) depth from error (operand_opened _ depth)
@@ -108,7 +108,7 @@ operand_refused {token} {from} depth error takes no_prefix refused =
     ∙ unary_shut token.kind token.bytes depth (begins_by_kind first_kinds token.kind token.bytes ∙ (ap (begins Primary) (sym (next_is takes)) ∙ none)) no_prefix) refused
 
 -- where the token that begins a primary is refused, so is the primary
-pub refused_primary : {kind : Lexeme} {token : Lexed} {from behind : Spot} (depth : ℕ) (error : SourceError) → TakesKind kind token from behind → may_begin kind ≡ true
+pub refused_primary : {kind : Lexeme} {token : Lexed} {from after : Spot} (depth : ℕ) (error : SourceError) → TakesKind kind token from after → may_begin kind ≡ true
     → IsRefused (Terminal (asked kind) depth) from error → IsRefused (Subgoal (One Primary) depth) from error
 refused_primary {from = from} depth error takes is refused = refused_inside (opens (One Primary) depth [] from _ (primary_begins depth takes is)) error refused
 
@@ -123,17 +123,17 @@ pub refused_upper : (depth : ℕ) (from : Spot) (error : SourceError) → fits U
 refused_upper depth from error fit refused = refused_inside (opens (One Primary) depth [] from _ (upper_opened _ depth fit)) error refused
 
 -- and for a sign, where "(" is asked for
-pub refused_group : (depth : ℕ) (from : Spot) (error : SourceError) (sign : Punctuator) → next (left_at from) ≡ PunctuatorKind sign → IsRefused (Terminal (PunctuatorKind punctuator.OpenParen) depth) from error
+pub refused_group : (depth : ℕ) (from : Spot) (error : SourceError) (which : Punctuator) → next (left_at from) ≡ PunctuatorKind which → IsRefused (Terminal (PunctuatorKind punctuator.OpenParen) depth) from error
     → IsRefused (Subgoal (One Primary) depth) from error
-refused_group depth from error sign is refused =
+refused_group depth from error which is refused =
     refused_first_token (PunctuatorKind punctuator.OpenParen) depth (One Primary) depth from error
-    (λ fit. ap (λ (k : TokenKind). opened (One Primary) k depth) (sign_fits punctuator.OpenParen _ fit) ∙ primary_opened (lexeme.Punctuator punctuator.OpenParen) [] depth refl)
-    (λ differs. ap (λ (k : TokenKind). opened (One Primary) k depth) is ∙ group_shut sign depth (ap (fits (PunctuatorKind punctuator.OpenParen)) (sym is) ∙ differs)) refused
+    (λ fit. ap (λ (k : TokenKind). opened (One Primary) k depth) (punctuator_fits punctuator.OpenParen _ fit) ∙ primary_opened (lexeme.Punctuator punctuator.OpenParen) [] depth refl)
+    (λ differs. ap (λ (k : TokenKind). opened (One Primary) k depth) is ∙ group_shut which depth (ap (fits (PunctuatorKind punctuator.OpenParen)) (sym is) ∙ differs)) refused
 
 -- a word that begins a primary is refused where it is asked for
-pub refused_word : (word : Keyword) (depth : ℕ) (from : Spot) (error : SourceError) → may_begin (lexeme.Keyword word) ≡ true → fits (KeywordKind word) (next (left_at from)) ≡ true
-    → IsRefused (Terminal (KeywordKind word) depth) from error → IsRefused (Subgoal (One Primary) depth) from error
-refused_word word depth from error is fit refused = word_refused (One Primary) depth from error (primary_opened (lexeme.Keyword word) [] depth is) fit refused
+pub refused_keyword : (keyword : Keyword) (depth : ℕ) (from : Spot) (error : SourceError) → may_begin (lexeme.Keyword keyword) ≡ true → fits (KeywordKind keyword) (next (left_at from)) ≡ true
+    → IsRefused (Terminal (KeywordKind keyword) depth) from error → IsRefused (Subgoal (One Primary) depth) from error
+refused_keyword keyword depth from error is fit refused = keyword_refused (One Primary) depth from error (primary_opened (lexeme.Keyword keyword) [] depth is) fit refused
 
 -- at the end of the source a unary is refused
 pub unary_refused_at_end : (depth : ℕ) (from : Spot) (error : SourceError) → error ≡ Refused (wrong_at from) → from.rest ≡ [] → IsRefused (Subgoal (One Unary) depth) from error

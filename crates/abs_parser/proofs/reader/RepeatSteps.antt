@@ -1,5 +1,5 @@
--- The step of a reader over one more of the parts that may stand any number of times, where something stands behind them: what was read of
--- the part comes before what is read as the further ones. And a part that has a token behind its first part leaves fewer tokens.
+-- The step of a reader over one more of the parts that may stand any number of times, where something stands after them: what was read of
+-- the part comes before what is read as the further ones. And a part that has a token after its first part leaves fewer tokens.
 use Rattle.std.proofs.Common.{◌≡◌, ◌≤◌, ◌<◌, ℕ, ◌+◌, Bool, true, false, List, [], ◌∷◌, ◌++◌, length, Option, Some, refl, sym, ap, subst, ◌∙◌, fold, arith}
 use Rattle.std.specs.Prelude.{unwrap_or}
 use Rattle.abs_tree.specs.Names.{with_name}
@@ -11,52 +11,52 @@ use Rattle.abs_parser.specs.Refusing.{AllWithin, Open}
 use Rattle.abs_parser.specs.Tokens.{Spot}
 use Rattle.abs_tree.specs.declared.source_error.SourceError.{SourceError}
 use Rattle.abs_lexer.specs.declared.lexeme.Punctuator.{Punctuator}
-use Rattle.abs_parser.proofs.grammar.AskedLemmas.{sign_fits}
+use Rattle.abs_parser.proofs.grammar.AskedLemmas.{punctuator_fits}
 use Rattle.abs_parser.proofs.reader.PatternSteps.{nothing_found, refused_unfit}
 use Rattle.abs_parser.proofs.grammar.NonterminalLemmas.{part_shut, repeated_opened, repeated_ends}
-use Rattle.abs_parser.proofs.stop.MoveLemmas.{refuses_behind, within_first, within_second}
+use Rattle.abs_parser.proofs.stop.MoveLemmas.{refuses_after, within_first, within_second}
 use Rattle.abs_parser.proofs.grammar.NameLemmas.{goes_on_further}
 use Rattle.abs_parser.proofs.reader.StepLemmas.{HasRead, opens, over_part, refused_inside, within_both, table_of_both, found_goes_on, found_few, found_shorter, reads_shorter, left_length}
 
--- one part before what was read as further ones, with what stands behind them
+-- one part before what was read as further ones, with what stands after them
 abbrev pub in_front : Nonterminal → Forest → Forest → Forest
-in_front nonterminal inside (Node goal others behind) = Node (Repeated nonterminal) (Node (One nonterminal) inside (Node goal others Empty)) behind
+in_front nonterminal inside (Node goal others after) = Node (Repeated nonterminal) (Node (One nonterminal) inside (Node goal others Empty)) after
 in_front nonterminal inside others = Node (One nonterminal) inside others
 
--- the part is read, then the further ones, and then what stands behind them
+-- the part is read, then the further ones, and then what stands after them
 front_reads : {nonterminal : Nonterminal} {at : ℕ} {inner left : List Wanted} {ts middle to : List Mark} {inside rest : Forest}
     → opened (Repeated nonterminal) (next ts) at ≡ Some (Subgoal (One nonterminal) at ∷ Subgoal (Repeated nonterminal) at ∷ []) → opened (One nonterminal) (next ts) at ≡ Some inner
     → Reads inner ts inside middle → Reads (Subgoal (Repeated nonterminal) at ∷ left) middle rest to
     → Reads (Subgoal (Repeated nonterminal) at ∷ left) ts (in_front nonterminal inside rest) to
-front_reads more is reads (Opened e first behind) = Opened more (Opened is reads (Opened e first Nothing)) behind
+front_reads more is reads (Opened e first after) = Opened more (Opened is reads (Opened e first Nothing)) after
 
 -- no token is too deep where none is in the part and in the others
 front_within : (nonterminal : Nonterminal) (inside rest : Forest) → AllWithin (depths inside) → AllWithin (depths rest) → AllWithin (depths (in_front nonterminal inside rest))
-front_within nonterminal inside Empty here behind = within_both (depths inside) [] here behind
-front_within nonterminal inside (Leaf mark depth others) here behind = within_both (depths inside) (depth ∷ depths others) here behind
-front_within nonterminal inside (Node goal others after) here behind =
-    within_both (depths inside ++ (depths others ++ [])) (depths after)
-    (within_both (depths inside) (depths others ++ []) here (within_both (depths others) [] (within_first (depths others) (depths after) behind) tt))
-    (within_second (depths others) (depths after) behind)
+front_within nonterminal inside Empty here after = within_both (depths inside) [] here after
+front_within nonterminal inside (Leaf mark depth others) here after = within_both (depths inside) (depth ∷ depths others) here after
+front_within nonterminal inside (Node goal others last) here after =
+    within_both (depths inside ++ (depths others ++ [])) (depths last)
+    (within_both (depths inside) (depths others ++ []) here (within_both (depths others) [] (within_first (depths others) (depths last) after) tt))
+    (within_second (depths others) (depths last) after)
 
 -- the names in the part stand before those in the others
 front_names : (nonterminal : Nonterminal) (inside rest : Forest) (names : List (List ℕ)) → names_before (in_front nonterminal inside rest) names ≡ names_before inside (names_before rest names)
 front_names nonterminal inside Empty names = refl
 front_names nonterminal inside (Leaf mark depth others) names = refl
-front_names nonterminal inside (Node goal others behind) names = refl
+front_names nonterminal inside (Node goal others after) names = refl
 
--- over one more of the parts that repeat, before what stands behind them
-pub over_one_more : {goal : Goal} {nonterminal : Nonterminal} {depth at : ℕ} {old now new : List (List ℕ)} {from here behind : Spot} {make : Forest → Forest} {left : List Wanted}
+-- over one more of the parts that repeat, before what stands after them
+pub over_one_more : {goal : Goal} {nonterminal : Nonterminal} {depth at : ℕ} {old now new : List (List ℕ)} {from here after : Spot} {make : Forest → Forest} {left : List Wanted}
     {is_read : List (List ℕ) → Forest → Type 0} → HasRead goal depth old now from make (Subgoal (Repeated nonterminal) at ∷ left) here
     → opened (Repeated nonterminal) (next (left_at here)) at ≡ Some (Subgoal (One nonterminal) at ∷ Subgoal (Repeated nonterminal) at ∷ [])
-    → (found : FoundAs (One nonterminal) at now new here behind is_read)
-    → HasRead goal depth old new from (λ rest. make (in_front nonterminal found.inside rest)) (Subgoal (Repeated nonterminal) at ∷ left) behind
+    → (found : FoundAs (One nonterminal) at now new here after is_read)
+    → HasRead goal depth old new from (λ rest. make (in_front nonterminal found.inside rest)) (Subgoal (Repeated nonterminal) at ∷ left) after
 over_one_more {nonterminal = nonterminal} {now = now} so more found = record {
   inner = so.inner;
   rule_is = so.rule_is;
   reads = λ rest to reads. so.reads (in_front nonterminal found.inside rest) to (front_reads more found.rule_is found.reads reads);
   within = λ rest others. so.within (in_front nonterminal found.inside rest) (front_within nonterminal found.inside rest found.within others);
-  refuses = λ items to code refused. so.refuses items to code (Open more (Open found.rule_is (refuses_behind found.reads found.within refused)));
+  refuses = λ items to code refused. so.refuses items to code (Open more (Open found.rule_is (refuses_after found.reads found.within refused)));
   table = λ rest. so.table (in_front nonterminal found.inside rest)
       ∙ (ap (fold with_name now) (front_names nonterminal found.inside rest [])
       ∙ (table_of_both now found.inside (names_before rest [])
@@ -83,14 +83,14 @@ pub refused_up_to : {goal : Goal} {nonterminal : Nonterminal} {depth at last_at 
 refused_up_to {nonterminal = nonterminal} {here = here} kind error so other refused = up_to_by (begins nonterminal (next (left_at here))) kind error refl so other refused
 
 -- no part begins with what fits a punctuator with which none begins
-pub ends_at : (nonterminal : Nonterminal) (sign : Punctuator) → begins nonterminal (PunctuatorKind sign) ≡ false → (kind : TokenKind) → fits (PunctuatorKind sign) kind ≡ true → begins nonterminal kind ≡ false
-ends_at nonterminal sign none kind fit = ap (begins nonterminal) (sign_fits sign kind fit) ∙ none
+pub ends_at : (nonterminal : Nonterminal) (punctuator : Punctuator) → begins nonterminal (PunctuatorKind punctuator) ≡ false → (kind : TokenKind) → fits (PunctuatorKind punctuator) kind ≡ true → begins nonterminal kind ≡ false
+ends_at nonterminal punctuator none kind fit = ap (begins nonterminal) (punctuator_fits punctuator kind fit) ∙ none
 
 -- so where such a punctuator is next, there is no part
-pub none_before : (nonterminal : Nonterminal) (sign : Punctuator) (depth : ℕ) (table : List (List ℕ)) (here : Spot) → begins nonterminal (PunctuatorKind sign) ≡ false → fits (PunctuatorKind sign) (next (left_at here)) ≡ true
+pub none_before : (nonterminal : Nonterminal) (punctuator : Punctuator) (depth : ℕ) (table : List (List ℕ)) (here : Spot) → begins nonterminal (PunctuatorKind punctuator) ≡ false → fits (PunctuatorKind punctuator) (next (left_at here)) ≡ true
     → FoundAs (Repeated nonterminal) depth table table here here (λ names inside. inside ≡ Empty)
-none_before nonterminal sign depth table here none fit =
-    nothing_found (Repeated nonterminal) depth table here (repeated_ends nonterminal _ depth (ends_at nonterminal sign none _ fit))
+none_before nonterminal punctuator depth table here none fit =
+    nothing_found (Repeated nonterminal) depth table here (repeated_ends nonterminal _ depth (ends_at nonterminal punctuator none _ fit))
 
 -- what is read as a part, a token and others has a token
 token_read : {goal : Goal} {at depth : ℕ} {kind : TokenKind} {items : List Wanted} {ts to : List Mark} {forest : Forest} → Reads (Subgoal goal at ∷ Terminal kind depth ∷ items) ts forest to → length to + 1 ≤ length ts

@@ -1,5 +1,5 @@
--- The steps of the reader of what stands behind the first operand of a right side: over the operators of each precedence, and over what may stand
--- behind an expression, up to `;`. All before `;` may be left out. So where the next token does not open the part, no token was read,
+-- The steps of the reader of what stands after the first operand of a right side: over the operators of each precedence, and over what may stand
+-- after an expression, up to `;`. All before `;` may be left out. So where the next token does not open the part, no token was read,
 -- and the part is refused where the next item is.
 use Rattle.std.proofs.Common.{◌≡◌, ◌≤◌, ℕ, ◌+◌, Bool, true, false, List, [], ◌∷◌, ◌++◌, Some, None, refl, sym, ap, subst, ◌∙◌}
 use Rattle.std.proofs.lemmas.Bool.{or_parts}
@@ -42,28 +42,28 @@ nothing_left_out : {goal : Goal} {depth : ℕ} {old new : List (List ℕ)} {from
     → FoundAs goal depth old new from to is_read → opened goal (next (left_at from)) depth ≡ Some [] → left_at to ≡ left_at from
 nothing_left_out found none = reads_nothing (same_Some _ _ (sym found.rule_is ∙ none)) found.reads
 
--- tokens that refuse a part of nothing refuse what stands behind it
-behind_by : {part : Goal} {at : ℕ} {item : Wanted} {items : List Wanted} {ts rest : List Mark} {code : Code} → opened part (next ts) at ≡ Some []
+-- tokens that refuse a part of nothing refuse what stands after it
+after_by : {part : Goal} {at : ℕ} {item : Wanted} {items : List Wanted} {ts rest : List Mark} {code : Code} → opened part (next ts) at ≡ Some []
     → Refuses (Subgoal part at ∷ item ∷ items) ts rest code → Refuses (item ∷ items) ts rest code
-behind_by none (Shut shut is) = absurd cc
-behind_by {item = item} {items} {ts} {rest} {code} none (Open is refused) =
+after_by none (Shut shut is) = absurd cc
+after_by {item = item} {items} {ts} {rest} {code} none (Open is refused) =
     subst (λ (inner : List Wanted). Refuses (inner ++ item ∷ items) ts rest code) (same_Some _ _ (sym is ∙ none)) refused
-behind_by none (Cut is) = Cut is
+after_by none (Cut is) = Cut is
 
--- what refuses a part of nothing refuses whatever stands behind it
-refused_behind : (part : Goal) (at : ℕ) (item : Wanted) (spot : Spot) (error : SourceError) → opened part (next (left_at spot)) at ≡ Some []
+-- what refuses a part of nothing refuses whatever stands after it
+refused_later : (part : Goal) (at : ℕ) (item : Wanted) (spot : Spot) (error : SourceError) → opened part (next (left_at spot)) at ≡ Some []
     → IsRefused (Subgoal part at) spot error → IsRefused item spot error
-refused_behind part at item spot (Refused refusal) none refused = λ items.
+refused_later part at item spot (Refused refusal) none refused = λ items.
     let found = refused (item ∷ items) in
-    record { mark = found.mark; behind = found.behind; code = found.code; refuses = behind_by none found.refuses; refusal_is = found.refusal_is }
-refused_behind part at item spot Memory none refused = λ items. tt
+    record { mark = found.mark; after = found.after; code = found.code; refuses = after_by none found.refuses; refusal_is = found.refusal_is }
+refused_later part at item spot Memory none refused = λ items. tt
 
 -- and what refuses the two refuses the second one
 refused_second : (part : Goal) (at : ℕ) (item : Wanted) (spot : Spot) (error : SourceError) → opened part (next (left_at spot)) at ≡ Some []
     → IsRefusedWith (Subgoal part at) item spot error → IsRefused item spot error
 refused_second part at item spot (Refused refusal) none refused = λ items.
     let found = refused items in
-    record { mark = found.mark; behind = found.behind; code = found.code; refuses = behind_by none found.refuses; refusal_is = found.refusal_is }
+    record { mark = found.mark; after = found.after; code = found.code; refuses = after_by none found.refuses; refusal_is = found.refusal_is }
 refused_second part at item spot Memory none refused = λ items. tt
 
 -- what is refused at a spot is refused at each one with the same tokens
@@ -85,10 +85,10 @@ may_open goal depth table from inner is = record {
 }
 
 -- over a part that was found, and that is left out where the whole is not opened
-pub over_left_out : {may : Bool} {goal part : Goal} {depth at : ℕ} {old now new : List (List ℕ)} {from here behind : Spot} {make : Forest → Forest} {left : List Wanted}
+pub over_left_out : {may : Bool} {goal part : Goal} {depth at : ℕ} {old now new : List (List ℕ)} {from here after : Spot} {make : Forest → Forest} {left : List Wanted}
     {is_read : List (List ℕ) → Forest → Type 0}
     → MayHaveRead may goal depth old now from make (Subgoal part at ∷ left) here → (may ≡ false → opened part (next (left_at from)) at ≡ Some [])
-    → (found : FoundAs part at now new here behind is_read) → MayHaveRead may goal depth old new from (λ rest. make (Node part found.inside rest)) left behind
+    → (found : FoundAs part at now new here after is_read) → MayHaveRead may goal depth old new from (λ rest. make (Node part found.inside rest)) left after
 over_left_out {part = part} {at = at} so left_out found = record {
   read = λ begun. over_part (so.read begun) found;
   still = λ none. nothing_left_out found (ap (λ (ts : List Mark). opened part (next ts) at) (so.still none) ∙ left_out none) ∙ so.still none;
@@ -127,7 +127,7 @@ pub refused_left_out : {may : Bool} {goal part : Goal} {depth at : ℕ} {old now
     → IsRefused (Subgoal part at) here error → IsRefused (Subgoal goal depth) from error
 refused_left_out {goal = goal} {part} {depth} {at} {from = from} so left_out error refused =
     refused_either_way so error refused (λ none same.
-    refused_behind part at (Subgoal goal depth) from error (left_out none) (refused_there (Subgoal part at) _ from error same refused))
+    refused_later part at (Subgoal goal depth) from error (left_out none) (refused_there (Subgoal part at) _ from error same refused))
 
 -- and where it is a token that does not fit then
 pub refused_unfit_either_way : {may : Bool} {kind : TokenKind} {goal : Goal} {depth at : ℕ} {old now : List (List ℕ)} {from here : Spot} {make : Forest → Forest} {left : List Wanted}
@@ -148,9 +148,9 @@ pub has_read : {may : Bool} {goal : Goal} {depth : ℕ} {old now : List (List �
     → MayHaveRead may goal depth old now from make left here → (may ≡ false → left_at here ≡ left_at from → ⊥) → HasRead goal depth old now from make left here
 has_read {may} so never = has_read_by may refl so never
 
--- Behind a first operand
+-- Beyond a first operand
 
--- What begins none of what may stand behind a first operand: no operator, nothing that may stand behind an expression, and no `;`.
+-- What begins none of what may stand after a first operand: no operator, nothing that may stand after an expression, and no `;`.
 record BeginsNone (kind : TokenKind) : Type 0 where
   mul : begins MulTail kind ≡ false
   sum : begins SumTail kind ≡ false
@@ -182,26 +182,26 @@ precedence_left_out precedence.Compare kind depth none = rw ((begins_none kind n
 precedence_left_out precedence.Sum kind depth none = rw ((begins_none kind none).sum) refl
 precedence_left_out precedence.Mul kind depth none = rw ((begins_none kind none).mul) refl
 
--- The reader of what stands behind a first operand, up to `;`, has come to rest where these items are left.
+-- The reader of what stands after a first operand, up to `;`, has come to rest where these items are left.
 abbrev pub RestRead : ℕ → List (List ℕ) → List (List ℕ) → Spot → (Forest → Forest) → List Wanted → Spot → Type 0
 RestRead depth old now from make left here = MayHaveRead (begins Rest (next (left_at from))) (One Rest) depth old now from make left here
 
--- what is wanted behind the operators
-abbrev pub behind_operators : ℕ → List Wanted
-behind_operators depth = Subgoal (Optional RhsTail) depth ∷ Terminal (PunctuatorKind punctuator.Semicolon) depth ∷ []
+-- what is wanted after the operators
+abbrev pub after_operators : ℕ → List Wanted
+after_operators depth = Subgoal (Optional RhsTail) depth ∷ Terminal (PunctuatorKind punctuator.Semicolon) depth ∷ []
 
 -- it begins with the operators of each precedence
 pub rest_begins : (depth : ℕ) (table : List (List ℕ)) (from : Spot)
     → RestRead depth table table from (λ rest. rest)
     (Subgoal (rest_of precedence.Mul) (depth + 1) ∷ Subgoal (rest_of precedence.Sum) (depth + 1) ∷ Subgoal (rest_of precedence.Compare) (depth + 1)
-    ∷ Subgoal (rest_of precedence.Equal) (depth + 1) ∷ Subgoal (rest_of precedence.And) (depth + 1) ∷ Subgoal (rest_of precedence.Or) (depth + 1) ∷ behind_operators depth) from
+    ∷ Subgoal (rest_of precedence.Equal) (depth + 1) ∷ Subgoal (rest_of precedence.And) (depth + 1) ∷ Subgoal (rest_of precedence.Or) (depth + 1) ∷ after_operators depth) from
 rest_begins depth table from = may_open (One Rest) depth table from _ (λ begun. part_opened Rest _ depth refl refl begun)
 
 -- over the operators of a precedence
-pub over_precedence : {depth : ℕ} {old now new : List (List ℕ)} {from here behind : Spot} {make : Forest → Forest} {left : List Wanted}
+pub over_precedence : {depth : ℕ} {old now new : List (List ℕ)} {from here after : Spot} {make : Forest → Forest} {left : List Wanted}
     {is_read : List (List ℕ) → Forest → Type 0} (precedence : Precedence) → RestRead depth old now from make (Subgoal (rest_of precedence) (depth + 1) ∷ left) here
-    → (found : FoundAs (rest_of precedence) (depth + 1) now new here behind is_read)
-    → RestRead depth old new from (λ rest. make (Node (rest_of precedence) found.inside rest)) left behind
+    → (found : FoundAs (rest_of precedence) (depth + 1) now new here after is_read)
+    → RestRead depth old new from (λ rest. make (Node (rest_of precedence) found.inside rest)) left after
 over_precedence {depth} precedence so found = over_left_out so (precedence_left_out precedence _ (depth + 1)) found
 
 -- it is refused where they are
@@ -210,19 +210,19 @@ pub precedence_refused : {depth : ℕ} {old now : List (List ℕ)} {from here : 
     → IsRefused (Subgoal (One Rest) depth) from error
 precedence_refused {depth} precedence error so refused = refused_left_out so (precedence_left_out precedence _ (depth + 1)) error refused
 
--- where it is not opened, nothing is read behind the operators
+-- where it is not opened, nothing is read after the operators
 tail_left_out : (kind : TokenKind) (depth : ℕ) → begins Rest kind ≡ false → opened (Optional RhsTail) kind depth ≡ Some []
 tail_left_out kind depth none = optional_left_out RhsTail kind depth (begins_none kind none).tail
 
--- over what may stand behind an expression
-pub over_tail : {depth : ℕ} {old now new : List (List ℕ)} {from here behind : Spot} {make : Forest → Forest} {is_read : List (List ℕ) → Forest → Type 0}
-    → RestRead depth old now from make (behind_operators depth) here → (found : FoundAs (Optional RhsTail) depth now new here behind is_read)
-    → RestRead depth old new from (λ rest. make (Node (Optional RhsTail) found.inside rest)) (Terminal (PunctuatorKind punctuator.Semicolon) depth ∷ []) behind
+-- over what may stand after an expression
+pub over_tail : {depth : ℕ} {old now new : List (List ℕ)} {from here after : Spot} {make : Forest → Forest} {is_read : List (List ℕ) → Forest → Type 0}
+    → RestRead depth old now from make (after_operators depth) here → (found : FoundAs (Optional RhsTail) depth now new here after is_read)
+    → RestRead depth old new from (λ rest. make (Node (Optional RhsTail) found.inside rest)) (Terminal (PunctuatorKind punctuator.Semicolon) depth ∷ []) after
 over_tail {depth} so found = over_left_out so (tail_left_out _ depth) found
 
 -- it is refused where that is
 pub tail_refused : {depth : ℕ} {old now : List (List ℕ)} {from here : Spot} {make : Forest → Forest} (error : SourceError)
-    → RestRead depth old now from make (behind_operators depth) here → IsRefused (Subgoal (Optional RhsTail) depth) here error
+    → RestRead depth old now from make (after_operators depth) here → IsRefused (Subgoal (Optional RhsTail) depth) here error
     → IsRefused (Subgoal (One Rest) depth) from error
 tail_refused {depth} error so refused = refused_left_out so (tail_left_out _ depth) error refused
 
@@ -244,12 +244,12 @@ semicolon_read so semicolon within =
     let here = ap (λ (ts : List Mark). fits (PunctuatorKind punctuator.Semicolon) (next ts)) same in
     cc)) semicolon refl refl within
 
--- the operators of a precedence were found behind an operand, which is this expression with them
+-- the operators of a precedence were found after an operand, which is this expression with them
 abbrev pub PrecedenceFound : Precedence → ℕ → List (List ℕ) → List (List ℕ) → Spot → Spot → Place → Expr → Expr → Type 0
 PrecedenceFound precedence depth old new from to place first expr =
     FoundAs (rest_of precedence) (depth + 1) old new from to (λ names inside. phrase names expr ≡ with_operators place (phrase names first) (operands_in precedence inside))
 
--- what stands behind a first operand is found with the operators of each precedence, what may stand behind them, and `;`
+-- what stands after a first operand is found with the operators of each precedence, what may stand after them, and `;`
 pub rest_found : {token : Lexed} {depth : ℕ} {old a b c d e f new : List (List ℕ)} {from at_sum at_compare at_equal at_and at_or at_tail at_end end : Spot} {place : Place}
     (first product sum comparison equality conjunction disjunction : Expr) (side : RightSide)
     → PrecedenceFound precedence.Mul depth old a from at_sum place first product
@@ -262,13 +262,13 @@ pub rest_found : {token : Lexed} {depth : ℕ} {old a b c d e f new : List (List
     → TakesKind (lexeme.Punctuator punctuator.Semicolon) token at_end end → depth ≤ limit
     → FoundAs (One Rest) depth old new from end (λ names inside. side_tree names side ≡ rest_in place (phrase names first) inside)
 rest_found {depth = depth} {old} {from = from} first product sum comparison equality conjunction disjunction side muls sums compares equals ands ors tail semicolon within =
-    let behind_mul = over_precedence precedence.Mul (rest_begins depth old from) muls in
-    let behind_sum = over_precedence precedence.Sum behind_mul sums in
-    let behind_compare = over_precedence precedence.Compare behind_sum compares in
-    let behind_equal = over_precedence precedence.Equal behind_compare equals in
-    let behind_and = over_precedence precedence.And behind_equal ands in
-    let behind_or = over_precedence precedence.Or behind_and ors in
-    all_read (semicolon_read (over_tail behind_or tail) semicolon within) (λ names more.
+    let up_to_mul = over_precedence precedence.Mul (rest_begins depth old from) muls in
+    let up_to_sum = over_precedence precedence.Sum up_to_mul sums in
+    let up_to_compare = over_precedence precedence.Compare up_to_sum compares in
+    let up_to_equal = over_precedence precedence.Equal up_to_compare equals in
+    let up_to_and = over_precedence precedence.And up_to_equal ands in
+    let up_to_or = over_precedence precedence.Or up_to_and ors in
+    all_read (semicolon_read (over_tail up_to_or tail) semicolon within) (λ names more.
     let before_tail = goes_on_further (found_goes_on tail) more in
     let before_or = goes_on_further (found_goes_on ors) before_tail in
     let before_and = goes_on_further (found_goes_on ands) before_or in

@@ -1,5 +1,5 @@
--- The steps of the readers of right sides: what stands behind an expression, by the sign that begins it; what stands behind a dot; a new
--- object, with the keyword behind `new` that says where it is to live; and an expression with what stands behind it.
+-- The steps of the readers of right sides: what stands after an expression, by the sign that begins it; what stands after a dot; a new
+-- object, with the keyword after `new` that says where it is to live; and an expression with what stands after it.
 use Rattle.std.proofs.Common.{◌≡◌, ◌≤◌, ℕ, true, false, List, [], ◌∷◌, Some, None, refl, sym, ap, ◌∙◌}
 use Rattle.std.specs.declared.alloc.Global.{Global}
 use Rattle.std.specs.declared.vec.Vec.{Vec}
@@ -38,7 +38,7 @@ pub maybe_read : {symbol : Nonterminal} {depth : ℕ} {old now : List (List ℕ)
     → HasRead (Optional symbol) depth old now from (λ rest. Node (One symbol) (make rest) Empty) left here
 maybe_read {symbol} {depth} {old} {from = from} so = into_last (opens (Optional symbol) depth old from _ (optional_opened symbol _ depth (part_begun symbol _ depth so.rule_is))) so
 
--- A name and arguments behind it complete a part whose tree is made of them.
+-- A name and arguments after it complete a part whose tree is made of them.
 pub named_call_found : {goal : Goal} {depth at : ℕ} {old table new : List (List ℕ)} {from here to : Spot} {make : Forest → Forest} {name : List ℕ}
     (now : List (List ℕ)) (symbol : code_symbol.Symbol) (arguments : Vec code_expr.Expr Global) (made : List Name → Name → Phrases → SideTree) (in_tree : List Name → Forest → SideTree)
     → HasRead goal depth old table from make (Subgoal (One Arguments) at ∷ []) here → symbol.0 ≡ number_of_name now name → table ≡ with_name now name
@@ -54,9 +54,9 @@ pub found_same : {goal : Goal} {depth : ℕ} {old new : List (List ℕ)} {from t
     → FoundAs goal depth old new from to (λ names inside. tree names ≡ read names inside) → FoundAs goal depth old new from to (λ names inside. in_tree names ≡ read names inside)
 found_same same found = found_weaker found (λ names more is. same names ∙ is)
 
--- Behind a dot
+-- Beyond a dot
 
--- `get` opens what stands behind a dot
+-- `get` opens what stands after a dot
 get_opened : (depth : ℕ) → opened (One Selected) (KeywordKind keyword.Get) depth ≡ Some (Terminal (KeywordKind keyword.Get) depth ∷ [])
 unfolding begins chosen begins_within
 get_opened depth = refl
@@ -84,14 +84,14 @@ pub refused_selected : (depth : ℕ) (from : Spot) (error : SourceError) → fit
     → IsRefused (Subgoal (One Selected) depth) from error
 refused_selected depth from error no_get refused = refused_first_token LowerName depth (One Selected) depth from error (named_opened _ depth) (selected_shut _ depth no_get) refused
 
--- over a name behind a dot, which the table has then
+-- over a name after a dot, which the table has then
 pub selected_named : {name : Lexed} {from args_at : Spot} {names : List (List ℕ)} (depth : ℕ) (table : List (List ℕ)) → TakesKind lexeme.LowerName name from args_at → depth ≤ limit → names ≡ with_name table name.bytes
     → HasRead (One Selected) depth table names from (λ rest. Leaf (Token name) depth rest) (Subgoal (One Arguments) depth ∷ []) args_at
 selected_named {from = from} depth table name within is = over_name (opens (One Selected) depth table from _ (named_opened _ depth (fits_next refl name))) name refl refl within is
 
--- Behind an expression
+-- Beyond an expression
 
--- `!` opens what may stand behind an expression
+-- `!` opens what may stand after an expression
 send_opened : (depth : ℕ) → opened (One RhsTail) (PunctuatorKind punctuator.Not) depth ≡ Some (Terminal (PunctuatorKind punctuator.Not) depth ∷ Terminal LowerName depth ∷ Subgoal (One Arguments) depth ∷ [])
 unfolding begins chosen begins_within
 send_opened depth = refl
@@ -106,7 +106,7 @@ no_tail : (kind : TokenKind) → fits (PunctuatorKind punctuator.Not) kind ≡ f
 unfolding begins begins_within
 no_tail kind no_bang no_dot = rw (no_bang, no_dot) refl
 
--- over `!`, behind which a name is to stand
+-- over `!`, after which a name is to stand
 pub send_begins : {bang : Lexed} {from name_at : Spot} (depth : ℕ) (table : List (List ℕ)) → TakesKind (lexeme.Punctuator punctuator.Not) bang from name_at → depth ≤ limit
     → HasRead (Optional RhsTail) depth table table from (λ rest. Node (One RhsTail) (Leaf (Token bang) depth rest) Empty) (Terminal LowerName depth ∷ Subgoal (One Arguments) depth ∷ []) name_at
 send_begins {from = from} depth table bang within =
@@ -119,8 +119,8 @@ pub send_named : {bang name : Lexed} {from name_at args_at : Spot} {names : List
 send_named depth table bang name within is = over_name (send_begins depth table bang within) name refl refl within is
 
 -- over a dot
-pub dot_begins : {dot : Lexed} {from behind : Spot} (depth : ℕ) (table : List (List ℕ)) → TakesKind (lexeme.Punctuator punctuator.Dot) dot from behind → depth ≤ limit
-    → HasRead (Optional RhsTail) depth table table from (λ rest. Node (One RhsTail) (Leaf (Token dot) depth rest) Empty) (Subgoal (One Selected) depth ∷ []) behind
+pub dot_begins : {dot : Lexed} {from after : Spot} (depth : ℕ) (table : List (List ℕ)) → TakesKind (lexeme.Punctuator punctuator.Dot) dot from after → depth ≤ limit
+    → HasRead (Optional RhsTail) depth table table from (λ rest. Node (One RhsTail) (Leaf (Token dot) depth rest) Empty) (Subgoal (One Selected) depth ∷ []) after
 dot_begins {from = from} depth table dot within =
     maybe_read (over_token (opens (One RhsTail) depth table from _ (ap (λ (k : TokenKind). opened (One RhsTail) k depth) (next_taken dot) ∙ dot_opened depth)) dot refl refl within)
 
@@ -131,10 +131,10 @@ pub value_found : (depth : ℕ) (table : List (List ℕ)) (from : Spot) (place :
 value_found depth table from place first held same no_bang no_dot =
     all_read (opens (Optional RhsTail) depth table from [] (optional_left_out RhsTail _ depth (no_tail _ no_bang no_dot))) (λ names more. ap (λ (expr : code_expr.Expr). ValueOf place (phrase names expr)) same)
 
--- what was found behind a dot stands behind the expression
-pub selected_found : {dot : Lexed} {from behind to : Spot} {depth : ℕ} {old new : List (List ℕ)} (place : Place) (first : code_expr.Expr) (side : RightSide)
-    → TakesKind (lexeme.Punctuator punctuator.Dot) dot from behind → depth ≤ limit
-    → FoundAs (One Selected) depth old new behind to (λ names inside. side_tree names side ≡ selected_in place (phrase names first) inside)
+-- what was found after a dot stands after the expression
+pub selected_found : {dot : Lexed} {from after to : Spot} {depth : ℕ} {old new : List (List ℕ)} (place : Place) (first : code_expr.Expr) (side : RightSide)
+    → TakesKind (lexeme.Punctuator punctuator.Dot) dot from after → depth ≤ limit
+    → FoundAs (One Selected) depth old new after to (λ names inside. side_tree names side ≡ selected_in place (phrase names first) inside)
     → FoundAs (Optional RhsTail) depth old new from to (λ names inside. side_tree names side ≡ tail_in place (phrase names first) inside)
 selected_found {depth = depth} {old} place first side dot within found = all_read (over_part (dot_begins depth old dot within) found) found.is
 
@@ -156,15 +156,15 @@ unfolding begins begins_within
 nowhere kind no_cog no_local = rw (no_cog, no_local) refl
 
 -- `cog` is found
-pub cog_found : {cog : Lexed} {from behind : Spot} (depth : ℕ) (table : List (List ℕ)) → TakesKind (lexeme.Keyword keyword.Cog) cog from behind → depth ≤ limit
-    → FoundAs (Optional Where) depth table table from behind (λ names inside. mode.Cog ≡ mode_in inside)
+pub cog_found : {cog : Lexed} {from after : Spot} (depth : ℕ) (table : List (List ℕ)) → TakesKind (lexeme.Keyword keyword.Cog) cog from after → depth ≤ limit
+    → FoundAs (Optional Where) depth table table from after (λ names inside. mode.Cog ≡ mode_in inside)
 cog_found {cog} {from} depth table takes within =
     all_read (maybe_read (over_token (opens (One Where) depth table from _ (ap (λ (k : TokenKind). opened (One Where) k depth) (next_taken takes) ∙ cog_opened depth)) takes refl refl within))
     (λ names more. ap (λ kind. mode_by (token_kind_of kind cog.bytes) cog.place) (sym takes.kind_is))
 
 -- `local` is found, a name which the table has then
-pub local_found : {local : Lexed} {from behind : Spot} {names : List (List ℕ)} (depth : ℕ) (table : List (List ℕ)) → TakesFixed fixed.Local local from behind → names ≡ with_name table local.bytes → depth ≤ limit
-    → FoundAs (Optional Where) depth table names from behind (λ names inside. mode.Local local.place ≡ mode_in inside)
+pub local_found : {local : Lexed} {from after : Spot} {names : List (List ℕ)} (depth : ℕ) (table : List (List ℕ)) → TakesFixed fixed.Local local from after → names ≡ with_name table local.bytes → depth ≤ limit
+    → FoundAs (Optional Where) depth table names from after (λ names inside. mode.Local local.place ≡ mode_in inside)
 local_found {local} {from} depth table takes is within =
     all_read (maybe_read (over_fixed (opens (One Where) depth table from _ (ap (λ (k : TokenKind). opened (One Where) k depth) (next_fixed takes) ∙ local_opened depth)) takes within is))
     (λ names more. ap (λ (k : TokenKind). mode_by k local.place) (sym takes.kind_is))
@@ -180,18 +180,18 @@ pub new_opened : (depth : ℕ) → opened (One Rhs) (KeywordKind keyword.New) de
 unfolding begins chosen begins_within
 new_opened depth = refl
 
--- over `new` and what was found behind it
-pub new_begins : {word : Lexed} {from here name_at : Spot} {depth : ℕ} {old now : List (List ℕ)} {is_read : List (List ℕ) → Forest → Type 0} → TakesKind (lexeme.Keyword keyword.New) word from here
+-- over `new` and what was found after it
+pub new_begins : {token : Lexed} {from here name_at : Spot} {depth : ℕ} {old now : List (List ℕ)} {is_read : List (List ℕ) → Forest → Type 0} → TakesKind (lexeme.Keyword keyword.New) token from here
     → (where_made : FoundAs (Optional Where) depth old now here name_at is_read) → depth ≤ limit
-    → HasRead (One Rhs) depth old now from (λ rest. Leaf (Token word) depth (Node (Optional Where) where_made.inside rest)) (Terminal UpperName depth ∷ Subgoal (One Arguments) depth ∷ []) name_at
-new_begins {from = from} {depth = depth} {old} word where_made within =
-    over_part (over_token (opens (One Rhs) depth old from _ (ap (λ (k : TokenKind). opened (One Rhs) k depth) (next_taken word) ∙ new_opened depth)) word refl refl within) where_made
+    → HasRead (One Rhs) depth old now from (λ rest. Leaf (Token token) depth (Node (Optional Where) where_made.inside rest)) (Terminal UpperName depth ∷ Subgoal (One Arguments) depth ∷ []) name_at
+new_begins {from = from} {depth = depth} {old} token where_made within =
+    over_part (over_token (opens (One Rhs) depth old from _ (ap (λ (k : TokenKind). opened (One Rhs) k depth) (next_taken token) ∙ new_opened depth)) token refl refl within) where_made
 
 -- over the name of its class, which the table has then
-pub new_named : {word name : Lexed} {from here name_at args_at : Spot} {depth : ℕ} {old now names : List (List ℕ)} {is_read : List (List ℕ) → Forest → Type 0} → TakesKind (lexeme.Keyword keyword.New) word from here
+pub new_named : {token name : Lexed} {from here name_at args_at : Spot} {depth : ℕ} {old now names : List (List ℕ)} {is_read : List (List ℕ) → Forest → Type 0} → TakesKind (lexeme.Keyword keyword.New) token from here
     → (where_made : FoundAs (Optional Where) depth old now here name_at is_read) → TakesKind lexeme.UpperName name name_at args_at → depth ≤ limit → names ≡ with_name now name.bytes
-    → HasRead (One Rhs) depth old names from (λ rest. Leaf (Token word) depth (Node (Optional Where) where_made.inside (Leaf (Token name) depth rest))) (Subgoal (One Arguments) depth ∷ []) args_at
-new_named word where_made name within is = over_name (new_begins word where_made within) name refl refl within is
+    → HasRead (One Rhs) depth old names from (λ rest. Leaf (Token token) depth (Node (Optional Where) where_made.inside (Leaf (Token name) depth rest))) (Subgoal (One Arguments) depth ∷ []) args_at
+new_named token where_made name within is = over_name (new_begins token where_made within) name refl refl within is
 
 -- the mode that was found, with the names of any table
 pub mode_found : {depth : ℕ} {old now : List (List ℕ)} {from to : Spot} {placed : Mode} → (found : FoundAs (Optional Where) depth old now from to (λ names inside. placed ≡ mode_in inside))
@@ -216,19 +216,19 @@ pub refused_rhs : (depth : ℕ) (from : Spot) (error : SourceError) → fits (Ke
 refused_rhs depth from error no_new refused = refused_in_front Expr depth (One Rhs) depth from error (rhs_opened _ depth no_new) (rhs_shut _ depth no_new) refused
 
 -- over the expression
-pub rhs_begins : {from behind : Spot} {depth : ℕ} {old now : List (List ℕ)} {is_read : List (List ℕ) → Forest → Type 0} → fits (KeywordKind keyword.New) (next (left_at from)) ≡ false
-    → (expr : FoundAs (One Expr) depth old now from behind is_read)
-    → HasRead (One Rhs) depth old now from (λ rest. Node (One Expr) expr.inside rest) (Subgoal (Optional RhsTail) depth ∷ []) behind
+pub rhs_begins : {from after : Spot} {depth : ℕ} {old now : List (List ℕ)} {is_read : List (List ℕ) → Forest → Type 0} → fits (KeywordKind keyword.New) (next (left_at from)) ≡ false
+    → (expr : FoundAs (One Expr) depth old now from after is_read)
+    → HasRead (One Rhs) depth old now from (λ rest. Node (One Expr) expr.inside rest) (Subgoal (Optional RhsTail) depth ∷ []) after
 rhs_begins {from} {depth = depth} {old} no_new expr = over_part (opens (One Rhs) depth old from _ (rhs_opened _ depth no_new (part_begun Expr _ depth expr.rule_is))) expr
 
--- what stands behind an expression has the tree that its place and the expression give it
+-- what stands after an expression has the tree that its place and the expression give it
 same_tail : {place other_place : Place} {first other_first : Phrase} (inside : Forest) → place ≡ other_place → first ≡ other_first → tail_in place first inside ≡ tail_in other_place other_first inside
 same_tail inside place first = rw (place, first) refl
 
--- the expression with what was found behind it is a right side
-pub rhs_found : {from behind to : Spot} {depth : ℕ} {old now new : List (List ℕ)} {place : Place} (first : code_expr.Expr) (side : RightSide) → fits (KeywordKind keyword.New) (next (left_at from)) ≡ false
-    → place ≡ place_of from → FoundAs (One Expr) depth old now from behind (λ names inside. phrase names first ≡ expr_in inside)
-    → FoundAs (Optional RhsTail) depth now new behind to (λ names inside. side_tree names side ≡ tail_in place (phrase names first) inside)
+-- the expression with what was found after it is a right side
+pub rhs_found : {from after to : Spot} {depth : ℕ} {old now new : List (List ℕ)} {place : Place} (first : code_expr.Expr) (side : RightSide) → fits (KeywordKind keyword.New) (next (left_at from)) ≡ false
+    → place ≡ place_of from → FoundAs (One Expr) depth old now from after (λ names inside. phrase names first ≡ expr_in inside)
+    → FoundAs (Optional RhsTail) depth now new after to (λ names inside. side_tree names side ≡ tail_in place (phrase names first) inside)
     → FoundAs (One Rhs) depth old new from to (λ names inside. side_tree names side ≡ rhs_in inside)
 rhs_found first side no_new at expr tail =
     all_read (over_part (rhs_begins no_new expr) tail)

@@ -27,9 +27,9 @@ use Rattle.abs_parser.specs.Stops.{limit}
 use Rattle.abs_parser.specs.Tokens.{Spot}
 use Rattle.abs_parser.specs.TreesOf.{type_in, expr_in, names_maybe, params_maybe, signature_in, signatures_in, decl_in}
 use Rattle.abs_tree.specs.declared.source_error.SourceError.{SourceError}
-use Rattle.abs_parser.proofs.reader.DeclarationSteps.{AnyIndex, Parts, ReadsParts, next_part, heading_read, by_word}
+use Rattle.abs_parser.proofs.reader.DeclarationSteps.{AnyIndex, Parts, ReadsParts, next_part, heading_read, by_keyword}
 use Rattle.abs_parser.proofs.reader.NameListSteps.{declared_kept}
-use Rattle.abs_parser.proofs.reader.WordSteps.{word_read}
+use Rattle.abs_parser.proofs.reader.KeywordSteps.{keyword_read}
 use Rattle.abs_parser.proofs.reader.ExpressionSteps.{goes_on_name}
 use Rattle.abs_parser.proofs.reader.InFrontSteps.{refused_in_front}
 use Rattle.abs_parser.proofs.grammar.NameLemmas.{goes_on_further}
@@ -47,12 +47,12 @@ IsSignature signature names inside = (others : List SignatureTree) → signature
 signature_begins : (kind : TokenKind) → begins Signature kind ≡ begins Type' kind
 signature_begins kind = begins_with_part Signature kind refl
 
--- behind the name of a method stands this
-abbrev pub behind_signature : ℕ → List Wanted
-behind_signature at = Terminal (PunctuatorKind punctuator.OpenParen) at ∷ Subgoal (Optional Params) at ∷ Terminal (PunctuatorKind punctuator.CloseParen) at ∷ Terminal (PunctuatorKind punctuator.Semicolon) at ∷ []
+-- after the name of a method stands this
+abbrev pub after_signature : ℕ → List Wanted
+after_signature at = Terminal (PunctuatorKind punctuator.OpenParen) at ∷ Subgoal (Optional Params) at ∷ Terminal (PunctuatorKind punctuator.CloseParen) at ∷ Terminal (PunctuatorKind punctuator.Semicolon) at ∷ []
 
 -- a method is a type, a name, and this
-signature_opened : (kind : TokenKind) (depth : ℕ) → begins Type' kind ≡ true → opened (One Signature) kind depth ≡ Some (Subgoal (One Type') depth ∷ Terminal LowerName depth ∷ behind_signature depth)
+signature_opened : (kind : TokenKind) (depth : ℕ) → begins Type' kind ≡ true → opened (One Signature) kind depth ≡ Some (Subgoal (One Type') depth ∷ Terminal LowerName depth ∷ after_signature depth)
 signature_opened kind depth may = part_opened Signature kind depth refl refl (signature_begins kind ∙ may)
 
 -- where no type may begin, there is no method
@@ -70,22 +70,22 @@ refused_result depth from error refused = refused_in_front Type' depth (One Sign
 
 -- over the type of a method
 pub result_read : {depth : ℕ} {old new : List (List ℕ)} {from to : Spot} {is_read : List (List ℕ) → Forest → Type 0} → (found : FoundAs (One Type') depth old new from to is_read)
-    → HasRead (One Signature) depth old new from (λ rest. Node (One Type') found.inside rest) (Terminal LowerName depth ∷ behind_signature depth) to
+    → HasRead (One Signature) depth old new from (λ rest. Node (One Type') found.inside rest) (Terminal LowerName depth ∷ after_signature depth) to
 result_read {depth} {old} {from = from} found = over_part (opens (One Signature) depth old from _ (signature_opened _ depth (part_begun Type' _ depth found.rule_is))) found
 
 -- over its name
 pub signature_named : {name : Lexed} {from name_at open_at : Spot} {depth : ℕ} {old now table : List (List ℕ)} {is_read : List (List ℕ) → Forest → Type 0} → (result : FoundAs (One Type') depth old now from name_at is_read)
     → TakesKind lexeme.LowerName name name_at open_at → table ≡ with_name now name.bytes → depth ≤ limit
-    → HasRead (One Signature) depth old table from (λ rest. Node (One Type') result.inside (Leaf (Token name) depth rest)) (behind_signature depth) open_at
+    → HasRead (One Signature) depth old table from (λ rest. Node (One Type') result.inside (Leaf (Token name) depth rest)) (after_signature depth) open_at
 signature_named result name is within = over_name (result_read result) name refl refl within is
 
 -- over "(", its parameters, and ")"
-pub parameters_read : {goal : Goal} {opening closing : Lexed} {from open_at inside_at close_at behind : Spot} {depth at : ℕ} {old now new : List (List ℕ)} {make : Forest → Forest} {left : List Wanted}
+pub parameters_read : {goal : Goal} {opening closing : Lexed} {from open_at inside_at close_at after : Spot} {depth at : ℕ} {old now new : List (List ℕ)} {make : Forest → Forest} {left : List Wanted}
     {is_read : List (List ℕ) → Forest → Type 0}
     → HasRead goal depth old now from make (Terminal (PunctuatorKind punctuator.OpenParen) at ∷ Subgoal (Optional Params) at ∷ Terminal (PunctuatorKind punctuator.CloseParen) at ∷ left) open_at
     → TakesKind (lexeme.Punctuator punctuator.OpenParen) opening open_at inside_at → (params : FoundAs (Optional Params) at now new inside_at close_at is_read)
-    → TakesKind (lexeme.Punctuator punctuator.CloseParen) closing close_at behind → at ≤ limit
-    → HasRead goal depth old new from (λ rest. make (Leaf (Token opening) at (Node (Optional Params) params.inside (Leaf (Token closing) at rest)))) left behind
+    → TakesKind (lexeme.Punctuator punctuator.CloseParen) closing close_at after → at ≤ limit
+    → HasRead goal depth old new from (λ rest. make (Leaf (Token opening) at (Node (Optional Params) params.inside (Leaf (Token closing) at rest)))) left after
 parameters_read so opening params closing within = over_token (over_part (over_token so opening refl refl within) params) closing refl refl within
 
 -- a method with its type, its name and its parameters is found
@@ -120,12 +120,12 @@ signatures_of = record {
   trees_none = λ index before. refl;
 }
 
--- behind the name of an interface stands this
-abbrev pub behind_interface : ℕ → List Wanted
-behind_interface at = Subgoal (Optional Extends) at ∷ Terminal (PunctuatorKind punctuator.OpenBrace) at ∷ Subgoal (Repeated Signature) at ∷ Terminal (PunctuatorKind punctuator.CloseBrace) at ∷ []
+-- after the name of an interface stands this
+abbrev pub after_interface : ℕ → List Wanted
+after_interface at = Subgoal (Optional Extends) at ∷ Terminal (PunctuatorKind punctuator.OpenBrace) at ∷ Subgoal (Repeated Signature) at ∷ Terminal (PunctuatorKind punctuator.CloseBrace) at ∷ []
 
 -- `interface` opens a declaration
-pub interface_opened : (depth : ℕ) → opened (One Decl) (KeywordKind keyword.Interface) depth ≡ Some (Terminal (KeywordKind keyword.Interface) depth ∷ Terminal UpperName depth ∷ behind_interface depth)
+pub interface_opened : (depth : ℕ) → opened (One Decl) (KeywordKind keyword.Interface) depth ≡ Some (Terminal (KeywordKind keyword.Interface) depth ∷ Terminal UpperName depth ∷ after_interface depth)
 unfolding begins chosen begins_within
 interface_opened depth = refl
 
@@ -139,17 +139,17 @@ interface_made : {name held_name : DeclaredTree} {extended held_extended : List 
 interface_made place signatures others name extended = rw (name, extended) refl
 
 -- an interface was read up to its first method
-pub first_signature : {word name brace : Lexed} {from name_at behind open_at here : Spot} {depth : ℕ} {old table now : List (List ℕ)} {signatures : List CodeSignature} (symbol : NameSymbol) (listed : List Declared)
-    → signatures ≡ [] → TakesKind (lexeme.Keyword keyword.Interface) word from name_at → TakesKind lexeme.UpperName name name_at behind → symbol.0 ≡ number_of_name old name.bytes → table ≡ with_name old name.bytes
-    → FoundAs (Optional Extends) depth table now behind open_at (λ names inside. map (declared_tree names) listed ≡ names_maybe inside)
+pub first_signature : {token name brace : Lexed} {from name_at after open_at here : Spot} {depth : ℕ} {old table now : List (List ℕ)} {signatures : List CodeSignature} (symbol : NameSymbol) (listed : List Declared)
+    → signatures ≡ [] → TakesKind (lexeme.Keyword keyword.Interface) token from name_at → TakesKind lexeme.UpperName name name_at after → symbol.0 ≡ number_of_name old name.bytes → table ≡ with_name old name.bytes
+    → FoundAs (Optional Extends) depth table now after open_at (λ names inside. map (declared_tree names) listed ≡ names_maybe inside)
     → TakesKind (lexeme.Punctuator punctuator.OpenBrace) brace open_at here → depth ≤ limit
-    → ReadsParts signatures_of AnyIndex (interface_of word.place (record { place = name.place; name = symbol }) listed) depth old now from here signatures
-first_signature {word} {name} {brace} {depth = depth} {old} symbol listed same takes takes_name number is extended takes_brace within = rw same (record {
-  make = λ rest. Leaf (Token word) depth (Leaf (Token name) depth (Node (Optional Extends) extended.inside (Leaf (Token brace) depth rest)));
+    → ReadsParts signatures_of AnyIndex (interface_of token.place (record { place = name.place; name = symbol }) listed) depth old now from here signatures
+first_signature {token} {name} {brace} {depth = depth} {old} symbol listed same takes takes_name number is extended takes_brace within = rw same (record {
+  make = λ rest. Leaf (Token token) depth (Leaf (Token name) depth (Node (Optional Extends) extended.inside (Leaf (Token brace) depth rest)));
   read = over_token (over_part (heading_read (interface_opened depth) takes takes_name is within) extended) takes_brace refl refl within;
   is = λ index starts names more inside mark at others.
-      by_word index depth _ others takes
-      ∙ interface_made word.place (signatures_in inside) others (declared_kept old name symbol number is names (goes_on_further (found_goes_on extended) more)) (extended.is names more);
+      by_keyword index depth _ others takes
+      ∙ interface_made token.place (signatures_in inside) others (declared_kept old name symbol number is names (goes_on_further (found_goes_on extended) more)) (extended.is names more);
 })
 
 -- and up to one more
@@ -161,27 +161,27 @@ next_signature signature same so found =
 
 -- Functions
 
--- behind the name of a function stands this
-abbrev pub behind_function : ℕ → List Wanted
-behind_function at =
+-- after the name of a function stands this
+abbrev pub after_function : ℕ → List Wanted
+after_function at =
     Subgoal (Optional TypeParameters) at ∷ Terminal (PunctuatorKind punctuator.OpenParen) at ∷ Subgoal (Optional Params) at ∷ Terminal (PunctuatorKind punctuator.CloseParen) at
     ∷ Terminal (PunctuatorKind punctuator.Assign) at ∷ Subgoal (One Expr) at ∷ Terminal (PunctuatorKind punctuator.Semicolon) at ∷ []
 
 -- `def` opens a declaration
-pub function_opened : (depth : ℕ) → opened (One Decl) (KeywordKind keyword.Def) depth ≡ Some (Terminal (KeywordKind keyword.Def) depth ∷ Subgoal (One Type') depth ∷ Terminal LowerName depth ∷ behind_function depth)
+pub function_opened : (depth : ℕ) → opened (One Decl) (KeywordKind keyword.Def) depth ≡ Some (Terminal (KeywordKind keyword.Def) depth ∷ Subgoal (One Type') depth ∷ Terminal LowerName depth ∷ after_function depth)
 unfolding begins chosen begins_within
 function_opened depth = refl
 
 -- over the type and the name of a function
-pub function_named : {word name : Lexed} {from type_at name_at behind : Spot} {depth : ℕ} {old now table : List (List ℕ)} {is_read : List (List ℕ) → Forest → Type 0} → TakesKind (lexeme.Keyword keyword.Def) word from type_at
-    → (result : FoundAs (One Type') depth old now type_at name_at is_read) → TakesKind lexeme.LowerName name name_at behind → table ≡ with_name now name.bytes → depth ≤ limit
-    → HasRead (One Decl) depth old table from (λ rest. Leaf (Token word) depth (Node (One Type') result.inside (Leaf (Token name) depth rest))) (behind_function depth) behind
-function_named {depth = depth} {old} word result name is within = over_name (over_part (word_read depth old (function_opened depth) word within) result) name refl refl within is
+pub function_named : {token name : Lexed} {from type_at name_at after : Spot} {depth : ℕ} {old now table : List (List ℕ)} {is_read : List (List ℕ) → Forest → Type 0} → TakesKind (lexeme.Keyword keyword.Def) token from type_at
+    → (result : FoundAs (One Type') depth old now type_at name_at is_read) → TakesKind lexeme.LowerName name name_at after → table ≡ with_name now name.bytes → depth ≤ limit
+    → HasRead (One Decl) depth old table from (λ rest. Leaf (Token token) depth (Node (One Type') result.inside (Leaf (Token name) depth rest))) (after_function depth) after
+function_named {depth = depth} {old} token result name is within = over_name (over_part (keyword_read depth old (function_opened depth) token within) result) name refl refl within is
 
 -- over its type parameters, its parameters and "="
-pub function_assigned : {opening closing equals : Lexed} {from behind open_at inside_at close_at equals_at value_at : Spot} {depth : ℕ} {old table now new : List (List ℕ)} {make : Forest → Forest}
-    {is_read are_read : List (List ℕ) → Forest → Type 0} → HasRead (One Decl) depth old table from make (behind_function depth) behind
-    → (parameters : FoundAs (Optional TypeParameters) depth table now behind open_at is_read) → TakesKind (lexeme.Punctuator punctuator.OpenParen) opening open_at inside_at
+pub function_assigned : {opening closing equals : Lexed} {from after open_at inside_at close_at equals_at value_at : Spot} {depth : ℕ} {old table now new : List (List ℕ)} {make : Forest → Forest}
+    {is_read are_read : List (List ℕ) → Forest → Type 0} → HasRead (One Decl) depth old table from make (after_function depth) after
+    → (parameters : FoundAs (Optional TypeParameters) depth table now after open_at is_read) → TakesKind (lexeme.Punctuator punctuator.OpenParen) opening open_at inside_at
     → (params : FoundAs (Optional Params) depth now new inside_at close_at are_read) → TakesKind (lexeme.Punctuator punctuator.CloseParen) closing close_at equals_at
     → TakesKind (lexeme.Punctuator punctuator.Assign) equals equals_at value_at → depth ≤ limit
     → HasRead (One Decl) depth old new from
@@ -196,22 +196,22 @@ function_made : {result held_result : TypeTree} {name held_name : DeclaredTree} 
 function_made place others result name parameters params value = rw (result, name, parameters, params, value) refl
 
 -- a function with its types, its name, its parameters and its value is found, as they are held in memory
-pub function_found : {word name opening closing equals semicolon : Lexed} {from type_at name_at behind open_at inside_at close_at equals_at value_at last_at end : Spot} {depth : ℕ} {old one table two three new : List (List ℕ)}
+pub function_found : {token name opening closing equals semicolon : Lexed} {from type_at name_at after open_at inside_at close_at equals_at value_at last_at end : Spot} {depth : ℕ} {old one table two three new : List (List ℕ)}
     {value : CodeExpr} (result : TypeTerm) (symbol : NameSymbol) (parameters : Vec Declared Global) (params : Vec Param Global) (held : Arc CodeExpr Global) → held.value ≡ value
-    → TakesKind (lexeme.Keyword keyword.Def) word from type_at → FoundAs (One Type') depth old one type_at name_at (λ names inside. type_tree names result ≡ type_in inside)
-    → TakesKind lexeme.LowerName name name_at behind → symbol.0 ≡ number_of_name one name.bytes → table ≡ with_name one name.bytes
-    → FoundAs (Optional TypeParameters) depth table two behind open_at (λ names inside. map (declared_tree names) parameters.items ≡ names_maybe inside)
+    → TakesKind (lexeme.Keyword keyword.Def) token from type_at → FoundAs (One Type') depth old one type_at name_at (λ names inside. type_tree names result ≡ type_in inside)
+    → TakesKind lexeme.LowerName name name_at after → symbol.0 ≡ number_of_name one name.bytes → table ≡ with_name one name.bytes
+    → FoundAs (Optional TypeParameters) depth table two after open_at (λ names inside. map (declared_tree names) parameters.items ≡ names_maybe inside)
     → TakesKind (lexeme.Punctuator punctuator.OpenParen) opening open_at inside_at → FoundAs (Optional Params) depth two three inside_at close_at (λ names inside. map (param_tree names) params.items ≡ params_maybe inside)
     → TakesKind (lexeme.Punctuator punctuator.CloseParen) closing close_at equals_at → TakesKind (lexeme.Punctuator punctuator.Assign) equals equals_at value_at
     → FoundAs (One Expr) depth three new value_at last_at (λ names inside. phrase names value ≡ expr_in inside) → TakesKind (lexeme.Punctuator punctuator.Semicolon) semicolon last_at end → depth ≤ limit
     → FoundAs (One Decl) depth old new from end
-    (λ names inside. (index : ℕ) (others : List DeclTree) → decl_tree names (decl.Function word.place result (record { place = name.place; name = symbol }) parameters params held) ∷ others ≡ decl_in index inside others)
-function_found {word = word} {name} {depth = depth} {one = one} result symbol parameters params held same takes type takes_name number is listed opening found closing equals value semicolon within =
+    (λ names inside. (index : ℕ) (others : List DeclTree) → decl_tree names (decl.Function token.place result (record { place = name.place; name = symbol }) parameters params held) ∷ others ≡ decl_in index inside others)
+function_found {token = token} {name} {depth = depth} {one = one} result symbol parameters params held same takes type takes_name number is listed opening found closing equals value semicolon within =
     let so = function_assigned (function_named takes type takes_name is within) listed opening found closing equals within in
     all_read (over_token (over_part so value) semicolon refl refl within) (λ names more index others.
     let since = goes_on_further (found_goes_on value) more in
     let from_params = goes_on_further (found_goes_on found) since in
     let from_parameters = goes_on_further (found_goes_on listed) from_params in
-    function_made word.place others (type.is names (goes_on_further (goes_on_name _ _ is) from_parameters)) (declared_kept one name symbol number is names from_parameters) (listed.is names from_params) (found.is names since)
+    function_made token.place others (type.is names (goes_on_further (goes_on_name _ _ is) from_parameters)) (declared_kept one name symbol number is names from_parameters) (listed.is names from_params) (found.is names since)
     (ap (phrase names) same ∙ value.is names more)
-    ∙ sym (by_word index depth _ others takes))
+    ∙ sym (by_keyword index depth _ others takes))

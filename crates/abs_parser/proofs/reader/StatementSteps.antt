@@ -1,5 +1,5 @@
 -- The steps of the readers of statements that hold others: a block as a statement; the keyword and the test of an `if` and of a `while`, and
--- the branches behind them; `else`; and which trees stand for what was read of them. And at the end of the source a statement is refused.
+-- the branches after them; `else`; and which trees stand for what was read of them. And at the end of the source a statement is refused.
 use Rattle.std.proofs.Common.{◌≡◌, ◌≤◌, ℕ, ◌+◌, true, false, List, [], ◌∷◌, Option, Some, None, refl, sym, ap, ◌∙◌}
 use Rattle.std.specs.declared.alloc.Global.{Global}
 use Rattle.std.specs.declared.sync.Arc.{Arc}
@@ -32,8 +32,8 @@ use Rattle.abs_parser.proofs.reader.ExpressionSteps.{IsExpression}
 use Rattle.abs_parser.proofs.grammar.FirstPlaceLemmas.{first_place_found}
 use Rattle.abs_parser.proofs.grammar.NameLemmas.{goes_on_further}
 use Rattle.abs_parser.proofs.reader.PatternSteps.{next_end, nothing_found}
-use Rattle.abs_parser.proofs.reader.WordSteps.{word_read}
-use Rattle.abs_parser.proofs.reader.WordStatementSteps.{statement_by_word}
+use Rattle.abs_parser.proofs.reader.KeywordSteps.{keyword_read}
+use Rattle.abs_parser.proofs.reader.KeywordStatementSteps.{statement_by_keyword}
 use Rattle.abs_parser.proofs.reader.StepLemmas.{HasRead, opens, over_token, over_part, into_last, all_read, refused_shut, fits_next, found_goes_on, found_weaker}
 use Rattle.abs_parser.proofs.grammar.NonterminalLemmas.{begins_with_token, part_shut, part_opened, optional_opened, optional_left_out}
 
@@ -47,7 +47,7 @@ IsStatement index stmt names inside = statement names stmt ≡ statement_in inde
 block_begins : (kind : TokenKind) → begins Block kind ≡ fits (PunctuatorKind punctuator.OpenBrace) kind
 block_begins kind = begins_with_token Block kind refl
 
--- which opens it, and behind it stand statements and "}"
+-- which opens it, and after it stand statements and "}"
 pub block_opened : (kind : TokenKind) (depth : ℕ) → fits (PunctuatorKind punctuator.OpenBrace) kind ≡ true
     → opened (One Block) kind depth ≡ Some (Terminal (PunctuatorKind punctuator.OpenBrace) depth ∷ Subgoal (Repeated Stmt) depth ∷ Terminal (PunctuatorKind punctuator.CloseBrace) depth ∷ [])
 block_opened kind depth fit = part_opened Block kind depth refl refl (block_begins kind ∙ fit)
@@ -76,25 +76,25 @@ nested_found {depth} {old} {from = from} {place = place} index body at fit found
 
 -- Tests
 
--- a word before an expression in parentheses, and what stands behind them
+-- a word before an expression in parentheses, and what stands after them
 abbrev pub tested_by : Keyword → ℕ → List Wanted → List Wanted
-tested_by word at left = Terminal (KeywordKind word) at ∷ Terminal (PunctuatorKind punctuator.OpenParen) at ∷ Subgoal (One Expr) at ∷ Terminal (PunctuatorKind punctuator.CloseParen) at ∷ left
+tested_by keyword at left = Terminal (KeywordKind keyword) at ∷ Terminal (PunctuatorKind punctuator.OpenParen) at ∷ Subgoal (One Expr) at ∷ Terminal (PunctuatorKind punctuator.CloseParen) at ∷ left
 
 -- over the keyword and "("
-pub test_begins : {word : Keyword} {token paren : Lexed} {from open_at test_at : Spot} {depth : ℕ} {left : List Wanted} (table : List (List ℕ))
-    → opened (One Stmt) (KeywordKind word) depth ≡ Some (tested_by word (depth + 1) left)
-    → TakesKind (lexeme.Keyword word) token from open_at → TakesKind (lexeme.Punctuator punctuator.OpenParen) paren open_at test_at → depth + 1 ≤ limit
+pub test_begins : {keyword : Keyword} {token paren : Lexed} {from open_at test_at : Spot} {depth : ℕ} {left : List Wanted} (table : List (List ℕ))
+    → opened (One Stmt) (KeywordKind keyword) depth ≡ Some (tested_by keyword (depth + 1) left)
+    → TakesKind (lexeme.Keyword keyword) token from open_at → TakesKind (lexeme.Punctuator punctuator.OpenParen) paren open_at test_at → depth + 1 ≤ limit
     → HasRead (One Stmt) depth table table from (λ rest. Leaf (Token token) (depth + 1) (Leaf (Token paren) (depth + 1) rest))
     (Subgoal (One Expr) (depth + 1) ∷ Terminal (PunctuatorKind punctuator.CloseParen) (depth + 1) ∷ left) test_at
-test_begins table is takes opening within = over_token (word_read _ table is takes within) opening refl refl within
+test_begins table is takes opening within = over_token (keyword_read _ table is takes within) opening refl refl within
 
 -- and over the expression and ")"
-pub test_read : {word : Keyword} {token paren close : Lexed} {from open_at test_at close_at behind : Spot} {depth : ℕ} {left : List Wanted} {old now : List (List ℕ)} {is_read : List (List ℕ) → Forest → Type 0}
-    → opened (One Stmt) (KeywordKind word) depth ≡ Some (tested_by word (depth + 1) left)
-    → TakesKind (lexeme.Keyword word) token from open_at → TakesKind (lexeme.Punctuator punctuator.OpenParen) paren open_at test_at
-    → (test : FoundAs (One Expr) (depth + 1) old now test_at close_at is_read) → TakesKind (lexeme.Punctuator punctuator.CloseParen) close close_at behind → depth + 1 ≤ limit
+pub test_read : {keyword : Keyword} {token paren close : Lexed} {from open_at test_at close_at after : Spot} {depth : ℕ} {left : List Wanted} {old now : List (List ℕ)} {is_read : List (List ℕ) → Forest → Type 0}
+    → opened (One Stmt) (KeywordKind keyword) depth ≡ Some (tested_by keyword (depth + 1) left)
+    → TakesKind (lexeme.Keyword keyword) token from open_at → TakesKind (lexeme.Punctuator punctuator.OpenParen) paren open_at test_at
+    → (test : FoundAs (One Expr) (depth + 1) old now test_at close_at is_read) → TakesKind (lexeme.Punctuator punctuator.CloseParen) close close_at after → depth + 1 ≤ limit
     → HasRead (One Stmt) depth old now from
-    (λ rest. Leaf (Token token) (depth + 1) (Leaf (Token paren) (depth + 1) (Node (One Expr) test.inside (Leaf (Token close) (depth + 1) rest)))) left behind
+    (λ rest. Leaf (Token token) (depth + 1) (Leaf (Token paren) (depth + 1) (Node (One Expr) test.inside (Leaf (Token close) (depth + 1) rest)))) left after
 test_read {old = old} is takes opening test closing within = over_token (over_part (test_begins old is takes opening within) test) closing refl refl within
 
 -- `while`
@@ -109,17 +109,17 @@ while_made : {test held_test : Phrase} {body held_body : Statements} (index : �
 while_made index place test body = rw (test, body) refl
 
 -- a `while` with its test and its body is found, as they are held in memory
-pub while_found : {word paren close : Lexed} {from open_at test_at close_at body_at end : Spot} {depth : ℕ} {old now new : List (List ℕ)} {test : CodeExpr}
+pub while_found : {token paren close : Lexed} {from open_at test_at close_at body_at end : Spot} {depth : ℕ} {old now new : List (List ℕ)} {test : CodeExpr}
     (index : ℕ) (held : Arc CodeExpr Global) (stmt : CodeStmt) (body : Vec CodeStmt Global) → held.value ≡ test → ((names : List Name) → statements names body.items ≡ branch_of (statement names stmt))
-    → TakesKind (lexeme.Keyword keyword.While) word from open_at → TakesKind (lexeme.Punctuator punctuator.OpenParen) paren open_at test_at
+    → TakesKind (lexeme.Keyword keyword.While) token from open_at → TakesKind (lexeme.Punctuator punctuator.OpenParen) paren open_at test_at
     → FoundAs (One Expr) (depth + 1) old now test_at close_at (IsExpression test) → TakesKind (lexeme.Punctuator punctuator.CloseParen) close close_at body_at
     → FoundAs (One Stmt) (depth + 1) now new body_at end (IsStatement (index + 1) stmt) → depth + 1 ≤ limit
-    → FoundAs (One Stmt) depth old new from end (IsStatement index (code_stmt.While index word.place held body))
-while_found {word} {paren} {close} {depth = depth} index held stmt body same are takes opening test closing found within =
+    → FoundAs (One Stmt) depth old new from end (IsStatement index (code_stmt.While index token.place held body))
+while_found {token} {paren} {close} {depth = depth} index held stmt body same are takes opening test closing found within =
     all_read (over_part (test_read (while_opened depth) takes opening test closing within) found) (λ names more.
-    statement-while names index word.place held body
-    ∙ (while_made index word.place (ap (phrase names) same ∙ test.is names (goes_on_further (found_goes_on found) more)) (are names ∙ ap branch_of (found.is names more))
-    ∙ sym (statement_by_word index (depth + 1) (Leaf (Token paren) (depth + 1) (Node (One Expr) test.inside (Leaf (Token close) (depth + 1) (Node (One Stmt) found.inside Empty)))) takes)))
+    statement-while names index token.place held body
+    ∙ (while_made index token.place (ap (phrase names) same ∙ test.is names (goes_on_further (found_goes_on found) more)) (are names ∙ ap branch_of (found.is names more))
+    ∙ sym (statement_by_keyword index (depth + 1) (Leaf (Token paren) (depth + 1) (Node (One Expr) test.inside (Leaf (Token close) (depth + 1) (Node (One Stmt) found.inside Empty)))) takes)))
 
 -- `if` and `else`
 
@@ -134,50 +134,50 @@ if_made : {test held_test : Phrase} {first held_first : Statements} {other held_
 if_made index place test first other = rw (test, first, other) refl
 
 -- over the first branch of an `if`
-pub if_chosen : {word paren close : Lexed} {from open_at test_at close_at first_at here : Spot} {depth : ℕ} {old now new : List (List ℕ)} {is_read is_chosen : List (List ℕ) → Forest → Type 0}
-    → TakesKind (lexeme.Keyword keyword.If) word from open_at → TakesKind (lexeme.Punctuator punctuator.OpenParen) paren open_at test_at
+pub if_chosen : {token paren close : Lexed} {from open_at test_at close_at first_at here : Spot} {depth : ℕ} {old now new : List (List ℕ)} {is_read is_chosen : List (List ℕ) → Forest → Type 0}
+    → TakesKind (lexeme.Keyword keyword.If) token from open_at → TakesKind (lexeme.Punctuator punctuator.OpenParen) paren open_at test_at
     → (test : FoundAs (One Expr) (depth + 1) old now test_at close_at is_read) → TakesKind (lexeme.Punctuator punctuator.CloseParen) close close_at first_at
     → (first : FoundAs (One Stmt) (depth + 1) now new first_at here is_chosen) → depth + 1 ≤ limit
     → HasRead (One Stmt) depth old new from
-    (λ rest. Leaf (Token word) (depth + 1) (Leaf (Token paren) (depth + 1) (Node (One Expr) test.inside (Leaf (Token close) (depth + 1) (Node (One Stmt) first.inside rest)))))
+    (λ rest. Leaf (Token token) (depth + 1) (Leaf (Token paren) (depth + 1) (Node (One Expr) test.inside (Leaf (Token close) (depth + 1) (Node (One Stmt) first.inside rest)))))
     (Subgoal (Optional Else) (depth + 1) ∷ []) here
 if_chosen {depth = depth} takes opening test closing first within = over_part (test_read (if_opened depth) takes opening test closing within) first
 
 -- an `if` with its test and its branches is found, as they are held in memory
-pub if_found : {word paren close : Lexed} {from open_at test_at close_at first_at here end : Spot} {depth : ℕ} {old one two new : List (List ℕ)} {test : CodeExpr}
+pub if_found : {token paren close : Lexed} {from open_at test_at close_at first_at here end : Spot} {depth : ℕ} {old one two new : List (List ℕ)} {test : CodeExpr}
     (index middle : ℕ) (held : Arc CodeExpr Global) (stmt : CodeStmt) (first : Vec CodeStmt Global) (other : Option (Vec CodeStmt Global)) → held.value ≡ test
     → ((names : List Name) → statements names first.items ≡ branch_of (statement names stmt)) → ((names : List Name) → middle ≡ index + 1 + statement_count (statements names first.items))
-    → TakesKind (lexeme.Keyword keyword.If) word from open_at → TakesKind (lexeme.Punctuator punctuator.OpenParen) paren open_at test_at
+    → TakesKind (lexeme.Keyword keyword.If) token from open_at → TakesKind (lexeme.Punctuator punctuator.OpenParen) paren open_at test_at
     → FoundAs (One Expr) (depth + 1) old one test_at close_at (IsExpression test) → TakesKind (lexeme.Punctuator punctuator.CloseParen) close close_at first_at
     → FoundAs (One Stmt) (depth + 1) one two first_at here (IsStatement (index + 1) stmt)
     → FoundAs (Optional Else) (depth + 1) two new here end (λ names inside. maybe_statements names other ≡ else_in middle inside) → depth + 1 ≤ limit
-    → FoundAs (One Stmt) depth old new from end (IsStatement index (code_stmt.If index word.place held first other))
-if_found {word} {paren} {close} {depth = depth} index middle held stmt first other same are is_middle takes opening test closing found behind within =
-    all_read (over_part (if_chosen takes opening test closing found within) behind) (λ names more.
-    let since = goes_on_further (found_goes_on behind) more in
+    → FoundAs (One Stmt) depth old new from end (IsStatement index (code_stmt.If index token.place held first other))
+if_found {token} {paren} {close} {depth = depth} index middle held stmt first other same are is_middle takes opening test closing found after within =
+    all_read (over_part (if_chosen takes opening test closing found within) after) (λ names more.
+    let since = goes_on_further (found_goes_on after) more in
     let branch = are names ∙ ap branch_of (found.is names since) in
-    statement-if names index word.place held first other
-    ∙ (if_made index word.place (ap (phrase names) same ∙ test.is names (goes_on_further (found_goes_on found) since)) branch
-    (behind.is names more ∙ (ap (λ (n : ℕ). else_in n behind.inside) (is_middle names) ∙ ap (λ (trees : Statements). else_in (index + 1 + statement_count trees) behind.inside) branch))
-    ∙ sym (statement_by_word index (depth + 1)
-    (Leaf (Token paren) (depth + 1) (Node (One Expr) test.inside (Leaf (Token close) (depth + 1) (Node (One Stmt) found.inside (Node (Optional Else) behind.inside Empty))))) takes)))
+    statement-if names index token.place held first other
+    ∙ (if_made index token.place (ap (phrase names) same ∙ test.is names (goes_on_further (found_goes_on found) since)) branch
+    (after.is names more ∙ (ap (λ (n : ℕ). else_in n after.inside) (is_middle names) ∙ ap (λ (trees : Statements). else_in (index + 1 + statement_count trees) after.inside) branch))
+    ∙ sym (statement_by_keyword index (depth + 1)
+    (Leaf (Token paren) (depth + 1) (Node (One Expr) test.inside (Leaf (Token close) (depth + 1) (Node (One Stmt) found.inside (Node (Optional Else) after.inside Empty))))) takes)))
 
--- what may stand behind the first branch begins with `else`
+-- what may stand after the first branch begins with `else`
 else_begins : (kind : TokenKind) → begins Else kind ≡ fits (KeywordKind keyword.Else) kind
 else_begins kind = begins_with_token Else kind refl
 
 -- over `else`
-pub else_read : {word : Lexed} {from behind : Spot} (depth : ℕ) (table : List (List ℕ)) → TakesKind (lexeme.Keyword keyword.Else) word from behind → depth ≤ limit
-    → HasRead (Optional Else) depth table table from (λ rest. Node (One Else) (Leaf (Token word) depth rest) Empty) (Subgoal (One Stmt) depth ∷ []) behind
+pub else_read : {token : Lexed} {from after : Spot} (depth : ℕ) (table : List (List ℕ)) → TakesKind (lexeme.Keyword keyword.Else) token from after → depth ≤ limit
+    → HasRead (Optional Else) depth table table from (λ rest. Node (One Else) (Leaf (Token token) depth rest) Empty) (Subgoal (One Stmt) depth ∷ []) after
 else_read {from = from} depth table takes within =
     let fit = else_begins _ ∙ fits_next refl takes in
     into_last (opens (Optional Else) depth table from _ (optional_opened Else _ depth fit))
     (over_token (opens (One Else) depth table from _ (part_opened Else _ depth refl refl fit)) takes refl refl within)
 
--- with the statement behind it, it is found
-pub else_found : {word : Lexed} {from behind to : Spot} {depth : ℕ} {old new : List (List ℕ)} (index : ℕ) (stmt : CodeStmt) (branch : Vec CodeStmt Global)
-    → ((names : List Name) → statements names branch.items ≡ branch_of (statement names stmt)) → TakesKind (lexeme.Keyword keyword.Else) word from behind
-    → FoundAs (One Stmt) depth old new behind to (IsStatement index stmt) → depth ≤ limit
+-- with the statement after it, it is found
+pub else_found : {token : Lexed} {from after to : Spot} {depth : ℕ} {old new : List (List ℕ)} (index : ℕ) (stmt : CodeStmt) (branch : Vec CodeStmt Global)
+    → ((names : List Name) → statements names branch.items ≡ branch_of (statement names stmt)) → TakesKind (lexeme.Keyword keyword.Else) token from after
+    → FoundAs (One Stmt) depth old new after to (IsStatement index stmt) → depth ≤ limit
     → FoundAs (Optional Else) depth old new from to (λ names inside. maybe_statements names (Some branch) ≡ else_in index inside)
 else_found {depth = depth} {old} index stmt branch are takes found within =
     all_read (over_part (else_read depth old takes within) found) (λ names more. ap ElseTree (are names ∙ ap branch_of (found.is names more)))

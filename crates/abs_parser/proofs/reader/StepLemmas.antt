@@ -35,12 +35,12 @@ use Rattle.abs_parser.specs.declared.cursor.FixedName.TheVariants as fixed
 use Rattle.abs_tree.specs.declared.source_error.SourceError.{SourceError}
 use Rattle.abs_tree.specs.declared.source_error.SourceError.TheVariants.{Refused, Memory}
 use Rattle.abs_parser.proofs.grammar.NameLemmas.{goes_on_itself, goes_on_further, goes_on_all, number_stays, few_more}
-use Rattle.abs_parser.proofs.stop.MoveLemmas.{refuses_behind, within_first}
+use Rattle.abs_parser.proofs.stop.MoveLemmas.{refuses_after, within_first}
 
 -- two lists of tokens within the limit are so together
 pub within_both : (first second : List ℕ) → AllWithin first → AllWithin second → AllWithin (first ++ second)
-within_both [] second here behind = behind
-within_both (depth ∷ first) second here behind = (here.0, within_both first second here.1 behind)
+within_both [] second here after = after
+within_both (depth ∷ first) second here after = (here.0, within_both first second here.1 after)
 
 -- a token is one more of those that are left
 pub left_of : {token : Lexed} {from to : Spot} → TakesToken token from to → left_at from ≡ Token token ∷ left_at to
@@ -116,10 +116,10 @@ name_first_append _ name others more = refl
 -- the names in what was read stand before all others
 pub names_append : (forest : Forest) (others more : List (List ℕ)) → names_before forest (others ++ more) ≡ names_before forest others ++ more
 names_append Empty others more = refl
-names_append (Leaf mark depth behind) others more =
-    ap (name_first (token_kind mark) (written mark)) (names_append behind others more) ∙ name_first_append (token_kind mark) (written mark) (names_before behind others) more
-names_append (Node goal inside behind) others more =
-    ap (names_before inside) (names_append behind others more) ∙ names_append inside (names_before behind others) more
+names_append (Leaf mark depth after) others more =
+    ap (name_first (token_kind mark) (written mark)) (names_append after others more) ∙ name_first_append (token_kind mark) (written mark) (names_before after others) more
+names_append (Node goal inside after) others more =
+    ap (names_before inside) (names_append after others more) ∙ names_append inside (names_before after others) more
 
 -- the table goes on with the names in what was read, and then with the others
 pub table_of_both : (table : List (List ℕ)) (forest : Forest) (others : List (List ℕ))
@@ -168,10 +168,10 @@ pub found_goes_on : {goal : Goal} {depth : ℕ} {old new : List (List ℕ)} {fro
 found_goes_on {old = old} found = rw found.table (goes_on_all old (names_before found.inside []))
 
 -- a name stands at its number before a table where it does in the table, or is the first itself
-place_by : (here behind : Bool) (k : ℕ) (name x : List ℕ) (xs : List (List ℕ)) → (here ≡ true → x ≡ name) → (behind ≡ true → slice_get xs k ≡ Some name)
-    → (here || behind) ≡ true → slice_get (x ∷ xs) (cond (not here) (1 + k) 0) ≡ Some name
-place_by true behind k name x xs same further found = ap Some (same refl)
-place_by false behind k name x xs same further found =
+place_by : (here after : Bool) (k : ℕ) (name x : List ℕ) (xs : List (List ℕ)) → (here ≡ true → x ≡ name) → (after ≡ true → slice_get xs k ≡ Some name)
+    → (here || after) ≡ true → slice_get (x ∷ xs) (cond (not here) (1 + k) 0) ≡ Some name
+place_by true after k name x xs same further found = ap Some (same refl)
+place_by false after k name x xs same further found =
     let more : 1 + k ≡ suc k = omega arith in
     rw more (further found)
 
@@ -324,10 +324,10 @@ fixed_named : {name : FixedName} {token : Lexed} {from to : Spot} → TakesFixed
 fixed_named {name} {token} takes others = ap (λ (kind : TokenKind). name_first kind token.bytes others) takes.kind_is ∙ fixed_first name token.bytes others
 
 -- over a token that fits, with what it does to the table
-over_fitting : {goal : Goal} {depth at : ℕ} {old now table : List (List ℕ)} {from here behind : Spot} {make : Forest → Forest} {left : List Wanted} {kind : TokenKind} {token : Lexed}
-    → HasRead goal depth old now from make (Terminal kind at ∷ left) here → TakesToken token here behind → fits kind (token_kind (Token token)) ≡ true → at ≤ limit
+over_fitting : {goal : Goal} {depth at : ℕ} {old now table : List (List ℕ)} {from here after : Spot} {make : Forest → Forest} {left : List Wanted} {kind : TokenKind} {token : Lexed}
+    → HasRead goal depth old now from make (Terminal kind at ∷ left) here → TakesToken token here after → fits kind (token_kind (Token token)) ≡ true → at ≤ limit
     → ((others : List (List ℕ)) → fold with_name now (name_first (token_kind (Token token)) token.bytes others) ≡ fold with_name table others)
-    → GoesOn now table → length table ≤ length now + 1 → HasRead goal depth old table from (λ rest. make (Leaf (Token token) at rest)) left behind
+    → GoesOn now table → length table ≤ length now + 1 → HasRead goal depth old table from (λ rest. make (Leaf (Token token) at rest)) left after
 over_fitting {at = at} {token = token} so takes fit within is goes_on few = record {
   inner = so.inner;
   rule_is = so.rule_is;
@@ -341,43 +341,43 @@ over_fitting {at = at} {token = token} so takes fit within is goes_on few = reco
 }
 
 -- over a token that is no name
-pub over_token : {goal : Goal} {depth at : ℕ} {old now : List (List ℕ)} {from here behind : Spot} {make : Forest → Forest} {left : List Wanted} {kind : Lexeme} {token : Lexed}
-    → HasRead goal depth old now from make (Terminal (asked kind) at ∷ left) here → TakesKind kind token here behind → is_asked kind ≡ true → is_name kind ≡ false → at ≤ limit
-    → HasRead goal depth old now from (λ rest. make (Leaf (Token token) at rest)) left behind
+pub over_token : {goal : Goal} {depth at : ℕ} {old now : List (List ℕ)} {from here after : Spot} {make : Forest → Forest} {left : List Wanted} {kind : Lexeme} {token : Lexed}
+    → HasRead goal depth old now from make (Terminal (asked kind) at ∷ left) here → TakesKind kind token here after → is_asked kind ≡ true → is_name kind ≡ false → at ≤ limit
+    → HasRead goal depth old now from (λ rest. make (Leaf (Token token) at rest)) left after
 over_token {now = now} so takes wanted no_name within =
     over_fitting so takes.takes (kind_fits wanted takes) within (λ others. ap (fold with_name now) (token_unnamed takes no_name others)) (goes_on_itself now) (omega arith)
 
 -- over a token that fits and is a name, which the table has then
-over_named : {goal : Goal} {depth at : ℕ} {old now table : List (List ℕ)} {from here behind : Spot} {make : Forest → Forest} {left : List Wanted} {kind : TokenKind} {token : Lexed}
-    → HasRead goal depth old now from make (Terminal kind at ∷ left) here → TakesToken token here behind → fits kind (token_kind (Token token)) ≡ true
+over_named : {goal : Goal} {depth at : ℕ} {old now table : List (List ℕ)} {from here after : Spot} {make : Forest → Forest} {left : List Wanted} {kind : TokenKind} {token : Lexed}
+    → HasRead goal depth old now from make (Terminal kind at ∷ left) here → TakesToken token here after → fits kind (token_kind (Token token)) ≡ true
     → ((others : List (List ℕ)) → name_first (token_kind (Token token)) token.bytes others ≡ token.bytes ∷ others) → at ≤ limit → table ≡ with_name now token.bytes
-    → HasRead goal depth old table from (λ rest. make (Leaf (Token token) at rest)) left behind
+    → HasRead goal depth old table from (λ rest. make (Leaf (Token token) at rest)) left after
 over_named {now = now} {token = token} so takes fit named within is =
     over_fitting so takes fit within (λ others. ap (fold with_name now) (named others) ∙ ap (λ (names : List (List ℕ)). fold with_name names others) (sym is))
     (rw is (goes_on_all now (token.bytes ∷ []))) (omega (arith, ap length is, few_more now (token.bytes ∷ [])))
 
 -- over a name, which the table has then
-pub over_name : {goal : Goal} {depth at : ℕ} {old now table : List (List ℕ)} {from here behind : Spot} {make : Forest → Forest} {left : List Wanted} {kind : Lexeme} {token : Lexed}
-    → HasRead goal depth old now from make (Terminal (asked kind) at ∷ left) here → TakesKind kind token here behind → is_asked kind ≡ true → is_name kind ≡ true → at ≤ limit
-    → table ≡ with_name now token.bytes → HasRead goal depth old table from (λ rest. make (Leaf (Token token) at rest)) left behind
+pub over_name : {goal : Goal} {depth at : ℕ} {old now table : List (List ℕ)} {from here after : Spot} {make : Forest → Forest} {left : List Wanted} {kind : Lexeme} {token : Lexed}
+    → HasRead goal depth old now from make (Terminal (asked kind) at ∷ left) here → TakesKind kind token here after → is_asked kind ≡ true → is_name kind ≡ true → at ≤ limit
+    → table ≡ with_name now token.bytes → HasRead goal depth old table from (λ rest. make (Leaf (Token token) at rest)) left after
 over_name so takes wanted named within is = over_named so takes.takes (kind_fits wanted takes) (token_named takes named) within is
 
 -- over a name with a spelling of its own, which the table has then, too
-pub over_fixed : {goal : Goal} {depth at : ℕ} {old now table : List (List ℕ)} {from here behind : Spot} {make : Forest → Forest} {left : List Wanted} {name : FixedName} {token : Lexed}
-    → HasRead goal depth old now from make (Terminal (fixed_kind name) at ∷ left) here → TakesFixed name token here behind → at ≤ limit → table ≡ with_name now token.bytes
-    → HasRead goal depth old table from (λ rest. make (Leaf (Token token) at rest)) left behind
+pub over_fixed : {goal : Goal} {depth at : ℕ} {old now table : List (List ℕ)} {from here after : Spot} {make : Forest → Forest} {left : List Wanted} {name : FixedName} {token : Lexed}
+    → HasRead goal depth old now from make (Terminal (fixed_kind name) at ∷ left) here → TakesFixed name token here after → at ≤ limit → table ≡ with_name now token.bytes
+    → HasRead goal depth old table from (λ rest. make (Leaf (Token token) at rest)) left after
 over_fixed so takes within is = over_named so takes.takes (fixed_fits takes) (fixed_named takes) within is
 
 -- over a part that was found
-pub over_part : {goal part : Goal} {depth at : ℕ} {old now new : List (List ℕ)} {from here behind : Spot} {make : Forest → Forest} {left : List Wanted} {is_read : List (List ℕ) → Forest → Type 0}
-    → HasRead goal depth old now from make (Subgoal part at ∷ left) here → (found : FoundAs part at now new here behind is_read)
-    → HasRead goal depth old new from (λ rest. make (Node part found.inside rest)) left behind
+pub over_part : {goal part : Goal} {depth at : ℕ} {old now new : List (List ℕ)} {from here after : Spot} {make : Forest → Forest} {left : List Wanted} {is_read : List (List ℕ) → Forest → Type 0}
+    → HasRead goal depth old now from make (Subgoal part at ∷ left) here → (found : FoundAs part at now new here after is_read)
+    → HasRead goal depth old new from (λ rest. make (Node part found.inside rest)) left after
 over_part {part = part} {now = now} {left = left} so found = record {
   inner = so.inner;
   rule_is = so.rule_is;
   reads = λ rest to reads. so.reads (Node part found.inside rest) to (Opened found.rule_is found.reads reads);
   within = λ rest others. so.within (Node part found.inside rest) (within_both (depths found.inside) (depths rest) found.within others);
-  refuses = λ items to code refused. so.refuses items to code (Open found.rule_is (refuses_behind found.reads found.within refused));
+  refuses = λ items to code refused. so.refuses items to code (Open found.rule_is (refuses_after found.reads found.within refused));
   table = λ rest. so.table (Node part found.inside rest)
       ∙ (table_of_both now found.inside (names_before rest [])
       ∙ ap (λ (names : List (List ℕ)). fold with_name names (names_before rest [])) (sym found.table));
@@ -387,9 +387,9 @@ over_part {part = part} {now = now} {left = left} so found = record {
 }
 
 -- the reader of the last part in place of what it reads
-pub into_last : {goal last : Goal} {depth at : ℕ} {old now new : List (List ℕ)} {from here behind : Spot} {make make_last : Forest → Forest} {left : List Wanted}
-    → HasRead goal depth old now from make (Subgoal last at ∷ []) here → HasRead last at now new here make_last left behind
-    → HasRead goal depth old new from (λ rest. make (Node last (make_last rest) Empty)) left behind
+pub into_last : {goal last : Goal} {depth at : ℕ} {old now new : List (List ℕ)} {from here after : Spot} {make make_last : Forest → Forest} {left : List Wanted}
+    → HasRead goal depth old now from make (Subgoal last at ∷ []) here → HasRead last at now new here make_last left after
+    → HasRead goal depth old new from (λ rest. make (Node last (make_last rest) Empty)) left after
 into_last {last = last} {make_last = make_last} so inside = record {
   inner = so.inner;
   rule_is = so.rule_is;
@@ -421,17 +421,17 @@ pub refused_inside : {goal : Goal} {depth : ℕ} {old now : List (List ℕ)} {fr
     → HasRead goal depth old now from make (item ∷ left) here → (error : SourceError) → IsRefused item here error → IsRefused (Subgoal goal depth) from error
 refused_inside {left = left} so (Refused refusal) refused = λ items.
     let at = refused (left ++ items) in
-    record { mark = at.mark; behind = at.behind; code = at.code; refuses = so.refuses items (at.mark ∷ at.behind) at.code at.refuses; refusal_is = at.refusal_is }
+    record { mark = at.mark; after = at.after; code = at.code; refuses = so.refuses items (at.mark ∷ at.after) at.code at.refuses; refusal_is = at.refusal_is }
 refused_inside so Memory refused = λ items. tt
 
--- where all of the part is read but what leaves nothing behind, what refuses the item that is to follow the part refuses the part with it
-pub refused_after : {goal part : Goal} {depth at : ℕ} {old now new : List (List ℕ)} {from here behind : Spot} {make : Forest → Forest} {is_read : List (List ℕ) → Forest → Type 0} (second : Wanted)
-    → HasRead goal depth old now from make (Subgoal part at ∷ []) here → FoundAs part at now new here behind is_read → (error : SourceError) → IsRefused second behind error
+-- where all of the part is read but what leaves nothing after, what refuses the item that is to follow the part refuses the part with it
+pub refused_after : {goal part : Goal} {depth at : ℕ} {old now new : List (List ℕ)} {from here after : Spot} {make : Forest → Forest} {is_read : List (List ℕ) → Forest → Type 0} (second : Wanted)
+    → HasRead goal depth old now from make (Subgoal part at ∷ []) here → FoundAs part at now new here after is_read → (error : SourceError) → IsRefused second after error
     → IsRefusedWith (Subgoal goal depth) second from error
 refused_after second so found (Refused refusal) refused = λ items.
     let over = over_part so found in
     let at = refused items in
-    record { mark = at.mark; behind = at.behind; code = at.code; refuses = over.refuses (second ∷ items) (at.mark ∷ at.behind) at.code at.refuses; refusal_is = at.refusal_is }
+    record { mark = at.mark; after = at.after; code = at.code; refuses = over.refuses (second ∷ items) (at.mark ∷ at.after) at.code at.refuses; refusal_is = at.refusal_is }
 refused_after second so found Memory refused = λ items. tt
 
 -- and so does what refuses the next two items
@@ -439,7 +439,7 @@ pub refused_both : {goal : Goal} {depth : ℕ} {old now : List (List ℕ)} {from
     → HasRead goal depth old now from make (item ∷ second ∷ left) here → (error : SourceError) → IsRefusedWith item second here error → IsRefused (Subgoal goal depth) from error
 refused_both {left = left} so (Refused refusal) refused = λ items.
     let at = refused (left ++ items) in
-    record { mark = at.mark; behind = at.behind; code = at.code; refuses = so.refuses items (at.mark ∷ at.behind) at.code at.refuses; refusal_is = at.refusal_is }
+    record { mark = at.mark; after = at.after; code = at.code; refuses = so.refuses items (at.mark ∷ at.after) at.code at.refuses; refusal_is = at.refusal_is }
 refused_both so Memory refused = λ items. tt
 
 -- what holds of an error holds where a `?` passes it on
@@ -450,14 +450,14 @@ passed_on P (Err e) passed holds = subst P (sym passed) holds
 -- the token that stands at a spot, and its place; the end of the source counts as one
 record NextMark (spot : Spot) : Type 0 where
   mark : Mark
-  behind : List Mark
-  is : left_at spot ≡ mark ∷ behind
+  after : List Mark
+  is : left_at spot ≡ mark ∷ after
   place_is : place_of_mark mark ≡ place_of spot
 
 -- at each spot there stands one, by cases of whether a token is left
 next_by : (rest : List Lexed) (end : Place) → NextMark (record { rest = rest; end = end })
-next_by [] end = record { mark = TextEnd end; behind = []; is = refl; place_is = refl }
-next_by (token ∷ others) end = record { mark = Token token; behind = map Token others ++ TextEnd end ∷ []; is = refl; place_is = refl }
+next_by [] end = record { mark = TextEnd end; after = []; is = refl; place_is = refl }
+next_by (token ∷ others) end = record { mark = Token token; after = map Token others ++ TextEnd end ∷ []; is = refl; place_is = refl }
 
 -- so there stands one at each spot
 next_mark : (spot : Spot) → NextMark spot
@@ -465,30 +465,30 @@ next_mark spot = next_by spot.rest spot.end
 
 -- what is refused at the token that stands at a spot, by a code
 pub refused_here : {items : List Wanted} (spot : Spot) (code : Code)
-    → ((mark : Mark) (behind : List Mark) → left_at spot ≡ mark ∷ behind → token_kind mark ≡ next (left_at spot) → Refuses items (mark ∷ behind) (mark ∷ behind) code)
+    → ((mark : Mark) (after : List Mark) → left_at spot ≡ mark ∷ after → token_kind mark ≡ next (left_at spot) → Refuses items (mark ∷ after) (mark ∷ after) code)
     → RefusedAt items (left_at spot) (refusal_at code spot)
 refused_here {items} spot code refuses =
     let here = next_mark spot in
     record {
       mark = here.mark;
-      behind = here.behind;
+      after = here.after;
       code = code;
-      refuses = subst (λ (ts : List Mark). Refuses items ts (here.mark ∷ here.behind) code) (sym here.is) (refuses here.mark here.behind here.is (sym (ap next here.is)));
+      refuses = subst (λ (ts : List Mark). Refuses items ts (here.mark ∷ here.after) code) (sym here.is) (refuses here.mark here.after here.is (sym (ap next here.is)));
       refusal_is = ap (λ (place : Place). refusal_of (record { code = code; place = place })) (sym here.place_is);
     }
 
 -- a part that the next token does not open is refused there
 pub refused_shut : (goal : Goal) (depth : ℕ) (spot : Spot) → opened goal (next (left_at spot)) depth ≡ None → IsRefused (Subgoal goal depth) spot (Refused (wrong_at spot))
 refused_shut goal depth spot shut = λ items.
-    refused_here spot (wrong_code (next (left_at spot))) (λ mark behind is same.
+    refused_here spot (wrong_code (next (left_at spot))) (λ mark after is same.
     Shut (ap (λ (kind : TokenKind). opened goal kind depth) same ∙ shut) (ap wrong_code (sym same)))
 
 -- a token that fits and is too deeply nested is refused
 pub deep_refused : (kind : TokenKind) (depth : ℕ) (spot : Spot) (error : SourceError) → error ≡ Refused (refusal_at S2 spot) → fits kind (next (left_at spot)) ≡ true → limit < depth
     → IsRefused (Terminal kind depth) spot error
-deep_refused kind depth spot error is fit deep = rw is (λ items. refused_here spot S2 (λ mark behind is_left same. Below (ap (fits kind) same ∙ fit) deep))
+deep_refused kind depth spot error is fit deep = rw is (λ items. refused_here spot S2 (λ mark after is_left same. Below (ap (fits kind) same ∙ fit) deep))
 
--- a refusal of a token that does not fit is one of a part that it does not open, behind which others stand
+-- a refusal of a token that does not fit is one of a part that it does not open, after which others stand
 other_by : {kind : TokenKind} {at : ℕ} {items others : List Wanted} {goal : Goal} {depth : ℕ} {ts rest : List Mark} {code : Code} → fits kind (next ts) ≡ false
     → opened goal (next ts) depth ≡ None → Refuses (Terminal kind at ∷ items) ts rest code → Refuses (Subgoal goal depth ∷ others) ts rest code
 other_by differs shut (Other e is) = Shut shut is
@@ -501,7 +501,7 @@ pub refused_other : (kind : TokenKind) (at : ℕ) (goal : Goal) (depth : ℕ) (s
     → opened goal (next (left_at spot)) depth ≡ None → IsRefused (Terminal kind at) spot error → IsRefused (Subgoal goal depth) spot error
 refused_other kind at goal depth spot (Refused refusal) differs shut refused = λ items.
     let found = refused items in
-    record { mark = found.mark; behind = found.behind; code = found.code; refuses = other_by differs shut found.refuses; refusal_is = found.refusal_is }
+    record { mark = found.mark; after = found.after; code = found.code; refuses = other_by differs shut found.refuses; refusal_is = found.refusal_is }
 refused_other kind at goal depth spot Memory differs shut refused = λ items. tt
 
 -- by cases of whether the next token fits
@@ -520,7 +520,7 @@ pub refused_first_token : (kind : TokenKind) (at : ℕ) (goal : Goal) (depth : �
 refused_first_token kind at goal depth spot error is_opened is_shut refused =
     by_fit (fits kind (next (left_at spot))) kind at goal depth spot error refl is_opened is_shut refused
 
--- a refusal of a part that is not opened is one of another that is not, behind which others stand
+-- a refusal of a part that is not opened is one of another that is not, after which others stand
 shut_by : {part : Goal} {at : ℕ} {items others : List Wanted} {goal : Goal} {depth : ℕ} {ts rest : List Mark} {code : Code} → opened part (next ts) at ≡ None
     → opened goal (next ts) depth ≡ None → Refuses (Subgoal part at ∷ items) ts rest code → Refuses (Subgoal goal depth ∷ others) ts rest code
 shut_by closed shut (Shut e is) = Shut shut is
@@ -532,7 +532,7 @@ pub refused_alike : (part : Goal) (at : ℕ) (goal : Goal) (depth : ℕ) (spot :
     → opened goal (next (left_at spot)) depth ≡ None → IsRefused (Subgoal part at) spot error → IsRefused (Subgoal goal depth) spot error
 refused_alike part at goal depth spot (Refused refusal) closed shut refused = λ items.
     let found = refused items in
-    record { mark = found.mark; behind = found.behind; code = found.code; refuses = shut_by closed shut found.refuses; refusal_is = found.refusal_is }
+    record { mark = found.mark; after = found.after; code = found.code; refuses = shut_by closed shut found.refuses; refusal_is = found.refusal_is }
 refused_alike part at goal depth spot Memory closed shut refused = λ items. tt
 
 -- the same where the table is given a name of its own

@@ -38,7 +38,7 @@ use Rattle.abs_parser.proofs.reader.RestSteps.{MayHaveRead, may_open, over_left_
 use Rattle.abs_parser.proofs.reader.StepLemmas.{HasRead, left_length, within_both, over_part, found_shorter, found_goes_on, refused_alike}
 use Rattle.abs_parser.proofs.stop.StopLemmas.{accepted, stopped}
 use Rattle.abs_parser.proofs.grammar.NonterminalLemmas.{begins_by, part_begun, part_opened, part_shut, optional_left_out, repeated_ends}
-use Rattle.abs_parser.proofs.reader.WordLemmas.{table_written}
+use Rattle.abs_parser.proofs.reader.WrittenLemmas.{table_written}
 
 -- What begins nothing that a source may begin with: no line before the program, no declaration and no block.
 record BeginsNone (kind : TokenKind) : Type 0 where
@@ -59,13 +59,13 @@ begins_none kind none =
 abbrev pub ProgramRead : List (List ℕ) → List (List ℕ) → Spot → (Forest → Forest) → List Wanted → Spot → Type 0
 ProgramRead old now from make left here = MayHaveRead (begins Program (next (left_at from))) (One Program) 0 old now from make left here
 
--- what is wanted behind the declarations
-abbrev pub behind_declarations : List Wanted
-behind_declarations = Subgoal (One Block) 0 ∷ Terminal End 0 ∷ []
+-- what is wanted after the declarations
+abbrev pub after_declarations : List Wanted
+after_declarations = Subgoal (One Block) 0 ∷ Terminal End 0 ∷ []
 
 -- a source begins with the lines before its declarations
 pub program_begins : (table : List (List ℕ)) (from : Spot)
-    → ProgramRead table table from (λ rest. rest) (Subgoal (Optional Module) 0 ∷ Subgoal (Optional Import) 0 ∷ Subgoal (Repeated Decl) 0 ∷ behind_declarations) from
+    → ProgramRead table table from (λ rest. rest) (Subgoal (Optional Module) 0 ∷ Subgoal (Optional Import) 0 ∷ Subgoal (Repeated Decl) 0 ∷ after_declarations) from
 program_begins table from = may_open (One Program) 0 table from _ (λ begun. part_opened Program _ 0 refl refl begun)
 
 -- where nothing of a source begins, no `module` line is read
@@ -81,27 +81,27 @@ decls_left_out : (kind : TokenKind) → begins Program kind ≡ false → opened
 decls_left_out kind none = repeated_ends Decl kind 0 (begins_none kind none).decl
 
 -- over the `module` line, which may be left out
-pub over_heading : {old now new : List (List ℕ)} {from here behind : Spot} {make : Forest → Forest} {left : List Wanted} {is_read : List (List ℕ) → Forest → Type 0}
-    → ProgramRead old now from make (Subgoal (Optional Module) 0 ∷ left) here → (found : FoundAs (Optional Module) 0 now new here behind is_read)
-    → ProgramRead old new from (λ rest. make (Node (Optional Module) found.inside rest)) left behind
+pub over_heading : {old now new : List (List ℕ)} {from here after : Spot} {make : Forest → Forest} {left : List Wanted} {is_read : List (List ℕ) → Forest → Type 0}
+    → ProgramRead old now from make (Subgoal (Optional Module) 0 ∷ left) here → (found : FoundAs (Optional Module) 0 now new here after is_read)
+    → ProgramRead old new from (λ rest. make (Node (Optional Module) found.inside rest)) left after
 over_heading so found = over_left_out so (heading_left_out _) found
 
 -- over the `import` line, which may be left out, too
-pub over_import : {old now new : List (List ℕ)} {from here behind : Spot} {make : Forest → Forest} {left : List Wanted} {is_read : List (List ℕ) → Forest → Type 0}
-    → ProgramRead old now from make (Subgoal (Optional Import) 0 ∷ left) here → (found : FoundAs (Optional Import) 0 now new here behind is_read)
-    → ProgramRead old new from (λ rest. make (Node (Optional Import) found.inside rest)) left behind
+pub over_import : {old now new : List (List ℕ)} {from here after : Spot} {make : Forest → Forest} {left : List Wanted} {is_read : List (List ℕ) → Forest → Type 0}
+    → ProgramRead old now from make (Subgoal (Optional Import) 0 ∷ left) here → (found : FoundAs (Optional Import) 0 now new here after is_read)
+    → ProgramRead old new from (λ rest. make (Node (Optional Import) found.inside rest)) left after
 over_import so found = over_left_out so (import_left_out _) found
 
 -- over the declarations
-pub over_declarations : {old now new : List (List ℕ)} {from here behind : Spot} {make : Forest → Forest} {left : List Wanted} {is_read : List (List ℕ) → Forest → Type 0}
-    → ProgramRead old now from make (Subgoal (Repeated Decl) 0 ∷ left) here → (found : FoundAs (Repeated Decl) 0 now new here behind is_read)
-    → ProgramRead old new from (λ rest. make (Node (Repeated Decl) found.inside rest)) left behind
+pub over_declarations : {old now new : List (List ℕ)} {from here after : Spot} {make : Forest → Forest} {left : List Wanted} {is_read : List (List ℕ) → Forest → Type 0}
+    → ProgramRead old now from make (Subgoal (Repeated Decl) 0 ∷ left) here → (found : FoundAs (Repeated Decl) 0 now new here after is_read)
+    → ProgramRead old new from (λ rest. make (Node (Repeated Decl) found.inside rest)) left after
 over_declarations so found = over_left_out so (decls_left_out _) found
 
 -- over the main block, which must stand there
-pub over_block : {old now new : List (List ℕ)} {from here behind : Spot} {make : Forest → Forest} {left : List Wanted} {is_read : List (List ℕ) → Forest → Type 0}
-    → ProgramRead old now from make (Subgoal (One Block) 0 ∷ left) here → (found : FoundAs (One Block) 0 now new here behind is_read)
-    → HasRead (One Program) 0 old new from (λ rest. make (Node (One Block) found.inside rest)) left behind
+pub over_block : {old now new : List (List ℕ)} {from here after : Spot} {make : Forest → Forest} {left : List Wanted} {is_read : List (List ℕ) → Forest → Type 0}
+    → ProgramRead old now from make (Subgoal (One Block) 0 ∷ left) here → (found : FoundAs (One Block) 0 now new here after is_read)
+    → HasRead (One Program) 0 old new from (λ rest. make (Node (One Block) found.inside rest)) left after
 over_block so found =
     over_part (has_read so (λ none same.
     let block = part_begun Block _ 0 found.rule_is in
@@ -141,7 +141,7 @@ block_refused {from = from} error so refused =
 -- a refusal with a code and a place is that of the token at which the source stops
 stops_with : (list : TokenList) (refusal : Refusal) → RefusedAt a_program (marks list) refusal → StopsWith list refusal
 stops_with list refusal at =
-    let stop = stopped (text_refused list (at.mark ∷ at.behind) at.code at.refuses) in
+    let stop = stopped (text_refused list (at.mark ∷ at.after) at.code at.refuses) in
     let same : at.mark ≡ stop.mark = cc (stop.is) in
     record {
       before = stop.before;
@@ -214,7 +214,7 @@ BlockFound index old new from to main = FoundAs (One Block) 0 old new from to (�
 abbrev pub LineFound : Nonterminal → List (List ℕ) → List (List ℕ) → Spot → Spot → Type 0
 LineFound nonterminal old new from to = FoundAs (Optional nonterminal) 0 old new from to (λ names inside. ⊤)
 
--- a program is found with the lines before it, its declarations and its main block, behind which no token is left
+-- a program is found with the lines before it, its declarations and its main block, after which no token is left
 pub program_found : {list : TokenList} {old a b c names : List (List ℕ)} {from import_at first main_at end : Spot} {free : ℕ} (declarations : List code_decl.Decl) (main : Body)
     → old ≡ [] → from ≡ whole list → LineFound Module old a from import_at → LineFound Import a b import_at first → DeclarationsFound b c first main_at declarations
     → ((table : List (List ℕ)) → free ≡ 0 + decl_statements (map (decl_tree table) declarations)) → BlockFound free c names main_at end main → end.rest ≡ [] → ProgramFound list names declarations main

@@ -8,7 +8,7 @@ use Rattle.abs_tree.specs.SourceSizes.{member_variables, decl_variables, all_var
 
 -- a number within a bound stands before others that are
 pub within_cons : (bound n : ℕ) (others : List ℕ) → n ≤ bound → All (λ m. m ≤ bound) others → All (λ m. m ≤ bound) (n ∷ others)
-within_cons bound n others here behind = All-cons (λ m. m ≤ bound) n others here behind
+within_cons bound n others here after = All-cons (λ m. m ≤ bound) n others here after
 
 -- the initial values of a class have no more variables than all its members
 values_within : (members : List MemberTree) → field_variables members ≤ member_variables members
@@ -34,9 +34,9 @@ decls_within bound (FunctionTree place type name parameters params value ∷ oth
 decls_within bound (InterfaceTree place name extended signatures ∷ others) few = decls_within bound others (omega (arith, few))
 decls_within bound (ClassTree place name params implemented members ∷ others) few =
     let methods = methods_within bound members (omega (arith, few)) in
-    let behind = decls_within bound others (omega (arith, few)) in
+    let after = decls_within bound others (omega (arith, few)) in
     within_cons bound (field_variables members) (method_sizes members ++ decl_sizes others) (omega (arith, few, values_within members))
-    (All-append (λ n. n ≤ bound) (method_sizes members) (decl_sizes others) methods behind)
+    (All-append (λ n. n ≤ bound) (method_sizes members) (decl_sizes others) methods after)
 
 -- each body of a source is within what bounds the variables of the whole
 pub bodies_within : (bound : ℕ) (text : SourceTree) → all_variables text ≤ bound → All (λ n. n ≤ bound) (body_sizes text)

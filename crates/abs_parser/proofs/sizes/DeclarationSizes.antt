@@ -51,7 +51,7 @@ signatures_few : (forest : Forest) → signature_params (signatures_in forest) �
 signatures_few (Node _ signature (Node _ others _)) = omega (arith, signature_few signature (signatures_in others), signatures_few others)
 signatures_few _ = omega arith
 
--- a member has no more variables than leaves, by what stands behind its name, before others
+-- a member has no more variables than leaves, by what stands after its name, before others
 member_by_few : (index : ℕ) (type : TypeTree) (name : DeclaredTree) (forest : Forest) (others : List MemberTree)
     → member_variables (member_by index type name forest ∷ others) ≤ leaves forest + member_variables others
 member_by_few index type name (Leaf opening _ (Node _ params (Leaf closing _ (Node _ block _)))) others = omega (arith, params_maybe_few params, block_few index block)
@@ -65,8 +65,8 @@ member_few index _ others = omega arith
 
 -- and of all members
 members_few : (index : ℕ) (forest : Forest) → member_variables (members_in index forest) ≤ leaves forest
-members_few index (Node _ member (Node _ others _)) = let behind = index + member_statements (member_in index member []) in
-    omega (arith, member_few index member (members_in behind others), members_few behind others)
+members_few index (Node _ member (Node _ others _)) = let after = index + member_statements (member_in index member []) in
+    omega (arith, member_few index member (members_in after others), members_few after others)
 members_few index _ = omega arith
 
 -- a member is one field or none, before others
@@ -82,8 +82,8 @@ field_few index _ others = omega arith
 
 -- and so are all members
 fields_few : (index : ℕ) (forest : Forest) → fields_among (members_in index forest) ≤ leaves forest
-fields_few index (Node _ member (Node _ others _)) = let behind = index + member_statements (member_in index member []) in
-    omega (arith, field_few index member (members_in behind others), fields_few behind others)
+fields_few index (Node _ member (Node _ others _)) = let after = index + member_statements (member_in index member []) in
+    omega (arith, field_few index member (members_in after others), fields_few after others)
 fields_few index _ = omega arith
 
 -- a declaration has no more variables than leaves, by its first token, before others
@@ -104,8 +104,8 @@ decl_few index _ others = omega arith
 
 -- of all declarations
 decls_few : (index : ℕ) (forest : Forest) → decl_variables (decls_in index forest) ≤ leaves forest
-decls_few index (Node _ decl (Node _ more _)) = let behind = index + decl_statements (decl_in index decl []) in
-    omega (arith, decl_few index decl (decls_in behind more), decls_few behind more)
+decls_few index (Node _ decl (Node _ more _)) = let after = index + decl_statements (decl_in index decl []) in
+    omega (arith, decl_few index decl (decls_in after more), decls_few after more)
 decls_few index _ = omega arith
 
 -- and of a program
@@ -125,27 +125,27 @@ bodies_of_text forest = bodies_within (leaves forest) (tree_of forest) (variable
 -- a class has no more fields than leaves, by the first token of its declaration, before others
 class_by_few : (index bound : ℕ) (kind : TokenKind) (place : Place) (forest : Forest) (others : List DeclTree) → leaves forest ≤ bound → All (λ n. n ≤ bound) (decl_fields others)
     → All (λ n. n ≤ bound) (decl_fields (decl_by index kind place forest others))
-class_by_few index bound (KeywordKind keyword.Data) place (Leaf name _ (Node _ parameters (Leaf equals _ (Node _ first (Node _ more _))))) others few behind = behind
-class_by_few index bound (KeywordKind keyword.Def) place (Node _ type (Leaf name _ (Node _ parameters (Leaf opening _ (Node _ params (Leaf closing _ (Leaf equals _ (Node _ expr _)))))))) others few behind =
-    behind
-class_by_few index bound (KeywordKind keyword.Interface) place (Leaf name _ (Node _ extended (Leaf opening _ (Node _ signatures _)))) others few behind = behind
-class_by_few index bound (KeywordKind keyword.Class) place (Leaf name _ (Node _ params (Node _ implemented (Leaf opening _ (Node _ members _))))) others few behind =
+class_by_few index bound (KeywordKind keyword.Data) place (Leaf name _ (Node _ parameters (Leaf equals _ (Node _ first (Node _ more _))))) others few after = after
+class_by_few index bound (KeywordKind keyword.Def) place (Node _ type (Leaf name _ (Node _ parameters (Leaf opening _ (Node _ params (Leaf closing _ (Leaf equals _ (Node _ expr _)))))))) others few after =
+    after
+class_by_few index bound (KeywordKind keyword.Interface) place (Leaf name _ (Node _ extended (Leaf opening _ (Node _ signatures _)))) others few after = after
+class_by_few index bound (KeywordKind keyword.Class) place (Leaf name _ (Node _ params (Node _ implemented (Leaf opening _ (Node _ members _))))) others few after =
     within_cons bound (length (class_params_maybe params) + fields_among (members_in index members)) (decl_fields others)
     (omega (arith, few, class_params_few params, fields_few index members))
-    behind
-class_by_few index bound _ place forest others few behind = behind
+    after
+class_by_few index bound _ place forest others few after = after
 
 -- so it is of the whole declaration
 class_few : (index bound : ℕ) (forest : Forest) (others : List DeclTree) → leaves forest ≤ bound → All (λ n. n ≤ bound) (decl_fields others)
     → All (λ n. n ≤ bound) (decl_fields (decl_in index forest others))
-class_few index bound (Leaf mark _ inside) others few behind = class_by_few index bound (token_kind mark) (place_of_mark mark) inside others (omega (arith, few)) behind
-class_few index bound _ others few behind = behind
+class_few index bound (Leaf mark _ inside) others few after = class_by_few index bound (token_kind mark) (place_of_mark mark) inside others (omega (arith, few)) after
+class_few index bound _ others few after = after
 
 -- of all declarations
 classes_few : (index bound : ℕ) (forest : Forest) → leaves forest ≤ bound → All (λ n. n ≤ bound) (decl_fields (decls_in index forest))
 classes_few index bound (Node _ decl (Node _ more _)) few =
-    let behind = index + decl_statements (decl_in index decl []) in
-    class_few index bound decl (decls_in behind more) (omega (arith, few)) (classes_few behind bound more (omega (arith, few)))
+    let after = index + decl_statements (decl_in index decl []) in
+    class_few index bound decl (decls_in after more) (omega (arith, few)) (classes_few after bound more (omega (arith, few)))
 classes_few index bound _ few = All-nil _
 
 -- and of a program

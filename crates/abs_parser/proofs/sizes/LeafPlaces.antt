@@ -11,7 +11,7 @@ use Rattle.abs_parser.specs.Readings.{Wanted, Forest, Empty, Leaf, Node, Reads, 
 use Rattle.abs_parser.specs.TreesOf.{written, place_in, with_operators, named, member, built, expr_in, or_in, or_operands, and_in, and_operands, equal_in, equal_operand, compare_in, compare_operand, sum_in, sum_operands, mul_in, mul_operands, unary_in, primary_in, primary_by, this_in, arguments_maybe, arguments_in, args_maybe, args_in, more_args, selected_in, tail_in, rhs_in, initial_in, after_variable, after_field, after_this, statement_in, statement_by, block_in, statements_in, decls_in, text_in, tree_of}
 use Rattle.abs_tree.proofs.Subsequences.{IsPartOf}
 use Rattle.abs_tree.proofs.Subsequences.IsPartOf.{none, skipped, kept}
-use Rattle.abs_tree.proofs.Subsequences.{part_behind, part_before, part_both}
+use Rattle.abs_tree.proofs.Subsequences.{part_after, part_before, part_both}
 
 abbrev mutual
   -- where an expression uses variables
@@ -47,7 +47,7 @@ statement_uses (AssignOf index place (ToVariable at variable) side) = place ∷ 
 statement_uses (PrintOf index place text) = phrase_uses text
 statement_uses _ = []
 
--- and where statements do that stand one behind the other
+-- and where statements do that stand one after the other
 abbrev pub statements_uses : Statements → List Place
 statements_uses NoStatement = []
 statements_uses (NextStatement first others) = statement_uses first ++ statements_uses others
@@ -58,9 +58,9 @@ leaf_places Empty = []
 leaf_places (Leaf mark depth others) = place_of_mark mark ∷ leaf_places others
 leaf_places (Node goal inside others) = leaf_places inside ++ leaf_places others
 
--- operators behind a first operand have the uses of it, and behind these their own
-chain_part : (place : Place) (first : Phrase) (others : Operands) {here behind : List Place} → IsPartOf (phrase_uses first) here → IsPartOf (link_uses others) behind
-    → IsPartOf (phrase_uses (with_operators place first others)) (here ++ behind)
+-- operators after a first operand have the uses of it, and after these their own
+chain_part : (place : Place) (first : Phrase) (others : Operands) {here after : List Place} → IsPartOf (phrase_uses first) here → IsPartOf (link_uses others) after
+    → IsPartOf (phrase_uses (with_operators place first others)) (here ++ after)
 chain_part place first NoOperands x y = part_before _ x
 chain_part place first (NextOperand operation right others) x y = part_both x y
 
@@ -69,13 +69,13 @@ abbrev optional_uses : Option Phrases → List Place
 optional_uses None = []
 optional_uses (Some arguments) = argument_uses arguments
 
--- a name is used at its place, or the arguments behind it use variables
+-- a name is used at its place, or the arguments after it use variables
 named_part : (place : Place) (name : Name) (arguments : Option Phrases) {many : List Place} → IsPartOf (optional_uses arguments) many
     → IsPartOf (phrase_uses (named place name arguments)) (place ∷ many)
 named_part place name None x = kept none
 named_part place name (Some arguments) x = skipped x
 
--- a name behind "this" does not run
+-- a name after "this" does not run
 member_part : (place name_place : Place) (name : Name) (arguments : Option Phrases) {many : List Place} → IsPartOf (phrase_uses (member place name_place name arguments)) many
 member_part place name_place name None = none
 member_part place name_place name (Some arguments) = none
@@ -85,7 +85,7 @@ built_part : (place : Place) (name : Name) (arguments : Option Phrases) {many : 
 built_part place name None = none
 built_part place name (Some arguments) = none
 
--- nor does "this" with what stands behind it
+-- nor does "this" with what stands after it
 this_part : (place : Place) (forest : Forest) {many : List Place} → IsPartOf (phrase_uses (this_in place forest)) many
 this_part place (Node _ (Leaf dot _ (Leaf name _ (Node _ arguments _))) _) = member_part place (place_of_mark name) (written name) (arguments_maybe arguments)
 this_part place _ = none
@@ -93,8 +93,8 @@ this_part place _ = none
 mutual
   -- an expression uses variables at some of its tokens
   expr_part : (forest : Forest) → IsPartOf (phrase_uses (expr_in forest)) (leaf_places forest)
-  expr_part (Leaf mark _ (Leaf opening _ (Node _ type (Leaf name _ (Leaf closing _ (Leaf equals _ (Node _ value (Leaf in_word _ (Node _ body _))))))))) = none
-  expr_part (Leaf mark _ (Node _ test (Leaf then_word _ (Node _ first (Leaf else_word _ (Node _ second _)))))) = none
+  expr_part (Leaf mark _ (Leaf opening _ (Node _ type (Leaf name _ (Leaf closing _ (Leaf equals _ (Node _ value (Leaf in_token _ (Node _ body _))))))))) = none
+  expr_part (Leaf mark _ (Node _ test (Leaf then_token _ (Node _ first (Leaf else_token _ (Node _ second _)))))) = none
   expr_part (Node _ or _) = part_before _ (or_part or)
   expr_part _ = none
 
@@ -103,7 +103,7 @@ mutual
   or_part (Node _ first (Node _ others _)) = chain_part (place_in first) (and_in first) (or_operands others) (and_part first) (part_before _ (or_links_part others))
   or_part _ = none
 
-  -- and those behind the first of them
+  -- and those after the first of them
   or_links_part : (forest : Forest) → IsPartOf (link_uses (or_operands forest)) (leaf_places forest)
   or_links_part (Node _ (Leaf mark _ (Node _ right _)) (Node _ others _)) = part_both (skipped (part_before _ (and_part right))) (part_before _ (or_links_part others))
   or_links_part _ = none
@@ -114,7 +114,7 @@ mutual
       chain_part (place_in first) (equal_in first) (and_operands others) (equal_part first) (part_before _ (and_links_part others))
   and_part _ = none
 
-  -- and those behind the first of them
+  -- and those after the first of them
   and_links_part : (forest : Forest) → IsPartOf (link_uses (and_operands forest)) (leaf_places forest)
   and_links_part (Node _ (Leaf mark _ (Node _ right _)) (Node _ others _)) = part_both (skipped (part_before _ (equal_part right))) (part_before _ (and_links_part others))
   and_links_part _ = none
@@ -125,7 +125,7 @@ mutual
       chain_part (place_in first) (compare_in first) (equal_operand other) (compare_part first) (part_before _ (equal_link_part other))
   equal_part _ = none
 
-  -- and the one behind the first of them
+  -- and the one after the first of them
   equal_link_part : (forest : Forest) → IsPartOf (link_uses (equal_operand forest)) (leaf_places forest)
   equal_link_part (Node _ (Leaf mark _ (Node _ right _)) _) = part_both (skipped (part_before _ (compare_part right))) none
   equal_link_part _ = none
@@ -136,7 +136,7 @@ mutual
       chain_part (place_in first) (sum_in first) (compare_operand other) (sum_part first) (part_before _ (compare_link_part other))
   compare_part _ = none
 
-  -- and the one behind the first of them
+  -- and the one after the first of them
   compare_link_part : (forest : Forest) → IsPartOf (link_uses (compare_operand forest)) (leaf_places forest)
   compare_link_part (Node _ (Leaf mark _ (Node _ right _)) _) = part_both (skipped (part_before _ (sum_part right))) none
   compare_link_part _ = none
@@ -147,7 +147,7 @@ mutual
       chain_part (place_in first) (mul_in first) (sum_operands others) (mul_part first) (part_before _ (sum_links_part others))
   sum_part _ = none
 
-  -- and those behind the first of them
+  -- and those after the first of them
   sum_links_part : (forest : Forest) → IsPartOf (link_uses (sum_operands forest)) (leaf_places forest)
   sum_links_part (Node _ (Leaf mark _ (Node _ right _)) (Node _ others _)) = part_both (skipped (part_before _ (mul_part right))) (part_before _ (sum_links_part others))
   sum_links_part _ = none
@@ -158,7 +158,7 @@ mutual
       chain_part (place_in first) (unary_in first) (mul_operands others) (unary_part first) (part_before _ (mul_links_part others))
   mul_part _ = none
 
-  -- and those behind the first of them
+  -- and those after the first of them
   mul_links_part : (forest : Forest) → IsPartOf (link_uses (mul_operands forest)) (leaf_places forest)
   mul_links_part (Node _ (Leaf mark _ (Node _ right _)) (Node _ others _)) = part_both (skipped (part_before _ (unary_part right))) (part_before _ (mul_links_part others))
   mul_links_part _ = none
@@ -208,12 +208,12 @@ mutual
   args_part (Node _ first (Node _ others _)) = part_both (expr_part first) (part_before _ (more_args_part others))
   args_part _ = none
 
-  -- and those behind the first of them
+  -- and those after the first of them
   more_args_part : (forest : Forest) → IsPartOf (argument_uses (more_args forest)) (leaf_places forest)
   more_args_part (Node _ (Leaf comma _ (Node _ expr _)) (Node _ others _)) = part_both (skipped (part_before _ (expr_part expr))) (part_before _ (more_args_part others))
   more_args_part _ = none
 
--- a right side behind "." does not run
+-- a right side after "." does not run
 selected_part : (place : Place) (first : Phrase) (forest : Forest) {many : List Place} → IsPartOf (phrase_uses first) many → IsPartOf (side_uses (selected_in place first forest)) many
 selected_part place first (Leaf name _ (Node _ arguments _)) x = none
 selected_part place first (Leaf name _ Empty) x = none
@@ -221,7 +221,7 @@ selected_part place first (Leaf name _ (Leaf _ _ _)) x = none
 selected_part place first Empty x = x
 selected_part place first (Node _ _ _) x = x
 
--- an expression with what stands behind it has its own uses at the most
+-- an expression with what stands after it has its own uses at the most
 tail_part : (place : Place) (first : Phrase) (forest : Forest) {many : List Place} → IsPartOf (phrase_uses first) many → IsPartOf (side_uses (tail_in place first forest)) many
 tail_part place first (Node _ (Leaf bang _ (Leaf name _ (Node _ arguments _))) _) x = none
 tail_part place first (Node _ (Leaf dot _ (Node _ selected _)) _) x = selected_part place first selected x
@@ -273,7 +273,7 @@ statement_by_part index _ mark others = none
 statement_part : (index : ℕ) (forest : Forest) → IsPartOf (statement_uses (statement_in index forest)) (leaf_places forest)
 statement_part index (Leaf mark _ others) = statement_by_part index (token_kind mark) mark others
 statement_part index (Node _ block Empty) = none
-statement_part index (Node _ type (Leaf name _ (Node _ initial _))) = part_behind (leaf_places type) (kept (part_before _ (initial_part initial)))
+statement_part index (Node _ type (Leaf name _ (Node _ initial _))) = part_after (leaf_places type) (kept (part_before _ (initial_part initial)))
 statement_part index (Node _ rhs _) = none
 statement_part index Empty = none
 
@@ -290,7 +290,7 @@ block_part index _ = none
 -- of the main block of a program
 text_part : (forest : Forest) → IsPartOf (statements_uses (text_in forest).main) (leaf_places forest)
 text_part (Node _ heading (Node _ imported (Node _ decls (Node _ block _)))) =
-    part_behind (leaf_places heading) (part_behind (leaf_places imported) (part_behind (leaf_places decls) (part_before _ (block_part (decl_statements (decls_in 0 decls)) block))))
+    part_after (leaf_places heading) (part_after (leaf_places imported) (part_after (leaf_places decls) (part_before _ (block_part (decl_statements (decls_in 0 decls)) block))))
 text_part _ = none
 
 -- and of that of a source

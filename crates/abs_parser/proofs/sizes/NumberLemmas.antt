@@ -59,7 +59,7 @@ mutual
   by_first_token index LocalName mark (Node _ after _) = after_variable_numbered index (place_of_mark mark) (written mark) after
   by_first_token index _ mark others = refl
 
-  -- so is a branch behind "else"
+  -- so is a branch after "else"
   else_is_numbered : (index : ℕ) (forest : Forest) → BranchIsNumbered index (else_in index forest)
   else_is_numbered index (Node _ (Leaf mark _ (Node _ other _)) _) = branch_is_numbered index (statement_in index other) (statement_is_numbered index other)
   else_is_numbered index _ = tt
@@ -91,8 +91,8 @@ member_is_numbered index _ others are = subst (λ (n : ℕ). MembersAreNumbered 
 -- the members of a class
 members_are_numbered : (index : ℕ) (forest : Forest) → MembersAreNumbered index (members_in index forest)
 members_are_numbered index (Node _ member (Node _ others _)) =
-    let behind = index + member_statements (member_in index member []) in
-    member_is_numbered index member (members_in behind others) (members_are_numbered behind others)
+    let after = index + member_statements (member_in index member []) in
+    member_is_numbered index member (members_in after others) (members_are_numbered after others)
 members_are_numbered index _ = tt
 
 -- a declaration before others that go on where it ends
@@ -116,8 +116,8 @@ decl_is_numbered index _ others are = subst (λ (n : ℕ). DeclsAreNumbered n ot
 -- the declarations of a source
 decls_are_numbered : (index : ℕ) (forest : Forest) → DeclsAreNumbered index (decls_in index forest)
 decls_are_numbered index (Node _ decl (Node _ more _)) =
-    let behind = index + decl_statements (decl_in index decl []) in
-    decl_is_numbered index decl (decls_in behind more) (decls_are_numbered behind more)
+    let after = index + decl_statements (decl_in index decl []) in
+    decl_is_numbered index decl (decls_in after more) (decls_are_numbered after more)
 decls_are_numbered index _ = tt
 
 text_is_numbered : (forest : Forest) → IsNumberedWhole (text_in forest)

@@ -1,5 +1,5 @@
 -- How many variables a pattern, an expression, a right side and a guard have by the tokens that were read: no more than leaves, since each
--- variable has its name as a leaf. So it is of any forest, and of operators behind a first operand, with the variables of that besides.
+-- variable has its name as a leaf. So it is of any forest, and of operators after a first operand, with the variables of that besides.
 use Rattle.std.proofs.Common.{◌≡◌, ◌≤◌, ℕ, ◌+◌, Option, Some, None, refl, arith}
 use Rattle.abs_tree.specs.declared.place.Place.{Place}
 use Rattle.abs_tree.specs.Syntax.{Name, Phrase, Phrases, Operands, NoOperands, NextOperand, Branches, Tests}
@@ -40,12 +40,12 @@ mutual
   patterns_few (Node _ first (Node _ others _)) = omega (arith, pattern_few first, more_patterns_few others)
   patterns_few _ = omega arith
 
-  -- nor those behind the first of them
+  -- nor those after the first of them
   more_patterns_few : (forest : Forest) → patterns_variables (more_patterns forest) ≤ leaves forest
   more_patterns_few (Node _ (Leaf comma _ (Node _ pattern _)) (Node _ others _)) = omega (arith, pattern_few pattern, more_patterns_few others)
   more_patterns_few _ = omega arith
 
--- operators behind a first operand have the variables of both
+-- operators after a first operand have the variables of both
 chain_variables : (place : Place) (first : Phrase) (others : Operands) → phrase_variables (with_operators place first others) ≡ phrase_variables first + operand_variables others
 chain_variables place first NoOperands = omega arith
 chain_variables place first (NextOperand operator right others) = refl
@@ -55,12 +55,12 @@ abbrev pub optional_variables : Option Phrases → ℕ
 optional_variables None = 0
 optional_variables (Some arguments) = phrases_variables arguments
 
--- a name has the variables of the arguments behind it
+-- a name has the variables of the arguments after it
 pub named_variables : (place : Place) (name : Name) (arguments : Option Phrases) → phrase_variables (named place name arguments) ≡ optional_variables arguments
 named_variables place name None = refl
 named_variables place name (Some arguments) = refl
 
--- so has one behind "this"
+-- so has one after "this"
 pub member_variables_are : (place name_place : Place) (name : Name) (arguments : Option Phrases) → phrase_variables (member place name_place name arguments) ≡ optional_variables arguments
 member_variables_are place name_place name None = refl
 member_variables_are place name_place name (Some arguments) = refl
@@ -73,9 +73,9 @@ built_variables place name (Some arguments) = refl
 mutual
   -- an expression has no more variables than leaves
   pub expr_few : (forest : Forest) → phrase_variables (expr_in forest) ≤ leaves forest
-  expr_few (Leaf mark _ (Leaf opening _ (Node _ type (Leaf name _ (Leaf closing _ (Leaf equals _ (Node _ value (Leaf in_word _ (Node _ body _))))))))) =
+  expr_few (Leaf mark _ (Leaf opening _ (Node _ type (Leaf name _ (Leaf closing _ (Leaf equals _ (Node _ value (Leaf in_token _ (Node _ body _))))))))) =
       omega (arith, expr_few value, expr_few body)
-  expr_few (Leaf mark _ (Node _ test (Leaf then_word _ (Node _ first (Leaf else_word _ (Node _ second _)))))) =
+  expr_few (Leaf mark _ (Node _ test (Leaf then_token _ (Node _ first (Leaf else_token _ (Node _ second _)))))) =
       omega (arith, expr_few test, expr_few first, expr_few second)
   expr_few (Node _ or _) = omega (arith, or_few or)
   expr_few _ = omega arith
@@ -86,7 +86,7 @@ mutual
       omega (arith, chain_variables (place_in first) (and_in first) (or_operands others), and_few first, or_links_few others)
   or_few _ = omega arith
 
-  -- nor those behind the first of them
+  -- nor those after the first of them
   or_links_few : (forest : Forest) → operand_variables (or_operands forest) ≤ leaves forest
   or_links_few (Node _ (Leaf mark _ (Node _ right _)) (Node _ others _)) = omega (arith, and_few right, or_links_few others)
   or_links_few _ = omega arith
@@ -97,7 +97,7 @@ mutual
       omega (arith, chain_variables (place_in first) (equal_in first) (and_operands others), equal_few first, and_links_few others)
   and_few _ = omega arith
 
-  -- nor those behind the first of them
+  -- nor those after the first of them
   and_links_few : (forest : Forest) → operand_variables (and_operands forest) ≤ leaves forest
   and_links_few (Node _ (Leaf mark _ (Node _ right _)) (Node _ others _)) = omega (arith, equal_few right, and_links_few others)
   and_links_few _ = omega arith
@@ -108,7 +108,7 @@ mutual
       omega (arith, chain_variables (place_in first) (compare_in first) (equal_operand other), compare_few first, equal_link_few other)
   equal_few _ = omega arith
 
-  -- nor the one behind the first of them
+  -- nor the one after the first of them
   equal_link_few : (forest : Forest) → operand_variables (equal_operand forest) ≤ leaves forest
   equal_link_few (Node _ (Leaf mark _ (Node _ right _)) _) = omega (arith, compare_few right)
   equal_link_few _ = omega arith
@@ -119,7 +119,7 @@ mutual
       omega (arith, chain_variables (place_in first) (sum_in first) (compare_operand other), sum_few first, compare_link_few other)
   compare_few _ = omega arith
 
-  -- nor the one behind the first of them
+  -- nor the one after the first of them
   compare_link_few : (forest : Forest) → operand_variables (compare_operand forest) ≤ leaves forest
   compare_link_few (Node _ (Leaf mark _ (Node _ right _)) _) = omega (arith, sum_few right)
   compare_link_few _ = omega arith
@@ -130,7 +130,7 @@ mutual
       omega (arith, chain_variables (place_in first) (mul_in first) (sum_operands others), mul_few first, sum_links_few others)
   sum_few _ = omega arith
 
-  -- nor those behind the first of them
+  -- nor those after the first of them
   sum_links_few : (forest : Forest) → operand_variables (sum_operands forest) ≤ leaves forest
   sum_links_few (Node _ (Leaf mark _ (Node _ right _)) (Node _ others _)) = omega (arith, mul_few right, sum_links_few others)
   sum_links_few _ = omega arith
@@ -141,7 +141,7 @@ mutual
       omega (arith, chain_variables (place_in first) (unary_in first) (mul_operands others), unary_few first, mul_links_few others)
   mul_few _ = omega arith
 
-  -- nor those behind the first of them
+  -- nor those after the first of them
   mul_links_few : (forest : Forest) → operand_variables (mul_operands forest) ≤ leaves forest
   mul_links_few (Node _ (Leaf mark _ (Node _ right _)) (Node _ others _)) = omega (arith, unary_few right, mul_links_few others)
   mul_links_few _ = omega arith
@@ -175,7 +175,7 @@ mutual
   primary_by_few (PunctuatorKind punctuator.OpenParen) mark (Node _ inside _) = omega (arith, expr_few inside)
   primary_by_few _ mark others = omega arith
 
-  -- nor "this" with what stands behind it
+  -- nor "this" with what stands after it
   this_few : (place : Place) (forest : Forest) → phrase_variables (this_in place forest) ≤ leaves forest
   this_few place (Node _ (Leaf dot _ (Leaf name _ (Node _ arguments _))) _) =
       omega (arith, member_variables_are place (place_of_mark name) (written name) (arguments_maybe arguments), arguments_maybe_few arguments)
@@ -201,7 +201,7 @@ mutual
   args_few (Node _ first (Node _ others _)) = omega (arith, expr_few first, more_args_few others)
   args_few _ = omega arith
 
-  -- nor those behind the first of them
+  -- nor those after the first of them
   more_args_few : (forest : Forest) → phrases_variables (more_args forest) ≤ leaves forest
   more_args_few (Node _ (Leaf comma _ (Node _ expr _)) (Node _ others _)) = omega (arith, expr_few expr, more_args_few others)
   more_args_few _ = omega arith
@@ -216,13 +216,13 @@ mutual
   branches_few (Node _ branch (Node _ others _)) = omega (arith, branch_few branch (branches_in others), branches_few others)
   branches_few _ = omega arith
 
--- an expression with what stands behind "." has no more variables than itself and leaves
+-- an expression with what stands after "." has no more variables than itself and leaves
 selected_few : (place : Place) (first : Phrase) (forest : Forest) → side_variables (selected_in place first forest) ≤ phrase_variables first + leaves forest
 selected_few place first (Leaf name _ (Node _ arguments _)) = omega (arith, arguments_few arguments)
 selected_few place first (Leaf get _ _) = omega arith
 selected_few place first _ = omega arith
 
--- so it is of an expression with what stands behind it
+-- so it is of an expression with what stands after it
 tail_few : (place : Place) (first : Phrase) (forest : Forest) → side_variables (tail_in place first forest) ≤ phrase_variables first + leaves forest
 tail_few place first (Node _ (Leaf bang _ (Leaf name _ (Node _ arguments _))) _) = omega (arith, arguments_few arguments)
 tail_few place first (Node _ (Leaf dot _ (Node _ selected _)) _) = omega (arith, selected_few place first selected)

@@ -27,7 +27,7 @@ initial_few : (forest : Forest) → initial_variables (initial_in forest) ≤ le
 initial_few (Node _ (Leaf equals _ (Node _ rhs _)) _) = omega (arith, rhs_few rhs)
 initial_few _ = omega arith
 
--- neither has what stands behind a variable that begins a statement
+-- neither has what stands after a variable that begins a statement
 after_variable_few : (index : ℕ) (place : Place) (name : Name) (forest : Forest) → statement_variables (after_variable index place name forest) ≤ leaves forest
 after_variable_few index place name (Leaf equals _ (Node _ rhs _)) = omega (arith, rhs_few rhs)
 after_variable_few index place name (Node _ arguments (Node _ rest _)) =
@@ -39,7 +39,7 @@ after_variable_few index place name (Node _ arguments (Node _ rest _)) =
     )
 after_variable_few index place name _ = omega arith
 
--- nor what stands behind a field that begins one
+-- nor what stands after a field that begins one
 after_field_few : (index : ℕ) (place name_place : Place) (name : Name) (forest : Forest) → statement_variables (after_field index place name_place name forest) ≤ leaves forest
 after_field_few index place name_place name (Leaf equals _ (Node _ rhs _)) = omega (arith, rhs_few rhs)
 after_field_few index place name_place name (Node _ arguments (Node _ rest _)) =
@@ -51,7 +51,7 @@ after_field_few index place name_place name (Node _ arguments (Node _ rest _)) =
     )
 after_field_few index place name_place name _ = omega arith
 
--- nor what stands behind "this"
+-- nor what stands after "this"
 after_this_few : (index : ℕ) (place : Place) (forest : Forest) → statement_variables (after_this index place forest) ≤ leaves forest
 after_this_few index place (Leaf dot _ (Leaf name _ (Node _ after _))) = omega (arith, after_field_few index place (place_of_mark name) (written name) after)
 after_this_few index place (Node _ rest _) = omega (arith, rest_few place (ThisOf place) rest)
@@ -110,7 +110,7 @@ mutual
   statement_by_few index LocalName mark (Node _ after _) = omega (arith, after_variable_few index (place_of_mark mark) (written mark) after)
   statement_by_few index _ mark others = omega arith
 
-  -- nor a branch behind "else"
+  -- nor a branch after "else"
   else_few : (index : ℕ) (forest : Forest) → else_variables (else_in index forest) ≤ leaves forest
   else_few index (Node _ (Leaf mark _ (Node _ other _)) _) = omega (arith, branch_variables_are (statement_in index other), statement_few index other)
   else_few index _ = omega arith

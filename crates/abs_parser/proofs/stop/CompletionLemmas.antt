@@ -1,6 +1,6 @@
 -- What is still to be read can be read to the end. A short list of tokens is computed from the table: the tokens of one alternative
 -- of each nonterminal, without the parts that may be left out. It is read as what is wanted where that is fine: where no part goes on with
--- what completes those behind it. What is wanted stays fine when parts are opened, since each alternative of the table passes a test:
+-- what completes those after it. What is wanted stays fine when parts are opened, since each alternative of the table passes a test:
 -- no item of it goes on with what completes the next ones, nor, where it may be the last, with what the nonterminal does not go on with.
 use Rattle.std.proofs.Common.{◌≡◌, ℕ, zero, suc, ◌+◌, Bool, true, false, not, ◌&&◌, ◌||◌, List, [], ◌∷◌, ◌++◌, Option, Some, None, cond, codes, refl, sym, ap, subst, ◌∙◌}
 use Rattle.std.specs.Prelude.{option_map, if◌then◌else◌}
@@ -60,7 +60,7 @@ item_tokens tokens (Opt nonterminal) = []
 item_tokens tokens (Many nonterminal) = []
 item_tokens tokens (Inside more item) = item_tokens tokens item
 
--- the tokens of the items of an alternative, one behind the other
+-- the tokens of the items of an alternative, one after the other
 abbrev items_tokens : (Nonterminal → List Mark) → List Item → List Mark
 items_tokens tokens [] = []
 items_tokens tokens (item ∷ others) = item_tokens tokens item ++ items_tokens tokens others
@@ -88,11 +88,11 @@ finish (Subgoal goal depth ∷ items) = goal_tokens goal ++ finish items
 
 -- the kinds with which a nonterminal may begin
 abbrev item_starts : (Nonterminal → List TokenKind) → Item → List TokenKind → List TokenKind
-item_starts first (Of asked) behind = asked ∷ []
-item_starts first (Part nonterminal) behind = first nonterminal
-item_starts first (Opt nonterminal) behind = first nonterminal ++ behind
-item_starts first (Many nonterminal) behind = first nonterminal ++ behind
-item_starts first (Inside more item) behind = item_starts first item behind
+item_starts first (Of asked) after = asked ∷ []
+item_starts first (Part nonterminal) after = first nonterminal
+item_starts first (Opt nonterminal) after = first nonterminal ++ after
+item_starts first (Many nonterminal) after = first nonterminal ++ after
+item_starts first (Inside more item) after = item_starts first item after
 
 -- the kinds with which the items of an alternative may begin
 abbrev items_start : (Nonterminal → List TokenKind) → List Item → List TokenKind
@@ -113,40 +113,40 @@ starts_within (suc rounds) nonterminal = alternatives_start (starts_within round
 unfoldable pub starts : Nonterminal → List TokenKind
 starts nonterminal = starts_within 12 nonterminal
 
--- The kinds with which the precedences of an expression may go on where they could end: behind a primary
+-- The kinds with which the precedences of an expression may go on where they could end: after a primary
 abbrev after_primary : List TokenKind
 after_primary = PunctuatorKind punctuator.Dot ∷ PunctuatorKind punctuator.OpenParen ∷ []
 
--- behind a product
+-- after a product
 abbrev after_mul : List TokenKind
 after_mul = PunctuatorKind punctuator.Star ∷ PunctuatorKind punctuator.Slash ∷ PunctuatorKind punctuator.Percent ∷ after_primary
 
--- behind a sum
+-- after a sum
 abbrev after_sum : List TokenKind
 after_sum = PunctuatorKind punctuator.Plus ∷ PunctuatorKind punctuator.Minus ∷ after_mul
 
--- behind a comparison
+-- after a comparison
 abbrev after_compare : List TokenKind
 after_compare =
     PunctuatorKind punctuator.Less ∷ PunctuatorKind punctuator.LessEqual ∷ PunctuatorKind punctuator.Greater ∷ PunctuatorKind punctuator.GreaterEqual ∷ after_sum
 
--- behind an equality
+-- after an equality
 abbrev after_equal : List TokenKind
 after_equal = PunctuatorKind punctuator.Equal ∷ PunctuatorKind punctuator.NotEqual ∷ after_compare
 
--- behind a conjunction
+-- after a conjunction
 abbrev after_and : List TokenKind
 after_and = PunctuatorKind punctuator.And ∷ after_equal
 
--- behind an expression
+-- after an expression
 abbrev after_expr : List TokenKind
 after_expr = PunctuatorKind punctuator.Or ∷ after_and
 
--- behind a part of a guard
+-- after a part of a guard
 abbrev after_test : List TokenKind
 after_test = PunctuatorKind punctuator.Question ∷ after_equal
 
--- behind a right side
+-- after a right side
 abbrev after_rhs : List TokenKind
 after_rhs = PunctuatorKind punctuator.Not ∷ after_expr
 
@@ -201,7 +201,7 @@ goes_on (One nonterminal) kind = meets (continues nonterminal) kind
 goes_on (Optional nonterminal) kind = meets (starts nonterminal ++ continues nonterminal) kind
 goes_on (Repeated nonterminal) kind = meets (starts nonterminal ++ continues nonterminal) kind
 
--- no part goes on with what completes those behind it; and the token that stands for a kind is one of that kind
+-- no part goes on with what completes those after it; and the token that stands for a kind is one of that kind
 abbrev pub Fine : List Wanted → Type 0
 Fine [] = Unit {0}
 Fine (Terminal kind depth ∷ items) = (fits kind (token_kind (sample kind)) ≡ true) × Fine items
@@ -211,18 +211,18 @@ Fine (Subgoal goal depth ∷ items) = (goes_on goal (next (finish items)) ≡ fa
 pub fine_start : Fine a_program
 fine_start = (refl, tt)
 
--- What is fine is fine behind its first item.
+-- What is fine is fine after its first item.
 fine_tail : (item : Wanted) (items : List Wanted) → Fine (item ∷ items) → Fine items
 fine_tail (Terminal kind depth) items fine = fine.1
 fine_tail (Subgoal goal depth) items fine = fine.1
 
--- So it is behind a token.
-pub fine_behind : (kind : TokenKind) (depth : ℕ) (items : List Wanted) → Fine (Terminal kind depth ∷ items) → Fine items
-fine_behind kind depth items fine = fine.1
+-- So it is after a token.
+pub fine_after : (kind : TokenKind) (depth : ℕ) (items : List Wanted) → Fine (Terminal kind depth ∷ items) → Fine items
+fine_after kind depth items fine = fine.1
 
--- What does not meet two lists, one behind the other, meets neither.
-meets_neither : (front behind : List TokenKind) (kind : TokenKind) → meets (front ++ behind) kind ≡ false → (meets front kind ≡ false) × (meets behind kind ≡ false)
-meets_neither front behind kind e = or_parts _ _ (sym (list_any-append (λ (asked : TokenKind). fits asked kind) front behind) ∙ e)
+-- What does not meet two lists, one after the other, meets neither.
+meets_neither : (front after : List TokenKind) (kind : TokenKind) → meets (front ++ after) kind ≡ false → (meets front kind ≡ false) × (meets after kind ≡ false)
+meets_neither front after kind e = or_parts _ _ (sym (list_any-append (λ (asked : TokenKind). fits asked kind) front after) ∙ e)
 
 -- The listed kinds with which an item begins, before others, are those that the table tells.
 item_tells : (first : Nonterminal → TokenKind → Bool) (kinds : Nonterminal → List TokenKind) (kind : TokenKind) → ((nonterminal : Nonterminal) → first nonterminal kind ≡ meets (kinds nonterminal) kind)
@@ -283,26 +283,26 @@ same_fits (KeywordKind one) (KeywordKind other) kind same e = refl
 same_fits (PunctuatorKind one) (PunctuatorKind other) kind same e = refl
 same_fits one other kind same e = absurd cc
 
--- whether none of these kinds is met by what an item, and others behind it, are completed with
+-- whether none of these kinds is met by what an item, and others after it, are completed with
 abbrev item_clears : Item → List TokenKind → Bool → Bool
-item_clears (Of kind) kinds behind = not (meets kinds (token_kind (sample kind)))
-item_clears (Part nonterminal) kinds behind = not (meets kinds (next (short nonterminal)))
-item_clears (Opt nonterminal) kinds behind = behind
-item_clears (Many nonterminal) kinds behind = behind
-item_clears (Inside more item) kinds behind = item_clears item kinds behind
+item_clears (Of kind) kinds after = not (meets kinds (token_kind (sample kind)))
+item_clears (Part nonterminal) kinds after = not (meets kinds (next (short nonterminal)))
+item_clears (Opt nonterminal) kinds after = after
+item_clears (Many nonterminal) kinds after = after
+item_clears (Inside more item) kinds after = item_clears item kinds after
 
--- and by what some items of an alternative are, where what stands behind the alternative meets none of the last kinds
+-- and by what some items of an alternative are, where what stands after the alternative meets none of the last kinds
 abbrev clears : List TokenKind → List Item → List TokenKind → Bool
 clears last [] kinds = list_all (λ (one : TokenKind). list_any (λ (other : TokenKind). is_same one other) last) kinds
 clears last (item ∷ others) kinds = item_clears item kinds (clears last others kinds)
 
 -- whether each item of an alternative is fine before the others
 abbrev item_is_fine : Item → (List TokenKind → Bool) → Bool
-item_is_fine (Of kind) behind = fits kind (token_kind (sample kind))
-item_is_fine (Part nonterminal) behind = behind (continues nonterminal)
-item_is_fine (Opt nonterminal) behind = behind (starts nonterminal ++ continues nonterminal)
-item_is_fine (Many nonterminal) behind = behind (starts nonterminal ++ continues nonterminal)
-item_is_fine (Inside more item) behind = item_is_fine item behind
+item_is_fine (Of kind) after = fits kind (token_kind (sample kind))
+item_is_fine (Part nonterminal) after = after (continues nonterminal)
+item_is_fine (Opt nonterminal) after = after (starts nonterminal ++ continues nonterminal)
+item_is_fine (Many nonterminal) after = after (starts nonterminal ++ continues nonterminal)
+item_is_fine (Inside more item) after = item_is_fine item after
 
 -- whether all items of an alternative are, given what its nonterminal does not go on with
 abbrev items_are_fine : List TokenKind → List Item → Bool
@@ -321,7 +321,7 @@ unfolding short short_within chosen begins begins_within
 chosen_shortly Program ts = refl
 chosen_shortly _ ts = refl
 
--- That token does not depend on what stands behind.
+-- That token does not depend on what stands after.
 next_shortly : (nonterminal : Nonterminal) (ts : List Mark) → next (short nonterminal ++ ts) ≡ next (short nonterminal)
 unfolding short short_within
 next_shortly Program ts = refl
@@ -333,19 +333,19 @@ unfolding short short_within
 tokens_shortly Program = refl
 tokens_shortly _ = refl
 
--- The same token is met where the tokens behind it are others.
+-- The same token is met where the tokens after it are others.
 meets_shortly : (nonterminal : Nonterminal) (kinds : List TokenKind) (ts : List Mark) → meets kinds (next (short nonterminal)) ≡ false
     → meets kinds (next (short nonterminal ++ ts)) ≡ false
 meets_shortly nonterminal kinds ts e = ap (meets kinds) (next_shortly nonterminal ts) ∙ e
 
--- An item, and others behind it, are completed as the test says.
-item_clear : (item : Item) (kinds : List TokenKind) (behind : Bool) (depth : ℕ) (items : List Wanted) → item_clears item kinds behind ≡ true
-    → (behind ≡ true → meets kinds (next (finish items)) ≡ false) → meets kinds (next (finish (place_item depth item ∷ items))) ≡ false
-item_clear (Of kind) kinds behind depth items e others = not-true _ e
-item_clear (Part nonterminal) kinds behind depth items e others = meets_shortly nonterminal kinds (finish items) (not-true _ e)
-item_clear (Opt nonterminal) kinds behind depth items e others = others e
-item_clear (Many nonterminal) kinds behind depth items e others = others e
-item_clear (Inside more item) kinds behind depth items e others = item_clear item kinds behind (depth + more) items e others
+-- An item, and others after it, are completed as the test says.
+item_clear : (item : Item) (kinds : List TokenKind) (after : Bool) (depth : ℕ) (items : List Wanted) → item_clears item kinds after ≡ true
+    → (after ≡ true → meets kinds (next (finish items)) ≡ false) → meets kinds (next (finish (place_item depth item ∷ items))) ≡ false
+item_clear (Of kind) kinds after depth items e others = not-true _ e
+item_clear (Part nonterminal) kinds after depth items e others = meets_shortly nonterminal kinds (finish items) (not-true _ e)
+item_clear (Opt nonterminal) kinds after depth items e others = others e
+item_clear (Many nonterminal) kinds after depth items e others = others e
+item_clear (Inside more item) kinds after depth items e others = item_clear item kinds after (depth + more) items e others
 
 -- A kind that is one of the last is not met where they are not.
 one_clear : (last : List TokenKind) (one kind : TokenKind) → list_any (λ (other : TokenKind). is_same one other) last ≡ true → meets last kind ≡ false → fits one kind ≡ false
@@ -376,13 +376,13 @@ items_clear last (item ∷ others) kinds depth items e none =
     item_clear item kinds (clears last others kinds) depth (place depth others ++ items) e (λ e. items_clear last others kinds depth items e none)
 
 -- An item that passes the test is fine before others.
-item_fine : (item : Item) (behind : List TokenKind → Bool) (depth : ℕ) (items : List Wanted) → item_is_fine item behind ≡ true
-    → ((kinds : List TokenKind) → behind kinds ≡ true → meets kinds (next (finish items)) ≡ false) → Fine items → Fine (place_item depth item ∷ items)
-item_fine (Of kind) behind depth items e others fine = (e, fine)
-item_fine (Part nonterminal) behind depth items e others fine = (others _ e, fine)
-item_fine (Opt nonterminal) behind depth items e others fine = (others _ e, fine)
-item_fine (Many nonterminal) behind depth items e others fine = (others _ e, fine)
-item_fine (Inside more item) behind depth items e others fine = item_fine item behind (depth + more) items e others fine
+item_fine : (item : Item) (after : List TokenKind → Bool) (depth : ℕ) (items : List Wanted) → item_is_fine item after ≡ true
+    → ((kinds : List TokenKind) → after kinds ≡ true → meets kinds (next (finish items)) ≡ false) → Fine items → Fine (place_item depth item ∷ items)
+item_fine (Of kind) after depth items e others fine = (e, fine)
+item_fine (Part nonterminal) after depth items e others fine = (others _ e, fine)
+item_fine (Opt nonterminal) after depth items e others fine = (others _ e, fine)
+item_fine (Many nonterminal) after depth items e others fine = (others _ e, fine)
+item_fine (Inside more item) after depth items e others fine = item_fine item after (depth + more) items e others fine
 
 -- So is an alternative that does.
 items_fine : (last : List TokenKind) (others : List Item) (depth : ℕ) (items : List Wanted) → items_are_fine last others ≡ true
@@ -531,7 +531,7 @@ items_finish test complete (item ∷ others) e depth items fine rest =
     item_finishes test complete item parts.0 depth (place depth others ++ items) fine
     (items_finish test complete others parts.1 depth items (fine_tail _ _ fine) rest)
 
--- What completes an item, before others, is what completes them behind its tokens.
+-- What completes an item, before others, is what completes them after its tokens.
 item_completed : (item : Item) (depth : ℕ) (items : List Wanted) → finish (place_item depth item ∷ items) ≡ item_tokens short item ++ finish items
 item_completed (Inside more item) depth items = item_completed item (depth + more) items
 item_completed _ depth items = refl

@@ -1,6 +1,6 @@
 -- Each list of tokens is read as what is wanted, within the limit, or refused somewhere. This goes by recursion on the list and, for a
 -- token in front, by opening parts until a token is wanted. That ends, since no nonterminal begins with itself: each alternative comes to a
--- token within a few rounds, and what stands behind that token is decided at the shorter list.
+-- token within a few rounds, and what stands after that token is decided at the shorter list.
 use Rattle.std.proofs.Common.{◌≡◌, ◌≤◌, ◌<◌, ℕ, zero, suc, Bool, true, false, ◌&&◌, List, [], ◌∷◌, ◌++◌, ◌+◌, Option, Some, None, option_map, refl, sym, ap, subst, ◌∙◌}
 use mathlib.Core.Logic.{◌⊎◌, inl, inr}
 use Rattle.std.specs.List.{list_all, find}
@@ -11,7 +11,7 @@ use Rattle.abs_parser.specs.TokenKinds.{Mark, TokenKind, token_kind, fits}
 use Rattle.abs_parser.specs.Productions.{Nonterminal, Program, Item, Of, Part, Opt, Many, Inside, rule, begins, chosen}
 use Rattle.abs_parser.specs.Readings.{Goal, One, Optional, Repeated, Wanted, Terminal, Subgoal, place_item, place, inner_depth, opened, Empty, Nothing}
 use Rattle.abs_parser.specs.Stops.{limit}
-use Rattle.abs_parser.specs.Refusing.{Refuses, Behind, Other, Below, Past, Shut, Open, Cut, AllWithin}
+use Rattle.abs_parser.specs.Refusing.{Refuses, Beyond, Other, Below, Past, Shut, Open, Cut, AllWithin}
 use Rattle.abs_parser.proofs.grammar.ReadingLemmas.{WholeReading, part_closed, token_put}
 
 -- What is found is one of the elements, so it passes each test that all of them pass.
@@ -22,19 +22,19 @@ found_passes test passes (x ∷ others) one all e =
   where
     at : (test x ≡ true) ⊎ (test x ≡ false) → (passes x ≡ true) × (list_all passes others ≡ true)
         → (list_all passes others ≡ true → find test others ≡ Some one → passes one ≡ true) → passes one ≡ true
-    at (inl is) each behind =
+    at (inl is) each after =
         let here : Some x ≡ Some one = sym (cond-true (test x) (Some x) (find test others) is) ∙ e in
         let same : x ≡ one = cc in
         subst (λ y. passes y ≡ true) same each.0
-    at (inr is_not) each behind = behind each.1 (sym (cond-false (test x) (Some x) (find test others) is_not) ∙ e)
+    at (inr is_not) each after = after each.1 (sym (cond-false (test x) (Some x) (find test others) is_not) ∙ e)
 
--- whether an item comes to a token, given which nonterminals do, and whether what stands behind the item does
+-- whether an item comes to a token, given which nonterminals do, and whether what stands after the item does
 abbrev item_leads : (Nonterminal → Bool) → Item → Bool → Bool
-item_leads leads (Of kind) behind = true
-item_leads leads (Part nonterminal) behind = leads nonterminal
-item_leads leads (Opt nonterminal) behind = leads nonterminal && behind
-item_leads leads (Many nonterminal) behind = leads nonterminal && behind
-item_leads leads (Inside more item) behind = item_leads leads item behind
+item_leads leads (Of kind) after = true
+item_leads leads (Part nonterminal) after = leads nonterminal
+item_leads leads (Opt nonterminal) after = leads nonterminal && after
+item_leads leads (Many nonterminal) after = leads nonterminal && after
+item_leads leads (Inside more item) after = item_leads leads item after
 
 -- whether the items of an alternative do
 abbrev items_lead : (Nonterminal → Bool) → List Item → Bool
@@ -57,10 +57,10 @@ pub data Decided (items : List Wanted) (ts : List Mark) : Type 0 where
   read : (depths : List ℕ) → WholeReading items ts depths → AllWithin depths → Decided items ts
   refused : (rest : List Mark) (code : Code) → Refuses items ts rest code → Decided items ts
 
-module _ (mark : Mark) (ts : List Mark) (behind : (items : List Wanted) → Decided items ts) where
-  -- A wanted token is decided, since everything is behind it.
+module _ (mark : Mark) (ts : List Mark) (after : (items : List Wanted) → Decided items ts) where
+  -- A wanted token is decided, since everything is after it.
   at_token : (kind : TokenKind) (depth : ℕ) (items : List Wanted) → Decided (Terminal kind depth ∷ items) (mark ∷ ts)
-  at_token kind depth items = go (cases_Bool (fits kind (token_kind mark))) (cases_lt limit depth) (behind items)
+  at_token kind depth items = go (cases_Bool (fits kind (token_kind mark))) (cases_lt limit depth) (after items)
     where
       go : (fits kind (token_kind mark) ≡ true) ⊎ (fits kind (token_kind mark) ≡ false) → (limit < depth) ⊎ (depth ≤ limit) → Decided items ts
           → Decided (Terminal kind depth ∷ items) (mark ∷ ts)
@@ -75,7 +75,7 @@ module _ (mark : Mark) (ts : List Mark) (behind : (items : List Wanted) → Deci
   at_opened goal depth inner items e (read depths whole all) = read depths (part_closed e whole) all
   at_opened goal depth inner items e (refused rest code no_reading) = refused rest code (Open e no_reading)
 
-  -- A part that may be left out is decided where the part is, and what stands behind it.
+  -- A part that may be left out is decided where the part is, and what stands after it.
   at_optional : (nonterminal : Nonterminal) (depth : ℕ) (items : List Wanted) → Decided (Subgoal (One nonterminal) depth ∷ items) (mark ∷ ts) → Decided items (mark ∷ ts)
       → Decided (Subgoal (Optional nonterminal) depth ∷ items) (mark ∷ ts)
   at_optional nonterminal depth items with_it without = go (cases_Bool (begins nonterminal (token_kind mark)))
@@ -84,7 +84,7 @@ module _ (mark : Mark) (ts : List Mark) (behind : (items : List Wanted) → Deci
       go (inl stands) = at_opened (Optional nonterminal) depth (Subgoal (One nonterminal) depth ∷ []) items (cond-true _ _ _ stands) with_it
       go (inr missing) = at_opened (Optional nonterminal) depth [] items (cond-false _ _ _ missing) without
 
-  -- So is one that may stand any number of times: what stands behind the first of them is decided with it.
+  -- So is one that may stand any number of times: what stands after the first of them is decided with it.
   at_repeated : (nonterminal : Nonterminal) (depth : ℕ) (items : List Wanted)
       → Decided (Subgoal (One nonterminal) depth ∷ Subgoal (Repeated nonterminal) depth ∷ items) (mark ∷ ts) → Decided items (mark ∷ ts)
       → Decided (Subgoal (Repeated nonterminal) depth ∷ items) (mark ∷ ts)
@@ -95,7 +95,7 @@ module _ (mark : Mark) (ts : List Mark) (behind : (items : List Wanted) → Deci
           at_opened (Repeated nonterminal) depth (Subgoal (One nonterminal) depth ∷ Subgoal (Repeated nonterminal) depth ∷ []) items (cond-true _ _ _ stands) with_one
       go (inr missing) = at_opened (Repeated nonterminal) depth [] items (cond-false _ _ _ missing) without
 
-  -- these nonterminals are decided, whatever stands behind them
+  -- these nonterminals are decided, whatever stands after them
   abbrev Decides : (Nonterminal → Bool) → Type 0
   Decides leads = (nonterminal : Nonterminal) → leads nonterminal ≡ true → (depth : ℕ) (items : List Wanted) → Decided (Subgoal (One nonterminal) depth ∷ items) (mark ∷ ts)
 
@@ -112,7 +112,7 @@ module _ (mark : Mark) (ts : List Mark) (behind : (items : List Wanted) → Deci
       at_repeated nonterminal depth items (each nonterminal both.0 depth (Subgoal (Repeated nonterminal) depth ∷ items)) (others both.1)
   at_item leads each (Inside more item) others_lead e depth items others = at_item leads each item others_lead e (depth + more) items others
 
-  -- An alternative that comes to a token is decided, whatever stands behind it.
+  -- An alternative that comes to a token is decided, whatever stands after it.
   at_alternative : (leads : Nonterminal → Bool) → Decides leads → (alternative : List Item) → items_lead leads alternative ≡ true → (depth : ℕ) (items : List Wanted)
       → Decided (place depth alternative ++ items) (mark ∷ ts)
   at_alternative leads each [] e depth items = cc
@@ -135,7 +135,7 @@ module _ (mark : Mark) (ts : List Mark) (behind : (items : List Wanted) → Deci
 
   -- Whatever is wanted is decided.
   at_stack : (items : List Wanted) → Decided items (mark ∷ ts)
-  at_stack [] = refused _ _ (Behind refl)
+  at_stack [] = refused _ _ (Beyond refl)
   at_stack (Terminal kind depth ∷ items) = at_token kind depth items
   at_stack (Subgoal (One nonterminal) depth ∷ items) = at_symbol 12 nonterminal (all_lead nonterminal) depth items
   at_stack (Subgoal (Optional nonterminal) depth ∷ items) = at_optional nonterminal depth items (at_symbol 12 nonterminal (all_lead nonterminal) depth items) (at_stack items)

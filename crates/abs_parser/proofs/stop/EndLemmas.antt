@@ -1,4 +1,4 @@
--- The end of a source is read last: what asks for the end stands behind everything else that is wanted. So a source is never refused
+-- The end of a source is read last: what asks for the end stands after everything else that is wanted. So a source is never refused
 -- because it was cut off, but always at a token, which may be its end.
 use Rattle.std.proofs.Common.{◌≡◌, ℕ, Bool, true, false, ◌&&◌, List, [], ◌∷◌, ◌++◌, map, Option, Some, None, option_map, if◌then◌else◌, refl, subst}
 use Rattle.std.specs.List.{list_all}
@@ -89,22 +89,22 @@ opened_closed (Repeated nonterminal) kind depth items (Endless e closed) =
     let both = and_from (is_inner nonterminal) (is_inner nonterminal && true) e (and_from (is_inner nonterminal) true e refl) in
     either_closed (begins nonterminal kind) (Subgoal (One nonterminal) depth ∷ Subgoal (Repeated nonterminal) depth ∷ []) items both closed
 
--- Behind a token there are closed items.
-behind_token : {kind : TokenKind} {depth : ℕ} {items : List Wanted} → Closed (Terminal kind depth ∷ items) → Closed items
-behind_token (Endless e closed) = closed
-behind_token LastEnd = NoMore
+-- Beyond a token there are closed items.
+after_token : {kind : TokenKind} {depth : ℕ} {items : List Wanted} → Closed (Terminal kind depth ∷ items) → Closed items
+after_token (Endless e closed) = closed
+after_token LastEnd = NoMore
 
 -- Only where the end is asked for does it fit.
 end_fits : (kind : TokenKind) → fits kind End ≡ true → kind ≡ End
 end_fits End e = refl
 end_fits _ e = cc
 
--- Behind the end there are none.
-behind_end : {kind : TokenKind} {depth : ℕ} {items : List Wanted} → kind ≡ End → Closed (Terminal kind depth ∷ items) → items ≡ []
-behind_end {depth = depth} is (Endless e closed) =
+-- Beyond the end there are none.
+after_end : {kind : TokenKind} {depth : ℕ} {items : List Wanted} → kind ≡ End → Closed (Terminal kind depth ∷ items) → items ≡ []
+after_end {depth = depth} is (Endless e closed) =
     let not_endless : endless (Terminal End depth) ≡ true = subst (λ kind. endless (Terminal kind depth) ≡ true) is e in
     cc
-behind_end is LastEnd = refl
+after_end is LastEnd = refl
 
 -- Where nothing is wanted, nothing moves.
 nothing_moves : {others : List Wanted} {ts rest : List Mark} → Moves [] ts others rest → others ≡ []
@@ -118,10 +118,10 @@ all_moved Stays (token ∷ tokens) end are closed = cc
 all_moved (Takes {kind = kind} {others = others} {mark = mark} {ts = ts} fit within moves) [] end are closed =
     let last : mark ≡ TextEnd end = cc in
     let wanted : kind ≡ End = end_fits kind (subst (λ (m : Mark). fits kind (token_kind m) ≡ true) last fit) in
-    nothing_moves (subst (λ (list : List Wanted). Moves list ts others []) (behind_end wanted closed) moves)
+    nothing_moves (subst (λ (list : List Wanted). Moves list ts others []) (after_end wanted closed) moves)
 all_moved (Takes {ts = ts} fit within moves) (token ∷ tokens) end are closed =
     let tail : ts ≡ map Token tokens ++ TextEnd end ∷ [] = cc in
-    all_moved moves tokens end tail (behind_token closed)
+    all_moved moves tokens end tail (after_token closed)
 all_moved (Opens {goal = goal} {depth = depth} {items = items} {ts = ts} is moves) tokens end are closed =
     all_moved moves tokens end are (subst (λ (choice : Option (List Wanted)). ClosedInside choice items) is (opened_closed goal (next ts) depth items closed))
 

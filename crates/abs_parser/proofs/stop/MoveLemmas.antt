@@ -1,14 +1,14 @@
 -- What is wanted moves over the tokens, within the limit: it takes a token that fits, or opens a part by the next token, until the others
 -- are wanted at the rest. What a reader refuses has moved up to a token that blocks it, or to where the list was cut off. A whole reading
--- goes along with the moves: it has the tokens that were moved over, and behind them it is one of what is wanted at the rest; and back. A
--- move up to a token depends on that token, but on none behind it, and a move over a token depends on none behind it, either.
+-- goes along with the moves: it has the tokens that were moved over, and after them it is one of what is wanted at the rest; and back. A
+-- move up to a token depends on that token, but on none after it, and a move over a token depends on none after it, either.
 use Rattle.std.proofs.Common.{◌≡◌, ◌≤◌, ◌<◌, ℕ, true, List, [], ◌∷◌, ◌++◌, ◌+◌, length, Some, refl, sym, ap, ◌∙◌, arith}
 use Rattle.std.proofs.lemmas.List.{length-append}
 use Rattle.abs_tree.specs.declared.refusal.Code.{Code}
 use Rattle.abs_tree.specs.declared.refusal.Code.TheVariants.{S2}
 use Rattle.abs_parser.specs.TokenKinds.{Mark, TokenKind, token_kind, fits, next}
 use Rattle.abs_parser.specs.Readings.{Goal, Wanted, Terminal, Subgoal, opened, Forest, Reads, Nothing, Taken, Opened, depths}
-use Rattle.abs_parser.specs.Refusing.{Refuses, Behind, Other, Below, Past, Shut, Open, Cut, AllWithin}
+use Rattle.abs_parser.specs.Refusing.{Refuses, Beyond, Other, Below, Past, Shut, Open, Cut, AllWithin}
 use Rattle.abs_parser.specs.Stops.{limit, wrong_code}
 use Rattle.abs_parser.proofs.grammar.ReadingLemmas.{WholeReading, part_closed, part_opened, token_taken, token_put, unfit_unread, shut_unread, unwanted_unread}
 
@@ -22,7 +22,7 @@ pub data Moves : List Wanted → List Mark → List Wanted → List Mark → Typ
 
 -- A token blocks what is wanted: no list that begins with it is read as that, or it fits but stands too deep.
 pub data Blocks : List Wanted → Mark → Code → Type 0 where
-  Unread : {items : List Wanted} {mark : Mark} {code : Code} → ((behind : List Mark) (levels : List ℕ) → WholeReading items (mark ∷ behind) levels → ⊥)
+  Unread : {items : List Wanted} {mark : Mark} {code : Code} → ((after : List Mark) (levels : List ℕ) → WholeReading items (mark ∷ after) levels → ⊥)
       → code ≡ wrong_code (token_kind mark) → Blocks items mark code
   TooDeep : {kind : TokenKind} {depth : ℕ} {items : List Wanted} {mark : Mark} → fits kind (token_kind mark) ≡ true → limit < depth → Blocks (Terminal kind depth ∷ items) mark S2
 
@@ -30,9 +30,9 @@ pub data Blocks : List Wanted → Mark → Code → Type 0 where
 pub record Blocked (items : List Wanted) (ts rest : List Mark) (code : Code) : Type 0 where
   pub others : List Wanted
   pub mark : Mark
-  pub behind : List Mark
-  pub is : rest ≡ mark ∷ behind
-  pub moves : Moves items ts others (mark ∷ behind)
+  pub after : List Mark
+  pub is : rest ≡ mark ∷ after
+  pub moves : Moves items ts others (mark ∷ after)
   pub blocks : Blocks others mark code
 
 -- What is wanted has moved over all tokens, and something is wanted still.
@@ -46,32 +46,32 @@ pub data Refusal (items : List Wanted) (ts rest : List Mark) (code : Code) : Typ
   AtToken : Blocked items ts rest code → Refusal items ts rest code
   AtEnd : CutOff items ts → Refusal items ts rest code
 
--- What is refused behind a first move is refused.
-refused_behind : {items inner : List Wanted} {ts within rest : List Mark} {code : Code}
-    → ((others : List Wanted) (behind : List Mark) → Moves inner within others behind → Moves items ts others behind)
+-- What is refused after a first move is refused.
+refused_later : {items inner : List Wanted} {ts within rest : List Mark} {code : Code}
+    → ((others : List Wanted) (after : List Mark) → Moves inner within others after → Moves items ts others after)
     → Refusal inner within rest code → Refusal items ts rest code
-refused_behind first (AtToken blocked) = AtToken record {
+refused_later first (AtToken blocked) = AtToken record {
   others = blocked.others;
   mark = blocked.mark;
-  behind = blocked.behind;
+  after = blocked.after;
   is = blocked.is;
   moves = first _ _ blocked.moves;
   blocks = blocked.blocks;
 }
-refused_behind first (AtEnd cut) = AtEnd record { item = cut.item; others = cut.others; moves = first _ _ cut.moves }
+refused_later first (AtEnd cut) = AtEnd record { item = cut.item; others = cut.others; moves = first _ _ cut.moves }
 
 -- What is blocked by the next token is refused there.
 refused_here : {items : List Wanted} {mark : Mark} {ts : List Mark} {code : Code} → Blocks items mark code → Refusal items (mark ∷ ts) (mark ∷ ts) code
-refused_here blocks = AtToken record { others = _; mark = _; behind = _; is = refl; moves = Stays; blocks = blocks }
+refused_here blocks = AtToken record { others = _; mark = _; after = _; is = refl; moves = Stays; blocks = blocks }
 
 -- What a reader refuses has moved up to a token that blocks it, or to the end of the list.
 pub refusal : {items : List Wanted} {ts rest : List Mark} {code : Code} → Refuses items ts rest code → Refusal items ts rest code
-refusal (Behind is) = refused_here (Unread (λ behind levels. unwanted_unread) is)
-refusal (Other unfit is) = refused_here (Unread (λ behind levels. unfit_unread unfit) is)
+refusal (Beyond is) = refused_here (Unread (λ after levels. unwanted_unread) is)
+refusal (Other unfit is) = refused_here (Unread (λ after levels. unfit_unread unfit) is)
 refusal (Below fit deep) = refused_here (TooDeep fit deep)
-refusal (Past fit within refused) = refused_behind (λ others behind. Takes fit within) (refusal refused)
-refusal (Shut shut is) = refused_here (Unread (λ behind levels. shut_unread shut) is)
-refusal (Open opens refused) = refused_behind (λ others behind. Opens opens) (refusal refused)
+refusal (Past fit within refused) = refused_later (λ others after. Takes fit within) (refusal refused)
+refusal (Shut shut is) = refused_here (Unread (λ after levels. shut_unread shut) is)
+refusal (Open opens refused) = refused_later (λ others after. Opens opens) (refusal refused)
 refusal (Cut is) = AtEnd record { item = _; others = _; moves = Stays }
 
 -- What a reader refuses at the end of some moves, it refuses from their beginning on.
@@ -85,7 +85,7 @@ pub within_first : (first second : List ℕ) → AllWithin (first ++ second) →
 within_first [] second within = tt
 within_first (depth ∷ first) second within = (within.0, within_first first second within.1)
 
--- And so are those behind them.
+-- And so are those after them.
 pub within_second : (first second : List ℕ) → AllWithin (first ++ second) → AllWithin second
 within_second [] second within = within
 within_second (depth ∷ first) second within = within_second first second within.1
@@ -98,10 +98,10 @@ passes (Taken fit reads) within moves = Takes fit within.0 (passes reads within.
 passes (Opened {inside = inside} {forest = forest} opens reads_inside reads) within moves =
     Opens opens (passes reads_inside (within_first (depths inside) (depths forest) within) (passes reads (within_second (depths inside) (depths forest) within) moves))
 
--- What a reader refuses behind items that are read within the limit, it refuses with them in front.
-pub refuses_behind : {first items : List Wanted} {ts middle rest : List Mark} {forest : Forest} {code : Code} → Reads first ts forest middle → AllWithin (depths forest)
+-- What a reader refuses after items that are read within the limit, it refuses with them in front.
+pub refuses_after : {first items : List Wanted} {ts middle rest : List Mark} {forest : Forest} {code : Code} → Reads first ts forest middle → AllWithin (depths forest)
     → Refuses items middle rest code → Refuses (first ++ items) ts rest code
-refuses_behind reads within refused = refuses_moved (passes reads within Stays) refused
+refuses_after reads within refused = refuses_moved (passes reads within Stays) refused
 
 -- These depths are those of the tokens that were moved over, each within the limit, and those of a whole reading of the rest.
 pub record ReadAhead (others : List Wanted) (ts rest : List Mark) (levels : List ℕ) : Type 0 where
@@ -118,7 +118,7 @@ pub read_ahead : {items others : List Wanted} {ts rest : List Mark} {levels : Li
 read_ahead Stays reading = record { passed = []; ahead = _; are = refl; within = tt; count = omega arith; reading = reading }
 read_ahead (Takes {depth = depth} fit within moves) reading =
     let taken = token_taken reading in
-    let further = read_ahead moves taken.behind in
+    let further = read_ahead moves taken.after in
     record {
       passed = depth ∷ further.passed;
       ahead = further.ahead;
@@ -145,47 +145,47 @@ read_back (Opens opens moves) reading =
     let further = read_back moves reading in
     record { passed = further.passed; count = further.count; reading = part_closed opens further.reading }
 
--- What is wanted moves over the tokens of the list up to this one, whatever stands behind it.
-pub record MovesUpTo (items others : List Wanted) (mark : Mark) (ts behind : List Mark) : Type 0 where
+-- What is wanted moves over the tokens of the list up to this one, whatever stands after it.
+pub record MovesUpTo (items others : List Wanted) (mark : Mark) (ts after : List Mark) : Type 0 where
   pub before : List Mark
-  pub is : ts ≡ before ++ mark ∷ behind
+  pub is : ts ≡ before ++ mark ∷ after
   pub moves : (more : List Mark) → Moves items (before ++ mark ∷ more) others (mark ∷ more)
 
--- The next token of a list stays the same where others stand behind one of its tokens.
-next_same : {ts : List Mark} (before : List Mark) (mark : Mark) (behind more : List Mark) → ts ≡ before ++ mark ∷ behind → next (before ++ mark ∷ more) ≡ next ts
-next_same [] mark behind more is = sym (ap next is)
-next_same (first ∷ before) mark behind more is = sym (ap next is)
+-- The next token of a list stays the same where others stand after one of its tokens.
+next_same : {ts : List Mark} (before : List Mark) (mark : Mark) (after more : List Mark) → ts ≡ before ++ mark ∷ after → next (before ++ mark ∷ more) ≡ next ts
+next_same [] mark after more is = sym (ap next is)
+next_same (first ∷ before) mark after more is = sym (ap next is)
 
--- What has moved up to a token has done so whatever stands behind it.
-pub moves_up_to : {items others : List Wanted} {mark : Mark} {ts behind : List Mark} → Moves items ts others (mark ∷ behind) → MovesUpTo items others mark ts behind
+-- What has moved up to a token has done so whatever stands after it.
+pub moves_up_to : {items others : List Wanted} {mark : Mark} {ts after : List Mark} → Moves items ts others (mark ∷ after) → MovesUpTo items others mark ts after
 moves_up_to Stays = record { before = []; is = refl; moves = λ more. Stays }
 moves_up_to (Takes {mark = taken} fit within moves) =
     let further = moves_up_to moves in
     record { before = taken ∷ further.before; is = ap (λ (list : List Mark). taken ∷ list) further.is; moves = λ more. Takes fit within (further.moves more) }
-moves_up_to {mark = mark} {behind = behind} (Opens {goal = goal} {depth = depth} opens moves) =
+moves_up_to {mark = mark} {after = after} (Opens {goal = goal} {depth = depth} opens moves) =
     let further = moves_up_to moves in
     record {
       before = further.before;
       is = further.is;
-      moves = λ more. Opens (ap (λ (kind : TokenKind). opened goal kind depth) (next_same further.before mark behind more further.is) ∙ opens) (further.moves more);
+      moves = λ more. Opens (ap (λ (kind : TokenKind). opened goal kind depth) (next_same further.before mark after more further.is) ∙ opens) (further.moves more);
     }
 
--- What is wanted moves over these tokens and this one, whatever stands behind it.
+-- What is wanted moves over these tokens and this one, whatever stands after it.
 pub record MovesOver (items : List Wanted) (before : List Mark) (mark : Mark) : Type 0 where
   pub others : List Wanted
-  pub moves : (behind : List Mark) → Moves items (before ++ mark ∷ behind) others behind
+  pub moves : (after : List Mark) → Moves items (before ++ mark ∷ after) others after
 
--- What has moved over a token has done so whatever stands behind it.
-pub moves_over : {items others : List Wanted} {ts rest : List Mark} → Moves items ts others rest → (before : List Mark) (mark : Mark) (behind : List Mark)
-    → ts ≡ before ++ mark ∷ behind → length rest ≤ length behind → MovesOver items before mark
-moves_over Stays before mark behind is fewer = absurd (omega (arith, fewer, ap length is, length-append before (mark ∷ behind)))
-moves_over (Takes {kind = kind} {mark = taken} fit within moves) [] mark behind is fewer =
+-- What has moved over a token has done so whatever stands after it.
+pub moves_over : {items others : List Wanted} {ts rest : List Mark} → Moves items ts others rest → (before : List Mark) (mark : Mark) (after : List Mark)
+    → ts ≡ before ++ mark ∷ after → length rest ≤ length after → MovesOver items before mark
+moves_over Stays before mark after is fewer = absurd (omega (arith, fewer, ap length is, length-append before (mark ∷ after)))
+moves_over (Takes {kind = kind} {mark = taken} fit within moves) [] mark after is fewer =
     let same : mark ≡ taken = cc in
     record { others = _; moves = λ more. Takes (ap (λ (token : Mark). fits kind (token_kind token)) same ∙ fit) within Stays }
-moves_over (Takes {kind = kind} {mark = taken} fit within moves) (first ∷ before) mark behind is fewer =
+moves_over (Takes {kind = kind} {mark = taken} fit within moves) (first ∷ before) mark after is fewer =
     let same : first ≡ taken = cc in
-    let further = moves_over moves before mark behind (cc) fewer in
+    let further = moves_over moves before mark after (cc) fewer in
     record { others = further.others; moves = λ more. Takes (ap (λ (token : Mark). fits kind (token_kind token)) same ∙ fit) within (further.moves more) }
-moves_over (Opens {goal = goal} {depth = depth} opens moves) before mark behind is fewer =
-    let further = moves_over moves before mark behind is fewer in
-    record { others = further.others; moves = λ more. Opens (ap (λ (kind : TokenKind). opened goal kind depth) (next_same before mark behind more is) ∙ opens) (further.moves more) }
+moves_over (Opens {goal = goal} {depth = depth} opens moves) before mark after is fewer =
+    let further = moves_over moves before mark after is fewer in
+    record { others = further.others; moves = λ more. Opens (ap (λ (kind : TokenKind). opened goal kind depth) (next_same before mark after more is) ∙ opens) (further.moves more) }

@@ -24,23 +24,23 @@ data Places (before front : List Mark) (mark other : Mark) : Type 0 where
   After : (between : List Mark) → before ≡ front ++ other ∷ between → Places before front mark other
 
 -- So are two tokens in a list with one token more in front.
-places_behind : {before front : List Mark} {mark other : Mark} (first : Mark) → Places before front mark other → Places (first ∷ before) (first ∷ front) mark other
-places_behind first (Same alike same) = Same (ap (λ (list : List Mark). first ∷ list) alike) same
-places_behind first (Before between is) = Before between (ap (λ (list : List Mark). first ∷ list) is)
-places_behind first (After between is) = After between (ap (λ (list : List Mark). first ∷ list) is)
+places_after : {before front : List Mark} {mark other : Mark} (first : Mark) → Places before front mark other → Places (first ∷ before) (first ∷ front) mark other
+places_after first (Same alike same) = Same (ap (λ (list : List Mark). first ∷ list) alike) same
+places_after first (Before between is) = Before between (ap (λ (list : List Mark). first ∷ list) is)
+places_after first (After between is) = After between (ap (λ (list : List Mark). first ∷ list) is)
 
 -- Any two tokens in a list are so.
-places : (before front : List Mark) (mark other : Mark) (behind others : List Mark) → before ++ mark ∷ behind ≡ front ++ other ∷ others → Places before front mark other
-places [] [] mark other behind others is = Same refl cc
-places [] (first ∷ front) mark other behind others is = Before front cc
-places (first ∷ before) [] mark other behind others is = After before cc
-places (first ∷ before) (one ∷ front) mark other behind others is =
+places : (before front : List Mark) (mark other : Mark) (after others : List Mark) → before ++ mark ∷ after ≡ front ++ other ∷ others → Places before front mark other
+places [] [] mark other after others is = Same refl cc
+places [] (first ∷ front) mark other after others is = Before front cc
+places (first ∷ before) [] mark other after others is = After before cc
+places (first ∷ before) (one ∷ front) mark other after others is =
     let same : first ≡ one = cc in
-    subst (λ (head : Mark). Places (first ∷ before) (head ∷ front) mark other) same (places_behind first (places before front mark other behind others cc))
+    subst (λ (head : Mark). Places (first ∷ before) (head ∷ front) mark other) same (places_after first (places before front mark other after others cc))
 
 -- No token is both wrong and deep.
 wrong_not_deep : {before : List Mark} {mark : Mark} → IsWrong before mark → IsDeep before mark → ⊥
-wrong_not_deep none below = none below.behind below.forest below.reads
+wrong_not_deep none below = none below.after below.forest below.reads
 
 -- A token is refused by one code.
 one_code : {before : List Mark} {mark : Mark} {code by : Code} → RefusedBy before mark code → RefusedBy before mark by → by ≡ code
@@ -68,7 +68,7 @@ one_stop_by stop another (After between is) = absurd (not_before between another
 pub one_stop : {ts before front : List Mark} {mark other : Mark} {code by : Code} → StopsAt ts before mark code → StopsAt ts front other by
     → (front ≡ before) × (other ≡ mark) × (by ≡ code)
 one_stop {before = before} {front = front} {mark = mark} {other = other} stop another =
-    one_stop_by stop another (places before front mark other stop.behind another.behind (sym stop.is ∙ another.is))
+    one_stop_by stop another (places before front mark other stop.after another.after (sym stop.is ∙ another.is))
 
 -- A text that is read is accepted, and one that is refused stops.
 outcome_of : (list : TokenList) → Decided a_program (marks list) → Outcome (marks list)

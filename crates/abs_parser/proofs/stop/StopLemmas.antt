@@ -1,5 +1,5 @@
 -- Where what is wanted of a program is refused, the source stops. A token that was moved over is not deep, since a reading has it within
--- the limit, and not wrong, since what is wanted behind it is read to the end of some list. A token that blocks what is wanted is refused:
+-- the limit, and not wrong, since what is wanted after it is read to the end of some list. A token that blocks what is wanted is refused:
 -- either no list that goes on with it is read as a program, or one is in which it stands too deep. So the source stops at that token, since all
 -- before it were moved over; and a source that is read within the limit stops nowhere, since all its tokens were.
 use Rattle.std.proofs.Common.{◌≡◌, ◌≤◌, ◌<◌, ℕ, suc, true, List, [], ◌∷◌, ◌++◌, length, refl, arith}
@@ -10,25 +10,25 @@ use Rattle.abs_parser.specs.Readings.{Wanted, Terminal, Forest, Reads, depths}
 use Rattle.abs_parser.specs.Refusing.{AllWithin}
 use Rattle.abs_parser.specs.Stops.{limit, IsDeep, IsWrong, RefusedBy, StopsAt, IsAccepted}
 use Rattle.abs_parser.specs.Stops.RefusedBy.{deep, wrong}
-use Rattle.abs_parser.proofs.stop.CompletionLemmas.{Fine, finish, fine_start, fine_behind, fine_moves, finishes}
+use Rattle.abs_parser.proofs.stop.CompletionLemmas.{Fine, finish, fine_start, fine_after, fine_moves, finishes}
 use Rattle.abs_parser.proofs.stop.MoveLemmas.{Stays, Blocks, Unread, TooDeep, Blocked, passes, read_ahead, read_back, MovesUpTo, moves_up_to, MovesOver, moves_over}
 use Rattle.abs_parser.proofs.grammar.ReadingLemmas.{a_program, WholeReading, token_put}
 
 -- Where the depths of the tokens that were passed are within the limit, so is that of the last of them.
-last_within : (before behind passed ahead : List ℕ) (depth : ℕ) → before ++ depth ∷ behind ≡ passed ++ ahead → length passed ≡ suc (length before)
+last_within : (before after passed ahead : List ℕ) (depth : ℕ) → before ++ depth ∷ after ≡ passed ++ ahead → length passed ≡ suc (length before)
     → AllWithin passed → depth ≤ limit
-last_within before behind [] ahead depth are long within = absurd (omega arith)
-last_within [] behind (first ∷ passed) ahead depth are long within =
+last_within before after [] ahead depth are long within = absurd (omega arith)
+last_within [] after (first ∷ passed) ahead depth are long within =
     let same : depth ≡ first = cc in
     omega (arith, within.0)
-last_within (first ∷ before) behind (other ∷ passed) ahead depth are long within = last_within before behind passed ahead depth (cc) (omega arith) within.1
+last_within (first ∷ before) after (other ∷ passed) ahead depth are long within = last_within before after passed ahead depth (cc) (omega arith) within.1
 
 -- A token that was moved over is not deep.
 not_deep : {before : List Mark} {mark : Mark} → MovesOver a_program before mark → IsDeep before mark → ⊥
 not_deep {before} {mark} over below =
-    let all = read_ahead (over.moves below.behind) (record { forest = below.forest; reads = below.reads.reads; are = below.are }) in
-    let count : length all.passed ≡ suc (length below.depths_before) = omega (arith, all.count, below.place, length-append before (mark ∷ below.behind)) in
-    let within = last_within below.depths_before below.depths_behind all.passed all.ahead below.depth all.are count all.within in
+    let all = read_ahead (over.moves below.after) (record { forest = below.forest; reads = below.reads.reads; are = below.are }) in
+    let count : length all.passed ≡ suc (length below.depths_before) = omega (arith, all.count, below.place, length-append before (mark ∷ below.after)) in
+    let within = last_within below.depths_before below.depths_after all.passed all.ahead below.depth all.are count all.within in
     omega (arith, below.deep)
 
 -- Nor is it wrong.
@@ -44,39 +44,39 @@ not_refused over (deep below) = not_deep over below
 not_refused over (wrong code none is) = not_wrong over none
 
 -- Each token before one that was moved up to was moved over.
-each_over : {others : List Wanted} {mark : Mark} {ts behind : List Mark} → (up : MovesUpTo a_program others mark ts behind) → (front more : List Mark) (other : Mark)
+each_over : {others : List Wanted} {mark : Mark} {ts after : List Mark} → (up : MovesUpTo a_program others mark ts after) → (front more : List Mark) (other : Mark)
     → up.before ≡ front ++ other ∷ more → MovesOver a_program front other
-each_over {mark = mark} {behind = behind} up front more other is =
-    let all : up.before ++ mark ∷ behind ≡ front ++ other ∷ (more ++ mark ∷ behind) = rw is (append_assoc front (other ∷ more) (mark ∷ behind)) in
-    moves_over (up.moves behind) front other (more ++ mark ∷ behind) all (omega (arith, length-append more (mark ∷ behind)))
+each_over {mark = mark} {after = after} up front more other is =
+    let all : up.before ++ mark ∷ after ≡ front ++ other ∷ (more ++ mark ∷ after) = rw is (append_assoc front (other ∷ more) (mark ∷ after)) in
+    moves_over (up.moves after) front other (more ++ mark ∷ after) all (omega (arith, length-append more (mark ∷ after)))
 
--- A token that fits but stands too deep is deep: what is wanted behind it is read to the end of some list.
-is_deep : {kind : TokenKind} {depth : ℕ} {items : List Wanted} {mark : Mark} {ts behind : List Mark} → (up : MovesUpTo a_program (Terminal kind depth ∷ items) mark ts behind)
+-- A token that fits but stands too deep is deep: what is wanted after it is read to the end of some list.
+is_deep : {kind : TokenKind} {depth : ℕ} {items : List Wanted} {mark : Mark} {ts after : List Mark} → (up : MovesUpTo a_program (Terminal kind depth ∷ items) mark ts after)
     → Fine (Terminal kind depth ∷ items) → fits kind (token_kind mark) ≡ true → limit < depth → IsDeep up.before mark
 is_deep {kind} {depth} {items} {mark} up fine fit below =
-    let last = finishes items (fine_behind kind depth items fine) in
+    let last = finishes items (fine_after kind depth items fine) in
     let all = read_back (up.moves (finish items)) (token_put fit last.whole) in
     record {
-      behind = finish items;
+      after = finish items;
       forest = all.reading.forest;
       reads = record { reads = all.reading.reads };
       depths_before = all.passed;
       depth = depth;
-      depths_behind = last.depths;
+      depths_after = last.depths;
       are = all.reading.are;
       place = omega (arith, all.count, length-append up.before (mark ∷ finish items));
       deep = below;
     }
 
 -- A token is wrong if no list that begins with it is read as what is wanted there.
-is_wrong : {others : List Wanted} {mark : Mark} {ts behind : List Mark} → (up : MovesUpTo a_program others mark ts behind)
+is_wrong : {others : List Wanted} {mark : Mark} {ts after : List Mark} → (up : MovesUpTo a_program others mark ts after)
     → ((more : List Mark) (levels : List ℕ) → WholeReading others (mark ∷ more) levels → ⊥) → IsWrong up.before mark
 is_wrong up none = λ more forest program.
     let rest = read_ahead (up.moves more) (record { forest = forest; reads = program.reads; are = refl }) in
     none more rest.ahead rest.reading
 
 -- A token that blocks what is wanted is refused.
-is_refused : {others : List Wanted} {mark : Mark} {ts behind : List Mark} {code : Code} → (up : MovesUpTo a_program others mark ts behind) → Fine others
+is_refused : {others : List Wanted} {mark : Mark} {ts after : List Mark} {code : Code} → (up : MovesUpTo a_program others mark ts after) → Fine others
     → Blocks others mark code → RefusedBy up.before mark code
 is_refused up fine (Unread none is) = wrong _ (is_wrong up none) is
 is_refused up fine (TooDeep fit below) = deep (is_deep up fine fit below)
@@ -86,7 +86,7 @@ pub record Stopped (ts rest : List Mark) (code : Code) : Type 0 where
   pub before : List Mark
   pub mark : Mark
   pub stops : StopsAt ts before mark code
-  pub is : rest ≡ mark ∷ stops.behind
+  pub is : rest ≡ mark ∷ stops.after
 
 -- A list stops where what is wanted of it is blocked.
 pub stopped : {ts rest : List Mark} {code : Code} → Blocked a_program ts rest code → Stopped ts rest code
@@ -96,7 +96,7 @@ stopped blocked =
       before = up.before;
       mark = blocked.mark;
       stops = record {
-        behind = blocked.behind;
+        after = blocked.after;
         is = up.is;
         refused = is_refused up (fine_moves blocked.moves fine_start) blocked.blocks;
         not_wrong = λ front others other is. not_wrong (each_over up front others other is);
@@ -109,5 +109,5 @@ stopped blocked =
 pub accepted : {ts : List Mark} {forest : Forest} → Reads a_program ts forest [] → AllWithin (depths forest) → IsAccepted ts forest
 accepted reads within = record {
   reads = record { reads = reads };
-  no_stop = λ before mark code stop. not_refused (moves_over (passes reads within Stays) before mark stop.behind stop.is (omega arith)) stop.refused;
+  no_stop = λ before mark code stop. not_refused (moves_over (passes reads within Stays) before mark stop.after stop.is (omega arith)) stop.refused;
 }

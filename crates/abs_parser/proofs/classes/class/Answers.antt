@@ -3,44 +3,44 @@ use Rattle.abs_parser.specs.Productions.{Decl}
 use Rattle.abs_parser.specs.Readings.{One}
 use Rattle.abs_parser.specs.Views.{spot}
 use Rattle.abs_parser.proofs.reader.ClassSteps.{members_of, class_opened, class_begun, first_member, next_member, next_member_free}
-use Rattle.abs_parser.proofs.reader.WordSteps.{word_read, word_refused}
+use Rattle.abs_parser.proofs.reader.KeywordSteps.{keyword_read, keyword_refused}
 use Rattle.abs_parser.proofs.reader.DeclarationSteps.{heading_read, refused_part, refused_closing, all_parts}
 use Rattle.abs_parser.proofs.reader.MemberSteps.{member_shorter}
 use Rattle.abs_parser.proofs.reader.StepLemmas.{found_weaker, over_part, refused_inside, passed_on}
 use Rattle.abs_parser.proofs.classes.class.Goals as goal
 
-pub returns-in_err-word-clause-refused : goal.returns-in_err-word-clause-refused
-returns-in_err-word-clause-refused c =
-    passed_on _ c.from_residual.result c.from_residual.ensures.1 (word_refused (One Decl) 0 (spot c.args.from) _ (class_opened 0) c.requires.begins c.in_err-word.ensures.refused)
+pub returns-in_err-token-clause-refused : goal.returns-in_err-token-clause-refused
+returns-in_err-token-clause-refused c =
+    passed_on _ c.from_residual.result c.from_residual.ensures.1 (keyword_refused (One Decl) 0 (spot c.args.from) _ (class_opened 0) c.requires.begins c.in_err-token.ensures.refused)
 
 pub returns-in_err-name-clause-refused : goal.returns-in_err-name-clause-refused
 returns-in_err-name-clause-refused c =
-    let word = word_read 0 c.args.symbols.now (class_opened 0) c.in_ok-word.ensures.found (omega arith) in
-    passed_on _ c.from_residual-in_err-name.result c.from_residual-in_err-name.ensures.1 (refused_inside word _ c.in_err-name.ensures.refused)
+    let token = keyword_read 0 c.args.symbols.now (class_opened 0) c.in_ok-token.ensures.found (omega arith) in
+    passed_on _ c.from_residual-in_err-name.result c.from_residual-in_err-name.ensures.1 (refused_inside token _ c.in_err-name.ensures.refused)
 
 pub returns-in_err-params-clause-refused : goal.returns-in_err-params-clause-refused
 returns-in_err-params-clause-refused c =
-    let named = heading_read (class_opened 0) c.in_ok-word.ensures.found c.in_ok-name.ensures.found c.in_ok-intern.ensures.names (omega arith) in
+    let named = heading_read (class_opened 0) c.in_ok-token.ensures.found c.in_ok-name.ensures.found c.in_ok-intern.ensures.names (omega arith) in
     passed_on _ c.from_residual-in_err-params.result c.from_residual-in_err-params.ensures.1 (refused_inside named _ c.in_err-params.ensures.refused)
 
 pub interface_names-requires : goal.interface_names-requires
 interface_names-requires c =
-    let few = (class_begun c.in_ok-word.ensures.found c.in_ok-name.ensures.found c.in_ok-intern.ensures.names c.in_ok-params.ensures.found (omega arith)).few in
+    let few = (class_begun c.in_ok-token.ensures.found c.in_ok-name.ensures.found c.in_ok-intern.ensures.names c.in_ok-params.ensures.found (omega arith)).few in
     record { names = omega arith }
 
 pub returns-in_err-implemented-clause-refused : goal.returns-in_err-implemented-clause-refused
 returns-in_err-implemented-clause-refused c =
-    let begun = class_begun c.in_ok-word.ensures.found c.in_ok-name.ensures.found c.in_ok-intern.ensures.names c.in_ok-params.ensures.found (omega arith) in
+    let begun = class_begun c.in_ok-token.ensures.found c.in_ok-name.ensures.found c.in_ok-intern.ensures.names c.in_ok-params.ensures.found (omega arith) in
     passed_on _ c.from_residual-in_err-implemented.result c.from_residual-in_err-implemented.ensures.1 (refused_inside begun _ c.in_err-implemented.ensures.refused)
 
 pub returns-in_err-here-clause-refused : goal.returns-in_err-here-clause-refused
 returns-in_err-here-clause-refused c =
-    let begun = class_begun c.in_ok-word.ensures.found c.in_ok-name.ensures.found c.in_ok-intern.ensures.names c.in_ok-params.ensures.found (omega arith) in
+    let begun = class_begun c.in_ok-token.ensures.found c.in_ok-name.ensures.found c.in_ok-intern.ensures.names c.in_ok-params.ensures.found (omega arith) in
     passed_on _ c.from_residual-in_err-here.result c.from_residual-in_err-here.ensures.1 (refused_inside (over_part begun c.in_ok-implemented.ensures.found) _ c.in_err-here.ensures.refused)
 
 pub loop-alloc-init : goal.loop-alloc-init
 loop-alloc-init c =
-    let read = first_member c.args.index c.in_ok-intern.field-0 c.in_ok-params.params.items c.in_ok-implemented.implemented.items c.new-members.ensures.items c.in_ok-word.ensures.found
+    let read = first_member c.args.index c.in_ok-intern.field-0 c.in_ok-params.params.items c.in_ok-implemented.implemented.items c.new-members.ensures.items c.in_ok-token.ensures.found
     c.in_ok-name.ensures.found c.in_ok-intern.ensures.symbol c.in_ok-intern.ensures.names c.in_ok-params.ensures.found
     c.in_ok-implemented.ensures.found c.in_ok-here.ensures.found (omega arith) in
     let shorter = read.read.shorter in

@@ -2,44 +2,44 @@ use Rattle.std.proofs.Common.{◌∙◌, arith}
 use Rattle.abs_parser.specs.Productions.{Decl}
 use Rattle.abs_parser.specs.Readings.{One}
 use Rattle.abs_parser.specs.Views.{spot}
-use Rattle.abs_parser.proofs.reader.WordSteps.{word_read, word_refused}
+use Rattle.abs_parser.proofs.reader.KeywordSteps.{keyword_read, keyword_refused}
 use Rattle.abs_parser.proofs.reader.DeclarationSteps.{heading_read, data_opened, data_assigned, first_constructor, next_constructor, next_constructor_begins, refused_constructor, refused_closing, all_parts}
 use Rattle.abs_parser.proofs.reader.StepLemmas.{found_weaker, over_part, refused_inside, token_shorter, found_shorter, passed_on}
 use Rattle.abs_parser.proofs.declarations.data.Goals as goal
 
-pub returns-in_err-word-clause-refused : goal.returns-in_err-word-clause-refused
-returns-in_err-word-clause-refused c =
-    passed_on _ c.from_residual.result c.from_residual.ensures.1 (word_refused (One Decl) 0 (spot c.args.from) _ (data_opened 0) c.requires.begins c.in_err-word.ensures.refused)
+pub returns-in_err-token-clause-refused : goal.returns-in_err-token-clause-refused
+returns-in_err-token-clause-refused c =
+    passed_on _ c.from_residual.result c.from_residual.ensures.1 (keyword_refused (One Decl) 0 (spot c.args.from) _ (data_opened 0) c.requires.begins c.in_err-token.ensures.refused)
 
 pub returns-in_err-name-clause-refused : goal.returns-in_err-name-clause-refused
 returns-in_err-name-clause-refused c =
-    passed_on _ c.from_residual-in_err-name.result c.from_residual-in_err-name.ensures.1 (refused_inside (word_read 0 c.args.symbols.now (data_opened 0) c.in_ok-word.ensures.found (omega arith)) _ c.in_err-name.ensures.refused)
+    passed_on _ c.from_residual-in_err-name.result c.from_residual-in_err-name.ensures.1 (refused_inside (keyword_read 0 c.args.symbols.now (data_opened 0) c.in_ok-token.ensures.found (omega arith)) _ c.in_err-name.ensures.refused)
 
 pub returns-in_err-parameters-clause-refused : goal.returns-in_err-parameters-clause-refused
 returns-in_err-parameters-clause-refused c =
-    let named = heading_read (data_opened 0) c.in_ok-word.ensures.found c.in_ok-name.ensures.found c.in_ok-intern.ensures.names (omega arith) in
+    let named = heading_read (data_opened 0) c.in_ok-token.ensures.found c.in_ok-name.ensures.found c.in_ok-intern.ensures.names (omega arith) in
     passed_on _ c.from_residual-in_err-parameters.result c.from_residual-in_err-parameters.ensures.1 (refused_inside named _ c.in_err-parameters.ensures.refused)
 
 pub returns-in_err-first_at-clause-refused : goal.returns-in_err-first_at-clause-refused
 returns-in_err-first_at-clause-refused c =
-    let named = heading_read (data_opened 0) c.in_ok-word.ensures.found c.in_ok-name.ensures.found c.in_ok-intern.ensures.names (omega arith) in
+    let named = heading_read (data_opened 0) c.in_ok-token.ensures.found c.in_ok-name.ensures.found c.in_ok-intern.ensures.names (omega arith) in
     passed_on _ c.from_residual-in_err-first_at.result c.from_residual-in_err-first_at.ensures.1 (refused_inside (over_part named c.in_ok-parameters.ensures.found) _ c.in_err-first_at.ensures.refused)
 
 pub constructor-requires : goal.constructor-requires
 constructor-requires c =
-    let assigned = data_assigned c.in_ok-word.ensures.found c.in_ok-name.ensures.found c.in_ok-intern.ensures.names c.in_ok-parameters.ensures.found c.in_ok-first_at.ensures.found (omega arith) in
+    let assigned = data_assigned c.in_ok-token.ensures.found c.in_ok-name.ensures.found c.in_ok-intern.ensures.names c.in_ok-parameters.ensures.found c.in_ok-first_at.ensures.found (omega arith) in
     let few = assigned.few in
     omega arith
 
 pub returns-in_err-first-clause-refused : goal.returns-in_err-first-clause-refused
 returns-in_err-first-clause-refused c =
-    let assigned = data_assigned c.in_ok-word.ensures.found c.in_ok-name.ensures.found c.in_ok-intern.ensures.names c.in_ok-parameters.ensures.found c.in_ok-first_at.ensures.found (omega arith) in
+    let assigned = data_assigned c.in_ok-token.ensures.found c.in_ok-name.ensures.found c.in_ok-intern.ensures.names c.in_ok-parameters.ensures.found c.in_ok-first_at.ensures.found (omega arith) in
     passed_on _ c.from_residual-in_err-first.result c.from_residual-in_err-first.ensures.1 (refused_inside assigned _ c.in_err-first.ensures.refused)
 
 pub loop-next_at-init : goal.loop-next_at-init
 loop-next_at-init c =
     record {
-      read = first_constructor c.in_ok-intern.field-0 c.in_ok-parameters.parameters.items c.in_ok-first.first c.in_ok-constructors.ensures.items c.in_ok-word.ensures.found c.in_ok-name.ensures.found
+      read = first_constructor c.in_ok-intern.field-0 c.in_ok-parameters.parameters.items c.in_ok-first.first c.in_ok-constructors.ensures.items c.in_ok-token.ensures.found c.in_ok-name.ensures.found
           c.in_ok-intern.ensures.symbol c.in_ok-intern.ensures.names c.in_ok-parameters.ensures.found c.in_ok-first_at.ensures.found c.in_ok-first.ensures.found (omega arith);
     }
 

@@ -2,34 +2,34 @@ use Rattle.std.proofs.Common.{◌∙◌, arith, sym}
 use Rattle.abs_parser.specs.Productions.{Decl}
 use Rattle.abs_parser.specs.Readings.{One}
 use Rattle.abs_parser.specs.Views.{spot}
-use Rattle.abs_parser.proofs.reader.WordSteps.{word_read, word_refused}
+use Rattle.abs_parser.proofs.reader.KeywordSteps.{keyword_read, keyword_refused}
 use Rattle.abs_parser.proofs.reader.DeclarationSteps.{heading_read, refused_part, refused_closing, all_parts}
 use Rattle.abs_parser.proofs.reader.SignatureSteps.{signatures_of, interface_opened, first_signature, next_signature, signature_shorter}
 use Rattle.abs_parser.proofs.reader.StepLemmas.{found_weaker, over_part, refused_inside, passed_on}
 use Rattle.abs_parser.proofs.declarations.interface.Goals as goal
 
-pub returns-in_err-word-clause-refused : goal.returns-in_err-word-clause-refused
-returns-in_err-word-clause-refused c =
-    passed_on _ c.from_residual.result c.from_residual.ensures.1 (word_refused (One Decl) 0 (spot c.args.from) _ (interface_opened 0) c.requires.begins c.in_err-word.ensures.refused)
+pub returns-in_err-token-clause-refused : goal.returns-in_err-token-clause-refused
+returns-in_err-token-clause-refused c =
+    passed_on _ c.from_residual.result c.from_residual.ensures.1 (keyword_refused (One Decl) 0 (spot c.args.from) _ (interface_opened 0) c.requires.begins c.in_err-token.ensures.refused)
 
 pub returns-in_err-name-clause-refused : goal.returns-in_err-name-clause-refused
 returns-in_err-name-clause-refused c =
-    passed_on _ c.from_residual-in_err-name.result c.from_residual-in_err-name.ensures.1 (refused_inside (word_read 0 c.args.symbols.now (interface_opened 0) c.in_ok-word.ensures.found (omega arith)) _ c.in_err-name.ensures.refused)
+    passed_on _ c.from_residual-in_err-name.result c.from_residual-in_err-name.ensures.1 (refused_inside (keyword_read 0 c.args.symbols.now (interface_opened 0) c.in_ok-token.ensures.found (omega arith)) _ c.in_err-name.ensures.refused)
 
 pub returns-in_err-extended-clause-refused : goal.returns-in_err-extended-clause-refused
 returns-in_err-extended-clause-refused c =
-    let named = heading_read (interface_opened 0) c.in_ok-word.ensures.found c.in_ok-name.ensures.found c.in_ok-intern.ensures.names (omega arith) in
+    let named = heading_read (interface_opened 0) c.in_ok-token.ensures.found c.in_ok-name.ensures.found c.in_ok-intern.ensures.names (omega arith) in
     passed_on _ c.from_residual-in_err-extended.result c.from_residual-in_err-extended.ensures.1 (refused_inside named _ c.in_err-extended.ensures.refused)
 
 pub returns-in_err-here-clause-refused : goal.returns-in_err-here-clause-refused
 returns-in_err-here-clause-refused c =
-    let named = heading_read (interface_opened 0) c.in_ok-word.ensures.found c.in_ok-name.ensures.found c.in_ok-intern.ensures.names (omega arith) in
+    let named = heading_read (interface_opened 0) c.in_ok-token.ensures.found c.in_ok-name.ensures.found c.in_ok-intern.ensures.names (omega arith) in
     passed_on _ c.from_residual-in_err-here.result c.from_residual-in_err-here.ensures.1 (refused_inside (over_part named c.in_ok-extended.ensures.found) _ c.in_err-here.ensures.refused)
 
 pub loop-alloc-init : goal.loop-alloc-init
 loop-alloc-init c =
     record {
-      read = first_signature c.in_ok-intern.field-0 c.in_ok-extended.extended.items c.new-signatures.ensures.items c.in_ok-word.ensures.found c.in_ok-name.ensures.found c.in_ok-intern.ensures.symbol
+      read = first_signature c.in_ok-intern.field-0 c.in_ok-extended.extended.items c.new-signatures.ensures.items c.in_ok-token.ensures.found c.in_ok-name.ensures.found c.in_ok-intern.ensures.symbol
           c.in_ok-intern.ensures.names c.in_ok-extended.ensures.found c.in_ok-here.ensures.found (omega arith);
     }
 

@@ -12,7 +12,7 @@ returns-in_err-value-clause-refused c =
 pub returns-in_default-clause-found : goal.returns-in_default-clause-found
 returns-in_default-clause-found c =
     let test : Test = record { place = c.place-place.result; value = c.in_ok-value-2.value; asks = false } in
-    test_found test c.place-place.ensures c.in_ok-value-2.ensures.ok c.in_ok-value.ensures.found (question_left_out c.args.depth _ (spot c.in_ok-value.behind) c.in_default.ensures.other)
+    test_found test c.place-place.ensures c.in_ok-value-2.ensures.ok c.in_ok-value.ensures.found (question_left_out c.args.depth _ (spot c.in_ok-value.after) c.in_default.ensures.other)
 
 pub returns-clause-found : goal.returns-clause-found
 returns-clause-found c =

@@ -9,31 +9,31 @@ pub returns-in_err-first-clause-refused : goal.returns-in_err-first-clause-refus
 returns-in_err-first-clause-refused c =
     passed_on _ c.from_residual.result c.from_residual.ensures.1 (refused_first list_of_params 0 (spot c.args.from) _ c.in_err-first.ensures.refused)
 
-pub loop-behind-init : goal.loop-behind-init
-loop-behind-init c = record {
+pub loop-after-init : goal.loop-after-init
+loop-after-init c = record {
   read = first_so_far list_of_params trees_of_params c.in_ok-params.ensures.items (param_in_front c.in_ok-first.first c.in_ok-first.ensures.found);
 }
 
 pub param-requires-in-Some : goal.param-requires-in-Some
 param-requires-in-Some c =
-    let few = c.loop-behind.invariant.read.read.few in
+    let few = c.loop-after.invariant.read.read.few in
     let comma = token_shorter c.in-Some.ensures.found.takes in
     omega arith
 
 pub returns-in_err-next-clause-refused : goal.returns-in_err-next-clause-refused
 returns-in_err-next-clause-refused c =
-    passed_on _ c.from_residual-in_err-next.result c.from_residual-in_err-next.ensures.1 (refused_next c.loop-behind.invariant.read c.in-Some.ensures.found (omega arith) _ c.in_err-next.ensures.refused)
+    passed_on _ c.from_residual-in_err-next.result c.from_residual-in_err-next.ensures.1 (refused_next c.loop-after.invariant.read c.in-Some.ensures.found (omega arith) _ c.in_err-next.ensures.refused)
 
-pub loop-behind-smaller : goal.loop-behind-smaller
-loop-behind-smaller c =
+pub loop-after-smaller : goal.loop-after-smaller
+loop-after-smaller c =
     let comma = token_shorter c.in-Some.ensures.found.takes in
     let param = found_shorter c.in_ok-next.ensures.found in
     omega arith
 
-pub loop-behind-preserved : goal.loop-behind-preserved
-loop-behind-preserved c = record {
-  read = next_so_far c.loop-behind.invariant.read c.in_ok-push.ensures.items c.in-Some.ensures.found (omega arith) (param_in_front c.in_ok-next.next c.in_ok-next.ensures.found);
+pub loop-after-preserved : goal.loop-after-preserved
+loop-after-preserved c = record {
+  read = next_so_far c.loop-after.invariant.read c.in_ok-push.ensures.items c.in-Some.ensures.found (omega arith) (param_in_front c.in_ok-next.next c.in_ok-next.ensures.found);
 }
 
 pub returns-clause-found : goal.returns-clause-found
-returns-clause-found c = all_so_far c.loop-behind.invariant.read c.in_default.ensures.other
+returns-clause-found c = all_so_far c.loop-after.invariant.read c.in_default.ensures.other

@@ -5,8 +5,8 @@ use Rattle.abs_parser.proofs.reader.ParameterSteps.{list_of_params, trees_of_par
 use Rattle.abs_parser.proofs.parameters.params.Given as goal
 
 -- what was read so far
-abbrev pub invariant-loop-behind : goal.invariant-loop-behind
-invariant-loop-behind l = record { read : ReadsSoFar list_of_params trees_of_params 0 l.fn.symbols l.symbols (spot l.from) (spot l.here) l.params.items }
+abbrev pub invariant-loop-after : goal.invariant-loop-after
+invariant-loop-after l = record { read : ReadsSoFar list_of_params trees_of_params 0 l.fn.symbols l.symbols (spot l.from) (spot l.here) l.params.items }
 
-abbrev pub decreases-loop-behind : goal.decreases-loop-behind
-decreases-loop-behind l = length (spot l.here).rest
+abbrev pub decreases-loop-after : goal.decreases-loop-after
+decreases-loop-after l = length (spot l.here).rest

@@ -8,7 +8,7 @@ use Rattle.abs_parser.specs.Readings.{One, Optional}
 use Rattle.abs_parser.specs.TreesOf.{patterns_maybe}
 use Rattle.abs_parser.specs.Productions.{Pattern, PatternArguments}
 use Rattle.abs_parser.specs.Views.{spot}
-use Rattle.abs_parser.proofs.grammar.BeginningLemmas.{words_do_not}
+use Rattle.abs_parser.proofs.grammar.BeginningLemmas.{keywords_do_not}
 use Rattle.abs_parser.proofs.grammar.DigitLemmas.{number_digits, number_fits, narrowed}
 use Rattle.abs_parser.proofs.reader.ListLemmas.{list_of_patterns, trees_of_patterns, pattern_arguments}
 use Rattle.abs_parser.proofs.reader.ListSteps.{first_so_far, next_so_far, all_so_far, refused_first, refused_next, maybe_found, refused_between, parentheses_left_out, parenthesis_read_maybe, nothing_between}
@@ -63,7 +63,7 @@ pattern-returns-in_ok-text-in-Text-clause-found t c =
 
 pub pattern-returns-in-Keyword-clause-refused : goal.pattern-returns-in-Keyword-clause-refused
 pattern-returns-in-Keyword-clause-refused t c =
-    refused_no_pattern c.args.depth _ c.wrong-in-Keyword.ensures c.in-Some.ensures.some (sym (words_do_not c.in-Keyword.is c.in-Some.first.slice.now))
+    refused_no_pattern c.args.depth _ c.wrong-in-Keyword.ensures c.in-Some.ensures.some (sym (keywords_do_not c.in-Keyword.is c.in-Some.first.slice.now))
 
 pub constructor_pattern-returns-in_err-name-clause-refused : goal.constructor_pattern-returns-in_err-name-clause-refused
 constructor_pattern-returns-in_err-name-clause-refused t c =
@@ -125,28 +125,28 @@ patterns-returns-in_err-first-clause-refused t c =
 
 pub patterns-pattern-requires-in-Some : goal.patterns-pattern-requires-in-Some
 patterns-pattern-requires-in-Some t c =
-    let few = c.loop-behind.invariant.read.read.few in
-    let shorter = c.loop-behind.invariant.read.read.shorter in
+    let few = c.loop-after.invariant.read.read.few in
+    let shorter = c.loop-after.invariant.read.read.shorter in
     let comma = token_shorter c.in-Some.ensures.found.takes in
     (search rules, (omega arith, c.requires.depth))
 
 pub patterns-returns-in_err-next-clause-refused : goal.patterns-returns-in_err-next-clause-refused
 patterns-returns-in_err-next-clause-refused t c =
-    passed_on _ c.from_residual-in_err-next.result c.from_residual-in_err-next.ensures.1 (refused_next c.loop-behind.invariant.read c.in-Some.ensures.found c.requires.depth _ c.in_err-next.ensures.refused)
+    passed_on _ c.from_residual-in_err-next.result c.from_residual-in_err-next.ensures.1 (refused_next c.loop-after.invariant.read c.in-Some.ensures.found c.requires.depth _ c.in_err-next.ensures.refused)
 
-pub patterns-loop-behind-smaller : goal.patterns-loop-behind-smaller
-patterns-loop-behind-smaller t c =
+pub patterns-loop-after-smaller : goal.patterns-loop-after-smaller
+patterns-loop-after-smaller t c =
     let comma = token_shorter c.in-Some.ensures.found.takes in
     let next = found_shorter c.in_ok-next.ensures.found in
     omega arith
 
-pub patterns-loop-behind-init : goal.patterns-loop-behind-init
-patterns-loop-behind-init t c = record {
+pub patterns-loop-after-init : goal.patterns-loop-after-init
+patterns-loop-after-init t c = record {
   read = first_so_far list_of_patterns trees_of_patterns c.in_ok-patterns.ensures.items c.in_ok-first.ensures.found;
 }
 
-pub patterns-loop-behind-preserved : goal.patterns-loop-behind-preserved
-patterns-loop-behind-preserved t c = record { read = next_so_far c.loop-behind.invariant.read c.in_ok-push.ensures.items c.in-Some.ensures.found c.requires.depth c.in_ok-next.ensures.found }
+pub patterns-loop-after-preserved : goal.patterns-loop-after-preserved
+patterns-loop-after-preserved t c = record { read = next_so_far c.loop-after.invariant.read c.in_ok-push.ensures.items c.in-Some.ensures.found c.requires.depth c.in_ok-next.ensures.found }
 
 pub patterns-returns-clause-found : goal.patterns-returns-clause-found
-patterns-returns-clause-found t c = all_so_far c.loop-behind.invariant.read c.in_default.ensures.other
+patterns-returns-clause-found t c = all_so_far c.loop-after.invariant.read c.in_default.ensures.other

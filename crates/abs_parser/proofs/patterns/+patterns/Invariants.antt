@@ -17,8 +17,8 @@ abbrev pub decreases-patterns : goal.decreases-patterns
 decreases-patterns l = 3 * length (spot l.from).rest + 2
 
 -- what was read so far
-abbrev pub invariant-patterns-loop-behind : goal.invariant-patterns-loop-behind
-invariant-patterns-loop-behind l = record { read : ReadsSoFar list_of_patterns trees_of_patterns l.depth l.fn.symbols l.symbols (spot l.from) (spot l.here) l.patterns.items }
+abbrev pub invariant-patterns-loop-after : goal.invariant-patterns-loop-after
+invariant-patterns-loop-after l = record { read : ReadsSoFar list_of_patterns trees_of_patterns l.depth l.fn.symbols l.symbols (spot l.from) (spot l.here) l.patterns.items }
 
-abbrev pub decreases-patterns-loop-behind : goal.decreases-patterns-loop-behind
-decreases-patterns-loop-behind l = length (spot l.here).rest
+abbrev pub decreases-patterns-loop-after : goal.decreases-patterns-loop-after
+decreases-patterns-loop-after l = length (spot l.here).rest

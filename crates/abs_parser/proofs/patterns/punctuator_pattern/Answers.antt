@@ -12,7 +12,7 @@ use Rattle.abs_parser.proofs.patterns.punctuator_pattern.Goals as goal
 
 pub returns-in_err-any-clause-refused : goal.returns-in_err-any-clause-refused
 returns-in_err-any-clause-refused c =
-    passed_on _ c.from_residual.result c.from_residual.ensures.1 (refused_underscore c.args.depth (spot c.args.from) _ c.args.sign c.requires.begins c.eq.ensures c.if-eq.true c.in_err-any.ensures.refused)
+    passed_on _ c.from_residual.result c.from_residual.ensures.1 (refused_underscore c.args.depth (spot c.args.from) _ c.args.punctuator c.requires.begins c.eq.ensures c.if-eq.true c.in_err-any.ensures.refused)
 
 pub returns-then-eq-clause-found : goal.returns-then-eq-clause-found
 returns-then-eq-clause-found c table =
@@ -22,7 +22,7 @@ returns-then-eq-clause-found c table =
 
 pub returns-in_err-minus-clause-refused : goal.returns-in_err-minus-clause-refused
 returns-in_err-minus-clause-refused c =
-    passed_on _ c.from_residual-in_err-minus.result c.from_residual-in_err-minus.ensures.1 (refused_minus c.args.depth (spot c.args.from) _ c.args.sign c.requires.begins c.eq.ensures c.if-eq.false c.in_err-minus.ensures.refused)
+    passed_on _ c.from_residual-in_err-minus.result c.from_residual-in_err-minus.ensures.1 (refused_minus c.args.depth (spot c.args.from) _ c.args.punctuator c.requires.begins c.eq.ensures c.if-eq.false c.in_err-minus.ensures.refused)
 
 pub returns-in_err-digits-clause-refused : goal.returns-in_err-digits-clause-refused
 returns-in_err-digits-clause-refused c =

@@ -1,6 +1,6 @@
 use Rattle.std.proofs.Common.{arith}
 use Rattle.abs_parser.specs.Views.{spot}
-use Rattle.abs_parser.proofs.reader.DeclarationListSteps.{refused_no_declaration, no_declaration_at_end, no_declaration_kind, no_declaration_word}
+use Rattle.abs_parser.proofs.reader.DeclarationListSteps.{refused_no_declaration, no_declaration_at_end, no_declaration_kind, no_declaration_keyword}
 use Rattle.abs_parser.proofs.reader.StepLemmas.{found_shorter, found_weaker}
 use Rattle.abs_parser.proofs.programs.declaration.Goals.{in-Data+in_ok-data-in-Data, in-Def+in_ok-function-in-Def, in-Interface+in_ok-decl-in-Interface}
 use Rattle.abs_parser.proofs.programs.declaration.Goals as goal
@@ -13,15 +13,15 @@ returns-in_default-kind-clause-refused c =
     let none = no_declaration_kind c.in-Some.ensures.some c.in_default-kind.not-Keyword in
     refused_no_declaration (spot c.args.from) _ c.wrong-in_default-kind.ensures none
 
-pub returns-in_default-word-clause-refused : goal.returns-in_default-word-clause-refused
-returns-in_default-word-clause-refused c =
-    let other = c.in_default-word in
-    let none = no_declaration_word c.in-Keyword.word c.in-Some.ensures.some c.in-Keyword.is (other.not-Data, (other.not-Def, (other.not-Interface, (other.not-Class, tt)))) in
-    refused_no_declaration (spot c.args.from) _ c.wrong-in_default-word.ensures none
+pub returns-in_default-keyword-clause-refused : goal.returns-in_default-keyword-clause-refused
+returns-in_default-keyword-clause-refused c =
+    let other = c.in_default-keyword in
+    let none = no_declaration_keyword c.in-Keyword.keyword c.in-Some.ensures.some c.in-Keyword.is (other.not-Data, (other.not-Def, (other.not-Interface, (other.not-Class, tt)))) in
+    refused_no_declaration (spot c.args.from) _ c.wrong-in_default-keyword.ensures none
 
 pub returns-clause-found : goal.returns-clause-found
 returns-clause-found c =
-    elim c.match-word.branch [
+    elim c.match-keyword.branch [
       | in-Data+in_ok-data-in-Data w ↦ rw (w.symbols-is, w.decl-is) (found_weaker w.in_ok-data-in-Data.ensures.found (λ names more read. read c.args.index))
       | in-Def+in_ok-function-in-Def w ↦ rw (w.symbols-is, w.decl-is) (found_weaker w.in_ok-function-in-Def.ensures.found (λ names more read. read c.args.index))
       | in-Interface+in_ok-decl-in-Interface w ↦ rw (w.symbols-is, w.decl-is) (found_weaker w.in_ok-decl-in-Interface.ensures.found (λ names more read. read c.args.index))
@@ -29,7 +29,7 @@ returns-clause-found c =
 
 pub returns-clause-free : goal.returns-clause-free
 returns-clause-free c names =
-    elim c.match-word.branch [
+    elim c.match-keyword.branch [
       | in-Data+in_ok-data-in-Data w ↦ rw w.decl-is (omega (arith, w.in_ok-data-in-Data.ensures.none names))
       | in-Def+in_ok-function-in-Def w ↦ rw w.decl-is (omega (arith, w.in_ok-function-in-Def.ensures.none names))
       | in-Interface+in_ok-decl-in-Interface w ↦ rw w.decl-is (omega (arith, w.in_ok-decl-in-Interface.ensures.none names))
@@ -37,7 +37,7 @@ returns-clause-free c names =
 
 pub returns-clause-few : goal.returns-clause-few
 returns-clause-few c =
-    elim c.match-word.branch [
+    elim c.match-keyword.branch [
       | in-Data+in_ok-data-in-Data w ↦ rw w.decl-is (let few = found_shorter w.in_ok-data-in-Data.ensures.found in omega arith)
       | in-Def+in_ok-function-in-Def w ↦ rw w.decl-is (let few = found_shorter w.in_ok-function-in-Def.ensures.found in omega arith)
       | in-Interface+in_ok-decl-in-Interface w ↦ rw w.decl-is (let few = found_shorter w.in_ok-decl-in-Interface.ensures.found in omega arith)

@@ -10,7 +10,7 @@ use Rattle.abs_parser.proofs.reader.StepLemmas.{refused_inside, passed_on}
 use Rattle.abs_parser.proofs.right_sides.selected.Goals as goal
 
 pub returns-in-Some-clause-found : goal.returns-in-Some-clause-found
-returns-in-Some-clause-found c = found_same (λ names. ap (λ (expr : Expr). GetOf c.args.place c.in-Some.word.place (phrase names expr)) c.in_ok-new.ensures.ok)
+returns-in-Some-clause-found c = found_same (λ names. ap (λ (expr : Expr). GetOf c.args.place c.in-Some.token.place (phrase names expr)) c.in_ok-new.ensures.ok)
     (get_found c.args.depth c.args.symbols.now c.args.place c.args.first c.in-Some.ensures.found c.requires.depth)
 
 pub returns-in_err-name-clause-refused : goal.returns-in_err-name-clause-refused

@@ -18,5 +18,5 @@ returns-clause-found c = plain_found c.args.index c.in_ok-side.side c.requires.p
 pub returns-clause-shorter : goal.returns-clause-shorter
 returns-clause-shorter c =
     let side = found_shorter c.in_ok-side.ensures.found in
-    let sign = token_shorter c.in_ok-end.ensures.found.takes in
+    let punctuator = token_shorter c.in_ok-end.ensures.found.takes in
     omega arith

@@ -5,14 +5,14 @@ use Rattle.abs_tree.specs.declared.syntax.expression.Expr as code_expr
 use Rattle.abs_parser.specs.Productions.{Stmt}
 use Rattle.abs_parser.specs.Readings.{One}
 use Rattle.abs_parser.specs.Views.{spot}
-use Rattle.abs_parser.proofs.reader.WordSteps.{word_refused}
+use Rattle.abs_parser.proofs.reader.KeywordSteps.{keyword_refused}
 use Rattle.abs_parser.proofs.reader.FirstSteps.{this_opened, alone_refused, alone_found, field_begins, field_named, field_found}
 use Rattle.abs_parser.proofs.reader.StepLemmas.{refused_inside, found_shorter, token_shorter, passed_on}
 use Rattle.abs_parser.proofs.simple_statements.this_statement.Goals as goal
 
 pub returns-in_err-this-clause-refused : goal.returns-in_err-this-clause-refused
 returns-in_err-this-clause-refused c =
-    passed_on _ c.from_residual.result c.from_residual.ensures.1 (word_refused (One Stmt) c.args.depth (spot c.args.from) _ (this_opened c.args.depth) c.requires.begins c.in_err-this.ensures.refused)
+    passed_on _ c.from_residual.result c.from_residual.ensures.1 (keyword_refused (One Stmt) c.args.depth (spot c.args.from) _ (this_opened c.args.depth) c.requires.begins c.in_err-this.ensures.refused)
 
 pub returns-in_err-side-clause-refused : goal.returns-in_err-side-clause-refused
 returns-in_err-side-clause-refused c =

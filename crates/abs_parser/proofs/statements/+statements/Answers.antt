@@ -10,10 +10,10 @@ use Rattle.abs_parser.specs.Readings.{One}
 use Rattle.abs_parser.specs.Views.{spot}
 use Rattle.abs_parser.proofs.reader.BlockSteps.{first_statement, next_statement, next_free, refused_statement, refused_brace, block_found}
 use Rattle.abs_parser.proofs.grammar.FirstPlaceLemmas.{found_fewer}
-use Rattle.abs_parser.proofs.grammar.KindLemmas.{sign_is}
+use Rattle.abs_parser.proofs.grammar.KindLemmas.{punctuator_is}
 use Rattle.abs_parser.proofs.reader.PatternSteps.{next_taken}
 use Rattle.abs_parser.proofs.reader.PrimarySteps.{stands}
-use Rattle.abs_parser.proofs.reader.WordSteps.{word_read, word_refused}
+use Rattle.abs_parser.proofs.reader.KeywordSteps.{keyword_read, keyword_refused}
 use Rattle.abs_parser.proofs.reader.StatementSteps.{block_shut, block_opened, nested_begins, nested_found, test_begins, test_read, while_opened, while_found, if_opened, if_chosen, if_found, else_read, else_found, else_left_out, statement_refused_at_end}
 use Rattle.abs_parser.proofs.reader.StepLemmas.{over_part, refused_inside, refused_first_token, token_shorter, found_few, found_shorter, fits_next, passed_on}
 use Rattle.abs_parser.proofs.statements.+statements.Goals.{statement-in-UpperName+in_ok-variable_declaration-in-UpperName, statement-in-LowerName+in_ok-variable_statement-in-LowerName, statement-in-Punctuator+else-eq+in_ok-right_side_statement-in-Punctuator, statement-in-Number+in_ok-stmt-in-Number, keyword_statement-in-Skip+in_ok-skip_statement-in-Skip, keyword_statement-in-Suspend+in_ok-suspend_statement-in-Suspend, keyword_statement-in-Await+in_ok-await_statement-in-Await, keyword_statement-in-Return+in_ok-return_statement-in-Return, keyword_statement-in-Println+in_ok-println_statement-in-Println, keyword_statement-in-This+in_ok-this_statement-in-This, keyword_statement-in_default+in_ok-stmt-in_default}
@@ -71,36 +71,36 @@ block-returns-clause-few t c =
     let brace = token_shorter c.in_ok-close.ensures.found.takes in
     omega arith
 
-pub if_statement-returns-in_err-word-clause-refused : goal.if_statement-returns-in_err-word-clause-refused
-if_statement-returns-in_err-word-clause-refused t c =
-    passed_on _ c.from_residual.result c.from_residual.ensures.1 (word_refused _ _ _ _ (if_opened c.args.depth) c.requires.begins c.in_err-word.ensures.refused)
+pub if_statement-returns-in_err-token-clause-refused : goal.if_statement-returns-in_err-token-clause-refused
+if_statement-returns-in_err-token-clause-refused t c =
+    passed_on _ c.from_residual.result c.from_residual.ensures.1 (keyword_refused _ _ _ _ (if_opened c.args.depth) c.requires.begins c.in_err-token.ensures.refused)
 
 pub if_statement-returns-in_err-test_at-clause-refused : goal.if_statement-returns-in_err-test_at-clause-refused
 if_statement-returns-in_err-test_at-clause-refused t c =
-    passed_on _ c.from_residual-in_err-test_at.result c.from_residual-in_err-test_at.ensures.1 (refused_inside (word_read _ c.args.symbols.now (if_opened c.args.depth) c.in_ok-word.ensures.found c.in_ok-word.ensures.within) _ c.in_err-test_at.ensures.refused)
+    passed_on _ c.from_residual-in_err-test_at.result c.from_residual-in_err-test_at.ensures.1 (refused_inside (keyword_read _ c.args.symbols.now (if_opened c.args.depth) c.in_ok-token.ensures.found c.in_ok-token.ensures.within) _ c.in_err-test_at.ensures.refused)
 
 pub if_statement-returns-in_err-test-clause-refused : goal.if_statement-returns-in_err-test-clause-refused
 if_statement-returns-in_err-test-clause-refused t c =
-    let begun = test_begins c.args.symbols.now (if_opened c.args.depth) c.in_ok-word.ensures.found c.in_ok-test_at.ensures.found c.in_ok-word.ensures.within in
+    let begun = test_begins c.args.symbols.now (if_opened c.args.depth) c.in_ok-token.ensures.found c.in_ok-test_at.ensures.found c.in_ok-token.ensures.within in
     passed_on _ c.from_residual-in_err-test.result c.from_residual-in_err-test.ensures.1 (refused_inside begun _ c.in_err-test.ensures.refused)
 
 pub if_statement-returns-in_err-first_at-clause-refused : goal.if_statement-returns-in_err-first_at-clause-refused
 if_statement-returns-in_err-first_at-clause-refused t c =
-    let begun = test_begins c.args.symbols.now (if_opened c.args.depth) c.in_ok-word.ensures.found c.in_ok-test_at.ensures.found c.in_ok-word.ensures.within in
+    let begun = test_begins c.args.symbols.now (if_opened c.args.depth) c.in_ok-token.ensures.found c.in_ok-test_at.ensures.found c.in_ok-token.ensures.within in
     passed_on _ c.from_residual-in_err-first_at.result c.from_residual-in_err-first_at.ensures.1 (refused_inside (over_part begun c.in_ok-test.ensures.found) _ c.in_err-first_at.ensures.refused)
 
 pub if_statement-statement-requires : goal.if_statement-statement-requires
 if_statement-statement-requires t c =
     let few = found_few c.in_ok-test.ensures.found in
     let shorter = found_shorter c.in_ok-test.ensures.found in
-    let word = token_shorter c.in_ok-word.ensures.found.takes in
+    let token = token_shorter c.in_ok-token.ensures.found.takes in
     let opening = token_shorter c.in_ok-test_at.ensures.found.takes in
     let closing = token_shorter c.in_ok-first_at.ensures.found.takes in
-    (search rules, (omega arith, (omega arith, c.in_ok-word.ensures.within)))
+    (search rules, (omega arith, (omega arith, c.in_ok-token.ensures.within)))
 
 pub if_statement-returns-in_err-first-clause-refused : goal.if_statement-returns-in_err-first-clause-refused
 if_statement-returns-in_err-first-clause-refused t c =
-    let tested = test_read (if_opened c.args.depth) c.in_ok-word.ensures.found c.in_ok-test_at.ensures.found c.in_ok-test.ensures.found c.in_ok-first_at.ensures.found c.in_ok-word.ensures.within in
+    let tested = test_read (if_opened c.args.depth) c.in_ok-token.ensures.found c.in_ok-test_at.ensures.found c.in_ok-test.ensures.found c.in_ok-first_at.ensures.found c.in_ok-token.ensures.within in
     passed_on _ c.from_residual-in_err-first.result c.from_residual-in_err-first.ensures.1 (refused_inside tested _ c.in_err-first.ensures.refused)
 
 pub if_statement-else_branch-requires : goal.if_statement-else_branch-requires
@@ -110,84 +110,84 @@ if_statement-else_branch-requires t c =
     let few = found_few c.in_ok-first.ensures.found in
     let shorter = found_shorter c.in_ok-first.ensures.found in
     let numbers = c.in_ok-first.ensures.few in
-    let word = token_shorter c.in_ok-word.ensures.found.takes in
+    let token = token_shorter c.in_ok-token.ensures.found.takes in
     let opening = token_shorter c.in_ok-test_at.ensures.found.takes in
     let closing = token_shorter c.in_ok-first_at.ensures.found.takes in
-    (search rules, (omega arith, (omega arith, c.in_ok-word.ensures.within)))
+    (search rules, (omega arith, (omega arith, c.in_ok-token.ensures.within)))
 
 pub if_statement-returns-in_err-second-clause-refused : goal.if_statement-returns-in_err-second-clause-refused
 if_statement-returns-in_err-second-clause-refused t c =
-    let chosen = if_chosen c.in_ok-word.ensures.found c.in_ok-test_at.ensures.found c.in_ok-test.ensures.found c.in_ok-first_at.ensures.found c.in_ok-first.ensures.found c.in_ok-word.ensures.within in
+    let chosen = if_chosen c.in_ok-token.ensures.found c.in_ok-test_at.ensures.found c.in_ok-test.ensures.found c.in_ok-first_at.ensures.found c.in_ok-first.ensures.found c.in_ok-token.ensures.within in
     passed_on _ c.from_residual-in_err-second.result c.from_residual-in_err-second.ensures.1 (refused_inside chosen _ c.in_err-second.ensures.refused)
 
 pub if_statement-returns-clause-found : goal.if_statement-returns-clause-found
 if_statement-returns-clause-found t c =
     if_found c.args.index c.in_ok-first.middle c.in_ok-condition.condition c.in_ok-first.first c.in_ok-first-2.first c.in_ok-second.second c.in_ok-condition.ensures.ok c.in_ok-first-2.ensures.found
     (λ names. omega (arith, c.in_ok-first.ensures.free names, c.in_ok-first-2.ensures.count names))
-    c.in_ok-word.ensures.found c.in_ok-test_at.ensures.found c.in_ok-test.ensures.found c.in_ok-first_at.ensures.found c.in_ok-first.ensures.found c.in_ok-second.ensures.found c.in_ok-word.ensures.within
+    c.in_ok-token.ensures.found c.in_ok-test_at.ensures.found c.in_ok-test.ensures.found c.in_ok-first_at.ensures.found c.in_ok-first.ensures.found c.in_ok-second.ensures.found c.in_ok-token.ensures.within
 
 pub if_statement-returns-clause-free : goal.if_statement-returns-clause-free
 if_statement-returns-clause-free t c names =
-    let tree = statement-if names c.args.index c.in_ok-word.word.place c.in_ok-condition.condition c.in_ok-first-2.first c.in_ok-second.second in
+    let tree = statement-if names c.args.index c.in_ok-token.token.place c.in_ok-condition.condition c.in_ok-first-2.first c.in_ok-second.second in
     rw (ap count_of tree) (omega (arith, c.in_ok-first.ensures.free names, c.in_ok-first-2.ensures.count names, c.in_ok-second.ensures.free names))
 
 pub if_statement-returns-clause-few : goal.if_statement-returns-clause-few
 if_statement-returns-clause-few t c =
     let shorter_test = found_shorter c.in_ok-test.ensures.found in
     let numbers = c.in_ok-first.ensures.few in
-    let numbers_behind = c.in_ok-second.ensures.few in
-    let word = token_shorter c.in_ok-word.ensures.found.takes in
+    let numbers_after = c.in_ok-second.ensures.few in
+    let token = token_shorter c.in_ok-token.ensures.found.takes in
     let opening = token_shorter c.in_ok-test_at.ensures.found.takes in
     let closing = token_shorter c.in_ok-first_at.ensures.found.takes in
     omega arith
 
-pub while_statement-returns-in_err-word-clause-refused : goal.while_statement-returns-in_err-word-clause-refused
-while_statement-returns-in_err-word-clause-refused t c =
-    passed_on _ c.from_residual.result c.from_residual.ensures.1 (word_refused _ _ _ _ (while_opened c.args.depth) c.requires.begins c.in_err-word.ensures.refused)
+pub while_statement-returns-in_err-token-clause-refused : goal.while_statement-returns-in_err-token-clause-refused
+while_statement-returns-in_err-token-clause-refused t c =
+    passed_on _ c.from_residual.result c.from_residual.ensures.1 (keyword_refused _ _ _ _ (while_opened c.args.depth) c.requires.begins c.in_err-token.ensures.refused)
 
 pub while_statement-returns-in_err-test_at-clause-refused : goal.while_statement-returns-in_err-test_at-clause-refused
 while_statement-returns-in_err-test_at-clause-refused t c =
-    passed_on _ c.from_residual-in_err-test_at.result c.from_residual-in_err-test_at.ensures.1 (refused_inside (word_read _ c.args.symbols.now (while_opened c.args.depth) c.in_ok-word.ensures.found c.in_ok-word.ensures.within) _ c.in_err-test_at.ensures.refused)
+    passed_on _ c.from_residual-in_err-test_at.result c.from_residual-in_err-test_at.ensures.1 (refused_inside (keyword_read _ c.args.symbols.now (while_opened c.args.depth) c.in_ok-token.ensures.found c.in_ok-token.ensures.within) _ c.in_err-test_at.ensures.refused)
 
 pub while_statement-returns-in_err-test-clause-refused : goal.while_statement-returns-in_err-test-clause-refused
 while_statement-returns-in_err-test-clause-refused t c =
-    let begun = test_begins c.args.symbols.now (while_opened c.args.depth) c.in_ok-word.ensures.found c.in_ok-test_at.ensures.found c.in_ok-word.ensures.within in
+    let begun = test_begins c.args.symbols.now (while_opened c.args.depth) c.in_ok-token.ensures.found c.in_ok-test_at.ensures.found c.in_ok-token.ensures.within in
     passed_on _ c.from_residual-in_err-test.result c.from_residual-in_err-test.ensures.1 (refused_inside begun _ c.in_err-test.ensures.refused)
 
 pub while_statement-returns-in_err-body_at-clause-refused : goal.while_statement-returns-in_err-body_at-clause-refused
 while_statement-returns-in_err-body_at-clause-refused t c =
-    let begun = test_begins c.args.symbols.now (while_opened c.args.depth) c.in_ok-word.ensures.found c.in_ok-test_at.ensures.found c.in_ok-word.ensures.within in
+    let begun = test_begins c.args.symbols.now (while_opened c.args.depth) c.in_ok-token.ensures.found c.in_ok-test_at.ensures.found c.in_ok-token.ensures.within in
     passed_on _ c.from_residual-in_err-body_at.result c.from_residual-in_err-body_at.ensures.1 (refused_inside (over_part begun c.in_ok-test.ensures.found) _ c.in_err-body_at.ensures.refused)
 
 pub while_statement-statement-requires : goal.while_statement-statement-requires
 while_statement-statement-requires t c =
     let few = found_few c.in_ok-test.ensures.found in
     let shorter = found_shorter c.in_ok-test.ensures.found in
-    let word = token_shorter c.in_ok-word.ensures.found.takes in
+    let token = token_shorter c.in_ok-token.ensures.found.takes in
     let opening = token_shorter c.in_ok-test_at.ensures.found.takes in
     let closing = token_shorter c.in_ok-body_at.ensures.found.takes in
-    (search rules, (omega arith, (omega arith, c.in_ok-word.ensures.within)))
+    (search rules, (omega arith, (omega arith, c.in_ok-token.ensures.within)))
 
 pub while_statement-returns-in_err-body-clause-refused : goal.while_statement-returns-in_err-body-clause-refused
 while_statement-returns-in_err-body-clause-refused t c =
-    let tested = test_read (while_opened c.args.depth) c.in_ok-word.ensures.found c.in_ok-test_at.ensures.found c.in_ok-test.ensures.found c.in_ok-body_at.ensures.found c.in_ok-word.ensures.within in
+    let tested = test_read (while_opened c.args.depth) c.in_ok-token.ensures.found c.in_ok-test_at.ensures.found c.in_ok-test.ensures.found c.in_ok-body_at.ensures.found c.in_ok-token.ensures.within in
     passed_on _ c.from_residual-in_err-body.result c.from_residual-in_err-body.ensures.1 (refused_inside tested _ c.in_err-body.ensures.refused)
 
 pub while_statement-returns-clause-found : goal.while_statement-returns-clause-found
 while_statement-returns-clause-found t c =
-    while_found c.args.index c.in_ok-condition.condition c.in_ok-body.body c.in_ok-body-2.body c.in_ok-condition.ensures.ok c.in_ok-body-2.ensures.found c.in_ok-word.ensures.found
-    c.in_ok-test_at.ensures.found c.in_ok-test.ensures.found c.in_ok-body_at.ensures.found c.in_ok-body.ensures.found c.in_ok-word.ensures.within
+    while_found c.args.index c.in_ok-condition.condition c.in_ok-body.body c.in_ok-body-2.body c.in_ok-condition.ensures.ok c.in_ok-body-2.ensures.found c.in_ok-token.ensures.found
+    c.in_ok-test_at.ensures.found c.in_ok-test.ensures.found c.in_ok-body_at.ensures.found c.in_ok-body.ensures.found c.in_ok-token.ensures.within
 
 pub while_statement-returns-clause-free : goal.while_statement-returns-clause-free
 while_statement-returns-clause-free t c names =
-    let tree = statement-while names c.args.index c.in_ok-word.word.place c.in_ok-condition.condition c.in_ok-body-2.body in
+    let tree = statement-while names c.args.index c.in_ok-token.token.place c.in_ok-condition.condition c.in_ok-body-2.body in
     rw (ap count_of tree) (omega (arith, c.in_ok-body.ensures.free names, c.in_ok-body-2.ensures.count names))
 
 pub while_statement-returns-clause-few : goal.while_statement-returns-clause-few
 while_statement-returns-clause-few t c =
     let shorter_test = found_shorter c.in_ok-test.ensures.found in
     let numbers = c.in_ok-body.ensures.few in
-    let word = token_shorter c.in_ok-word.ensures.found.takes in
+    let token = token_shorter c.in_ok-token.ensures.found.takes in
     let opening = token_shorter c.in_ok-test_at.ensures.found.takes in
     let closing = token_shorter c.in_ok-body_at.ensures.found.takes in
     omega arith
@@ -210,7 +210,7 @@ else_branch-returns-in_default-clause-found t c = else_left_out c.args.index c.a
 
 pub else_branch-statement-requires : goal.else_branch-statement-requires
 else_branch-statement-requires t c =
-    let word = token_shorter c.in-Some.ensures.found.takes in
+    let token = token_shorter c.in-Some.ensures.found.takes in
     (search rules, (omega arith, (omega arith, c.requires.depth)))
 
 pub else_branch-returns-in_err-other-clause-refused : goal.else_branch-returns-in_err-other-clause-refused
@@ -228,7 +228,7 @@ statement-keyword_statement-requires t c = (search rules, (next_taken (stands c.
 
 pub statement-block_statement-requires : goal.statement-block_statement-requires
 statement-block_statement-requires t c =
-    let brace = sign_is c.in-Punctuator.sign punctuator.OpenBrace c.in-Punctuator.is c.eq.ensures c.if-eq.true in
+    let brace = punctuator_is c.in-Punctuator.punctuator punctuator.OpenBrace c.in-Punctuator.is c.eq.ensures c.if-eq.true in
     (search rules, (fits_next refl (stands c.in-Some.ensures.some brace), (c.requires.names, (c.requires.few, c.requires.depth))))
 
 pub keyword_statement-if_statement-requires : goal.keyword_statement-if_statement-requires
@@ -252,7 +252,7 @@ statement-returns-clause-found t c =
 
 pub keyword_statement-returns-clause-found : goal.keyword_statement-returns-clause-found
 keyword_statement-returns-clause-found t c =
-    elim c.match-word.branch [
+    elim c.match-keyword.branch [
       | keyword_statement-in-Skip+in_ok-skip_statement-in-Skip w ↦ rw (w.symbols-is, w.stmt-is) w.in_ok-skip_statement-in-Skip.ensures.found
       | keyword_statement-in-Suspend+in_ok-suspend_statement-in-Suspend w ↦ rw (w.symbols-is, w.stmt-is) w.in_ok-suspend_statement-in-Suspend.ensures.found
       | keyword_statement-in-Await+in_ok-await_statement-in-Await w ↦ rw (w.symbols-is, w.stmt-is) w.in_ok-await_statement-in-Await.ensures.found

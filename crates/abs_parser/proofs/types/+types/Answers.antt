@@ -73,30 +73,30 @@ pub types-returns-in_err-first-clause-refused : goal.types-returns-in_err-first-
 types-returns-in_err-first-clause-refused t c =
     passed_on _ c.from_residual.result c.from_residual.ensures.1 (refused_first list_of_types c.args.depth (spot c.args.from) _ c.in_err-first.ensures.refused)
 
-pub types-loop-behind-init : goal.types-loop-behind-init
-types-loop-behind-init t c = record {
+pub types-loop-after-init : goal.types-loop-after-init
+types-loop-after-init t c = record {
   read = first_so_far list_of_types trees_of_types c.in_ok-types.ensures.items c.in_ok-first.ensures.found;
 }
 
 pub types-type_term-requires-in-Some : goal.types-type_term-requires-in-Some
 types-type_term-requires-in-Some t c =
-    let few = c.loop-behind.invariant.read.read.few in
-    let shorter = c.loop-behind.invariant.read.read.shorter in
+    let few = c.loop-after.invariant.read.read.few in
+    let shorter = c.loop-after.invariant.read.read.shorter in
     let comma = token_shorter c.in-Some.ensures.found.takes in
     (search rules, (omega arith, omega arith))
 
 pub types-returns-in_err-next-clause-refused : goal.types-returns-in_err-next-clause-refused
 types-returns-in_err-next-clause-refused t c =
-    passed_on _ c.from_residual-in_err-next.result c.from_residual-in_err-next.ensures.1 (refused_next c.loop-behind.invariant.read c.in-Some.ensures.found c.requires.depth _ c.in_err-next.ensures.refused)
+    passed_on _ c.from_residual-in_err-next.result c.from_residual-in_err-next.ensures.1 (refused_next c.loop-after.invariant.read c.in-Some.ensures.found c.requires.depth _ c.in_err-next.ensures.refused)
 
-pub types-loop-behind-smaller : goal.types-loop-behind-smaller
-types-loop-behind-smaller t c =
+pub types-loop-after-smaller : goal.types-loop-after-smaller
+types-loop-after-smaller t c =
     let comma = token_shorter c.in-Some.ensures.found.takes in
     let type = found_shorter c.in_ok-next.ensures.found in
     omega arith
 
-pub types-loop-behind-preserved : goal.types-loop-behind-preserved
-types-loop-behind-preserved t c = record { read = next_so_far c.loop-behind.invariant.read c.in_ok-push.ensures.items c.in-Some.ensures.found c.requires.depth c.in_ok-next.ensures.found }
+pub types-loop-after-preserved : goal.types-loop-after-preserved
+types-loop-after-preserved t c = record { read = next_so_far c.loop-after.invariant.read c.in_ok-push.ensures.items c.in-Some.ensures.found c.requires.depth c.in_ok-next.ensures.found }
 
 pub types-returns-clause-found : goal.types-returns-clause-found
-types-returns-clause-found t c = all_so_far c.loop-behind.invariant.read c.in_default.ensures.other
+types-returns-clause-found t c = all_so_far c.loop-after.invariant.read c.in_default.ensures.other
