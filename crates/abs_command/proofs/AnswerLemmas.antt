@@ -28,7 +28,7 @@ appends_nothing (Some bytes) = sym (append-nil bytes)
 abbrev pub as_status : Ended → Status → Ended
 as_status ended other = record ended { status = other }
 
--- What a call came to does not depend on the status that it hands back.
+-- The way that a call went does not depend on the status that it returns.
 holds_as : (ended : Ended) (other : Status) {refusal : Option Refusal} → HoldsOnly ended refusal → HoldsOnly (as_status ended other) refusal
 holds_as ended other h = record { refusal_is = h.refusal_is; facts = h.facts; pairs = h.pairs; report = h.report; history = h.history; end = h.end }
 
@@ -110,7 +110,7 @@ came_as ended other (refused h) = refused (refused_as ended other h)
 came_as ended other (reported h) = reported (reported_as ended other h)
 came_as ended other (ran h) = ran (run_as ended other h)
 
--- After a part that was written, a prefix of the rest was written too.
+-- If a part was written, and then a prefix of the rest, a prefix of the whole was written.
 prefix_after : (before old new : Option (List ℕ)) (first second : List ℕ) → Appends before old first → WritesPrefix old new second → WritesPrefix before new (first ++ second)
 prefix_after before old new first second written h = record {
   prefix = first ++ h.prefix;
@@ -120,7 +120,8 @@ prefix_after before old new first second written h = record {
   written = Appends-then before old new first h.prefix written h.written;
 }
 
--- The rest of an output was offered after a part that was written: the whole was written, or a fault of the sink says so.
+-- The rest of an output was offered after a part that was written. Either the whole was written, or the sink failed and
+-- a prefix was.
 pub delivered : (words : List (List ℕ)) (bytes : List ℕ) (source source' : SourceView) (ended result : Ended) (before old new : Option (List ℕ)) (first second : List ℕ)
     (faults faults' faults'' : ℕ) → CameTo words bytes source source' ended (Some ended.status) (first ++ second) → Appends before old first
     → Delivers second ended old new faults' faults'' result → (Rose faults' faults'' → Rose faults faults'')
@@ -132,7 +133,7 @@ delivered words bytes source source' ended result before old new first second fa
     subst (λ (e : Ended). Answer words bytes source source' (record { written = before; faults = faults }) (record { written = new; faults = faults'' }) e) (sym failed.0)
     (prefix (Some ended.status) (first ++ second) (came_as ended status.WriteFault came) refl (prefix_after before old new first second written failed.1) (rises failed.2))
 
--- The analysis found this of the program, and no legal history leads to where it is stuck.
+-- The analysis found this of the program, and no legal history leads to a configuration in which it is stuck.
 pub analysed_by : (bytes : List ℕ) (ended : Ended) (program : NamedTree) → IsAccepted bytes program → ended.refusal ≡ None → ended.facts ≡ facts_of program
     → ended.pairs ≡ pairs_of program → ended.report ≡ report_of program → IsAnalysed bytes ended program
 analysed_by bytes ended program accepted refusal facts pairs report = record {
@@ -144,6 +145,6 @@ analysed_by bytes ended program accepted refusal facts pairs report = record {
   headline = λ empty. never_stuck program;
 }
 
--- Whichever file the words name, they name one.
+-- The words name at most one file.
 pub named_once : (words : List (List ℕ)) (a b : List ℕ) → Names words a → Names words b → a ≡ b
 named_once words a b x y = let same : x.program ∷ a ∷ [] ≡ y.program ∷ b ∷ [] = sym x.are ∙ y.are in cc

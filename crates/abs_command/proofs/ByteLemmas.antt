@@ -18,7 +18,7 @@ Appends-then (Some xs) None w a b x y = absurd x
 Appends-then (Some xs) (Some ys) None a b x y = y
 Appends-then (Some xs) (Some ys) (Some zs) a b x y = y ∙ ap (λ (t : List ℕ). t ++ b) x ∙ append_assoc xs a b
 
--- the front of the rest goes over to what stands before it
+-- a prefix of the rest moves to the part before it
 pub front-moves : (all front rest : List ℕ) (n : ℕ) → all ≡ front ++ rest → all ≡ (front ++ take n rest) ++ between n (length rest) rest
 front-moves all front rest n e =
     let apart : front ++ rest ≡ (front ++ take n rest) ++ drop n rest =

@@ -1,4 +1,4 @@
--- Steps of evaluation, for the expressions as they stand in memory.
+-- Steps of evaluation, for expressions in memory.
 use Rattle.std.proofs.Common.{◌≡◌, ℕ, suc, List, ◌++◌, sym, ap, ◌∙◌}
 use Rattle.std.specs.declared.alloc.Global.{Global}
 use Rattle.std.specs.declared.boxed.Box.{Box}
@@ -17,7 +17,7 @@ use Rattle.abs_tree.specs.Trees.{ExprTree, name_of, expr_tree, trees_of, operand
 use Rattle.abs_tree.specs.Evaluation.{Outcome, Outcomes, evaluate, local_result, operators_outcome, outcomes_of, application_outcome}
 use Rattle.abs_tree.proofs.TreeLemmas.{expr_tree-apply, expr_tree-operators}
 
--- an application gives what its function gives for what its arguments give
+-- the outcome of an application is that of its function for the results of its arguments
 pub evaluate_apply : (names : List (List ℕ)) (slots : List Value) (left k : ℕ) (expr : Expr) (place : Place) (function : Symbol) (arguments : Vec Expr Global) (name : List ℕ) (made now : ℕ) (output : Output)
     → left ≡ suc k → expr ≡ code.Apply place function arguments → name ≡ name_of names function
     → outcomes_of (evaluate names slots k) (trees_of arguments.items) made ≡ record { output = output; applications = now }
@@ -38,7 +38,7 @@ evaluate_local names slots left k expr place variable made left_is expr_is =
     ap (λ (l : ℕ). evaluate names slots l (expr_tree expr) made) left_is
     ∙ ap (λ (e : Expr). evaluate names slots (suc k) (expr_tree e) made) expr_is
 
--- a operators gives what its operators give from the left, after what its first operand gives
+-- the outcome of an operator list is that of its operators from the left, after the outcome of its first operand
 pub evaluate_operators : (names : List (List ℕ)) (slots : List Value) (left k : ℕ) (expr : Expr) (place : Place) (first : Box Expr Global) (operands : Vec Operand Global) (made now : ℕ) (found : Evaluated)
     → left ≡ suc k → expr ≡ code.Operators place first operands
     → evaluate names slots k (expr_tree first.value) made ≡ record { result = found; applications = now }
@@ -49,7 +49,7 @@ evaluate_operators names slots left k expr place first operands made now found l
     ∙ (ap (λ (t : ExprTree). evaluate names slots (suc k) t made) (ap expr_tree expr_is ∙ expr_tree-operators place first operands)
     ∙ ap (λ (o : Outcome). operators_outcome (evaluate names slots k) o (operands_of operands.items)) first_is)
 
--- values in front of what the rest gives
+-- values before the output of the rest
 abbrev pub all_preceded : List Value → Output → Output
 all_preceded front (Values values) = Values (front ++ values)
 all_preceded front (FirstFault fault) = FirstFault fault

@@ -1,4 +1,4 @@
--- A program of one task never gets stuck: what its configurations look like, and that each has a step.
+-- A program of one task never gets stuck: the shapes of its configurations, and a step for each unfinished one.
 use Rattle.std.proofs.Common.{◌≡◌, ℕ, zero, suc, ◌+◌, ◌<◌, List, [], ◌∷◌, ◌++◌, refl, ap, subst, length, fold, cond, set, Bool, true, false, nat_lt, arith}
 use Rattle.std.specs.Prelude.{Option, Some, None, IsSome, ⊤, slice_get, replicate}
 use Rattle.std.proofs.lemmas.Bool.Decides.{nat_tests}
@@ -18,7 +18,7 @@ use Rattle.abs_command.specs.declared.runtime.config.TaskCell.{TaskCell}
 use Rattle.abs_command.specs.Events.{Change, Step, event_of, statement_after, ended_change, continued_change, assign_change, print_change, statement_change, step_of, configuration_after}
 use Rattle.abs_command.specs.Runs.{Ran, first, first_statement, run_after_event, run_with_step, IsOpen, HasStep, NeverStuck}
 
--- the statement is there, or none is left
+-- the statement exists, or none is left
 abbrev IsThere : NamedTree → Option ℕ → Type 0
 IsThere program None = ⊤
 IsThere program (Some statement) = statement < length program.main
@@ -59,7 +59,7 @@ working next slots = record { cog = 0; frames = record { next = next; slots = sl
 abbrev at_work : Option ℕ → List Value → Config
 at_work next slots = record { cogs = record { holder = Some 0 } ∷ []; tasks = working next slots ∷ [] }
 
--- what is the same step has the same configuration
+-- a step that equals another leads to a configuration of the same shape
 same_shape : (program : NamedTree) (found step : Step) → Some found ≡ Some step → Shape program found.config → Shape program step.config
 same_shape program found step e h = let same : found ≡ step = cc in subst (λ (s : Step). Shape program s.config) same h
 
@@ -117,7 +117,7 @@ executes_some program statement slots (Some (Declare place name target value)) h
 executes_some program statement slots (Some (Assign place target value)) h = h
 executes_some program statement slots (Some (Print place text)) h = h
 
--- each configuration of an unfinished task has a step
+-- each configuration with an unfinished task has a step
 progress : (program : NamedTree) (config : Config) → Shape program config → IsOpen config → HasStep program config
 progress program _ (waits next slots there) unfinished = (0, refl)
 progress program _ (works None slots there) unfinished = (0, refl)

@@ -1,4 +1,4 @@
--- From the answer of a call to its other promises: each status comes where its cause is.
+-- From the answer of a call to its other promises: each status is returned when its cause holds.
 use Rattle.std.proofs.Common.{◌≡◌, ◌≢◌, ℕ, ◌<◌, ◌≤◌, List, [], refl, sym, ap, subst, ◌∙◌, length, inl, inr, arith, ⊎_elim}
 use Rattle.std.specs.Prelude.{Some, ◌⊎◌, Bool, true, false}
 use Rattle.abs_tree.specs.Trees.{NamedTree}
@@ -21,7 +21,7 @@ use Rattle.abs_command.proofs.SourceLemmas.{one_program, no_offence}
 due_is : {s due : Status} → Some s ≡ Some due → s ≡ due
 due_is e = cc
 
--- a call with the status of one that gave up
+-- a status that equals one of a call that gave up is one too
 gave_up : {s due : Status} → s ≡ due → GivesUp due → GivesUp s
 gave_up e h = subst GivesUp (sym e) h
 
@@ -118,7 +118,7 @@ ran_comes (whole output (ran h) written) due other run = inl (same_due h run)
 ran_comes (prefix end output came is written rose) due other run = inr (gave_up is tt)
 ran_comes (exhausted is written) due other run = inr (gave_up is tt)
 
--- A run stalls only where its report names a chain.
+-- A run stalls only if its report names a chain.
 never_stalled : {words : List (List ℕ)} {bytes : List ℕ} {ended : Ended} {output : List ℕ}
     → HasRun words bytes ended (Some status.Stalled) output → ended.report ≡ [] → ⊥
 never_stalled {words} {bytes} {ended} h empty =
@@ -149,7 +149,7 @@ chains_never_come (whole output (ran h) written) = λ is. run_names_no_chain h.e
 chains_never_come (prefix due output came is_fault written rose) = λ is. absurd (cc)
 chains_never_come (exhausted is_memory written) = λ is. absurd (cc)
 
--- A call that gives up without a fault found no memory.
+-- A call that gives up although no count of the source or the sink rose ran out of memory.
 only_memory : {words : List (List ℕ)} {bytes : List ℕ} {source source' : SourceView} {sink sink' : SinkView} {ended : Ended}
     → Answer words bytes source source' sink sink' ended → NoneRose source source' sink sink' → GivesUp ended.status → ended.status ≡ status.Memory
 only_memory (whole output (misused h) written) none up = absurd (subst GivesUp (due_is h.status) up)

@@ -15,7 +15,7 @@ pub ok_follows : {A E : Type 0} (result : Result A E) {P Q : A → Type 0} → I
 ok_follows (Ok a) h follows = follows a h
 ok_follows (Err e) h follows = tt
 
--- So it does where there is an error.
+-- What follows from a fact holds where there is an error, if the fact does.
 pub error_follows : {A E : Type 0} (result : Result A E) {P Q : Type 0} → OnErr result P → (P → Q) → OnErr result Q
 error_follows (Ok a) h follows = tt
 error_follows (Err e) h follows = follows h

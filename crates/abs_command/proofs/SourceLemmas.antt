@@ -1,4 +1,4 @@
--- A text is one program, or it has an offence.
+-- A source has at most one program, and at most one refusal, and not both.
 use Rattle.std.proofs.Common.{◌≡◌, ℕ, List, [], ◌++◌, Ok, Err, sym, ap, ◌∙◌, arith, length, subst}
 use Rattle.std.proofs.lemmas.List.Elements.{All-weaker, All-contains}
 use Rattle.std.specs.List.{All}
@@ -33,12 +33,12 @@ use Rattle.abs_command.specs.Runnable.{runnable}
 use Rattle.abs_command.specs.Sources.{IsTree, IsProgramOf, IsPiece, FirstOffence, HasOneFirstOffence}
 use Rattle.abs_command.specs.Sources.FirstOffence.{unlexed, unread, not_yet, misnamed}
 
--- two trees of a text with the same names are one
+-- the names of two trees are equal, and so are the trees
 record OneTree (names others : List Name) (tree next : SourceTree) : Type 0 where
   names_are : names ≡ others
   tree_is : tree ≡ next
 
--- two trees of one list of tokens are one
+-- two trees of one list of tokens are equal
 list_tree : {list : TokenList} {names others : List Name} {tree next : SourceTree} → IsTextOf list names tree → IsTextOf list others next → OneTree names others tree next
 list_tree x y =
     let same_forest = (one_reading x.accepted.reads.reads y.accepted.reads.reads).0 in
@@ -47,18 +47,18 @@ list_tree x y =
       tree_is = x.is ∙ (ap tree_of same_forest ∙ sym y.is);
     }
 
--- two trees of a text are one
+-- two trees of a source are equal
 one_tree : {text : List ℕ} {names others : List Name} {tree next : SourceTree} → IsTree text names tree → IsTree text others next → OneTree names others tree next
 one_tree {others = others} {next = next} x y = list_tree x.is (subst (λ (list : TokenList). IsTextOf list others next) (list_once y.tokens x.tokens) y.is)
 
--- what runs of two trees of a text is one
+-- the programs of two supported trees of a source are equal
 one_part : {text : List ℕ} {names others : List Name} {tree next : SourceTree} {part other : ProgramTree} → IsTree text names tree → IsTree text others next
     → runnable names tree ≡ Ok part → runnable others next ≡ Ok other → part ≡ other
 one_part x y runs goes =
     let one = one_tree x y in
     same_made _ runs (rw (one.names_are, one.tree_is) goes)
 
--- a text of which something does not run yet has no part that runs
+-- a source is not both supported and unsupported
 not_both : {text : List ℕ} {names others : List Name} {tree next : SourceTree} {part : ProgramTree} {place : Place} → IsTree text names tree → IsTree text others next
     → runnable names tree ≡ Ok part → runnable others next ≡ Err place → ⊥
 not_both {names = names} {tree = tree} {place = place} x y runs waits =
@@ -66,14 +66,14 @@ not_both {names = names} {tree = tree} {place = place} x y runs waits =
     let none : runnable names tree ≡ Err place = rw (one.names_are, one.tree_is) waits in
     cc (sym runs ∙ none)
 
--- the first thing that does not run yet begins at one place
+-- the first unsupported part of a source begins at one place
 one_place : {text : List ℕ} {names others : List Name} {tree next : SourceTree} {place at : Place} → IsTree text names tree → IsTree text others next
     → runnable names tree ≡ Err place → runnable others next ≡ Err at → place ≡ at
 one_place x y waits also =
     let one = one_tree x y in
     same_place _ waits (rw (one.names_are, one.tree_is) also)
 
--- Two programs of a text are one.
+-- Two programs of a source are equal.
 pub one_program : {text : List ℕ} {p q : NamedTree} → IsProgramOf text p → IsProgramOf text q → p ≡ q
 one_program x y = x.is ∙ (ap resolved (one_part x.read y.read x.runs y.runs) ∙ sym y.is)
 
@@ -81,13 +81,13 @@ one_program x y = x.is ∙ (ap resolved (one_part x.read y.read x.runs y.runs) �
 none_of : (offences : List Offence) (offence : Offence) → offences ≡ [] → Contains offences offence → ⊥
 none_of offences offence e h = let few : length offences ≡ 0 = ap length e in omega (arith, h.1)
 
--- a text that is accepted does not stop
+-- the parser does not fail on an accepted source
 no_stop : {text : List ℕ} {names : List Name} {tree : SourceTree} {list : TokenList} {refusal : Refusal} → IsTree text names tree → TokensOf text list → StopsWith list refusal → ⊥
 no_stop {refusal = refusal} x tokens stops =
     let stop = subst (λ (l : TokenList). StopsWith l refusal) (list_once tokens x.tokens) stops in
     x.is.accepted.no_stop stop.before stop.mark stop.code stop.stops
 
--- The text of a program has no offence.
+-- A source with a program has no offence.
 pub no_offence : {text : List ℕ} {program : NamedTree} {refusal : Refusal} → IsProgramOf text program → FirstOffence text refusal → ⊥
 no_offence accepted (unlexed lexing) = list_or_first accepted.read.tokens lexing.is_first
 no_offence accepted (unread list tokens stops) = no_stop accepted.read tokens stops
@@ -95,18 +95,18 @@ no_offence accepted (not_yet names tree place read waits is) = not_both accepted
 no_offence accepted (misnamed names tree part read runs first) =
     none_of (name_offences part) first.first (ap name_offences (one_part read accepted.read runs accepted.runs) ∙ accepted.no_offence) first.is_first.among
 
--- Two refusals for the first lexical offence are one.
+-- Two refusals for the first lexical offence are equal.
 one_lexical : {text : List ℕ} {one other : Refusal} → RefusesLexing text one → RefusesLexing text other → one ≡ other
 one_lexical x y = x.refusal_is ∙ (ap refusal_of (first_once x.is_first y.is_first) ∙ sym y.refusal_is)
 
--- so are two for where a list of tokens stops
+-- so are two for the point at which the parser fails
 one_stopped : {list : TokenList} {one other : Refusal} → StopsWith list one → StopsWith list other → one ≡ other
 one_stopped x y =
     let once = one_stop x.stops y.stops in
     let at : Code → Mark → Refusal = λ code mark. refusal_of (record { code = code; place = place_of_mark mark }) in
     x.refusal_is ∙ (sym (ap (λ (code : Code). at code y.mark) once.2 ∙ ap (at x.code) once.1) ∙ sym y.refusal_is)
 
--- and two for the first name that offends in a text
+-- and two for the first name offence of a source
 one_misnamed : {text : List ℕ} {names others : List Name} {tree next : SourceTree} {part other_part : ProgramTree} (one other : Refusal)
     → IsTree text names tree → IsTree text others next → runnable names tree ≡ Ok part → runnable others next ≡ Ok other_part
     → RefusesFirst (name_offences part) one → RefusesFirst (name_offences other_part) other → one ≡ other
@@ -115,7 +115,7 @@ one_misnamed {names = names} {tree = tree} {part = part} one other read reads ru
     first.refusal_is
     ∙ (ap refusal_of (one_first read.list names tree part (rising read.tokens) read.is runs first.first later.first first.is_first later.is_first) ∙ sym later.refusal_is)
 
--- A text is refused for one offence at the most.
+-- A source is refused for at most one offence.
 pub one_first_offence : (text : List ℕ) → HasOneFirstOffence text
 one_first_offence text one other (unlexed x) (unlexed y) = one_lexical x y
 one_first_offence text one other (unlexed x) (unread list tokens stops) = absurd (list_or_first tokens x.is_first)
@@ -137,7 +137,7 @@ one_first_offence text one other (misnamed names tree part read runs first) (not
 one_first_offence text one other (misnamed names tree part read runs first) (misnamed others next other_part reads goes second) =
     one_misnamed one other read reads runs goes first second
 
--- names that are written by tokens, which are pieces of a text, are pieces of it
+-- if tokens are pieces of a source, the names that they write are pieces of it too
 pub names_are_pieces : {text : List ℕ} (tokens : List Lexed) (names : List (List ℕ)) → All (IsPieceAt text) tokens → All (IsWritten tokens) names → All (IsPiece text) names
 names_are_pieces {text} tokens names pieces written = All-weaker (IsWritten tokens) (IsPiece text) piece names written
   where

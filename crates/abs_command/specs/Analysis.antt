@@ -1,5 +1,5 @@
--- What the analysis finds of a program. No statement that runs today waits for a task: one kind of task is live, there is no pair of
--- dependencies, and so no circular chain.
+-- What the analysis finds of a program. No supported statement waits for a task. So one kind of task is live, there is
+-- no pair of dependencies, and no circular chain.
 use Rattle.std.specs.Prelude.{ℕ, List, []}
 use Rattle.abs_tree.specs.Trees.{NamedTree}
 use Rattle.abs_command.specs.declared.analysis.report.Chain.{Chain}

@@ -1,4 +1,5 @@
--- The events of a program's tasks. A task has at most one event in a configuration, and the event leads to the next configuration.
+-- The events of a program's tasks. A task has at most one event in a configuration, and the event leads to the next
+-- configuration.
 --
 --   `event_of`                             the event of a task, where it has one
 --   `Step`, `Change`                       what an event leads to, and what it changes
@@ -37,7 +38,7 @@ statement_after program number = if nat_lt (number + 1) (length program.main) th
 abbrev pub ended_change : TaskCell → Evaluated → Change
 ended_change task outcome = record { task = record { cog = task.cog; frames = []; state = Ready; outcome = Some outcome }; holder = None; lines = [] }
 
--- the task goes on with the next statement, with these values in the slots of its body; it holds its cog
+-- the task continues with the next statement, with these values in the slots of its body; it holds its cog
 abbrev pub continued_change : NamedTree → ℕ → TaskCell → ℕ → List Value → List (List ℕ) → Change
 continued_change program number task statement slots lines = record {
   task = record {
@@ -50,7 +51,7 @@ continued_change program number task statement slots lines = record {
   lines = lines;
 }
 
--- take: a task that is ready takes its cog, where that is free
+-- take: a task that is ready takes its cog, if that is free
 abbrev pub take_change : ℕ → TaskCell → Option Cog → Option Change
 take_change number task None = None
 take_change number task (Some cog) = take_change_if_free number task cog.holder
@@ -63,7 +64,8 @@ take_change number task (Some cog) = take_change_if_free number task cog.holder
       lines = [];
     })
 
--- assign: the value goes to the slot of the target. A fault ends the task, and so does a target that is no slot of the body
+-- assign: the value goes to the slot of the target. A fault ends the task, and so does a target that is no slot of the
+-- body
 abbrev pub assign_change : NamedTree → ℕ → TaskCell → ℕ → List Value → Variable → Evaluated → Change
 assign_change program number task statement slots (Slot slot) (Good value) =
     if nat_lt slot (length slots)
@@ -89,8 +91,8 @@ statement_change program number task statement slots (Some (Assign place target 
 statement_change program number task statement slots (Some (Print place text)) =
     Some (print_change program number task statement slots (result_of program.names slots text))
 
--- the change of a body: that of its next statement; or return, where no statement is left. Until there are types, the value of a
--- block is null
+-- the change of a body: that of its next statement; or return, if no statement is left. Until there are types, the
+-- value of a block is null
 abbrev pub body_change : NamedTree → ℕ → TaskCell → List Value → Option ℕ → Option Change
 body_change program number task slots None = Some (ended_change task (Good Null))
 body_change program number task slots (Some statement) = statement_change program number task statement slots (slice_get program.main statement)

@@ -1,4 +1,4 @@
--- What the machine returns for a run. The contracts of the machine cite it, and no clause of `abs_run`.
+-- What the machine returns for a run. The contracts of the machine cite it, and no clause of `abs_run` does.
 use Rattle.std.specs.Prelude.{◌≡◌, ◌≤◌, ◌⊎◌, ℕ, length, Some}
 use Rattle.abs_tree.specs.Trees.{NamedTree}
 use Rattle.abs_command.specs.declared.runtime.config.Config.{Config}
@@ -13,6 +13,6 @@ pub record IsRun (program : NamedTree) (steps : ℕ) (ran : machine.Ran) : Type 
   pub few : length ran.history.tasks ≤ steps
   pub ends : EndsAs program steps ran.history.tasks ran.config ran.end
 
--- done, where every task has a result; the other end, where some task has none
+-- done, and every task has a result; or the other end, and some task has none
 abbrev pub Settles : Config → End → End → Type 0
 Settles config otherwise end = ((end ≡ Done) × IsDone config) ⊎ ((end ≡ otherwise) × IsOpen config)

@@ -1,13 +1,14 @@
--- What a call of the command promises. This is the first file to read: the clause `promises` of `abs_run` says that `Promises` holds.
--- It speaks of the bytes that the call took from its source, and says separately that a source that tells its content gave just these.
+-- What a call of the command promises. This is the first file to read: the clause `promises` of `abs_run` says that
+-- `Promises` holds. It is about the bytes that the call took from its source, and says separately that a source that
+-- tells its content gave just these.
 --
 --   `Promises`                      all that a call promises, over the bytes that it took
 --   `BytesIn`                       what was taken from the source
 --   `Answer`                        what was written: a whole output, a prefix of one, or nothing
---   `CameTo`                        each way that a call can go, with its cause, its fields, its status and its whole output:
+--   `CameTo`                        each way that a call can go, with its cause, fields, status and whole output:
 --     `IsMisused`, `IsUnread`, `IsOversized`, `IsRefused`, `IsReported`, `HasRun`
 --   `IsAnalysed`                    a program with its report, and the headline of the project
---   `Causes`                        each status comes where its cause is
+--   `Causes`                        each status is returned when its cause holds
 use Rattle.std.specs.Prelude.{◌≡◌, ◌≢◌, ◌<◌, ◌≤◌, ◌+◌, ◌⊎◌, ℕ, List, [], ◌++◌, length, take, Option, Some, None}
 use Rattle.std.specs.Io.KnownBytes.{Appends, Consumes}
 use Rattle.abs_outside.specs.Counts.{Rose}
@@ -27,7 +28,8 @@ use Rattle.abs_command.specs.Statuses.{status_of, IsOfRun, GivesUp, WasRead}
 use Rattle.abs_command.specs.Texts.{usage_line, too_large_line, refusal_line, report_lines, end_text}
 use Rattle.abs_command.specs.Words.{Names, AreCommandWords}
 
--- What a source tells of itself at one moment: what each name holds, what is left to read, its counts of missing names and of faults.
+-- What a source tells of itself at one moment: what each name holds, what is left to read, its counts of missing names
+-- and of faults.
 pub record SourceView : Type 0 where
   pub under : List ℕ → Under
   pub left : Option (List ℕ)
@@ -54,14 +56,15 @@ pub record HoldsOnly (ended : Ended) (refusal : Option Refusal) : Type 0 where
   pub history : ended.history.tasks ≡ []
   pub end : ended.end ≡ None
 
--- The words are not of the command.
+-- The words are not a valid command line.
 pub record IsMisused (words : List (List ℕ)) (ended : Ended) (due : Option Status) (output : List ℕ) : Type 0 where
   pub cause : AreCommandWords words → ⊥
   pub fields : HoldsOnly ended None
   pub status : due ≡ Some status.Usage
   pub printed : output ≡ usage_line
 
--- The source failed: its count of faults rose, or its count of missing names rose and it does not hold the file of the words.
+-- The source failed: its count of faults rose, or its count of missing names rose and it does not tell that it holds
+-- the file of the words.
 pub record IsUnread (words : List (List ℕ)) (source source' : SourceView) (ended : Ended) (due : Option Status) (output : List ℕ) : Type 0 where
   pub file : List ℕ
   pub named : Names words file
@@ -93,8 +96,8 @@ pub record IsAccepted (bytes : List ℕ) (program : NamedTree) : Type 0 where
   pub small : length bytes ≤ source_limit
   pub read : IsProgramOf bytes program
 
--- The program was analysed. Where its report names no circular chain, every configuration that a legal history reaches, and that has an
--- unfinished task, has a step.
+-- The program was analysed. If its report names no circular chain, every configuration that a legal history reaches has
+-- a step while a task in it is unfinished.
 pub record IsAnalysed (bytes : List ℕ) (ended : Ended) (program : NamedTree) : Type 0 where
   pub accepted : IsAccepted bytes program
   pub refusal : ended.refusal ≡ None
@@ -103,7 +106,7 @@ pub record IsAnalysed (bytes : List ℕ) (ended : Ended) (program : NamedTree) :
   pub report : ended.report ≡ report_of program
   pub headline : ended.report ≡ [] → NeverStuck program
 
--- The program was analysed and nothing was run. No status is due for that yet: it is what a fault of the sink leaves.
+-- The program was analysed and nothing was run. No status is due yet: a fault of the sink leaves a call like this.
 pub record IsReported (words : List (List ℕ)) (bytes : List ℕ) (ended : Ended) (due : Option Status) (output : List ℕ) : Type 0 where
   pub named : AreCommandWords words
   pub program : NamedTree
@@ -113,7 +116,8 @@ pub record IsReported (words : List (List ℕ)) (bytes : List ℕ) (ended : Ende
   pub status : due ≡ None
   pub printed : output ≡ report_lines ended.report
 
--- The program was analysed and run: its recorded history is legal and has at most the permitted events; the run ended so, and printed this.
+-- The program was analysed and run. Its recorded history is legal and has at most the permitted events. The run ended
+-- in this way, and printed this.
 pub record HasRun (words : List (List ℕ)) (bytes : List ℕ) (ended : Ended) (due : Option Status) (output : List ℕ) : Type 0 where
   pub named : AreCommandWords words
   pub program : NamedTree
@@ -142,7 +146,8 @@ pub data WrittenBefore (words : List (List ℕ)) (bytes : List ℕ) (old new : O
   report : AreCommandWords words → (program : NamedTree) → IsAccepted bytes program → Appends old new (report_lines (report_of program))
       → WrittenBefore words bytes old new
 
--- The whole output was written, and the status is the one that is due; or the sink failed, and a prefix was written; or memory ran out.
+-- The whole output was written, and the status is the one that is due; or the sink failed, and a prefix was written; or
+-- memory ran out.
 pub data Answer (words : List (List ℕ)) (bytes : List ℕ) (source source' : SourceView) (sink sink' : SinkView) (ended : Ended) : Type 0 where
   whole : (output : List ℕ) → CameTo words bytes source source' ended (Some ended.status) output → Appends sink.written sink'.written output
       → Answer words bytes source source' sink sink' ended
@@ -156,9 +161,10 @@ pub record IsGiven (words : List (List ℕ)) (source : SourceView) (content : Li
   pub named : Names words file
   pub held : source.under file ≡ Holding content
 
--- The bytes are at most one more than a source may have. A source that tells its content gave them from its start; and where the call
--- came to speak of them, they are the whole content, or as many bytes of it as show that there are too many. Of a file that the source
--- tells to be absent no call comes to speak.
+-- The bytes are at most one more than a source may have. A source that tells its content gave them from its start. If
+-- the source was read, they are the whole content, or as many bytes of it as show that there are too many. A file that
+-- the source tells to be absent was not read. If the source was read, its count of missing names is unchanged, and what
+-- it tells of each name is always unchanged.
 pub record BytesIn (words : List (List ℕ)) (source source' : SourceView) (bytes : List ℕ) (came : Status) : Type 0 where
   pub at_most : length bytes ≤ source_limit + 1
   pub taken : (content : List ℕ) → IsGiven words source content → Consumes (Some content) source'.left bytes
@@ -177,7 +183,8 @@ pub record NoneRose (source source' : SourceView) (sink sink' : SinkView) : Type
   pub missing : Rose source.missing source'.missing → ⊥
   pub sink_faults : Rose sink.faults sink'.faults → ⊥
 
--- Each status comes where its cause is. Only so, by the ways above, it comes; but for out of memory, which needs no cause.
+-- Each status is returned when its cause holds, unless the call gave up. By the ways above it is returned only then;
+-- out of memory alone needs no cause.
 pub record Causes (words : List (List ℕ)) (bytes : List ℕ) (source source' : SourceView) (sink sink' : SinkView) (ended : Ended) : Type 0 where
   pub usage : (AreCommandWords words → ⊥) → ComesTo ended.status status.Usage
   pub too_large : AreCommandWords words → source_limit < length bytes → ComesTo ended.status status.TooLarge
@@ -188,7 +195,8 @@ pub record Causes (words : List (List ℕ)) (bytes : List ℕ) (source source' :
   pub chains : ended.status ≢ status.Chains
   pub memory_alone : NoneRose source source' sink sink' → GivesUp ended.status → ended.status ≡ status.Memory
 
--- All that a call promises of these words, this source and this sink, each before and after it, and of what it hands back.
+-- All that a call promises about these words, this source and this sink, each before and after it, and about what it
+-- returns.
 pub record Promises (words : List (List ℕ)) (source source' : SourceView) (sink sink' : SinkView) (ended : Ended) : Type 0 where
   pub bytes : List ℕ
   pub bytes_in : BytesIn words source source' bytes ended.status

@@ -1,7 +1,8 @@
--- The part of the language that is supported today: a main block without declarations around it, with these statements. A local of type
--- Int is declared with a value; a value is assigned to a local; `toString` of a value is printed. A value has numbers, locals, minus,
--- sums, differences and products. For such a source the result is its program, as a smaller tree in which a name is its symbol in the
--- table. For any other source it is the place where the first unsupported thing begins.
+-- The part of the language that is supported today: a main block without declarations around it, with these statements.
+-- A local of type Int is declared with a value; a value is assigned to a local; `toString` of a value is printed. A
+-- value has numbers, locals, minus, sums, differences and products. For such a source the result is its program, as a
+-- smaller tree in which a name is its symbol in the table. For any other source it is the place where the first
+-- unsupported part begins.
 --
 --   `runnable`                                         a source
 --   `runnable_statement`, `runnable_statements`        statements

@@ -5,7 +5,7 @@
 --   `IsLegal`                          each event of a history exists
 --   `IsDone`, `IsOpen`, `HasStep`      every task has a result; some task has none; some task has an event
 --   `EndsAs`                           how a run ended
---   `NeverStuck`                       no legal history leads to where a program is stuck
+--   `NeverStuck`                       no legal history leads to a configuration in which the program is stuck
 use Rattle.std.specs.Prelude.{◌≡◌, ◌≢◌, ℕ, List, [], ◌∷◌, ◌++◌, length, slice_get, replicate, Option, Some, None, IsSome, fold}
 use Rattle.abs_tree.specs.declared.value.Value.TheVariants.{Null}
 use Rattle.abs_tree.specs.Trees.{NamedTree}
@@ -50,7 +50,7 @@ run_of program history = fold (run_after_event program) (Some (record { config =
 abbrev pub IsLegal : NamedTree → List ℕ → Type 0
 IsLegal program history = IsSome (run_of program history)
 
--- the task is there and has no result
+-- the task exists and has no result
 pub record IsUnfinished (config : Config) (number : ℕ) : Type 0 where
   pub task : TaskCell
   pub there : slice_get config.tasks number ≡ Some task
@@ -74,7 +74,7 @@ EndsAs program steps history config Done = IsDone config
 EndsAs program steps history config Spent = (length history ≡ steps) × IsOpen config
 EndsAs program steps history config Stalled = (length history ≢ steps) × IsOpen config × (HasStep program config → ⊥)
 
--- Whatever legal history comes, the configuration that it reaches has a step while a task in it is unfinished. No task can wait yet, so
--- every program meets this.
+-- Every configuration that a legal history reaches has a step while a task in it is unfinished. No task can wait yet,
+-- so this holds of every program.
 abbrev pub NeverStuck : NamedTree → Type 0
 NeverStuck program = (history : List ℕ) (ran : Ran) → run_of program history ≡ Some ran → IsOpen ran.config → HasStep program ran.config

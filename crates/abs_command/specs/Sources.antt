@@ -1,5 +1,5 @@
--- What a source is to the command: a program with resolved names, or a source that is refused for its first offence. In these
--- definitions `text` is the bytes of the source.
+-- When a source has a program with resolved names, and when it is refused for its first offence. In these definitions
+-- `text` is the bytes of the source.
 --
 --   `IsProgramOf`                                      the program of a source
 --   `FirstOffence`, `HasOffence`                       the refusal of a source
@@ -37,9 +37,9 @@ pub record IsProgramOf (text : List ℕ) (program : NamedTree) : Type 0 where
   pub no_offence : name_offences part ≡ []
   pub is : program ≡ resolved part
 
--- The source is refused for its first offence, in one of four ways. It has a lexical offence, and this is the first. It has tokens, and
--- the parser fails at one of them or at the end. It has a tree, and the first unsupported thing in it begins here. It has a supported
--- tree, and this is the first of its name offences.
+-- The source is refused for its first offence, in one of four ways. It has a lexical offence, and this is the first. It
+-- has tokens, and the parser fails at one of them or at the end. It has a tree, and its first unsupported part begins
+-- here. It has a supported tree, and this is the first of its name offences.
 pub data FirstOffence (text : List ℕ) (refusal : Refusal) : Type 0 where
   unlexed : RefusesLexing text refusal → FirstOffence text refusal
   unread : (list : TokenList) → TokensOf text list → StopsWith list refusal → FirstOffence text refusal

@@ -1,4 +1,4 @@
--- What the exit statuses say: which of them a run ends with, and which tell that the call gave up.
+-- What the exit statuses mean: which of them a run ends with, and which say that the call gave up.
 use Rattle.std.specs.Prelude.{⊤, Bool, true, false, Option, Some, None, slice_get}
 use Rattle.abs_tree.specs.declared.value.Evaluated.{Evaluated}
 use Rattle.abs_tree.specs.declared.value.Evaluated.TheVariants.{Good, Bad}
@@ -49,7 +49,7 @@ GivesUp status.WriteFault = ⊤
 GivesUp status.Memory = ⊤
 GivesUp other = ⊥
 
--- The source was read: the call came to speak of its bytes.
+-- The source was read: the status is neither a read fault nor out of memory.
 abbrev pub WasRead : Status → Type 0
 WasRead status.ReadFault = ⊥
 WasRead status.Memory = ⊥

@@ -16,7 +16,7 @@ use Rattle.abs_command.specs.declared.runtime.config.TaskCell.{TaskCell}
 use Rattle.abs_command.specs.declared.runtime.machine.End.{End}
 use Rattle.abs_command.specs.declared.runtime.machine.End.TheVariants.{Done, Stalled, Spent}
 
--- the line for words that are not of the command
+-- the line for words that are not a valid command line
 abbrev pub usage_line : List ℕ
 usage_line = codes "usage: abs [--check] [--trace] [--workers N] [--depth N] [--steps N] [--facts N] (FILE | --make N)\n"
 
@@ -42,14 +42,15 @@ lines_text lines = flat_map (λ line. line ++ codes "\n") lines
 abbrev pub unfinished_of : List TaskCell → ℕ
 unfinished_of tasks = count_by (λ task. is_none task.outcome) tasks
 
--- how the run ended, with how many events it had, how many tasks there are, and how many of them are unfinished
+-- how the run ended, and how many tasks it had; if it stalled or was spent, how many of them are unfinished; if it was
+-- spent, how many events it had
 abbrev pub end_line : End → ℕ → List TaskCell → List ℕ
 end_line Done events tasks = codes "done: " ++ (decimal (length tasks) ++ codes " tasks\n")
 end_line Stalled events tasks = codes "stalled: " ++ (decimal (length tasks) ++ (codes " tasks, " ++ (decimal (unfinished_of tasks) ++ codes " unfinished\n")))
 end_line Spent events tasks =
     codes "spent: " ++ (decimal events ++ (codes " events, " ++ (decimal (length tasks) ++ (codes " tasks, " ++ (decimal (unfinished_of tasks) ++ codes " unfinished\n")))))
 
--- the line of the task of this index, where it ended by a fault
+-- the line of the task of this index, if it ended by a fault
 abbrev pub fault_line : ℕ → Option Evaluated → List ℕ
 fault_line number None = []
 fault_line number (Some (Good value)) = []

@@ -2,7 +2,7 @@
 --
 --   `spelled`                  the bytes of each word
 --   `Names`                    the words name a file
---   `AreCommandWords`          the words are of the command
+--   `AreCommandWords`          the words are a valid command line
 use Rattle.std.specs.Prelude.{◌≡◌, ℕ, List, [], ◌∷◌, map, string_bytes}
 use Rattle.std.specs.declared.alloc.Global.{Global}
 use Rattle.std.specs.declared.string.String.{String}
@@ -17,6 +17,6 @@ pub record Names (words : List (List ℕ)) (file : List ℕ) : Type 0 where
   pub program : List ℕ
   pub are : words ≡ program ∷ file ∷ []
 
--- the words are of the command: they name a file
+-- the words are a valid command line: they name a file
 abbrev pub AreCommandWords : List (List ℕ) → Type 0
 AreCommandWords words = (file : List ℕ) × Names words file

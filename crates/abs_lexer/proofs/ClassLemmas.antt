@@ -1,4 +1,4 @@
--- The first byte of what is left says which forms can stand there: each form begins with bytes of one class, and of each class
+-- The first byte decides which form the bytes can begin with: each form begins with a byte of one class. For each class
 -- the scanner knows what to look for.
 use Rattle.std.proofs.Common.{◌≡◌, ℕ, ◌==◌, ◌||◌, Bool, true, false, cond, List, [], ◌∷◌, ◌++◌, refl, sym, ap, subst, ◌∙◌, arith}
 use Rattle.std.proofs.lemmas.Bool.Decides.{nat_tests}
@@ -16,7 +16,7 @@ use Rattle.abs_lexer.specs.Forms.IsForm.{word as form_word, upper as form_upper,
 use Rattle.abs_lexer.proofs.EndLemmas.{true_or_false, two_in_front}
 use Rattle.abs_lexer.specs.Scans.{string_at, number_at, word_at, upper_at, opens_line, line_at, opens_block, block_at, punctuator_at, piece_at}
 
--- white space, the quote of a text, a digit, a letter of either case, and all others
+-- white space, the quote of a string, a digit, a letter of either case, and all other bytes, called marks
 pub data Class : Type 0 where
   White : Class
   Quote : Class
@@ -36,7 +36,7 @@ class_by false false false false false = Mark
 abbrev pub class_of : ℕ → Class
 class_of byte = class_by (is_white byte) (byte == 34) (is_ascii_digit byte) (is_ascii_lowercase byte) (is_ascii_uppercase byte)
 
--- what stands at bytes of each class
+-- the piece at bytes of each class
 abbrev pub mark_at : List ℕ → Piece
 mark_at bytes = cond (opens_line bytes) (line_at bytes) (cond (opens_block bytes) (block_at bytes) (punctuator_at bytes))
 
@@ -58,7 +58,7 @@ nest false false false true u bytes = refl
 nest false false false false true bytes = refl
 nest false false false false false bytes = refl
 
--- what the scanner finds is what it looks for at bytes of that class
+-- the scanner finds the piece of the class of the first byte
 pub piece_class : (bytes : List ℕ) → piece_at bytes ≡ piece_by (class_of (slice_index bytes 0)) bytes
 unfolding piece_at
 piece_class bytes =
@@ -68,7 +68,7 @@ piece_class bytes =
 pub piece_of_class : (class : Class) (bytes : List ℕ) → class_of (slice_index bytes 0) ≡ class → piece_at bytes ≡ piece_by class bytes
 piece_of_class class bytes h = piece_class bytes ∙ ap (λ (c : Class). piece_by c bytes) h
 
--- The class of the bytes that each form begins with.
+-- The class of the byte that each form begins with.
 no_white_digit : (byte : ℕ) → is_ascii_digit byte ≡ true → is_white byte ≡ false
 no_white_digit byte h = grind (arith, nat_tests)
 
@@ -108,7 +108,7 @@ class_lower byte h = rw (no_white_lower byte h, no_quote_lower byte h, no_digit_
 pub class_upper : (byte : ℕ) → is_ascii_uppercase byte ≡ true → class_of byte ≡ Upper
 class_upper byte h = rw (no_white_upper byte h, no_quote_upper byte h, no_digit_upper byte h, no_lower_upper byte h, h) refl
 
--- and what is known of a byte by its class
+-- what is known of a byte by its class
 abbrev pub TestOf : Class → Bool → Bool → Bool → Bool → Bool → Type 0
 TestOf White w q d l u = w ≡ true
 TestOf Quote w q d l u = q ≡ true
@@ -131,7 +131,7 @@ test_of_class class byte h =
     subst (λ (c : Class). TestOf c (is_white byte) (byte == 34) (is_ascii_digit byte) (is_ascii_lowercase byte) (is_ascii_uppercase byte)) h
     (tested (is_white byte) (byte == 34) (is_ascii_digit byte) (is_ascii_lowercase byte) (is_ascii_uppercase byte))
 
--- every sign begins with a mark
+-- every punctuator begins with a mark
 pub class_sign : (p : Punctuator) (after : List ℕ) → class_of (slice_index (punctuator_bytes p ++ after) 0) ≡ Mark
 class_sign punctuator.OpenParen after = refl
 class_sign punctuator.CloseParen after = refl
@@ -169,7 +169,7 @@ pub data FormOf (kind : Lexeme) (piece : List ℕ) : Class → Type 0 where
   text : IsQuoted is_on_line piece → kind ≡ Text → FormOf kind piece Quote
   sign : (p : Punctuator) → piece ≡ punctuator_bytes p → kind ≡ PunctuatorLexeme p → FormOf kind piece Mark
 
--- the first byte of a name and of a number
+-- the first byte of a name, of a number and of a string
 pub first_of_name : {is_first : ℕ → Bool} {piece : List ℕ} (x : IsName is_first piece) (after : List ℕ) → slice_index (piece ++ after) 0 ≡ x.first
 first_of_name x after = ap (λ (bytes : List ℕ). slice_index (bytes ++ after) 0) x.is
 
@@ -180,7 +180,7 @@ first_of_number (byte ∷ others) after x = x.digits 0 0 (omega arith)
 pub first_of_text : {passes : ℕ → Bool} {piece : List ℕ} (x : IsQuoted passes piece) (after : List ℕ) → slice_index (piece ++ after) 0 ≡ 34
 first_of_text x after = ap (λ (bytes : List ℕ). slice_index (bytes ++ after) 0) x.is
 
--- a form that stands in front has the class of the first byte
+-- a first piece with a form has the form for the class of its first byte
 pub formed : {kind : Lexeme} {piece : List ℕ} (after : List ℕ) → IsForm kind piece → FormOf kind piece (class_of (slice_index (piece ++ after) 0))
 formed {kind} {piece} after (form_word x e) =
     subst (λ (c : Class). FormOf kind piece c) (sym (ap class_of (first_of_name x after) ∙ class_lower x.first x.letter)) (word x e)
@@ -193,13 +193,13 @@ formed {kind} {piece} after (form_text x e) =
 formed {kind} {piece} after (form_sign p is e) =
     subst (λ (c : Class). FormOf kind piece c) (sym (ap (λ (bytes : List ℕ). class_of (slice_index (bytes ++ after) 0)) is ∙ class_sign p after)) (sign p is e)
 
--- the same of bytes that begin with the piece
+-- the same for bytes that begin with the piece
 pub formed_in : {kind : Lexeme} {bytes : List ℕ} (piece after : List ℕ) {class : Class} → bytes ≡ piece ++ after → class_of (slice_index bytes 0) ≡ class → IsForm kind piece
     → FormOf kind piece class
 formed_in {kind} {bytes} piece after {class} is c x =
     subst (λ (c : Class). FormOf kind piece c) (sym (ap (λ (bs : List ℕ). class_of (slice_index bs 0)) is) ∙ c) (formed after x)
 
--- a comment opens with a mark
+-- a comment opens with "/", which is a mark
 opened : (first second : Bool) (bytes : List ℕ) → (first ≡ true → slice_index bytes 0 ≡ 47) → (second ≡ true → slice_index bytes 0 ≡ 47) → (first || second) ≡ true
     → slice_index bytes 0 ≡ 47
 opened true second bytes f g h = f refl
@@ -211,6 +211,6 @@ first_of_comment bytes h =
     opened (opens_line bytes) (opens_block bytes) bytes (λ e. ap (λ (bs : List ℕ). slice_index bs 0) (two_in_front 47 47 bytes e))
     (λ e. ap (λ (bs : List ℕ). slice_index bs 0) (two_in_front 47 42 bytes e)) h
 
--- so none opens with another byte
+-- so bytes that do not begin with a mark open no comment
 pub no_comment_opens : (bytes : List ℕ) → (class_of (slice_index bytes 0) ≡ Mark → ⊥) → opens_comment bytes ≡ false
 no_comment_opens bytes h = true_or_false (opens_comment bytes) (λ e. h (ap class_of (first_of_comment bytes e)))

@@ -1,4 +1,4 @@
--- What begins with "//" or "/*": a comment that doesn't end, one with an offence in it, or one that is sound.
+-- Bytes that begin with "//" or "/*": a comment that does not end, one with an offence in it, or one that is sound.
 use Rattle.std.proofs.Common.{◌≡◌, ℕ, suc, ◌+◌, ◌<◌, ◌≤◌, ◌==◌, not, Bool, true, false, cond, List, [], ◌∷◌, ◌++◌, length, take, drop, refl, sym, ap, subst, ◌∙◌, arith, append_assoc, length-append, ◌⊎◌, inl, inr}
 use Rattle.std.proofs.Math.Seq.{take-append_seam}
 use Rattle.std.proofs.lemmas.Bool.{cases_lt}
@@ -24,7 +24,7 @@ use Rattle.abs_lexer.proofs.QuotedLemmas.{checked_offence, checked_sound, front_
 use Rattle.abs_lexer.proofs.ScanLemmas.{Describes}
 use Rattle.abs_lexer.proofs.ScanLemmas.Describes.{comment, offence}
 
--- where a line ends, no more of its bytes stand
+-- where a line ends, no further byte is on it
 pub line_stops : (after : List ℕ) → EndsLine after → prefix_len is_on_line after ≡ 0
 line_stops [] h = refl
 line_stops (byte ∷ others) h = rw h refl
@@ -39,13 +39,13 @@ stops_line (byte ∷ others) h =
     let test = stopped (byte == 10) byte (prefix_len is_on_line others) refl h in
     grind (arith, nat_tests)
 
--- the bytes of a comment on a line are on the line
+-- all bytes of a "//" comment are on its line
 on_line : {piece : List ℕ} (inside : List ℕ) → piece ≡ codes "//" ++ inside → AllPass is_on_line inside → AllPass is_on_line piece
 on_line {piece} inside is h =
     All-same (λ byte. is_on_line byte ≡ true) piece (47 ∷ 47 ∷ inside) is
     (All-cons (λ byte. is_on_line byte ≡ true) 47 (47 ∷ inside) refl (All-cons (λ byte. is_on_line byte ≡ true) 47 inside refl h))
 
--- a comment up to the end of its line is found
+-- the scanner finds a comment up to the end of its line
 pub line_found : {bytes piece : List ℕ} (after inside : List ℕ) → bytes ≡ piece ++ after → piece ≡ codes "//" ++ inside → AllPass is_on_line inside → EndsLine after
     → line_at bytes ≡ comment_checked piece
 unfolding line_at
@@ -55,7 +55,7 @@ line_found {bytes} {piece} after inside is e h ends =
     ap (λ (n : ℕ). take n bytes) count ∙ (ap (λ (bs : List ℕ). take (length piece) bs) is ∙ take-append_seam piece after) in
     ap comment_checked front
 
--- after "/*" a comment ends
+-- the scanner finds a comment from "/*" to the next "*/"
 pub block_found : {bytes piece : List ℕ} (after inside : List ℕ) → bytes ≡ piece ++ after → piece ≡ codes "/*" ++ (inside ++ codes "*/") → NowhereIn inside (codes "*/")
     → block_at bytes ≡ comment_checked piece
 unfolding block_at
@@ -73,7 +73,7 @@ pub comment_sound : {piece : List ℕ} → IsUtf8 piece → comment_checked piec
 unfolding comment_checked
 comment_sound {piece} valid = checked_sound (Blank (length piece)) (utf8_valid_len piece) piece (omega (arith, utf8_valid_len-IsUtf8 piece valid))
 
--- a comment that ends
+-- the result for a comment that ends describes the bytes
 describe_ended : {bytes piece : List ℕ} (after : List ℕ) → bytes ≡ piece ++ after → IsComment piece after → Describes bytes (comment_checked piece)
 unfolding comment_checked
 describe_ended {bytes} {piece} after is x = by (cases_lt (utf8_valid_len piece) (length piece))
@@ -89,7 +89,7 @@ describe_ended {bytes} {piece} after is x = by (cases_lt (utf8_valid_len piece) 
         subst (λ (p : Piece). Describes bytes p) (sym (checked_sound (Blank (length piece)) (utf8_valid_len piece) piece all))
         (comment piece after (length piece) is x (unbroken piece all) refl)
 
--- what begins with "//"
+-- the result for bytes that begin with "//" describes them
 pub describe_line : (bytes : List ℕ) → opens_line bytes ≡ true → Describes bytes (line_at bytes)
 unfolding line_at
 describe_line bytes h =
@@ -102,7 +102,7 @@ describe_line bytes h =
     describe_ended (drop count bytes) is
     (line (take (prefix_len is_on_line (drop 2 bytes)) (drop 2 bytes)) piece (run_passes is_on_line (drop 2 bytes)) (stops_line (drop count bytes) (run_ends is_on_line bytes)))
 
--- what begins with "/*" and doesn't end
+-- if no "*/" follows "/*", the bytes begin with no comment
 endless : {bytes : List ℕ} (inside : List ℕ) → bytes ≡ codes "/*" ++ inside → block_end inside ≡ None → (piece after : List ℕ) → bytes ≡ piece ++ after → IsComment piece after → ⊥
 endless {bytes} inside is none piece after e (line text x h ends) =
     let same : codes "/*" ++ inside ≡ codes "//" ++ (text ++ after) = sym is ∙ (e ∙ ap (λ (p : List ℕ). p ++ after) x) in
@@ -114,7 +114,7 @@ endless {bytes} inside is none piece after e (block text x nowhere) =
     let ends : None ≡ Some (length text) = sym none ∙ (ap block_end rest ∙ block_ends text after nowhere) in
     cc
 
--- what begins with "/*"
+-- the result for bytes that begin with "/*" describes them
 pub describe_block : (bytes : List ℕ) → opens_block bytes ≡ true → Describes bytes (block_at bytes)
 unfolding block_at
 describe_block bytes h = by (block_end (drop 2 bytes)) refl

@@ -1,4 +1,4 @@
--- Where bytes are no longer UTF-8, and where a comment ends, as the scanner finds it.
+-- Where bytes stop being UTF-8, and where a comment ends, as the scanner finds both.
 use Rattle.std.proofs.Common.{◌≡◌, ℕ, zero, suc, ◌+◌, ◌<◌, ◌≤◌, Bool, true, false, List, [], ◌∷◌, ◌++◌, length, take, drop, refl, sym, ap, cond, subst, ◌∙◌, arith, length-append, ◌⊎◌, inl, inr}
 use Rattle.std.proofs.lemmas.Bool.{cases_lt, false≢true}
 use Rattle.std.proofs.lemmas.List.{take-append-drop, take_all}
@@ -11,7 +11,7 @@ use Rattle.abs_lexer.specs.Forms.{NowhereIn}
 use Rattle.abs_lexer.specs.Scans.{block_end}
 use Rattle.abs_lexer.proofs.TextLemmas.{further_some}
 
--- the front that the search for the longest one comes to is UTF-8
+-- the prefix that the search for the longest one finds is UTF-8
 front_by : (b : Bool) (bytes : List ℕ) (n m : ℕ) → is_utf8 (take n bytes) ≡ b → IsUtf8 (take m bytes) → IsUtf8 (take (cond b n m) bytes)
 front_by true bytes n m h rest = IsUtf8-from_is_utf8 (take n bytes) h
 front_by false bytes n m h rest = rest
@@ -20,7 +20,7 @@ front_valid : (bytes : List ℕ) (n : ℕ) → IsUtf8 (take (valid_len_up_to byt
 front_valid bytes zero = IsUtf8-nil
 front_valid bytes (suc n) = front_by (is_utf8 (take (suc n) bytes)) bytes (suc n) (valid_len_up_to bytes n) refl (front_valid bytes n)
 
--- and no longer one is
+-- and a longer prefix is not
 longer_by : (b : Bool) (bytes : List ℕ) (n k : ℕ) → is_utf8 (take (suc n) bytes) ≡ b → cond b (suc n) (valid_len_up_to bytes n) < k → k ≤ suc n
     → (valid_len_up_to bytes n < k → k ≤ n → IsUtf8 (take k bytes) → ⊥) → IsUtf8 (take k bytes) → ⊥
 longer_by true bytes n k h above below rest valid = absurd (omega arith)
@@ -37,7 +37,7 @@ longer_broken bytes zero k above below valid = absurd (omega arith)
 longer_broken bytes (suc n) k above below valid =
     longer_by (is_utf8 (take (suc n) bytes)) bytes n k refl above below (λ a b v. longer_broken bytes n k a b v) valid
 
--- bytes that are no UTF-8 stop being so after the longest front that is
+-- bytes that are not UTF-8 are valid up to their longest prefix that is
 pub broken : (bytes : List ℕ) → utf8_valid_len bytes < length bytes → IsValidUpTo bytes (utf8_valid_len bytes)
 unfolding utf8_valid_len
 broken bytes h = record { short = h; front = front_valid bytes (length bytes); longest = λ k above. last k above (cases_lt (length bytes) k) }
@@ -48,19 +48,19 @@ broken bytes h = record { short = h; front = front_valid bytes (length bytes); l
         longer_broken bytes (length bytes) (length bytes) h (omega arith)
         (subst (λ (xs : List ℕ). IsUtf8 xs) (take_all k bytes (omega arith) ∙ sym (take_all (length bytes) bytes (omega arith))) valid)
 
--- and those that don't stop are UTF-8
+-- and bytes that are valid up to their end are UTF-8
 pub unbroken : (bytes : List ℕ) → length bytes ≤ utf8_valid_len bytes → IsUtf8 bytes
 unfolding utf8_valid_len
 unbroken bytes h =
     let all : valid_len_up_to bytes (length bytes) ≡ length bytes = omega (arith, utf8_valid_len_le bytes) in
     subst (λ (xs : List ℕ). IsUtf8 xs) (ap (λ (n : ℕ). take n bytes) all ∙ take_all (length bytes) bytes (omega arith)) (front_valid bytes (length bytes))
 
--- two bytes in front, where they are there
+-- if the test for two first bytes passes, the bytes begin with them
 pub two_in_front : (first second : ℕ) (bytes : List ℕ) → bytes_eq (take 2 bytes) (first ∷ second ∷ []) ≡ true → bytes ≡ first ∷ second ∷ drop 2 bytes
 two_in_front first second bytes h =
     sym (take-append-drop 2 bytes) ∙ ap (λ (front : List ℕ). front ++ drop 2 bytes) ((bytes_eq-Decides (take 2 bytes) (first ∷ second ∷ [])).0 h)
 
--- a comment ends at the first "*/"
+-- no "*/" begins inside a comment, so it ends at the first one
 ends_here : (byte : ℕ) (others after : List ℕ) → NowhereIn (byte ∷ others) (codes "*/") → bytes_eq (take 2 (byte ∷ (others ++ (codes "*/" ++ after)))) (codes "*/") ≡ true → ⊥
 ends_here byte [] after none h = let same = two_in_front 42 47 (byte ∷ 42 ∷ 47 ∷ after) h in let second : ◌≡◌ {A = ℕ} 42 47 = cc in omega (arith, second)
 ends_here byte (next ∷ others) after none h =
@@ -69,11 +69,11 @@ ends_here byte (next ∷ others) after none h =
     let second : next ≡ 47 = cc in
     none [] others (rw (first, second) refl)
 
--- the rest of what nowhere holds a piece holds it nowhere
+-- a piece that occurs nowhere in bytes occurs nowhere in their rest after the first one
 pub nowhere_rest : (byte : ℕ) (others piece : List ℕ) → NowhereIn (byte ∷ others) piece → NowhereIn others piece
 nowhere_rest byte others piece none front after is = none (byte ∷ front) after (ap (λ (bytes : List ℕ). byte ∷ bytes) is)
 
--- what is not true is false
+-- a Boolean that is not true is false
 pub true_or_false : (b : Bool) → (b ≡ true → ⊥) → b ≡ false
 true_or_false true h = absurd (h refl)
 true_or_false false h = refl
@@ -86,7 +86,7 @@ block_ends (byte ∷ others) after none =
     let rest = block_ends others after (nowhere_rest byte others (codes "*/") none) in
     rw (here, rest) (ap (λ (n : ℕ). Some n) (omega arith))
 
--- a comment that ends after so many bytes
+-- a comment that ends after this many bytes
 pub record Ends (bytes : List ℕ) (count : ℕ) : Type 0 where
   pub inside : List ℕ
   pub after : List ℕ
@@ -103,7 +103,7 @@ ends_first bytes n h e = record {
   count_is = cc;
 }
 
--- a piece in front of two lists is in front of the first, where that is long enough
+-- if bytes do not begin with "*/", no prefix of them does
 not_in_front : (byte : ℕ) (inside after : List ℕ) (rest : List ℕ) → bytes_eq (take 2 (byte ∷ (inside ++ rest))) (codes "*/") ≡ false → byte ∷ inside ≡ codes "*/" ++ after → ⊥
 not_in_front byte [] after rest h is = let long = ap length is in omega (arith, long)
 not_in_front byte (next ∷ inside) after rest h is =

@@ -1,5 +1,5 @@
--- The scanner finds what there is: where white space, a comment or a token stands in front, and where an offence does, it finds
--- just that, and of offences the first.
+-- The result of the scanner describes the bytes. Where they begin with white space, a comment or a token, the scanner
+-- finds just that.
 use Rattle.std.proofs.Common.{◌≡◌, ℕ, ◌^◌, ◌<◌, ◌≤◌, ◌||◌, Bool, true, false, cond, List, [], ◌∷◌, ◌++◌, length, take, drop, refl, sym, ap, subst, ◌∙◌, arith}
 use Rattle.std.proofs.Math.Seq.{take-append_seam}
 use Rattle.std.proofs.lemmas.List.{take-append-drop}
@@ -30,7 +30,7 @@ use Rattle.abs_lexer.proofs.SignLemmas.{sign_is_found, describe_sign}
 use Rattle.abs_lexer.proofs.ScanLemmas.{Describes, name_in_front, name_passes, lower_is_word, upper_is_word, number_in_front, describe_word, describe_upper, describe_number}
 use Rattle.abs_lexer.proofs.ScanLemmas.Describes.{white as describes_white}
 
--- what the scanner finds is there
+-- the result of the scanner describes the bytes
 pub describe : (bytes : List ℕ) → 0 < length bytes → Describes bytes (piece_at bytes)
 describe [] some = absurd (omega arith)
 describe (byte ∷ others) some = by (class_of byte) refl
@@ -57,12 +57,12 @@ describe (byte ∷ others) some = by (class_of byte) refl
     by Upper e = found Upper e (upper_at bytes) refl (describe_upper byte others e)
     by Mark e = found Mark e (mark_at bytes) refl (marked (opens_line bytes) (opens_block bytes) refl refl e)
 
--- what was found of what stands in front: white space or a comment, or a token
+-- what was found of the first piece: white space or a comment, or a token
 pub data IsFoundAs (place : Place) (piece : List ℕ) (tokens : List Lexed) (found : Piece) : Type 0 where
   blank : found ≡ Blank (length piece) → tokens ≡ [] → IsFoundAs place piece tokens found
   token : (kind : Lexeme) → found ≡ Token kind (length piece) → tokens ≡ record { kind = kind; place = place; bytes = piece } ∷ [] → IsFoundAs place piece tokens found
 
--- a comment is found, and whether it is sound
+-- the scanner finds a comment, and checks whether it is sound
 pub comment_found : {bytes : List ℕ} (piece after : List ℕ) → bytes ≡ piece ++ after → IsComment piece after → piece_at bytes ≡ comment_checked piece
 comment_found {bytes} piece after is (line inside e h ends) =
     let whole : bytes ≡ 47 ∷ 47 ∷ (inside ++ after) = is ∙ ap (λ (p : List ℕ). p ++ after) e in
@@ -78,22 +78,22 @@ comment_found {bytes} piece after is (block inside e none) =
     let marks : mark_at bytes ≡ block_at bytes = rw (no_line, opens) refl in
     piece_of_class Mark bytes class ∙ (marks ∙ block_found after inside is e none)
 
--- the run of a piece whose bytes pass, where the run itself is no longer
+-- if all of the first piece passes and the run is no longer, the run is as long as the piece
 run_is_piece : (p : ℕ → Bool) {bytes : List ℕ} (piece after : List ℕ) → bytes ≡ piece ++ after → AllPass p piece → length (take (prefix_len p bytes) bytes) ≤ length piece
     → prefix_len p bytes ≡ length piece
 run_is_piece p {bytes} piece after is h few =
     omega (arith, few, ap (prefix_len p) is, run_over p piece after h, length_front (prefix_len p bytes) bytes (run_within p bytes))
 
--- and it is the piece
+-- and then it is the piece
 pub run_takes_piece : (p : ℕ → Bool) {bytes : List ℕ} (piece after : List ℕ) → bytes ≡ piece ++ after → prefix_len p bytes ≡ length piece → take (prefix_len p bytes) bytes ≡ piece
 run_takes_piece p {bytes} piece after is count = ap (λ (n : ℕ). take n bytes) count ∙ (ap (λ (bs : List ℕ). take (length piece) bs) is ∙ take-append_seam piece after)
 
--- where another form stands in front, the longest is as long
+-- no prefix with the form of a token is longer than the longest one
 no_longer : {kind : Lexeme} {bytes piece after : List ℕ} → bytes ≡ piece ++ after → IsLongest kind piece after → (other : Lexeme) (n : ℕ) → IsForm other (take n bytes)
     → length (take n bytes) ≤ length piece
 no_longer {bytes = bytes} is x other n y = x.longest other (take n bytes) (drop n bytes) (sym is ∙ sym (take-append-drop n bytes)) y
 
--- the run that begins with a letter is a name
+-- if bytes begin with a name, the run is a name; the same holds for a number
 name_of : (is_first : ℕ → Bool) {bytes piece : List ℕ} (after : List ℕ) → bytes ≡ piece ++ after → (x : IsName is_first piece) → is_word x.first ≡ true
     → IsName is_first (take (prefix_len is_word bytes) bytes)
 name_of is_first after is x passes =
@@ -105,18 +105,18 @@ number_of [] after is x = absurd (omega (arith, x.some))
 number_of (byte ∷ others) after is x =
     subst (λ (bs : List ℕ). IsNumber (take (prefix_len is_ascii_digit bs) bs)) (sym is) (number_in_front byte (others ++ after) (x.digits 0 0 (omega arith)))
 
--- how many digits a number has
+-- the run of digits is as long as the number
 pub digits_found : {bytes : List ℕ} (piece after : List ℕ) → bytes ≡ piece ++ after → IsNumber piece → IsLongest Number piece after → prefix_len is_ascii_digit bytes ≡ length piece
 digits_found {bytes} piece after is y x =
     run_is_piece is_ascii_digit piece after is y.digits (no_longer is x Number (prefix_len is_ascii_digit bytes) (form_number (number_of piece after is y) refl))
 
--- where neither of two tests passes
+-- if a disjunction is false, both of its parts are
 pub neither : (a b : Bool) → (a || b) ≡ false → (a ≡ false) × (b ≡ false)
 neither true b h = cc
 neither false true h = cc
 neither false false h = (refl, refl)
 
--- a token is found, by its form
+-- the scanner finds a token, by cases of its form
 token_found : {kind : Lexeme} {bytes : List ℕ} (piece after : List ℕ) → bytes ≡ piece ++ after → opens_comment bytes ≡ false → IsLongest kind piece after → IsSound kind piece
     → (class : Class) → class_of (slice_index bytes 0) ≡ class → FormOf kind piece class → piece_at bytes ≡ Token kind (length piece)
 unfolding word_at upper_at number_at
@@ -147,7 +147,7 @@ token_found {kind} {bytes} piece after is unopened x sound Mark class (sign p sp
     ∙ (marks
     ∙ (sign_is_found p piece after is spelled (λ q more is_q. x.longest (PunctuatorLexeme q) (punctuator_bytes q) more (sym is ∙ is_q) (form_sign q refl refl)) ∙ ap (λ (k : Lexeme). Token k (length piece)) (sym e)))
 
--- whatever stands in front without an offence is found
+-- the scanner finds every first piece without offence
 pub begins_found : {place : Place} {bytes : List ℕ} (piece after : List ℕ) {tokens : List Lexed} → bytes ≡ piece ++ after → Begins place piece after tokens
     → IsFoundAs place piece tokens (piece_at bytes)
 begins_found {place} {bytes} piece after is (white byte e w) =

@@ -1,4 +1,4 @@
--- Where an offence stands in front, the scanner finds one: with its code, and no later than it.
+-- For each offence of the first piece, the scanner finds one with the same code, and no later.
 use Rattle.std.proofs.Common.{◌≡◌, ℕ, ◌^◌, ◌<◌, ◌≤◌, true, false, cond, List, [], ◌∷◌, ◌++◌, length, take, drop, refl, sym, ap, ◌∙◌, arith, append_assoc, length-append}
 use Rattle.std.proofs.lemmas.Bool.{false≢true}
 use Rattle.std.proofs.lemmas.Bool.Decides.{nat_tests, Decides-eqb}
@@ -32,7 +32,7 @@ use Rattle.abs_lexer.proofs.SignLemmas.{no_sign_found}
 use Rattle.abs_lexer.proofs.ScanLemmas.{name_in_front, lower_is_word, upper_is_word, number_in_front, word_is_no_number}
 use Rattle.abs_lexer.proofs.FoundLemmas.{neither, comment_found, run_takes_piece, digits_found}
 
--- an offence was found, and this one stands no earlier
+-- an offence with the code of this one was found, and this one is no earlier
 pub record IsStopped (place : Place) (bytes : List ℕ) (offence : Offence) : Type 0 where
   pub count : ℕ
   pub front : ℕ
@@ -41,11 +41,11 @@ pub record IsStopped (place : Place) (bytes : List ℕ) (offence : Offence) : Ty
   pub least : count ≤ front
   pub within : front ≤ length bytes
 
--- one that stands in front of all
+-- an offence at the first byte
 stopped_here : (place : Place) (bytes : List ℕ) (code : Code) → piece_at bytes ≡ Stop code 0 → IsStopped place bytes (record { code = code; place = place })
 stopped_here place bytes code found = record { count = 0; front = 0; found = found; place_is = refl; least = omega arith; within = omega arith }
 
--- one that stands after a front of a piece
+-- an offence after a prefix of the first piece
 stopped_after : (place : Place) {bytes : List ℕ} (piece after front more : List ℕ) (code : Code) (count : ℕ) → bytes ≡ piece ++ after → piece ≡ front ++ more
     → piece_at bytes ≡ Stop code count → count ≤ length front → IsStopped place bytes (record { code = code; place = place_after place front })
 stopped_after place {bytes} piece after front more code count is e found least = record {
@@ -57,7 +57,7 @@ stopped_after place {bytes} piece after front more code count is e found least =
   within = omega (arith, ap length is, ap length e, length-append piece after, length-append front more);
 }
 
--- a byte that begins nothing
+-- the scanner finds a byte that begins nothing
 stray_found : (bytes : List ℕ) → IsStray bytes → piece_at bytes ≡ Stop L1 0
 stray_found bytes x = by (class_of x.byte) refl
   where
@@ -92,7 +92,7 @@ stray_found bytes x = by (class_of x.byte) refl
         let marks : mark_at bytes ≡ punctuator_at bytes = rw (opens.0, opens.1) refl in
         piece_of_class Mark bytes (first Mark e) ∙ (marks ∙ no_sign_found bytes (λ p after is. x.no_token (PunctuatorLexeme p) (punctuator_bytes p) after is (form_sign p refl refl)))
 
--- a comment that doesn't end
+-- the scanner finds a comment that does not end
 open_comment_found : (bytes : List ℕ) → IsOpenComment bytes → piece_at bytes ≡ Stop L2 0
 unfolding block_at
 open_comment_found bytes x = piece_of_class Mark bytes class ∙ (marks ∙ by (block_end (drop 2 bytes)) refl)
@@ -117,7 +117,7 @@ open_comment_found bytes x = piece_of_class Mark bytes class ∙ (marks ∙ by (
         absurd (x.endless (codes "/*" ++ (y.inside ++ codes "*/")) y.after
         (x.is ∙ ap (λ (bs : List ℕ). 47 ∷ 42 ∷ bs) (rest ∙ sym (append_assoc y.inside (codes "*/") y.after))) (block y.inside refl y.nowhere))
 
--- a text that doesn't end on its line
+-- the scanner finds a string that does not end on its line
 open_text_found : (bytes : List ℕ) → IsOpenString bytes → piece_at bytes ≡ Stop L3 0
 unfolding string_at
 open_text_found bytes x = piece_of_class Quote bytes (ap (λ (bs : List ℕ). class_of (slice_index bs 0)) x.is) ∙ by (closing_quote (drop 1 bytes)) refl
@@ -131,7 +131,7 @@ open_text_found bytes x = piece_of_class Quote bytes (ap (λ (bs : List ℕ). cl
         (x.is ∙ ap (λ (bs : List ℕ). 34 ∷ bs) (rest ∙ sym (append_assoc y.inside (34 ∷ []) y.after)))
         (record { inside = y.inside; is = refl; reads = y.reads }))
 
--- a number past 127 bits
+-- the scanner finds a number above 127 bits
 large_found : {bytes : List ℕ} (piece after : List ℕ) → bytes ≡ piece ++ after → IsLongest Number piece after → 2 ^ 127 ≤ digits_value 10 piece → piece_at bytes ≡ Stop L4 0
 unfolding number_at
 large_found {bytes} piece after is x large = by (class_of (slice_index bytes 0)) refl (formed_in piece after is refl x.form)
@@ -149,7 +149,7 @@ large_found {bytes} piece after is x large = by (class_of (slice_index bytes 0))
         ∙ (ap (λ (p : List ℕ). cond (nat_lt (digits_value 10 p) (2 ^ 127)) (Token Number (prefix_len is_ascii_digit bytes)) (Stop L4 0)) (run_takes_piece is_ascii_digit piece after is count)
         ∙ rw test refl)
 
--- a text in which an offence stands
+-- the scanner stops in a string with an offence
 text_stops : {bytes : List ℕ} (piece after : List ℕ) → bytes ≡ piece ++ after → IsQuoted is_on_line piece → min (bad_escape piece) (utf8_valid_len piece) < length piece
     → piece_at bytes ≡ Stop L1 (min (bad_escape piece) (utf8_valid_len piece))
 unfolding string_checked
@@ -157,13 +157,13 @@ text_stops {bytes} piece after is x short =
     let class : class_of (slice_index bytes 0) ≡ Quote = ap (λ (bs : List ℕ). class_of (slice_index bs 0)) (is ∙ ap (λ (p : List ℕ). p ++ after) x.is) in
     piece_of_class Quote bytes class ∙ (text_found after is x ∙ checked_offence (Token Text (length piece)) (min (bad_escape piece) (utf8_valid_len piece)) piece short)
 
--- a comment in which one stands
+-- the scanner stops in a comment with an offence
 comment_stops : {bytes : List ℕ} (piece after : List ℕ) → bytes ≡ piece ++ after → IsComment piece after → utf8_valid_len piece < length piece
     → piece_at bytes ≡ Stop L1 (utf8_valid_len piece)
 unfolding comment_checked
 comment_stops piece after is x short = comment_found piece after is x ∙ checked_offence (Blank (length piece)) (utf8_valid_len piece) piece short
 
--- each offence in front is found, or one before it
+-- for each offence of the first piece, the scanner finds it or one before it
 pub offends_found : {place : Place} {bytes : List ℕ} {offence : Offence} → OffendsAt place bytes offence → IsStopped place bytes offence
 offends_found {place} {bytes} (stray_byte x) = stopped_here place bytes L1 (stray_found bytes x)
 offends_found {place} {bytes} (open_comment x) = stopped_here place bytes L2 (open_comment_found bytes x)

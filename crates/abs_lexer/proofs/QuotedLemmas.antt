@@ -1,4 +1,4 @@
--- What begins with a quote: a text that doesn't end on its line, one with an offence in it, or one that is a token.
+-- Bytes that begin with a quote: a string that does not end on its line, one with an offence in it, or a token.
 use Rattle.std.proofs.Common.{◌≡◌, ℕ, ◌+◌, ◌<◌, ◌≤◌, Bool, true, false, List, [], ◌∷◌, ◌++◌, length, take, drop, refl, sym, ap, subst, ◌∙◌, arith, append_assoc, length-append, ◌⊎◌, inl, inr}
 use Rattle.std.proofs.Math.Seq.{take-append_seam}
 use Rattle.std.proofs.lemmas.Bool.{cases_lt}
@@ -29,17 +29,17 @@ use Rattle.abs_lexer.proofs.ClassLemmas.FormOf.{text}
 use Rattle.abs_lexer.proofs.ScanLemmas.{Describes, longest_in}
 use Rattle.abs_lexer.proofs.ScanLemmas.Describes.{token, offence}
 
--- a text has two bytes more than what stands in it
+-- a string is two bytes longer than the bytes between its quotes
 length_quoted : {passes : ℕ → Bool} {piece : List ℕ} (x : IsQuoted passes piece) → length piece ≡ length x.inside + 2
 length_quoted x = omega (arith, ap length x.is, length-append x.inside (34 ∷ []))
 
--- after its quote a text closes
+-- after the quote that opens a string, the scan finds the one that closes it
 pub quoted_closes : {bytes piece : List ℕ} (after : List ℕ) → bytes ≡ piece ++ after → (x : IsQuoted is_on_line piece) → closing_quote (drop 1 bytes) ≡ Some (length x.inside)
 quoted_closes {bytes} {piece} after is x =
     ap (λ (bs : List ℕ). closing_quote (drop 1 bs)) is
     ∙ (ap (λ (p : List ℕ). closing_quote (drop 1 (p ++ after))) x.is ∙ (ap closing_quote (append_assoc x.inside (34 ∷ []) after) ∙ closing_inside after x.reads))
 
--- so the scanner finds it
+-- so the scanner finds the string
 pub text_found : {bytes piece : List ℕ} (after : List ℕ) → bytes ≡ piece ++ after → IsQuoted is_on_line piece → string_at bytes ≡ string_checked piece
 unfolding string_at
 text_found {bytes} {piece} after is x =
@@ -50,25 +50,25 @@ text_found {bytes} {piece} after is x =
 some_same : (m n : ℕ) → Some m ≡ Some n → m ≡ n
 some_same m n h = cc
 
--- two texts in front have the same length
+-- two strings that the same bytes begin with have the same length
 pub quoted_once : {bytes piece other : List ℕ} (after more : List ℕ) → bytes ≡ piece ++ after → bytes ≡ other ++ more → IsQuoted is_on_line piece → IsQuoted is_on_line other
     → length piece ≡ length other
 quoted_once after more is e x y =
     let same = some_same (length x.inside) (length y.inside) (sym (quoted_closes after is x) ∙ quoted_closes more e y) in
     omega (arith, same, length_quoted x, length_quoted y)
 
--- an offence in front of the end is one, and none is found otherwise
+-- an offence before the end of a piece is found, and otherwise the piece is sound
 pub checked_offence : (sound : Piece) (at : ℕ) (piece : List ℕ) → at < length piece → checked_piece sound at piece ≡ Offence L1 at
 checked_offence sound at piece h = let test : nat_lt at (length piece) ≡ true = grind (arith, nat_tests) in rw test refl
 
 pub checked_sound : (sound : Piece) (at : ℕ) (piece : List ℕ) → length piece ≤ at → checked_piece sound at piece ≡ sound
 checked_sound sound at piece h = let test : nat_lt at (length piece) ≡ false = grind (arith, nat_tests) in rw test refl
 
--- the quote that opens a text is no escape
+-- the scan for escapes passes the quote that opens a string
 bad_after : {piece : List ℕ} (others : List ℕ) → piece ≡ 34 ∷ others → bad_escape piece ≡ 1 + bad_escape others
 bad_after others is = ap bad_escape is ∙ bad_step 34 others refl
 
--- where a `\` makes no escape, the scan stops there or before
+-- where a `\` begins no escape, the scan stops there or before
 pub bad_found : {piece front : List ℕ} → IsBadEscape piece front → (bad_escape piece ≤ length front) × (length front < length piece)
 bad_found {piece} {front} x =
     let step = bad_after (x.inside ++ 92 ∷ x.byte ∷ x.others) (x.is ∙ ap (λ (f : List ℕ). f ++ 92 ∷ x.byte ∷ x.others) x.front_is) in
@@ -76,28 +76,28 @@ bad_found {piece} {front} x =
     let long = ap length x.front_is in
     (omega (arith, step, least, long), omega (arith, ap length x.is, length-append front (92 ∷ x.byte ∷ x.others)))
 
--- where each is an escape it doesn't
+-- where each `\` begins an escape, the scan reaches the end
 pub bad_not_found : {piece : List ℕ} → IsQuoted is_escape piece → bad_escape piece ≡ length piece
 bad_not_found x = omega (arith, bad_after (x.inside ++ 34 ∷ []) x.is, bad_nowhere x.reads, length_quoted x)
 
--- a text that is sound is a token
+-- a string that is sound is a token
 pub text_is_token : {piece : List ℕ} → IsQuoted is_escape piece → IsUtf8 piece → string_checked piece ≡ Token Text (length piece)
 unfolding string_checked
 text_is_token {piece} x valid =
     checked_sound (Token Text (length piece)) (min (bad_escape piece) (utf8_valid_len piece)) piece
     (omega (arith, bad_not_found x, utf8_valid_len-IsUtf8 piece valid))
 
--- the front of some bytes is that of the piece that they begin with
+-- a prefix of bytes within their first piece is a prefix of that piece
 pub front_of_piece : {bytes : List ℕ} (piece after : List ℕ) (n : ℕ) → bytes ≡ piece ++ after → n ≤ length piece → take n bytes ≡ take n piece
 front_of_piece piece after n is few = ap (λ (bs : List ℕ). take n bs) is ∙ take-append-le n piece after few
 
--- the same where the piece begins with that front
+-- a prefix of the first piece is a prefix of the bytes
 pub front_in_piece : {bytes : List ℕ} (piece after front more : List ℕ) → bytes ≡ piece ++ after → piece ≡ front ++ more → take (length front) bytes ≡ front
 front_in_piece piece after front more is e =
     front_of_piece piece after (length front) is (omega (arith, ap length e, length-append front more))
     ∙ (ap (λ (bs : List ℕ). take (length front) bs) e ∙ take-append_seam front more)
 
--- a piece stops being UTF-8 after its longest front that is
+-- a piece stops being UTF-8 after its longest prefix that is
 pub broken_at : (piece : List ℕ) → utf8_valid_len piece < length piece → IsBroken piece (take (utf8_valid_len piece) piece)
 broken_at piece h =
     let long : length (take (utf8_valid_len piece) piece) ≡ utf8_valid_len piece = length_front (utf8_valid_len piece) piece (omega arith) in
@@ -106,7 +106,7 @@ broken_at piece h =
 pub broken_found : {piece front : List ℕ} → IsBroken piece front → (utf8_valid_len piece ≡ length front) × (length front < length piece)
 broken_found {piece} {front} x = (utf8_valid_len-IsValidUpTo piece (length front) x.longest, x.longest.short)
 
--- a text with an escape that is none
+-- the offence of a string with a `\` that begins no escape
 escape_offends : {bytes piece : List ℕ} (after : List ℕ) → bytes ≡ piece ++ after → (x : IsQuoted is_on_line piece) → bad_escape piece < length piece → (place : Place)
     → OffendsAt place bytes (record { code = L1; place = place_after place (take (bad_escape piece) bytes) })
 escape_offends {bytes} {piece} after is x short place = by (judged x.reads)
@@ -123,7 +123,7 @@ escape_offends {bytes} {piece} after is x short place = by (judged x.reads)
         (offends_bad_escape piece after (34 ∷ front) is x
         (record { inside = front; byte = byte; others = others ++ 34 ∷ []; front_is = refl; reads = reads; is = front_is; bad = wrong }))
 
--- a text that is no UTF-8
+-- the offence of a string that is not UTF-8
 text_offends : {bytes piece : List ℕ} (after : List ℕ) → bytes ≡ piece ++ after → IsQuoted is_on_line piece → utf8_valid_len piece < length piece → (place : Place)
     → OffendsAt place bytes (record { code = L1; place = place_after place (take (utf8_valid_len piece) bytes) })
 text_offends {bytes} {piece} after is x short place =
@@ -131,7 +131,7 @@ text_offends {bytes} {piece} after is x short place =
     (sym (front_of_piece piece after (utf8_valid_len piece) is (omega arith)))
     (broken_string piece after (take (utf8_valid_len piece) piece) is x (broken_at piece short))
 
--- a text that closes
+-- the result for a string that closes describes the bytes
 describe_closed : {bytes piece : List ℕ} (after : List ℕ) → bytes ≡ piece ++ after → class_of (slice_index bytes 0) ≡ Quote → IsQuoted is_on_line piece
     → Describes bytes (string_checked piece)
 unfolding string_checked
@@ -169,7 +169,7 @@ describe_closed {bytes} {piece} after is class x = by (cases_lt (min (bad_escape
         escapes (bad front byte others e reads wrong stop) =
             absurd (omega (arith, bad_after (x.inside ++ 34 ∷ []) x.is, stop, ap length e, length-append front (92 ∷ byte ∷ others), length_quoted x, all))
 
--- what begins with a quote
+-- the result for bytes that begin with a quote describes them
 pub describe_text : (others : List ℕ) → Describes (34 ∷ others) (string_at (34 ∷ others))
 unfolding string_at
 describe_text others = by (closing_quote others) refl

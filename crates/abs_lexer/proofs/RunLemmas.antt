@@ -1,4 +1,4 @@
--- The run of bytes that pass a test in front of a list: all of it passes, and after it stands none that does.
+-- The run of a list: its longest prefix whose bytes all pass a test. No byte that passes follows it.
 use Rattle.std.proofs.Common.{◌≡◌, ℕ, suc, ◌+◌, ◌≤◌, Bool, true, false, List, [], ◌∷◌, ◌++◌, refl, cond, length, take, drop, arith, sym, subst, length-take}
 use Rattle.std.proofs.lemmas.Bool.Decides.{nat_tests}
 use Rattle.std.proofs.lemmas.List.Elements.{All-nil, All-cons, All-head, All-tail}
@@ -17,7 +17,7 @@ pub run_passes : (p : ℕ → Bool) (xs : List ℕ) → AllPass p (take (prefix_
 run_passes p [] = All-nil (λ x. p x ≡ true)
 run_passes p (x ∷ xs) = passes_by p (p x) x xs refl (run_passes p xs)
 
--- after the run stands no byte that passes
+-- no byte that passes follows the run
 ends_by : (p : ℕ → Bool) (b : Bool) (x : ℕ) (xs : List ℕ) → p x ≡ b → prefix_len p (drop (prefix_len p xs) xs) ≡ 0 → prefix_len p (drop (cond b (1 + prefix_len p xs) 0) (x ∷ xs)) ≡ 0
 ends_by p true x xs e rest = subst (λ (n : ℕ). prefix_len p (drop n (x ∷ xs)) ≡ 0) (sym (suc_is (prefix_len p xs))) rest
 ends_by p false x xs e rest = rw e refl
@@ -35,7 +35,7 @@ run_within p (x ∷ xs) = within_by (p x) (run_within p xs)
     within_by true h = omega arith
     within_by false h = omega arith
 
--- the run of a list that passes goes on as far as that of what follows
+-- if all of a list passes, its run with a rest is as long as the list and the run of the rest
 pub run_over : (p : ℕ → Bool) (xs ys : List ℕ) → AllPass p xs → prefix_len p (xs ++ ys) ≡ length xs + prefix_len p ys
 run_over p [] ys h = omega arith
 run_over p (x ∷ xs) ys h =
@@ -43,10 +43,10 @@ run_over p (x ∷ xs) ys h =
     let rest = run_over p xs ys (All-tail (λ y. p y ≡ true) x xs h) in
     rw (passes, rest) (omega arith)
 
--- a list that passes, with none after it that does, is the run
+-- if all of a list passes, and no byte that passes follows it, the list is the run
 pub run_is : (p : ℕ → Bool) (xs ys : List ℕ) → AllPass p xs → prefix_len p ys ≡ 0 → prefix_len p (xs ++ ys) ≡ length xs
 run_is p xs ys h none = omega (arith, run_over p xs ys h)
 
--- the length of a front of a list
+-- the length of a prefix of a list
 pub length_front : (n : ℕ) (xs : List ℕ) → n ≤ length xs → length (take n xs) ≡ n
 length_front n xs h = grind (arith, nat_tests, length-take)

@@ -1,4 +1,4 @@
--- What the scanner finds is there: white space, a comment, a token, or an offence.
+-- What it means that a result of the scanner describes the bytes, and that it does so for words, names and numbers.
 use Rattle.std.proofs.Common.{◌≡◌, ℕ, suc, ◌^◌, ◌<◌, ◌≤◌, Bool, true, false, cond, List, ◌∷◌, ◌++◌, length, take, drop, refl, sym, ap, subst, ◌∙◌, arith}
 use Rattle.std.proofs.lemmas.Bool.Decides.{nat_tests}
 use Rattle.std.proofs.lemmas.List.{take-append-drop}
@@ -27,7 +27,7 @@ use Rattle.abs_lexer.proofs.RunLemmas.{run_passes, run_within, run_over, length_
 use Rattle.abs_lexer.proofs.ClassLemmas.{Class, Digit, Lower, Upper, Mark, class_of, test_of_class, FormOf, formed_in, no_comment_opens}
 use Rattle.abs_lexer.proofs.ClassLemmas.FormOf.{word, upper, number}
 
--- what some bytes begin with
+-- a result of the scanner describes what the bytes begin with
 pub data Describes (bytes : List ℕ) : Piece → Type 0 where
   white : (byte : ℕ) (after : List ℕ) → bytes ≡ byte ∷ after → is_white byte ≡ true → Describes bytes (Blank 1)
   comment : (piece after : List ℕ) (count : ℕ) → bytes ≡ piece ++ after → IsComment piece after → IsUtf8 piece → count ≡ length piece → Describes bytes (Blank count)
@@ -36,28 +36,28 @@ pub data Describes (bytes : List ℕ) : Piece → Type 0 where
   offence : (code : Code) (count : ℕ) → ((place : Place) → OffendsAt place bytes (record { code = code; place = place_after place (take count bytes) }))
       → count ≤ length bytes → Describes bytes (Offence code count)
 
--- a piece in front is the longest token, where each other one in front is no longer
+-- a prefix with the form of a token is the longest one if no other such prefix is longer
 pub longest_in : {kind : Lexeme} {bytes piece after : List ℕ} → bytes ≡ piece ++ after → IsForm kind piece
     → ((other : Lexeme) (longer more : List ℕ) → bytes ≡ longer ++ more → IsForm other longer → length longer ≤ length piece) → IsLongest kind piece after
 longest_in is x f = record { form = x; longest = λ other longer more e y. f other longer more (is ∙ e) y }
 
--- a piece in front whose bytes pass is no longer than the run
+-- a prefix whose bytes all pass is no longer than the run
 pub longest_run : (p : ℕ → Bool) {bytes : List ℕ} (longer more : List ℕ) → bytes ≡ longer ++ more → AllPass p longer → length longer ≤ prefix_len p bytes
 longest_run p {bytes} longer more is h = omega (arith, ap (prefix_len p) is, run_over p longer more h)
 
--- letters are bytes of a word
+-- letters are bytes of a name
 pub lower_is_word : (byte : ℕ) → is_ascii_lowercase byte ≡ true → is_word byte ≡ true
 lower_is_word byte h = grind (arith, nat_tests)
 
 pub upper_is_word : (byte : ℕ) → is_ascii_uppercase byte ≡ true → is_word byte ≡ true
 upper_is_word byte h = grind (arith, nat_tests)
 
--- all bytes of a name are
+-- all bytes of a name pass the test for them
 pub name_passes : {is_first : ℕ → Bool} {piece : List ℕ} → ((byte : ℕ) → is_first byte ≡ true → is_word byte ≡ true) → IsName is_first piece → AllPass is_word piece
 name_passes {is_first} {piece} letters x =
     All-same (λ byte. is_word byte ≡ true) piece (x.first ∷ x.others) x.is (All-cons (λ byte. is_word byte ≡ true) x.first x.others (letters x.first x.letter) x.word)
 
--- the run of such bytes after a letter is a name
+-- the run of such bytes that begins with a letter is a name
 pub name_in_front : (is_first : ℕ → Bool) (byte : ℕ) (others : List ℕ) → is_first byte ≡ true → is_word byte ≡ true
     → IsName is_first (take (prefix_len is_word (byte ∷ others)) (byte ∷ others))
 name_in_front is_first byte others letter passes =
@@ -65,7 +65,7 @@ name_in_front is_first byte others letter passes =
     subst (λ (n : ℕ). IsName is_first (take n (byte ∷ others))) (sym count)
     (record { first = byte; others = take (prefix_len is_word others) others; is = refl; letter = letter; word = run_passes is_word others })
 
--- a word has nothing that could be wrong with it
+-- a keyword, a word outside the profile and a lower-case name are always sound
 sound_by : (keyword : Option Keyword) (foreign : Bool) (piece : List ℕ) → IsSound (kind_of_word keyword foreign) piece
 sound_by (Some keyword) foreign piece = tt
 sound_by None true piece = tt
@@ -75,7 +75,7 @@ pub word_sound : (piece : List ℕ) → IsSound (word_kind piece) piece
 unfolding word_kind
 word_sound piece = sound_by (keyword_among keywords piece) (is_foreign piece) piece
 
--- no word is a number
+-- the token kind of a word is never Number
 kind_by : (keyword : Option Keyword) (foreign : Bool) → Number ≡ kind_of_word keyword foreign → ⊥
 kind_by (Some keyword) foreign h = cc
 kind_by None true h = cc
@@ -85,7 +85,7 @@ pub word_is_no_number : (piece : List ℕ) → Number ≡ word_kind piece → �
 unfolding word_kind
 word_is_no_number piece h = kind_by (keyword_among keywords piece) (is_foreign piece) h
 
--- The run of the bytes of a form is the longest piece with a form, where all forms that can stand there are made of such bytes.
+-- A run with the form of a token is the longest one, if every form of its class consists of bytes that pass.
 pub run_longest : (p : ℕ → Bool) (class : Class) (byte : ℕ) (others : List ℕ) {kind : Lexeme} → class_of byte ≡ class
     → ((other : Lexeme) (longer : List ℕ) → FormOf other longer class → AllPass p longer) → IsForm kind (take (prefix_len p (byte ∷ others)) (byte ∷ others))
     → IsLongest kind (take (prefix_len p (byte ∷ others)) (byte ∷ others)) (drop (prefix_len p (byte ∷ others)) (byte ∷ others))
@@ -96,7 +96,7 @@ run_longest p class byte others h passes form =
     longest_in (sym (take-append-drop count bytes)) form
     (λ other longer more is x. omega (arith, long, longest_run p longer more is (passes other longer (formed_in longer more is h x))))
 
--- so it is a token, where it is sound and no comment opens
+-- so it is a token, if it is sound and its class is not that of marks
 run_token : (p : ℕ → Bool) (class : Class) (byte : ℕ) (others : List ℕ) (kind : Lexeme) → class_of byte ≡ class → (class ≡ Mark → ⊥)
     → IsLongest kind (take (prefix_len p (byte ∷ others)) (byte ∷ others)) (drop (prefix_len p (byte ∷ others)) (byte ∷ others))
     → IsSound kind (take (prefix_len p (byte ∷ others)) (byte ∷ others)) → Describes (byte ∷ others) (Token kind (prefix_len p (byte ∷ others)))
@@ -106,7 +106,7 @@ run_token p class byte others kind h other longest sound =
     token kind (take count bytes) (drop count bytes) count (sym (take-append-drop count bytes)) (no_comment_opens bytes (λ e. other (sym h ∙ e))) longest sound
     (sym (length_front count bytes (run_within p bytes)))
 
--- what begins with a lower-case letter
+-- the result for bytes that begin with a lower-case letter describes them
 pub describe_word : (byte : ℕ) (others : List ℕ) → class_of byte ≡ Lower → Describes (byte ∷ others) (word_at (byte ∷ others))
 unfolding word_at
 describe_word byte others h =
@@ -118,7 +118,7 @@ describe_word byte others h =
     passes : (other : Lexeme) (longer : List ℕ) → FormOf other longer Lower → AllPass is_word longer
     passes other longer (word x e) = name_passes lower_is_word x
 
--- what begins with an upper-case letter
+-- the result for bytes that begin with an upper-case letter describes them
 pub describe_upper : (byte : ℕ) (others : List ℕ) → class_of byte ≡ Upper → Describes (byte ∷ others) (upper_at (byte ∷ others))
 unfolding upper_at
 describe_upper byte others h =
@@ -129,14 +129,14 @@ describe_upper byte others h =
     passes : (other : Lexeme) (longer : List ℕ) → FormOf other longer Upper → AllPass is_word longer
     passes other longer (upper x e) = name_passes upper_is_word x
 
--- digits in front are a number
+-- the run of digits that begins with a digit is a number
 pub number_in_front : (byte : ℕ) (others : List ℕ) → is_ascii_digit byte ≡ true → IsNumber (take (prefix_len is_ascii_digit (byte ∷ others)) (byte ∷ others))
 number_in_front byte others digit =
     let bytes : List ℕ = byte ∷ others in
     let count : prefix_len is_ascii_digit bytes ≡ suc (prefix_len is_ascii_digit others) = rw digit (omega arith) in
     record { some = omega (arith, length_front (prefix_len is_ascii_digit bytes) bytes (run_within is_ascii_digit bytes), count); digits = run_passes is_ascii_digit bytes }
 
--- and the longest one
+-- and it is the longest token
 pub number_longest : (byte : ℕ) (others : List ℕ) → class_of byte ≡ Digit
     → IsLongest Number (take (prefix_len is_ascii_digit (byte ∷ others)) (byte ∷ others)) (drop (prefix_len is_ascii_digit (byte ∷ others)) (byte ∷ others))
 number_longest byte others h = run_longest is_ascii_digit Digit byte others h passes (form_number (number_in_front byte others (test_of_class Digit byte h)) refl)
@@ -144,14 +144,14 @@ number_longest byte others h = run_longest is_ascii_digit Digit byte others h pa
     passes : (other : Lexeme) (longer : List ℕ) → FormOf other longer Digit → AllPass is_ascii_digit longer
     passes other longer (number x e) = x.digits
 
--- numbers by their test
+-- the order of two numbers, by the test for it
 below : (m n : ℕ) → nat_lt m n ≡ true → m < n
 below m n h = grind (arith, nat_tests)
 
 not_below : (m n : ℕ) → nat_lt m n ≡ false → n ≤ m
 not_below m n h = grind (arith, nat_tests)
 
--- what begins with a digit
+-- the result for bytes that begin with a digit describes them
 pub describe_number : (byte : ℕ) (others : List ℕ) → class_of byte ≡ Digit → Describes (byte ∷ others) (number_at (byte ∷ others))
 unfolding number_at
 describe_number byte others h = by (nat_lt (digits_value 10 (take count bytes)) (2 ^ 127)) refl

@@ -1,4 +1,5 @@
--- Signs: each is found by its bytes, the one of two bytes before the one of one; and so what begins with any other byte.
+-- Punctuators: the scanner finds each by its bytes, and tries those of two bytes before those of one. So its result
+-- describes bytes that begin with a mark.
 use Rattle.std.proofs.Common.{◌≡◌, ℕ, ◌<◌, ◌≤◌, Bool, true, false, cond, List, [], ◌∷◌, ◌++◌, length, take, drop, refl, sym, ap, ◌∙◌, arith}
 use Rattle.std.proofs.Math.Seq.{take-append_seam}
 use Rattle.std.proofs.lemmas.Bool.{false≢true}
@@ -23,7 +24,7 @@ use Rattle.abs_lexer.proofs.ClassLemmas.FormOf.{sign}
 use Rattle.abs_lexer.proofs.ScanLemmas.{Describes, longest_in}
 use Rattle.abs_lexer.proofs.ScanLemmas.Describes.{token, offence}
 
--- a sign that is found among some is written so
+-- a punctuator that is found in a list has the bytes that were looked for
 written_by : (b : Bool) (p q : Punctuator) (others : List Punctuator) (bytes : List ℕ) → bytes_eq (punctuator_bytes p) bytes ≡ b → cond b (Some p) (punctuator_among others bytes) ≡ Some q
     → (punctuator_among others bytes ≡ Some q → punctuator_bytes q ≡ bytes) → punctuator_bytes q ≡ bytes
 written_by true p q others bytes h e rest = let same : p ≡ q = cc in ap punctuator_bytes (sym same) ∙ (bytes_eq-Decides (punctuator_bytes p) bytes).0 h
@@ -33,7 +34,7 @@ written : (among : List Punctuator) (bytes : List ℕ) (q : Punctuator) → punc
 written [] bytes q e = cc
 written (p ∷ others) bytes q e = written_by (bytes_eq (punctuator_bytes p) bytes) p q others bytes refl e (written others bytes q)
 
--- and has the size that they have
+-- and it has the size that each punctuator of the list has
 abbrev EachHas : ℕ → List Punctuator → Type 0
 EachHas size [] = ⊤
 EachHas size (p ∷ others) = (length (punctuator_bytes p) ≡ size) × EachHas size others
@@ -47,7 +48,7 @@ size_among : (among : List Punctuator) (bytes : List ℕ) (q : Punctuator) (size
 size_among [] bytes q size h e = cc
 size_among (p ∷ others) bytes q size h e = size_by (bytes_eq (punctuator_bytes p) bytes) p q others bytes size e h.0 (size_among others bytes q size h.1)
 
--- what the two scans for signs find
+-- what the two scans find: a punctuator with these bytes, of this size
 record IsFound (bytes : List ℕ) (p : Punctuator) (size : ℕ) : Type 0 where
   text : punctuator_bytes p ≡ bytes
   size_is : length (punctuator_bytes p) ≡ size
@@ -64,7 +65,7 @@ short_found bytes p e = record {
       (refl, (refl, (refl, (refl, (refl, (refl, (refl, (refl, (refl, (refl, (refl, (refl, (refl, (refl, (refl, (refl, (refl, (refl, (refl, (refl, tt)))))))))))))))))))) e;
 }
 
--- each sign has one byte or two, and is found by them
+-- each punctuator has one byte or two, and is found by them
 pub data SizeOf (p : Punctuator) : Type 0 where
   short : length (punctuator_bytes p) ≡ 1 → short_punctuator (punctuator_bytes p) ≡ Some p → SizeOf p
   long : length (punctuator_bytes p) ≡ 2 → long_punctuator (punctuator_bytes p) ≡ Some p → SizeOf p
@@ -99,13 +100,13 @@ size_of punctuator.And = long refl refl
 size_of punctuator.Arrow = long refl refl
 size_of punctuator.Underscore = short refl refl
 
--- the front of some bytes that begin with a sign
+-- if bytes begin with a punctuator, their prefix of its size is the punctuator
 front_is : {bytes : List ℕ} (p : Punctuator) (piece after : List ℕ) (size : ℕ) → bytes ≡ piece ++ after → piece ≡ punctuator_bytes p → length (punctuator_bytes p) ≡ size → take size bytes ≡ punctuator_bytes p
 front_is {bytes} p piece after size is e sized =
     let size_is : size ≡ length piece = sym sized ∙ ap length (sym e) in
     ap (λ (n : ℕ). take n bytes) size_is ∙ (ap (λ (bs : List ℕ). take (length piece) bs) is ∙ (take-append_seam piece after ∙ e))
 
--- no sign of two bytes stands in front
+-- the bytes begin with no punctuator of two bytes
 abbrev NoLong : List ℕ → Type 0
 NoLong bytes = (q : Punctuator) → long_punctuator (take 2 bytes) ≡ Some q → ⊥
 
@@ -113,7 +114,7 @@ none_long : (found : Option Punctuator) → ((q : Punctuator) → found ≡ Some
 none_long None none = refl
 none_long (Some q) none = absurd (none q refl)
 
--- the longest sign in front is found
+-- the scanner finds the longest punctuator that the bytes begin with
 pub sign_is_found : {bytes : List ℕ} (p : Punctuator) (piece after : List ℕ) → bytes ≡ piece ++ after → piece ≡ punctuator_bytes p
     → ((q : Punctuator) (more : List ℕ) → bytes ≡ punctuator_bytes q ++ more → length (punctuator_bytes q) ≤ length piece) → punctuator_at bytes ≡ Token (PunctuatorLexeme p) (length piece)
 unfolding punctuator_at
@@ -131,7 +132,7 @@ sign_is_found {bytes} p piece after is e longest = by (size_of p)
         let found : short_punctuator (take 1 bytes) ≡ Some p = ap short_punctuator (front_is p piece after 1 is e one) ∙ known in
         rw (none, found) (ap (λ (n : ℕ). Token (PunctuatorLexeme p) n) (sym (ap length e ∙ one)))
 
--- where a sign stands in front, one is found
+-- if bytes begin with a punctuator, one of the two scans finds one
 not_none : (bytes : List ℕ) (q : Punctuator) (more : List ℕ) → bytes ≡ punctuator_bytes q ++ more → long_punctuator (take 2 bytes) ≡ None → short_punctuator (take 1 bytes) ≡ None → ⊥
 not_none bytes q more is no_long no_short = by (size_of q)
   where
@@ -139,7 +140,7 @@ not_none bytes q more is no_long no_short = by (size_of q)
     by (long two known) = let clash : None ≡ Some q = sym no_long ∙ (ap long_punctuator (front_is q (punctuator_bytes q) more 2 is refl two) ∙ known) in cc
     by (short one known) = let clash : None ≡ Some q = sym no_short ∙ (ap short_punctuator (front_is q (punctuator_bytes q) more 1 is refl one) ∙ known) in cc
 
--- what begins with any other byte
+-- the result for bytes that begin with a mark, and open no comment, describes them
 pub describe_sign : (byte : ℕ) (others : List ℕ) → class_of byte ≡ Mark → opens_comment (byte ∷ others) ≡ false → Describes (byte ∷ others) (punctuator_at (byte ∷ others))
 unfolding punctuator_at
 describe_sign byte others class no_comment = by (long_punctuator (take 2 bytes)) (short_punctuator (take 1 bytes)) refl refl
@@ -194,7 +195,7 @@ describe_sign byte others class no_comment = by (long_punctuator (take 2 bytes))
           no_token = λ kind piece after e y. let q = signed piece after e y in not_none bytes q.0 after (e ∙ ap (λ (f : List ℕ). f ++ after) q.1) l s;
         })) (omega arith)
 
--- where no sign stands in front, none is found
+-- if bytes begin with no punctuator, the scanner finds none
 pub no_sign_found : (bytes : List ℕ) → ((p : Punctuator) (after : List ℕ) → bytes ≡ punctuator_bytes p ++ after → ⊥) → punctuator_at bytes ≡ Offence L1 0
 unfolding punctuator_at
 no_sign_found bytes none = by (long_punctuator (take 2 bytes)) (short_punctuator (take 1 bytes)) refl refl
@@ -206,7 +207,7 @@ no_sign_found bytes none = by (long_punctuator (take 2 bytes)) (short_punctuator
         absurd (none p (drop 1 bytes) (sym (take-append-drop 1 bytes) ∙ ap (λ (f : List ℕ). f ++ drop 1 bytes) (sym (short_found (take 1 bytes) p s).text)))
     by None None l s = refl
 
--- every sign has a byte
+-- every punctuator has at least one byte
 pub sign_some : (p : Punctuator) → 0 < length (punctuator_bytes p)
 sign_some p = of (size_of p)
   where

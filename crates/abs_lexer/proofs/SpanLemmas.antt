@@ -1,4 +1,4 @@
--- Where a comment ends: the first place at which its end stands is that which the scan over its bytes finds.
+-- Where a comment ends: the search for the first "*/" finds the same index as the scan over the bytes.
 use Rattle.std.proofs.Common.{◌≡◌, ℕ, zero, suc, ◌+◌, Option, Some, None, Bool, true, false, cond, List, [], ◌∷◌, refl, sym, ap, ◌∙◌, arith, length, take}
 use Rattle.std.proofs.lemmas.Bool.{false≢true}
 use Rattle.std.proofs.lemmas.List.{length-take}
@@ -9,35 +9,35 @@ use Rattle.memchr.specs.Find.{OccursAt, FindsNeedle}
 use Rattle.memchr.proofs.lemmas.MatchLemmas.{OccursAt-part, OccursAt-from_part}
 use Rattle.abs_lexer.specs.Scans.{increased_by, block_end}
 
--- what ends a comment
+-- the bytes that end a comment
 abbrev mark : List ℕ
 mark = codes "*/"
 
--- where it stands in front, the test for it passes
+-- if bytes begin with it, the test for it passes
 passes_test : (bytes : List ℕ) → OccursAt bytes mark 0 → bytes_eq (take 2 bytes) mark ≡ true
 passes_test bytes stands = (bytes_eq-Decides (take 2 bytes) mark).1 (OccursAt-part bytes mark 0 stands)
 
--- where the test passes, it stands in front
+-- if the test passes, the bytes begin with it
 stands_by : (bytes : List ℕ) → bytes_eq (take 2 bytes) mark ≡ true → OccursAt bytes mark 0
 stands_by bytes test =
     let is : take 2 bytes ≡ mark = (bytes_eq-Decides (take 2 bytes) mark).0 test in
     OccursAt-from_part bytes mark 0 (omega (arith, length-take 2 bytes, ap length is)) is
 
--- one byte on, it stands one place further
+-- with one more byte before it, it occurs one index later
 stands_later : (byte : ℕ) (others : List ℕ) (at : ℕ) → OccursAt others mark at → OccursAt (byte ∷ others) mark (suc at)
 stands_later byte others at stands = record {
   fits = omega (arith, stands.fits);
   reads = λ j few. let e : suc at + j ≡ suc (at + j) = omega arith in rw e (stands.reads j few);
 }
 
--- without the first byte, it stands one place nearer
+-- without the first byte, it occurs one index earlier
 stands_nearer : (byte : ℕ) (others : List ℕ) (at : ℕ) → OccursAt (byte ∷ others) mark (suc at) → OccursAt others mark at
 stands_nearer byte others at stands = record {
   fits = omega (arith, stands.fits);
   reads = λ j few. let e : suc at + j ≡ suc (at + j) = omega arith in rw e at (stands.reads j few);
 }
 
--- the first place of it, by the test at the first byte and the first place after that
+-- its first index, by the test at the first byte and its first index after that
 found_by : (test : Bool) (byte : ℕ) (others : List ℕ) (found : Option ℕ) → bytes_eq (take 2 (byte ∷ others)) mark ≡ test
     → FindsNeedle (byte ∷ others) mark 0 found → ((after : Option ℕ) → FindsNeedle others mark 0 after → after ≡ block_end others)
     → found ≡ cond test (Some 0) (increased_by 1 (block_end others))
@@ -59,7 +59,7 @@ found_by false byte others (Some (suc at)) e finds more =
     ) in
     rw (← more (Some at) nearer) (ap Some (omega arith))
 
--- the first place of it is the end of a comment
+-- its first index is the one that the scan finds
 pub block_end_is : (bytes : List ℕ) (found : Option ℕ) → FindsNeedle bytes mark 0 found → found ≡ block_end bytes
 unfolding block_end
 block_end_is [] None finds = refl

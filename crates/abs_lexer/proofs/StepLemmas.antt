@@ -1,4 +1,4 @@
--- What some bytes begin with, in one way: white space, a comment or a token, or an offence; and never both.
+-- Bytes begin in exactly one way: with white space, a comment or a token, or else with an offence.
 use Rattle.std.proofs.Common.{◌≡◌, ℕ, ◌+◌, ◌<◌, ◌≤◌, List, [], ◌∷◌, ◌++◌, length, take, refl, sym, ap, ◌∙◌, arith}
 use Rattle.std.proofs.Math.Seq.{take-append_seam}
 use Rattle.std.proofs.lemmas.List.{append_cancel_left}
@@ -25,7 +25,7 @@ use Rattle.abs_lexer.proofs.FoundLemmas.{describe, IsFoundAs, begins_found}
 use Rattle.abs_lexer.proofs.FoundLemmas.IsFoundAs.{blank, token}
 use Rattle.abs_lexer.proofs.OffenceLemmas.{IsStopped, offends_found}
 
--- what some bytes begin with
+-- the bytes begin with a piece without offence, or with the offence that the scanner found
 pub data Step (place : Place) (bytes : List ℕ) : Piece → Type 0 where
   begins : (found : Piece) (piece after : List ℕ) (tokens : List Lexed) → bytes ≡ piece ++ after → Begins place piece after tokens → Step place bytes found
   stops : (code : Code) (count : ℕ) → OffendsAt place bytes (record { code = code; place = place_after place (take count bytes) }) → count ≤ length bytes → Step place bytes (Stop code count)
@@ -38,11 +38,11 @@ step_of place bytes found (describes_token kind piece after count is unopened x 
     (lexeme kind (ap opens_comment (sym is) ∙ unopened) x sound)
 step_of place bytes found (describes_offence code count offends few) = stops code count (offends place) few
 
--- all bytes begin with one or the other
+-- bytes that are not empty begin with one of them
 pub step : (place : Place) (bytes : List ℕ) → 0 < length bytes → Step place bytes (piece_at bytes)
 step place bytes some = step_of place bytes (piece_at bytes) (describe bytes some)
 
--- every form has bytes
+-- a piece that has the form of a token is not empty
 pub form_some : {kind : Lexeme} {piece : List ℕ} → IsForm kind piece → 0 < length piece
 form_some (word x e) = omega (arith, ap length x.is)
 form_some (upper x e) = omega (arith, ap length x.is)
@@ -54,19 +54,19 @@ pub comment_some : {piece after : List ℕ} → IsComment piece after → 0 < le
 comment_some (line inside is h ends) = omega (arith, ap length is)
 comment_some (block inside is none) = omega (arith, ap length is)
 
--- and so has all that stands in front
+-- nor is any first piece without offence
 pub begins_some : {place : Place} {piece after : List ℕ} {tokens : List Lexed} → Begins place piece after tokens → 0 < length piece
 begins_some (white byte is w) = omega (arith, ap length is)
 begins_some (comment x valid) = comment_some x
 begins_some (lexeme kind unopened x sound) = form_some x.form
 
--- what stands in front is one thing
+-- two first pieces, their rests and their tokens are the same
 pub record SameFront (piece other after more : List ℕ) (tokens others : List Lexed) : Type 0 where
   pub piece_is : piece ≡ other
   pub after_is : after ≡ more
   pub tokens_are : tokens ≡ others
 
--- two fronts of one length are one
+-- two prefixes of the same length are equal
 same_piece : {bytes : List ℕ} (piece other after more : List ℕ) → bytes ≡ piece ++ after → bytes ≡ other ++ more → length piece ≡ length other → piece ≡ other
 same_piece {bytes} piece other after more is e long =
     sym (take-append_seam piece after) ∙ (ap (λ (bs : List ℕ). take (length piece) bs) (sym is ∙ e) ∙ (ap (λ (n : ℕ). take n (other ++ more)) long ∙ take-append_seam other more))
@@ -84,7 +84,7 @@ same_front piece other after more tokens others is e long f =
     let rest : piece ++ after ≡ piece ++ more = sym is ∙ (e ∙ ap (λ (p : List ℕ). p ++ more) (sym same)) in
     record { piece_is = same; after_is = append_cancel_left piece after more rest; tokens_are = f same }
 
--- so two readings of it agree
+-- two first pieces without offence of the same bytes are the same
 pub begins_once : {place : Place} {bytes : List ℕ} (piece other after more : List ℕ) (tokens others : List Lexed) → bytes ≡ piece ++ after → bytes ≡ other ++ more
     → Begins place piece after tokens → Begins place other more others → SameFront piece other after more tokens others
 begins_once {place} {bytes} piece other after more tokens others is e x y = by (begins_found piece after is x) (begins_found other more e y)
@@ -102,7 +102,7 @@ begins_once {place} {bytes} piece other after more tokens others is e x y = by (
             → ◌≡◌ {A = List Lexed} (record { kind = k; place = place; bytes = p } ∷ []) (record { kind = l; place = place; bytes = q } ∷ [])
         same_token k l p q e f = rw (e, f) refl
 
--- where something stands in front, no offence does
+-- a first piece that is white space, a comment or a token has no offence
 pub begins_or_stops : {place : Place} {bytes : List ℕ} (piece after : List ℕ) {tokens : List Lexed} {offence : Offence} → bytes ≡ piece ++ after → Begins place piece after tokens
     → OffendsAt place bytes offence → ⊥
 begins_or_stops {place} {bytes} piece after {tokens} {offence} is x y = by (begins_found piece after is x) (offends_found y)
@@ -128,7 +128,7 @@ stopped_offset : {place : Place} {bytes : List ℕ} {offence : Offence} (x : IsS
 stopped_offset {place} {bytes} x =
     omega (arith, ap (λ (p : Place). p.offset) x.place_is, offset_after place (take x.front bytes), length_front x.front bytes x.within)
 
--- the offence that stops the scanner stands before all others in front
+-- no offence of the first piece comes before the one that stops the scanner
 pub stops_first : {place : Place} {bytes : List ℕ} (code : Code) (count : ℕ) {other : Offence} → piece_at bytes ≡ Stop code count → count ≤ length bytes → OffendsAt place bytes other
     → (place_after place (take count bytes)).offset ≤ other.place.offset
 stops_first {place} {bytes} code count {other} found few y =
@@ -138,7 +138,7 @@ stops_first {place} {bytes} code count {other} found few y =
     let long = length_front count bytes few in
     omega (arith, here, long, stopped_offset x, same.1, x.least)
 
--- two offences in front at one offset are one
+-- two offences of the first piece at the same offset are equal
 pub offends_once : {place : Place} {bytes : List ℕ} {one other : Offence} → OffendsAt place bytes one → OffendsAt place bytes other → one.place.offset ≡ other.place.offset → one ≡ other
 offends_once {place} {bytes} {one} {other} x y same =
     let s = offends_found x in

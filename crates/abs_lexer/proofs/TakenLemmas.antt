@@ -1,4 +1,4 @@
--- What the scanner found of what is left of a text, as the loop over it goes on: white space or a comment, a token, or an offence.
+-- What the scanner finds in a turn of the loop over a source: white space or a comment, a token, or an offence.
 use Rattle.std.proofs.Common.{◌≡◌, ℕ, ◌<◌, ◌≤◌, ◌==◌, Bool, true, false, List, [], ◌∷◌, ◌++◌, length, take, drop, refl, sym, ap, subst, ◌∙◌, arith, length-append}
 use Rattle.std.proofs.Math.Seq.{take-append_seam}
 use Rattle.std.proofs.lemmas.Bool.Decides.{nat_tests}
@@ -22,7 +22,7 @@ use Rattle.abs_lexer.proofs.StepLemmas.{begins_some}
 use Rattle.abs_lexer.proofs.LawLemmas.{IsFirstFrom, stop_is_first}
 use Rattle.abs_lexer.proofs.LeadLemmas.{Leads, step, leads_first}
 
--- so many bytes stand in front, and give these tokens
+-- the first piece has this many bytes, and gives these tokens
 pub record IsTaken (place : Place) (bytes : List ℕ) (count : ℕ) (tokens : List Lexed) : Type 0 where
   pub some : 0 < count
   pub few : count ≤ length bytes
@@ -35,7 +35,7 @@ taken_is {place} {bytes} piece after count tokens is long x f =
     let rest : piece ++ drop count bytes ≡ piece ++ after = ap (λ (p : List ℕ). p ++ drop count bytes) (sym front) ∙ (take-append-drop count bytes ∙ is) in
     record { some = omega (arith, long, begins_some x); few = omega (arith, long, ap length is, length-append piece after); begins = f front (append_cancel_left piece (drop count bytes) after rest) }
 
--- the same with the bytes in front in the place of the piece
+-- the same for a piece and a rest that are equal to these
 moved : {place : Place} {front rest piece after : List ℕ} {tokens : List Lexed} → front ≡ piece → rest ≡ after → Begins place piece after tokens → Begins place front rest tokens
 moved {place} {front} {rest} {piece} {after} {tokens} e f x =
     subst (λ (p : List ℕ). Begins place p rest tokens) (sym e) (subst (λ (b : List ℕ). Begins place piece b tokens) (sym f) x)
@@ -71,7 +71,7 @@ token_by {place = place} {bytes} (describes_token kind piece after count is unop
 pub token_taken : (kind : Lexeme) (place : Place) (bytes : List ℕ) (count : ℕ) → 0 < length bytes → Found kind count ≡ piece_at bytes → IsLexed kind place bytes count
 token_taken kind place bytes count some found = token_by (subst (λ (p : Piece). Describes bytes p) (sym found) (describe bytes some))
 
--- an offence was found, within the bytes, and it is the first of them
+-- an offence was found; it is within the bytes, and it is their first one
 stop_by : {place : Place} {bytes : List ℕ} {code : Code} {count : ℕ} → Stop code count ≡ piece_at bytes → Describes bytes (Stop code count)
     → (count ≤ length bytes) × IsFirstFrom place bytes (record { code = code; place = place_after place (take count bytes) })
 stop_by {place} found (describes_offence code count offends few) = (few, stop_is_first count (sym found) few (offends place))
@@ -82,28 +82,28 @@ stop_few bytes code count some found = few (subst (λ (p : Piece). Describes byt
     few : Describes bytes (Stop code count) → count ≤ length bytes
     few (describes_offence c n offends within) = within
 
--- the first of what is left, and so of the text
+-- it is the first offence of the bytes that are left, and so of the source
 pub stop_refuses : {text : List ℕ} {tokens : List Lexed} (place : Place) (bytes : List ℕ) (code : Code) (count : ℕ) → 0 < length bytes → Leads text tokens place bytes
     → Stop code count ≡ piece_at bytes → RefusesLexing text (refusal_of (record { code = code; place = place_after place (take count bytes) }))
 stop_refuses place bytes code count some lead found =
     leads_first lead (stop_by found (subst (λ (p : Piece). Describes bytes p) (sym found) (describe bytes some))).1 refl
 
--- the cut goes on after what was taken
+-- the source is split further, up to the end of the piece that was taken
 pub leads_on : {text : List ℕ} {tokens : List Lexed} {place : Place} {bytes : List ℕ} {count : ℕ} (front : List Lexed) → Leads text tokens place bytes → IsTaken place bytes count front
     → Leads text (tokens ++ front) (place_after place (take count bytes)) (drop count bytes)
 leads_on {tokens = tokens} {place} {bytes} {count} front lead x =
     step tokens place bytes (take count bytes) (drop count bytes) front lead (sym (take-append-drop count bytes)) x.begins
 
--- the same cut by other names
+-- the same for tokens, a place and bytes that are equal to these
 pub leads_at : {text : List ℕ} {tokens others : List Lexed} {place other : Place} {bytes rest : List ℕ} → others ≡ tokens → other ≡ place → rest ≡ bytes → Leads text tokens place bytes
     → Leads text others other rest
 leads_at {text} {tokens} {others} {place} {other} {bytes} {rest} e f g x = rw (e, f, g) x
 
--- bytes that are no empty list
+-- if the bytes are not empty, some are left
 pub some_left : (empty : Bool) (count : ℕ) → empty ≡ (count == 0) → empty ≡ false → 0 < count
 some_left empty count is h = grind (arith, nat_tests)
 
--- and bytes that are one
+-- and if they are empty, none are left
 pub none_left : (empty : Bool) (bytes : List ℕ) → empty ≡ (length bytes == 0) → empty ≡ true → bytes ≡ []
 none_left empty [] is h = refl
 none_left empty (byte ∷ others) is h = absurd (grind (arith, nat_tests))

@@ -1,5 +1,4 @@
--- Texts and comments as the scanner finds them: where a text closes, which escape is none, where the bytes are no longer UTF-8,
--- and where a comment ends.
+-- Strings as the scanner finds them: where a string closes, and which `\` in it begins no escape.
 use Rattle.std.proofs.Common.{◌≡◌, ℕ, suc, ◌+◌, ◌≤◌, ◌==◌, ◌||◌, not, Bool, true, false, List, [], ◌∷◌, ◌++◌, length, refl, ap, cond, ◌∙◌, arith}
 use Rattle.std.proofs.lemmas.Bool.Decides.{Decides-eqb}
 use Rattle.std.specs.Prelude.{Option, Some, None}
@@ -7,7 +6,7 @@ use Rattle.abs_lexer.specs.Forms.{is_escape, is_on_line, is_plain, IsInside}
 use Rattle.abs_lexer.specs.Forms.IsInside.{nothing, plain, escaped}
 use Rattle.abs_lexer.specs.Scans.{increased_by, closing_quote, closing_after_escape, bad_escape}
 
--- What stands in a text for itself is no quote, no `\` and no line feed.
+-- A byte that denotes itself in a string is no quote, no `\` and no line feed.
 record IsOther (byte : ℕ) : Type 0 where
   quote : (byte == 34) ≡ false
   escape : (byte == 92) ≡ false
@@ -22,7 +21,7 @@ none_of false false false h = (refl, refl, refl)
 is_other : (byte : ℕ) → is_plain byte ≡ true → IsOther byte
 is_other byte h = let parts = none_of (byte == 34) (byte == 92) (byte == 10) h in record { quote = parts.0; escape = parts.1; feed = parts.2 }
 
--- a byte that is none of them stands for itself
+-- a byte that is none of them denotes itself
 other_is : (byte : ℕ) → (byte == 34) ≡ false → (byte == 92) ≡ false → (byte == 10) ≡ false → is_plain byte ≡ true
 other_is byte q e f = rw (q, e, f) refl
 
@@ -37,7 +36,7 @@ not_false false h = refl
 byte_is : (byte other : ℕ) → (byte == other) ≡ true → byte ≡ other
 byte_is byte other h = (Decides-eqb byte other).0 h
 
--- a text that closes is closed after what stands in it
+-- the scan finds the closing quote of a string after the bytes inside it
 pub closing_inside : {inside : List ℕ} (after : List ℕ) → IsInside is_on_line inside → closing_quote (inside ++ 34 ∷ after) ≡ Some (length inside)
 unfolding closing_quote
 closing_inside after nothing = refl
@@ -50,12 +49,12 @@ closing_inside after (escaped byte others p h) =
     let rest = closing_inside after h in
     rw (feed, rest) (ap (λ (n : ℕ). Some n) (omega arith))
 
--- so many more of a number is one, of which it is so many more
+-- if an index increased by a count is n, then the index is some m with n = count + m
 pub further_some : (count : ℕ) (index : Option ℕ) (n : ℕ) → increased_by count index ≡ Some n → (m : ℕ) × (index ≡ Some m) × (n ≡ count + m)
 further_some count None n h = cc
 further_some count (Some m) n h = (m, refl, cc)
 
--- a text that closes after so many bytes
+-- a string that closes after this many bytes
 pub record Closes (bytes : List ℕ) (count : ℕ) : Type 0 where
   pub inside : List ℕ
   pub after : List ℕ
@@ -94,7 +93,7 @@ closes_escaped byte others n e x = record {
   count_is = omega (arith, x.closes.count_is, x.count_is);
 }
 
--- by the first byte: a quote closes, a line feed ends the line, a `\` has the next byte after it, and any other is passed
+-- by the first byte: a quote closes, a line feed ends the line, a `\` goes with the next byte, any other is passed
 closes_by : (q f e : Bool) (byte : ℕ) (others : List ℕ) (n : ℕ) → (byte == 34) ≡ q → (byte == 10) ≡ f → (byte == 92) ≡ e → closing_quote (byte ∷ others) ≡ Some n
     → ((m : ℕ) → closing_quote others ≡ Some m → Closes others m) → ((m : ℕ) → closing_after_escape others ≡ Some m → ClosesAfter others m) → Closes (byte ∷ others) n
 unfolding closing_quote
@@ -116,7 +115,7 @@ after_by false byte others n a h reads =
 mutual
   unfolding closing_quote
 
-  -- where a text closes, it does so after what stands in it
+  -- where the scan finds a closing quote, the bytes before it are inside a string
   pub closing_reads : (bytes : List ℕ) (n : ℕ) → closing_quote bytes ≡ Some n → Closes bytes n
   closing_reads [] n h = cc
   closing_reads (byte ∷ others) n h =
@@ -126,13 +125,13 @@ mutual
   after_reads [] n h = cc
   after_reads (byte ∷ others) n h = after_by (byte == 10) byte others n refl h (λ m x. closing_reads others m x)
 
--- a byte that is no `\` is passed
+-- the scan for escapes passes a byte that is no `\`
 pub bad_step : (byte : ℕ) (others : List ℕ) → (byte == 92) ≡ false → bad_escape (byte ∷ others) ≡ 1 + bad_escape others
 unfolding bad_escape
 bad_step byte [] h = refl
 bad_step byte (next ∷ others) h = rw h refl
 
--- a `\` in front of what makes no escape is the first such
+-- the scan for escapes stops at a `\` that begins no escape, or before it
 pub bad_least : {front : List ℕ} (byte : ℕ) (others : List ℕ) → is_escape byte ≡ false → IsInside is_on_line front → bad_escape (front ++ 92 ∷ byte ∷ others) ≤ length front
 unfolding bad_escape
 bad_least byte others bad nothing = rw bad (omega arith)
@@ -144,7 +143,7 @@ bad_least byte others bad (escaped next rest p h) = bad_after (is_escape next) (
     bad_after true m n h = omega arith
     bad_after false m n h = omega arith
 
--- where each escape is one, there is none that is bad
+-- where each `\` begins an escape, the scan reaches the end
 pub bad_nowhere : {inside : List ℕ} → IsInside is_escape inside → bad_escape (inside ++ 34 ∷ []) ≡ length inside + 1
 unfolding bad_escape
 bad_nowhere nothing = refl
@@ -153,7 +152,7 @@ bad_nowhere (plain byte others p h) =
     omega (arith, step, bad_nowhere h)
 bad_nowhere (escaped byte others p h) = rw (p, bad_nowhere h) (omega arith)
 
--- What the scan for escapes says of what stands in a text: each is one, or after this front stands one that is none.
+-- What the scan for escapes finds inside a string: each `\` begins an escape, or the one after this prefix does not.
 pub data Judged (inside : List ℕ) : Type 0 where
   good : IsInside is_escape inside → Judged inside
   bad : (front : List ℕ) (byte : ℕ) (others : List ℕ) → inside ≡ front ++ 92 ∷ byte ∷ others → IsInside is_on_line front → is_escape byte ≡ false

@@ -1,7 +1,7 @@
--- What it means that a source is refused its tokens.
+-- What an error of the lexer means.
 --
---   `RefusesText`          why a source has no tokens
---   `RefusesLexing`        a refusal is that of its first lexical offence
+--   `RefusesText`          why the lexer returns no tokens
+--   `RefusesLexing`        a refusal is that of the source's first lexical offence
 use Rattle.std.specs.Prelude.{◌≡◌, ℕ, List}
 use Rattle.abs_tree.specs.declared.refusal.Offence.{Offence}
 use Rattle.abs_tree.specs.declared.refusal.Refusal.{Refusal}
@@ -16,6 +16,6 @@ pub record RefusesLexing (source : List ℕ) (refusal : Refusal) : Type 0 where
   pub is_first : IsFirstLexical source first
   pub refusal_is : refusal ≡ refusal_of first
 
--- a refusal is that of the first offence; out of memory needs no cause
+-- a refusal is that of the first lexical offence; out of memory needs no cause
 abbrev pub RefusesText : SourceError → List ℕ → Type 0
 RefusesText error source = HasCause (RefusesLexing source) error

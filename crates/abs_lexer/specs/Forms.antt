@@ -27,14 +27,14 @@ is_white byte = byte == 32 || byte == 9 || byte == 13 || byte == 10
 abbrev pub is_word : ℕ → Bool
 is_word byte = is_ascii_alphanumeric byte || byte == 95
 
--- the bytes of a line, so those that may follow a `\` in a string. Of them `n`, `t`, `r`, `"` and `\` make escapes
+-- all bytes but the line feed: these may follow a `\` in a string, and `n`, `t`, `r`, `"` and `\` make escapes there
 abbrev pub is_on_line : ℕ → Bool
 is_on_line byte = not (byte == 10)
 
 abbrev pub is_escape : ℕ → Bool
 is_escape byte = byte == 110 || byte == 116 || byte == 114 || byte == 34 || byte == 92
 
--- the bytes that denote themselves in a string
+-- the bytes that denote themselves in a string: all but `"`, `\` and line feed
 abbrev pub is_plain : ℕ → Bool
 is_plain byte = not (byte == 34 || byte == 92 || byte == 10)
 
@@ -51,7 +51,7 @@ pub record IsNumber (piece : List ℕ) : Type 0 where
   pub some : 0 < length piece
   pub digits : AllPass is_ascii_digit piece
 
--- the bytes between the quotes of a string; a `\` may be followed by a byte that passes
+-- the bytes between the quotes of a string: plain bytes, and `\` followed by a byte that passes
 pub data IsInside (passes : ℕ → Bool) : List ℕ → Type 0 where
   nothing : IsInside passes []
   plain : (byte : ℕ) (others : List ℕ) → is_plain byte ≡ true → IsInside passes others → IsInside passes (byte ∷ others)
@@ -71,11 +71,11 @@ pub data IsForm (kind : Lexeme) (piece : List ℕ) : Type 0 where
   text : IsQuoted is_on_line piece → kind ≡ Text → IsForm kind piece
   sign : (punctuator : Punctuator) → piece ≡ punctuator_bytes punctuator → kind ≡ PunctuatorLexeme punctuator → IsForm kind piece
 
--- whether the bytes begin with a comment's opening
+-- whether the bytes begin with "//" or "/*"
 abbrev pub opens_comment : List ℕ → Bool
 opens_comment bytes = bytes_eq (take 2 bytes) (codes "//") || bytes_eq (take 2 bytes) (codes "/*")
 
--- a line ends here, by a line feed or by the end of the source
+-- a line ends here: the next byte is a line feed, or the source ends
 abbrev pub EndsLine : List ℕ → Type 0
 EndsLine [] = ⊤
 EndsLine (byte ∷ others) = byte ≡ 10
@@ -84,7 +84,7 @@ EndsLine (byte ∷ others) = byte ≡ 10
 abbrev pub NowhereIn : List ℕ → List ℕ → Type 0
 NowhereIn bytes piece = (front after : List ℕ) → bytes ≡ front ++ (piece ++ after) → ⊥
 
--- the piece is a comment, and this follows it
+-- the piece is a comment, followed by these bytes
 pub data IsComment (piece after : List ℕ) : Type 0 where
   line : (inside : List ℕ) → piece ≡ codes "//" ++ inside → AllPass is_on_line inside → EndsLine after → IsComment piece after
   block : (inside : List ℕ) → piece ≡ codes "/*" ++ (inside ++ codes "*/") → NowhereIn inside (codes "*/") → IsComment piece after

@@ -1,7 +1,7 @@
 -- The law of tokens: a source has one list of tokens and no offence, or one first offence and no tokens.
 --
---   `HasOneLexing`                     one of both
---   `HasOneList`, `HasOneOffence`      each of them
+--   `HasOneLexing`                     one of the two cases holds
+--   `HasOneList`, `HasOneOffence`      each case
 use Rattle.std.specs.Prelude.{◌≡◌, ℕ, List}
 use Rattle.abs_tree.specs.declared.refusal.Offence.{Offence}
 use Rattle.abs_tree.specs.Places.{start}
@@ -22,7 +22,7 @@ pub record HasOneOffence (source : List ℕ) : Type 0 where
   pub only : (other : Offence) → IsFirstLexical source other → other ≡ offence
   pub no_tokens : (list : TokenList) → TokensOf source list → ⊥
 
--- one of both
+-- one of the two cases holds
 pub data HasOneLexing (source : List ℕ) : Type 0 where
   cut : HasOneList source → HasOneLexing source
   refused : HasOneOffence source → HasOneLexing source

@@ -1,6 +1,6 @@
 -- The lexical offences of a source. Each has a place and a code, and the one with the least place is the first.
---   L1   a byte that begins no token; a `\` that begins no escape, in a string that ends; the first byte that is not UTF-8, in a
---        string or a comment that ends
+--   L1   a byte that begins no token; a `\` that begins no escape, in a string that ends; the first byte that is not
+--        UTF-8, in a string or a comment that ends
 --   L2   a comment that does not end
 --   L3   a string that does not end on its line
 --   L4   a number above 127 bits
@@ -21,7 +21,7 @@ use Rattle.abs_lexer.specs.declared.lexeme.Lexeme.TheVariants.{Number}
 use Rattle.abs_lexer.specs.Forms.{is_white, is_escape, is_on_line, IsInside, IsQuoted, IsForm, opens_comment, IsComment}
 use Rattle.abs_lexer.specs.Tokens.{Lexed, IsLongest, Begins}
 
--- The first byte is no white space, and no token begins with it; nor does a string or a comment without its end.
+-- The first byte is not white space, and it begins no token. It does not open a string or a comment either.
 pub record IsStray (bytes : List ℕ) : Type 0 where
   pub byte : ℕ
   pub others : List ℕ
@@ -43,7 +43,7 @@ pub record IsOpenString (bytes : List ℕ) : Type 0 where
   pub is : bytes ≡ 34 ∷ inside
   pub endless : (piece after : List ℕ) → bytes ≡ piece ++ after → IsQuoted is_on_line piece → ⊥
 
--- after this prefix of a string comes a `\` that begins no escape
+-- a `\` that begins no escape follows this prefix of a string
 pub record IsBadEscape (piece front : List ℕ) : Type 0 where
   pub inside : List ℕ
   pub byte : ℕ
@@ -53,13 +53,13 @@ pub record IsBadEscape (piece front : List ℕ) : Type 0 where
   pub is : piece ≡ front ++ 92 ∷ byte ∷ others
   pub bad : is_escape byte ≡ false
 
--- this prefix of a piece is the longest one that is UTF-8
+-- this prefix of a piece is the longest one that is UTF-8, and it is not the whole piece
 pub record IsBroken (piece front : List ℕ) : Type 0 where
   pub after : List ℕ
   pub is : piece ≡ front ++ after
   pub longest : IsValidUpTo piece (length front)
 
--- the offences of the first piece of the bytes, which begin at this place
+-- the offences of the first piece of bytes that begin at this place
 pub data OffendsAt (place : Place) (bytes : List ℕ) : Offence → Type 0 where
   stray_byte : IsStray bytes → OffendsAt place bytes (record { code = L1; place = place })
   open_comment : IsOpenComment bytes → OffendsAt place bytes (record { code = L2; place = place })
@@ -73,7 +73,7 @@ pub data OffendsAt (place : Place) (bytes : List ℕ) : Offence → Type 0 where
   broken_comment : (piece after front : List ℕ) → bytes ≡ piece ++ after → IsComment piece after → IsBroken piece front
       → OffendsAt place bytes (record { code = L1; place = place_after place front })
 
--- the offences of bytes that begin at this place: those of the first piece, or, if it has none, those of the rest
+-- the offences of bytes that begin at this place: those of the first piece, or those of the rest if that piece has none
 pub data Offends : Place → List ℕ → Offence → Type 0 where
   here : (place : Place) (bytes : List ℕ) (offence : Offence) → OffendsAt place bytes offence → Offends place bytes offence
   later : (place : Place) (bytes piece after : List ℕ) (front : List Lexed) (offence : Offence) → bytes ≡ piece ++ after → Begins place piece after front

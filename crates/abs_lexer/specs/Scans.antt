@@ -1,5 +1,6 @@
--- The first piece of the bytes that are left, as the scanner finds it with one pass over the bytes for each form. This file serves
--- proofs only: no public clause cites it, and ScanLemmas shows that it agrees with the definitions of tokens and offences.
+-- The first piece of the bytes that are left, as the scanner finds it with one pass over the bytes for each form. This
+-- file serves proofs only: no public clause cites it. FoundLemmas and OffenceLemmas show that it agrees with the
+-- definitions of tokens and offences.
 use Rattle.std.specs.Prelude.{ℕ, ◌+◌, ◌^◌, ◌==◌, Bool, nat_lt, min, List, [], ◌∷◌, length, take, drop, slice_index, codes, Option, Some, None, if◌then◌else◌}
 use Rattle.std.specs.Char.{is_ascii_digit, is_ascii_lowercase, is_ascii_uppercase}
 use Rattle.std.specs.List.{prefix_len}
@@ -15,7 +16,7 @@ use Rattle.abs_lexer.specs.declared.piece.Piece.TheVariants.{Blank, Token, Offen
 use Rattle.abs_lexer.specs.Words.{word_kind, punctuator_bytes}
 use Rattle.abs_lexer.specs.Forms.{is_white, is_word, is_escape, is_on_line}
 
--- an index that is this much larger
+-- an index increased by this count, if there is one
 abbrev pub increased_by : ℕ → Option ℕ → Option ℕ
 increased_by count None = None
 increased_by count (Some index) = Some (count + index)
@@ -26,7 +27,7 @@ unfoldable mutual
   closing_quote [] = None
   closing_quote (byte ∷ others) = if byte == 34 then Some 0 else (if byte == 10 then None else (if byte == 92 then closing_after_escape others else increased_by 1 (closing_quote others)))
 
-  -- the same after a `\`, which is counted
+  -- the same after a `\`, which the count includes
   pub closing_after_escape : List ℕ → Option ℕ
   closing_after_escape [] = None
   closing_after_escape (byte ∷ others) = if byte == 10 then None else increased_by 2 (closing_quote others)
@@ -42,15 +43,15 @@ unfoldable pub block_end : List ℕ → Option ℕ
 block_end [] = None
 block_end (byte ∷ others) = if bytes_eq (take 2 (byte ∷ others)) (codes "*/") then Some 0 else increased_by 1 (block_end others)
 
--- the piece, or the offence after this many of its bytes
+-- the offence L1 after this many bytes of a piece, or this result if the piece is no longer than that
 abbrev pub checked_piece : Piece → ℕ → List ℕ → Piece
 checked_piece sound at piece = if nat_lt at (length piece) then Offence L1 at else sound
 
--- a string with its quotes
+-- the result for a string with its quotes
 unfoldable pub string_checked : List ℕ → Piece
 string_checked piece = checked_piece (Token Text (length piece)) (min (bad_escape piece) (utf8_valid_len piece)) piece
 
--- a comment
+-- the result for a comment
 unfoldable pub comment_checked : List ℕ → Piece
 comment_checked piece = checked_piece (Blank (length piece)) (utf8_valid_len piece) piece
 
@@ -86,7 +87,7 @@ word_at bytes = let count = prefix_len is_word bytes in Token (word_kind (take c
 unfoldable pub upper_at : List ℕ → Piece
 upper_at bytes = Token UpperName (prefix_len is_word bytes)
 
--- the punctuator among these that is written so
+-- the first of these punctuators that has these bytes
 abbrev pub punctuator_among : List Punctuator → List ℕ → Option Punctuator
 punctuator_among [] bytes = None
 punctuator_among (punctuator ∷ others) bytes = if bytes_eq (punctuator_bytes punctuator) bytes then Some punctuator else punctuator_among others bytes
@@ -116,7 +117,7 @@ punctuator_piece None None = Offence L1 0
 unfoldable pub punctuator_at : List ℕ → Piece
 punctuator_at bytes = punctuator_piece (long_punctuator (take 2 bytes)) (short_punctuator (take 1 bytes))
 
--- whether the bytes open a comment
+-- whether the bytes begin with "//", and whether with "/*"
 abbrev pub opens_line : List ℕ → Bool
 opens_line bytes = bytes_eq (take 2 bytes) (codes "//")
 

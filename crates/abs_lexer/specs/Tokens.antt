@@ -1,10 +1,10 @@
--- The tokens of a source. The bytes that are left begin with white space, a comment or a token; a token is the longest prefix that
--- has the form of one. So does the rest, up to the end of the source.
+-- The tokens of a source. At each point before its end, the bytes that are left begin with white space, a comment or a
+-- token. A token is the longest prefix that has the form of one.
 --
 --   `Lexed`, `TokenList`                       a token, and the tokens of a source
 --   `TokensOf`                                 a list is that of the source's tokens
 --   `Lexes`, `Begins`                          how bytes are split into tokens
---   `IsLongest`, `IsSound`, `IsWellFormed`     what a token is
+--   `IsLongest`, `IsSound`, `IsWellFormed`     when a piece is a token
 --   `IsPieceAt`, `Rise`                        the places of tokens
 use Rattle.std.specs.Prelude.{◌≡◌, ⊤, ℕ, ◌+◌, ◌^◌, ◌<◌, ◌≤◌, true, false, List, [], ◌∷◌, ◌++◌, length, IsUtf8}
 use Rattle.std.specs.Str.Parse.{digits_value}
@@ -25,7 +25,7 @@ pub record TokenList : Type 0 where
   pub tokens : List Lexed
   pub end : Place
 
--- The piece has the form of a token, and it is the longest prefix of the bytes that has one.
+-- The piece has the form of a token of this kind. No other prefix of the bytes with the form of a token is longer.
 pub record IsLongest (kind : Lexeme) (piece after : List ℕ) : Type 0 where
   pub form : IsForm kind piece
   pub longest : (other : Lexeme) (longer more : List ℕ) → piece ++ after ≡ longer ++ more → IsForm other longer → length longer ≤ length piece
@@ -40,14 +40,15 @@ IsSound (KeywordLexeme keyword) piece = ⊤
 IsSound Foreign piece = ⊤
 IsSound (PunctuatorLexeme punctuator) piece = ⊤
 
--- The first piece of the bytes at a place, and what follows it: white space or a comment, which give no token, or a token.
+-- The bytes at a place begin with this piece, and the rest follows it. White space or a comment gives no token, and a
+-- token gives itself.
 pub data Begins (place : Place) (piece after : List ℕ) : List Lexed → Type 0 where
   white : (byte : ℕ) → piece ≡ byte ∷ [] → is_white byte ≡ true → Begins place piece after []
   comment : IsComment piece after → IsUtf8 piece → Begins place piece after []
   lexeme : (kind : Lexeme) → opens_comment (piece ++ after) ≡ false → IsLongest kind piece after → IsSound kind piece
       → Begins place piece after (record { kind = kind; place = place; bytes = piece } ∷ [])
 
--- the tokens of the bytes, which begin at this place
+-- the tokens of bytes that begin at this place
 pub data Lexes : Place → List ℕ → List Lexed → Type 0 where
   end : (place : Place) (bytes : List ℕ) → bytes ≡ [] → Lexes place bytes []
   more : (place : Place) (bytes piece after : List ℕ) (front others tokens : List Lexed) → bytes ≡ piece ++ after → Begins place piece after front
@@ -58,7 +59,7 @@ pub record TokensOf (source : List ℕ) (list : TokenList) : Type 0 where
   pub tokens : Lexes start source list.tokens
   pub end : list.end ≡ place_after start source
 
--- a token is the piece of the source at its place
+-- the bytes of a token are the piece of the source at its place
 pub record IsPieceAt (source : List ℕ) (token : Lexed) : Type 0 where
   pub front : List ℕ
   pub after : List ℕ

@@ -1,12 +1,12 @@
--- How keywords and punctuators are written, and of which kind a word is.
---   keywords       module import from data def case let in if then else interface extends class implements skip while await
---                  suspend return new cog get this null destiny println
+-- How keywords and punctuators are written, and the token kind of a word.
+--   keywords       module import from data def case let in if then else interface extends class implements skip while
+--                  await suspend return new cog get this null destiny println
 --   words outside the profile
 --                  assert catch delta die duration exception export finally foreach original productline recover switch
 --                  throw trait try
 --   punctuators    ( ) { } < > , ; . = == != <= >= + - * / % ! ~ ? | || && => _
 --
---   `word_kind`                            the kind of a word
+--   `word_kind`                            the token kind of a word
 --   `keywords`, `spelling`                 the keywords, and how each is written
 --   `foreign_words`                        the words outside the profile
 --   `punctuator_bytes`                     how a punctuator is written
@@ -73,7 +73,7 @@ foreign_words =
     ∷ codes "finally" ∷ codes "foreach" ∷ codes "original" ∷ codes "productline" ∷ codes "recover" ∷ codes "switch"
     ∷ codes "throw" ∷ codes "trait" ∷ codes "try" ∷ []
 
--- the keyword among these that is written so
+-- the first of these keywords that is written like the word
 abbrev pub keyword_among : List Keyword → List ℕ → Option Keyword
 keyword_among [] word = None
 keyword_among (keyword ∷ others) word = if bytes_eq (spelling keyword) word then Some keyword else keyword_among others word
@@ -82,7 +82,7 @@ keyword_among (keyword ∷ others) word = if bytes_eq (spelling keyword) word th
 abbrev pub is_foreign : List ℕ → Bool
 is_foreign word = list_any (bytes_eq word) foreign_words
 
--- the kind of a word that begins with a lower-case letter: a keyword, a word outside the profile, or a name
+-- the token kind of a word that begins with a lower-case letter: a keyword, a word outside the profile, or a name
 abbrev pub kind_of_word : Option Keyword → Bool → Lexeme
 kind_of_word (Some keyword) foreign = KeywordLexeme keyword
 kind_of_word None true = Foreign

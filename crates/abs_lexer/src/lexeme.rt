@@ -1,4 +1,4 @@
-//! The kinds of tokens: keywords, punctuators, names and literals.
+//! Token kinds: keywords, punctuators, names and literals.
 
 /// The kind of a token.
 #[derive(Clone, Copy, Debug, PartialEq, Eq)]
@@ -7,9 +7,9 @@ pub enum Lexeme {
     LowerName,
     /// A name that begins with an upper-case letter.
     UpperName,
-    /// A number, of decimal digits.
+    /// A number in decimal digits.
     Number,
-    /// A string between its quotes.
+    /// A string with its quotes.
     Text,
     /// A keyword.
     Keyword(Keyword),

@@ -11,7 +11,7 @@ use crate::{Lexeme, Punctuator, span};
 use abs_tree::Code;
 use std::cmp::min;
 
-/// How many digits a number may have that is small whatever they are: ten to this power is below two to the 127th.
+/// A number of at most this many digits is always small: ten to this power is below two to the 127th.
 const SURELY_SMALL: usize = 38;
 
 /// The first piece of some bytes.
@@ -137,7 +137,7 @@ fn punctuator(bytes: &[u8]) -> Piece
     }
 }
 
-/// The punctuator of two bytes with which the bytes begin.
+/// The punctuator of two bytes that the bytes begin with, if they do.
 #[tactic(auto, using(crate::proofs::WordLemmas::no_long_punctuator))]
 fn long_punctuator_at(bytes: &[u8]) -> Option<Punctuator>
     ensures { result ≡ long_punctuator_of (take 2 bytes.now) }
@@ -148,7 +148,7 @@ fn long_punctuator_at(bytes: &[u8]) -> Option<Punctuator>
     }
 }
 
-/// Whether the number that digits write has at most 127 bits.
+/// Whether the number with these digits has at most 127 bits.
 fn is_small(digits: &[u8]) -> bool
     requires some { 0 < length digits.now }
     requires digits { AllPass is_ascii_digit digits.now }

@@ -8,7 +8,7 @@ ghost use Rattle.abs_lexer.specs.Scans.{closing_quote as closing_quote_of, bad_e
 
 use memchr::memmem;
 
-/// The number of bytes of the word with which the bytes begin.
+/// The length of the word that the bytes begin with.
 pub(crate) fn word(bytes: &[u8]) -> usize
     ensures count { result ≡ prefix_len is_word bytes.now }
     ensures within { result ≤ length bytes.now }
@@ -19,7 +19,7 @@ pub(crate) fn word(bytes: &[u8]) -> usize
         .count()
 }
 
-/// The number of digits with which the bytes begin.
+/// The number of digits that the bytes begin with.
 pub(crate) fn digits(bytes: &[u8]) -> usize
     ensures count { result ≡ prefix_len is_ascii_digit bytes.now }
     ensures within { result ≤ length bytes.now }
@@ -100,7 +100,7 @@ pub(crate) fn bad_escape(bytes: &[u8]) -> usize
     count
 }
 
-/// The number of bytes before the first that is not UTF-8, or before the end.
+/// The number of bytes before the first one that is not UTF-8, or before the end.
 pub(crate) fn utf8(bytes: &[u8]) -> usize
     ensures { result ≡ utf8_valid_len bytes.now }
 {

@@ -24,7 +24,7 @@ const FOREIGN_WORDS: [&[u8]; 16] = [
     b"try",
 ];
 
-/// The kind of a word that begins with a lower-case letter.
+/// The token kind of a word that begins with a lower-case letter.
 #[tactic(auto, unfolding(crate::specs::Words::word_kind))]
 pub(crate) fn word_kind(word: &[u8]) -> Lexeme
     ensures { result ≡ word_kind_of word.now }
@@ -36,7 +36,7 @@ pub(crate) fn word_kind(word: &[u8]) -> Lexeme
     }
 }
 
-/// The keyword that is written so.
+/// The keyword that is written like this word.
 fn keyword(word: &[u8]) -> Option<Keyword>
     ensures { result ≡ keyword_among keywords word.now }
 {
@@ -45,7 +45,7 @@ fn keyword(word: &[u8]) -> Option<Keyword>
         .or_else(|| statement_keyword(word))
 }
 
-/// The keyword of declarations that is written so.
+/// The keyword of declarations that is written like this word.
 fn declaration_keyword(word: &[u8]) -> Option<Keyword>
     ensures { result ≡ keyword_among declaration_keywords word.now }
 {
@@ -63,7 +63,7 @@ fn declaration_keyword(word: &[u8]) -> Option<Keyword>
     }
 }
 
-/// The keyword of expressions that is written so.
+/// The keyword of expressions that is written like this word.
 fn expression_keyword(word: &[u8]) -> Option<Keyword>
     ensures { result ≡ keyword_among expression_keywords word.now }
 {
@@ -81,7 +81,7 @@ fn expression_keyword(word: &[u8]) -> Option<Keyword>
     }
 }
 
-/// The keyword of statements that is written so.
+/// The keyword of statements that is written like this word.
 fn statement_keyword(word: &[u8]) -> Option<Keyword>
     ensures { result ≡ keyword_among statement_keywords word.now }
 {

@@ -8,12 +8,12 @@ use Rattle.abs_tree.specs.declared.refusal.Offence.{Offence}
 use Rattle.abs_tree.specs.Refusals.{IsFirst}
 use Rattle.abs_names.specs.Answers.{earlier}
 
--- what was noted of the offences so far: the first of them, where there are any
+-- what was noted of the offences so far: the first of them, if there are any
 abbrev Noted : Option Offence → List Offence → Type 0
 Noted None offences = offences ≡ []
 Noted (Some first) offences = IsFirst offences first
 
--- an offence that comes before another comes before each of a list of that one
+-- an offence that comes before another comes before each one in the list of that other alone
 before_one : (first offence : Offence) → first.place.offset ≤ offence.place.offset → All (λ (other : Offence). first.place.offset ≤ other.place.offset) (offence ∷ [])
 before_one first offence h = All-cons (λ (other : Offence). first.place.offset ≤ other.place.offset) offence [] h (All-nil (λ (other : Offence). first.place.offset ≤ other.place.offset))
 
@@ -49,10 +49,10 @@ noted_all first offences (offence ∷ rest) h =
     subst (Noted (fold earlier (earlier first offence) rest)) (append_assoc offences (offence ∷ []) rest)
     (noted_all (earlier first offence) (offences ++ offence ∷ []) rest (noted_more first offence offences h))
 
--- where an offence was noted it is the first
+-- if an offence was noted, it is the first one
 pub first_noted : (offences : List Offence) (first : Offence) → fold earlier None offences ≡ Some first → IsFirst offences first
 first_noted offences first e = subst (λ (o : Option Offence). Noted o offences) e (noted_all None [] offences refl)
 
--- and where none was noted there is none
+-- and if none was noted, there is none
 pub none_noted : (offences : List Offence) → fold earlier None offences ≡ None → offences ≡ []
 none_noted offences e = subst (λ (o : Option Offence). Noted o offences) e (noted_all None [] offences refl)

@@ -5,7 +5,7 @@ use Rattle.std.specs.List.{position, position_or_len}
 use Rattle.std.proofs.lemmas.Bool.Decides.{nat_tests}
 use Rattle.std.proofs.lemmas.List.Sums.{prefix_len-le-length}
 
--- a name that is not found would come after the others
+-- a name that is not found has the length of the scope as its index
 pub not_found : {X : Type 0} (p : X → Bool) (xs : List X) → position p xs ≡ None → position_or_len p xs ≡ length xs
 not_found p xs e = by (nat_lt (position_or_len p xs) (length xs)) refl e
   where

@@ -1,4 +1,4 @@
--- Each declaration of a program in which no name offends makes the next slot.
+-- In a program without name offences, each declaration makes the next slot.
 use Rattle.std.proofs.Common.{◌≡◌, ℕ, suc, ◌+◌, Bool, true, false, not, ◌||◌, cond, List, [], ◌∷◌, ◌++◌, refl, sym, ap, ◌∙◌, length, nat_eq, arith, length-append}
 use Rattle.std.specs.List.{list_any, position_or_len, range_with_len}
 use Rattle.std.proofs.lemmas.Bool.Decides.{nat_tests}
@@ -13,7 +13,7 @@ use Rattle.abs_names.specs.Resolution.{resolved_from}
 use Rattle.abs_names.specs.Scopes.{is_declared, slot_of, with_symbol, scope_after}
 use Rattle.abs_names.specs.Slots.{declared_slots, HasOwnSlots}
 
--- of two lists that have nothing together neither has anything
+-- if two lists together are empty, each of them is empty
 nothing_left : {X : Type 0} (xs ys : List X) → xs ++ ys ≡ [] → xs ≡ []
 nothing_left [] ys e = refl
 nothing_left (x ∷ xs) ys e = absurd (cc)
@@ -22,7 +22,7 @@ nothing_right : {X : Type 0} (xs ys : List X) → xs ++ ys ≡ [] → ys ≡ []
 nothing_right [] ys e = e
 nothing_right (x ∷ xs) ys e = absurd (cc)
 
--- the first element that passes, after those of which none does
+-- the index of the first element that passes, after elements that do not pass
 after_by : (here after : Bool) (k m : ℕ) → (after ≡ false → k ≡ m) → (here || after) ≡ false → cond (not here) (1 + k) 0 ≡ 1 + m
 after_by true after k m same none = cc
 after_by false after k m same none = ap (λ (n : ℕ). 1 + n) (same none)
@@ -36,7 +36,7 @@ place_at_end p [] y none passes = first_by (p y) 0 passes
 place_at_end p (x ∷ xs) y none passes =
     after_by (p x) (list_any p xs) _ (length xs) (λ rest. place_at_end p xs y rest passes) none ∙ omega arith
 
--- What a declaration makes of a scope where it is no offence.
+-- What a declaration without offence makes of a scope: the scope is longer by one, and the new name has the last slot.
 record IsNext (scope : List ℕ) (symbol : Symbol) : Type 0 where
   longer : length (with_symbol scope symbol) ≡ length scope + 1
   slot : slot_of (with_symbol scope symbol) symbol ≡ length scope

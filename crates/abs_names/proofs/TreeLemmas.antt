@@ -1,4 +1,4 @@
--- Lists of expressions of which a prefix was resolved already; and that resolution keeps the number of statements.
+-- Lists of expressions and of operands of which a prefix was resolved; and resolution keeps the number of statements.
 use Rattle.std.proofs.Common.{◌≡◌, ℕ, suc, ◌+◌, ◌<◌, List, [], ◌∷◌, ◌++◌, refl, sym, ap, ◌∙◌, length, get_or, drop, fold}
 use Rattle.std.specs.Prelude.{Option}
 use Rattle.std.proofs.lemmas.List.Sums.{fold-append}
@@ -42,7 +42,7 @@ resolved_apply scope expr place function before found exprs expr_is exprs_is res
     ∙ (ap (Apply place function) (resolved ∙ ap (λ (es : List Expr). resolved_exprs scope (trees_of es)) exprs_is)
     ∙ sym (ap (resolved_expr scope) (ap expr_tree expr_is ∙ expr_tree-apply place function before)))
 
--- an application offends where its arguments do
+-- an application has the offences of its arguments
 pub unknown_apply : (scope : List ℕ) (expr : Expr) (place : Place) (function : Symbol) (before : Vec Expr Global) (exprs : List Expr)
     → expr ≡ code.Apply place function before → exprs ≡ before.items → unknown_in_all scope (trees_of exprs) ≡ unknown_in scope (expr_tree expr)
 unknown_apply scope expr place function before exprs expr_is exprs_is =
@@ -81,7 +81,7 @@ pub operands_in_front_all : (operands : List Operand) → operands_in_front oper
 operands_in_front_all [] = refl
 operands_in_front_all (l ∷ ls) = ap (Then l.operator (expr_tree l.right)) (operands_in_front_all ls)
 
--- operators with resolved operands
+-- an operator list with resolved operands
 pub resolved_operators : (scope : List ℕ) (expr : Expr) (place : Place) (left made : Box Expr Global) (before found : Vec Operand Global) (operands : List Operand)
     → expr ≡ code.Operators place left before → operands ≡ before.items → expr_tree made.value ≡ resolved_expr scope (expr_tree left.value)
     → operands_of found.items ≡ resolved_operands scope (operands_of operands)
@@ -92,7 +92,7 @@ resolved_operators scope expr place left made before found operands expr_is oper
     ∙ (ap (Operators place (resolved_expr scope (expr_tree left.value))) (resolved ∙ ap (λ (ls : List Operand). resolved_operands scope (operands_of ls)) operands_is)
     ∙ sym (ap (resolved_expr scope) (ap expr_tree expr_is ∙ expr_tree-operators place left before))))
 
--- a operators offends where its operands do, from the left
+-- an operator list has the offences of its operands, from the left
 pub unknown_operators : (scope : List ℕ) (expr : Expr) (place : Place) (left : Box Expr Global) (before : Vec Operand Global) (operands : List Operand)
     → expr ≡ code.Operators place left before → operands ≡ before.items
     → unknown_in scope (expr_tree left.value) ++ unknown_in_operands scope (operands_of operands) ≡ unknown_in scope (expr_tree expr)

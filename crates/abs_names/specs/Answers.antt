@@ -10,7 +10,7 @@ use Rattle.abs_tree.specs.declared.source_error.SourceError.{SourceError}
 use Rattle.abs_tree.specs.Refusals.{IsFirst, refusal_of}
 use Rattle.abs_tree.specs.SourceErrors.{HasCause}
 
--- the earlier one of the offence that was noted, if there is one, and another
+-- the earlier one of the offence that was noted, if there is one, and another offence
 abbrev pub earlier : Option Offence → Offence → Option Offence
 earlier None offence = Some offence
 earlier (Some first) offence = if nat_lt offence.place.offset first.place.offset then Some offence else Some first

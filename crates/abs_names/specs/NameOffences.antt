@@ -1,9 +1,9 @@
--- The name offences of a program, in the order of its source. A local that is declared twice offends at the later name. A
--- local that no earlier statement declares offends at its use.
+-- The name offences of a program, in the order of its source. A local that is declared twice offends at the later name.
+-- A local that no earlier statement declares offends at its use.
 --
 --   `name_offences`                            those of a program
 --   `offences_of`, `offences_from`             those of a statement, and of a list of statements
---   `unknown_in`, ..                           the names in an expression that are not declared
+--   `unknown_in`, ..                           those of an expression, for names that are not declared
 --   `unknown_name`, `repeated_declaration`     the offence of one name
 use Rattle.std.specs.Prelude.{ℕ, List, [], ◌∷◌, ◌++◌, if◌then◌else◌}
 use Rattle.abs_tree.specs.declared.place.Place.{Place}
@@ -14,18 +14,18 @@ use Rattle.abs_tree.specs.declared.refusal.Code.TheVariants.{N1, N2}
 use Rattle.abs_tree.specs.Trees.{ExprTree, ExprTrees, OperandTrees, StmtTree, ProgramTree, Number, Local, Apply, NoMore, More, Negate, Operators, NoOperand, Then, Declare, Assign, Print}
 use Rattle.abs_names.specs.Scopes.{is_declared, scope_after_statement}
 
--- the use of a name that is not declared
+-- the offence of the use of a name, if the name is not declared
 abbrev pub unknown_name : List ℕ → Place → Variable → List Offence
 unknown_name scope place (Named symbol) = if is_declared scope symbol then [] else record { code = N2; place = place } ∷ []
 unknown_name scope place (Slot slot) = []
 
--- the declaration of a name that is declared already
+-- the offence of the declaration of a name, if the name is declared already
 abbrev pub repeated_declaration : List ℕ → Place → Variable → List Offence
 repeated_declaration scope place (Named symbol) = if is_declared scope symbol then record { code = N1; place = place } ∷ [] else []
 repeated_declaration scope place (Slot slot) = []
 
 abbrev mutual
-  -- the names in an expression that are not declared
+  -- the offences of an expression: one for each use of a name that is not declared
   pub unknown_in : List ℕ → ExprTree → List Offence
   unknown_in scope (Number place number) = []
   unknown_in scope (Local place variable) = unknown_name scope place variable

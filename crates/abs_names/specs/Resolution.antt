@@ -32,8 +32,8 @@ abbrev mutual
   resolved_operands scope NoOperand = NoOperand
   resolved_operands scope (Then operator right rest) = Then operator (resolved_expr scope right) (resolved_operands scope rest)
 
--- a resolved statement; the scope has the names that the statements before it declare. The value of a declaration does not
--- see the name that is declared
+-- a resolved statement; the scope has the names that the statements before it declare. The value of a declaration does
+-- not see the name that is declared
 abbrev pub resolved_stmt : List ℕ → StmtTree → StmtTree
 resolved_stmt scope (Declare place name variable value) = Declare place name (resolved_variable (with_variable scope variable) variable) (resolved_expr scope value)
 resolved_stmt scope (Assign place variable value) = Assign place (resolved_variable scope variable) (resolved_expr scope value)

@@ -1,5 +1,5 @@
--- Scopes: the names that are declared at a statement of the main block. A scope has the numbers of the declared symbols, each
--- once, in the order of their declarations. The index of a symbol in it is the slot of its local.
+-- Scopes: the names that are declared at a statement of the main block. A scope has the numbers of the declared
+-- symbols, each once, in the order of their declarations. The index of a symbol in it is the slot of its local.
 --
 --   `is_declared`, `slot_of`                   whether a symbol is declared, and its slot
 --   `with_symbol`, `with_variable`             the scope after a declaration

@@ -22,8 +22,8 @@ declared_slots (Declare place name variable value ∷ stmts) = slot_in variable 
 declared_slots (Assign place variable value ∷ stmts) = declared_slots stmts
 declared_slots (Print place text ∷ stmts) = declared_slots stmts
 
--- If a program has no resolved declaration and no name offence, then its resolved form has one slot for each declaration. The
--- slots are numbered from 0, in the order of the declarations.
+-- If a program has no resolved declaration and no name offence, then its resolved form has one slot for each
+-- declaration. The slots are numbered from 0, in the order of the declarations.
 abbrev pub HasOwnSlots : ProgramTree → Type 0
 HasOwnSlots program = declared_slots program.main ≡ [] → name_offences program ≡ []
     → declared_slots (resolved program).main ≡ range_with_len 0 (resolved program).slots

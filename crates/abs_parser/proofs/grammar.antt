@@ -1,5 +1,5 @@
--- What the grammar itself implies: which tokens a nonterminal may begin with, what it consists of by the next token, which token fits where
--- a kind is asked for, and where what was read begins.
+-- Consequences of the grammar: the tokens that a nonterminal may begin with, and what it opens to, given the next
+-- token. Also the tokens that fit a token kind, and where a parsed part begins.
 pub mod SpotLemmas
 pub mod KindLemmas
 pub mod DigitLemmas

@@ -1,9 +1,12 @@
--- The steps of the parsing functions: from what was read of a nonterminal so far, over a token, a name or a part, to its end or to where it
--- is refused; for lists, for parts up to a closing token, and for each nonterminal.
+-- The steps of the parsing functions: for lists, for parts up to a closing token, and for each nonterminal. A step
+-- reads a token, a name or a part after what was read of a nonterminal so far. In the end the nonterminal is found, or
+-- it is refused.
 pub mod StepLemmas
+pub mod ResultLemmas
 pub mod PatternSteps
 pub mod KeywordSteps
 pub mod InFrontSteps
+pub mod ParenthesisSteps
 pub mod ListSteps
 pub mod ListLemmas
 pub mod ClimbingLemmas
@@ -12,6 +15,7 @@ pub mod PrimarySteps
 pub mod ExpressionSteps
 pub mod CaseSteps
 pub mod GuardSteps
+pub mod KeywordStatementSteps
 pub mod RightSideSteps
 pub mod PlainSteps
 pub mod NameListSteps
@@ -22,7 +26,6 @@ pub mod PreambleSteps
 pub mod MemberSteps
 pub mod ClassSteps
 pub mod DeclarationListSteps
-pub mod KeywordStatementSteps
 pub mod LocalSteps
 pub mod RestSteps
 pub mod FirstSteps

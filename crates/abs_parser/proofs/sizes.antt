@@ -1,5 +1,5 @@
--- How much a source holds of each thing: that a tree has no more statements, names and variables than there are tokens, and that its
--- statements are numbered in the order in which they begin.
+-- The tree of a source has no more variables, and each class no more fields, than there are tokens. Variables are used
+-- at tokens in their order, and statements are numbered in the order in which they begin.
 pub mod LeafLemmas
 pub mod PhraseSizes
 pub mod StatementSizes

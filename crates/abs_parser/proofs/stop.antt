@@ -1,5 +1,5 @@
--- The law of the stop: that each list of tokens is read or refused, that a prefix that is not refused can be completed to a program, and
--- that a list is accepted with one reading or stops at one token.
+-- The stop law: each token list is read or refused, and a prefix that is not refused can be completed to a program. So
+-- the parser accepts a list with one reading, or fails at one token.
 pub mod MoveLemmas
 pub mod CompletionLemmas
 pub mod DecisionLemmas

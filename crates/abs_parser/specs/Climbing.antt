@@ -1,8 +1,8 @@
--- What is read where operators are climbed, from a first operand of one precedence to a precedence that binds as much or less: with the first
--- operand, wherever that began, it is the other precedence, or is refused as it.
+-- Operators after a first operand are read from one precedence up to another, which binds as much or less. With the
+-- first operand, wherever it began, they are an expression of the second precedence, or are refused as one.
 --
---   `Climbs`                                           what is found
---   `FailsToClimb`                                     where it is refused
+--   `Climbs`                                           an expression of the second precedence is found
+--   `FailsToClimb`                                     it is refused
 use Rattle.std.specs.Prelude.{◌≡◌, ℕ, List}
 use Rattle.abs_tree.specs.SyntaxViews.{phrase}
 use Rattle.abs_tree.specs.declared.place.Place.{Place}
@@ -14,14 +14,14 @@ use Rattle.abs_parser.specs.Readings.{One, Subgoal}
 use Rattle.abs_parser.specs.ReaderAnswers.{FoundAs, IsRefused}
 use Rattle.abs_parser.specs.Tokens.{Spot, place_of}
 
--- the first operand and what follows it are this expression
+-- wherever an operand `first` begins that is found up to `from`, `expr` begins there and is found up to `end`
 abbrev pub Climbs : Precedence → Precedence → ℕ → List (List ℕ) → List (List ℕ) → Place → Expr → Expr → Spot → Spot → Type 0
 Climbs at to depth old new place first expr from end =
     (older : List (List ℕ)) (begin : Spot) → place ≡ place_of begin
     → FoundAs (One (operand_nonterminal at)) depth older old begin from (λ names inside. phrase names first ≡ operand_in at inside)
     → FoundAs (One (nonterminal_of to)) depth older new begin end (λ names inside. phrase names expr ≡ precedence_in to inside)
 
--- they are refused
+-- wherever an operand `first` begins that is found up to `from`, what begins there is refused as the second precedence
 abbrev pub FailsToClimb : Precedence → Precedence → ℕ → List (List ℕ) → Place → Expr → Spot → SourceError → Type 0
 FailsToClimb at to depth old place first from error =
     (older : List (List ℕ)) (begin : Spot) → place ≡ place_of begin

@@ -1,16 +1,18 @@
--- What statements begin with: the variable or the field, as a place, as what a value goes to, as an expression with the arguments after it,
--- and as the statement that it begins; the tokens that begin another statement than a right side; and what was read of a block.
+-- The variable or field with which a statement begins, as a place, a target and an expression, and the statement
+-- itself. Also the tokens that begin a statement other than a right side, and the body of a block.
 --
---   `place_of_first`, `target_of`, `phrase_of`         the variable or the field
---   `after_first`                                      the statement that it begins, by what stands after it
---   `begins_another`                                   the tokens that begin another statement
---   `IsBlock`                                          what was read of a block
+--   `place_of_first`, `target_of`, `phrase_of`         the variable or field as a place, a target and an expression
+--   `after_first`                                      the statement that it begins, by what follows it
+--   `begins_another`                                   the tokens that begin a statement other than a right side
+--   `IsBlock`                                          the body of a block that was read
+--   `is_simple`                                        the keywords of statements without others inside
 use Rattle.std.specs.Prelude.{◌≡◌, ℕ, Bool, true, false, List, Option}
 use Rattle.abs_tree.specs.declared.place.Place.{Place}
 use Rattle.abs_tree.specs.Syntax.{Name, Unresolved, Phrase, Phrases, TargetTree, ToVariable, ToField, Statement}
 use Rattle.abs_tree.specs.SyntaxViews.{statements}
 use Rattle.abs_tree.specs.Trees.{name_of}
 use Rattle.abs_tree.specs.declared.syntax.declaration.Body.{Body}
+use Rattle.abs_lexer.specs.declared.lexeme.Keyword.{Keyword}
 use Rattle.abs_lexer.specs.declared.lexeme.Keyword.TheVariants as keyword
 use Rattle.abs_lexer.specs.declared.lexeme.Punctuator.TheVariants as punctuator
 use Rattle.abs_parser.specs.TokenKinds.{TokenKind, LowerName, LocalName, UpperName, AbsName, StdLibName, KeywordKind, PunctuatorKind}
@@ -35,7 +37,7 @@ abbrev pub after_first : ℕ → List Name → First → Forest → Statement
 after_first index names (first.Variable place symbol) inside = after_variable index place (name_of names symbol) inside
 after_first index names (first.Field place name_place symbol) inside = after_field index place name_place (name_of names symbol) inside
 
--- whether a token begins a statement that is no right side alone
+-- whether a token of this kind begins an alternative of Stmt other than the last, which is a right side alone
 abbrev pub begins_another : TokenKind → Bool
 begins_another LowerName = true
 begins_another LocalName = true
@@ -53,7 +55,17 @@ begins_another (KeywordKind keyword.While) = true
 begins_another (KeywordKind keyword.This) = true
 begins_another _ = false
 
--- this block was read, whose first statement has the index: its statements, and the place of the brace that closes it
+-- the body is that of the block that was read, whose first index is this one: its statements, and the place of its
+-- closing brace
 pub record IsBlock (index : ℕ) (names : List Name) (body : Body) (inside : Forest) : Type 0 where
   pub statements_are : statements names body.statements.items ≡ block_in index inside
   pub end_is : body.end ≡ block_end inside
+
+-- whether a keyword begins `skip`, `suspend`, `await`, `return` or `println`
+abbrev pub is_simple : Keyword → Bool
+is_simple keyword.Skip = true
+is_simple keyword.Suspend = true
+is_simple keyword.Await = true
+is_simple keyword.Return = true
+is_simple keyword.Println = true
+is_simple _ = false

@@ -1,4 +1,4 @@
--- The keywords before lists of interfaces: as which nonterminal each is read with its list.
+-- The keywords before lists of interfaces, and the nonterminal of each with its list.
 use Rattle.abs_parser.specs.declared.names.Heading.{Heading}
 use Rattle.abs_parser.specs.declared.names.Heading.TheVariants as heading
 use Rattle.abs_parser.specs.Productions.{Nonterminal, Extends, Implements}

@@ -1,11 +1,12 @@
--- The precedences of operators between operands, from `||`, which binds least, to `*`: as what each is read, and which operators stand on it.
+-- The precedences of operators between operands, from `||`, which binds least, to `*`, with the nonterminals of each.
 --
---   `nonterminal_of`, `operand_nonterminal`, `tail_nonterminal`       the nonterminals of a precedence, of its operands, and of an operator with its right operand
+--   `nonterminal_of`, `operand_nonterminal`            the nonterminals of a precedence and of its operands
+--   `tail_nonterminal`                                 the nonterminal of an operator with its right operand
 --   `rank`, `looser`                                   the order of the precedences
---   `repeats`, `rest_of`                               whether a further operator may follow, and so what stands after the first operand
---   `precedence_in`, `operand_in`, `operands_in`               the trees of what was read as these
---   `precedence_of`, `punctuator_of`                              the precedence of an operator, and how it is written
---   `prefix_punctuator`                                      how an operator before an operand is written
+--   `repeats`, `rest_of`                               whether operators repeat, and what follows the first operand
+--   `precedence_in`, `operand_in`, `operands_in`       the trees of a precedence, an operand and the operators after it
+--   `precedence_of`, `punctuator_of`                   the precedence and the punctuator of an operator
+--   `prefix_punctuator`                                the punctuator of a prefix operator
 use Rattle.std.specs.Prelude.{ℕ, Bool, true, false}
 use Rattle.abs_tree.specs.Syntax.{Phrase, Operands}
 use Rattle.abs_tree.specs.declared.syntax.expression.Operator.{Operator}
@@ -28,7 +29,7 @@ nonterminal_of precedence.Compare = Compare
 nonterminal_of precedence.Sum = Sum
 nonterminal_of precedence.Mul = Mul
 
--- the operands of a precedence are read as the next one, and those of the last as Unary
+-- the operands of a precedence are read as the next one that binds more, and those of the last one as Unary
 abbrev pub operand_nonterminal : Precedence → Nonterminal
 operand_nonterminal precedence.Or = And
 operand_nonterminal precedence.And = Equal
@@ -37,7 +38,7 @@ operand_nonterminal precedence.Compare = Sum
 operand_nonterminal precedence.Sum = Mul
 operand_nonterminal precedence.Mul = Unary
 
--- how many precedences bind more than one
+-- the number of precedences that bind more than this one
 abbrev pub rank : Precedence → ℕ
 rank precedence.Or = 5
 rank precedence.And = 4
@@ -46,7 +47,7 @@ rank precedence.Compare = 2
 rank precedence.Sum = 1
 rank precedence.Mul = 0
 
--- the next precedence that binds less; below `||` there is none
+-- the next precedence that binds less; `||`, for which there is none, gives itself
 abbrev pub looser : Precedence → Precedence
 looser precedence.Or = precedence.Or
 looser precedence.And = precedence.Or
@@ -63,13 +64,13 @@ tail_nonterminal precedence.Compare = CompareTail
 tail_nonterminal precedence.Sum = SumTail
 tail_nonterminal precedence.Mul = MulTail
 
--- equality and comparison do not repeat
+-- whether a further operator may follow: for equality and comparison it may not
 abbrev pub repeats : Precedence → Bool
 repeats precedence.Equal = false
 repeats precedence.Compare = false
 repeats _ = true
 
--- what stands after the first operand
+-- what is to be read after the first operand
 abbrev pub rest_of : Precedence → Goal
 rest_of precedence.Or = Repeated OrTail
 rest_of precedence.And = Repeated AndTail
@@ -96,7 +97,7 @@ operand_in precedence.Compare = sum_in
 operand_in precedence.Sum = mul_in
 operand_in precedence.Mul = unary_in
 
--- the operators after the first operand
+-- the operators after the first operand, with their right operands
 abbrev pub operands_in : Precedence → Forest → Operands
 operands_in precedence.Or = or_operands
 operands_in precedence.And = and_operands
@@ -120,7 +121,7 @@ precedence_of operator.Times = precedence.Mul
 precedence_of operator.Divide = precedence.Mul
 precedence_of operator.Remainder = precedence.Mul
 
--- how an operator is written
+-- the punctuator of an operator
 abbrev pub punctuator_of : Operator → Punctuator
 punctuator_of operator.Or = punctuator.Or
 punctuator_of operator.And = punctuator.And
@@ -136,7 +137,7 @@ punctuator_of operator.Times = punctuator.Star
 punctuator_of operator.Divide = punctuator.Slash
 punctuator_of operator.Remainder = punctuator.Percent
 
--- how an operator before an operand is written
+-- the punctuator of a prefix operator
 abbrev pub prefix_punctuator : Prefix → Punctuator
 prefix_punctuator prefix.Not = punctuator.Not
 prefix_punctuator prefix.Tilde = punctuator.Tilde

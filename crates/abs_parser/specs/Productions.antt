@@ -1,13 +1,14 @@
--- The grammar: each nonterminal with its alternatives, each line of it beside its line of the grammar as it is written for people.
--- A part in brackets may stand once or not (`Opt`), a part in braces any number of times (`Many`); where such a part has more
--- than one item it is a nonterminal of its own. Which alternative is read is chosen by the next token (`chosen`): the first one that may
--- begin with it; and `Opt` and `Many` take a part where one may begin, so an `else` belongs to the nearest `if`.
+-- The grammar: each nonterminal with its alternatives, after its production as it is written for people. A part in
+-- brackets may be left out (`Opt`), and one in braces may be repeated any number of times (`Many`). Such a part with
+-- more than one item is a nonterminal of its own. The next token chooses the alternative that is read (`chosen`): the
+-- first one that may begin with it. `Opt` and `Many` read a part wherever it may begin with the next token, so an
+-- `else` belongs to the nearest `if`.
 --
---   `Nonterminal`                                           the nonterminals
---   `Item`, `Of`, `Part`, `Opt`, `Many`, `Inside`      what stands in an alternative
+--   `Nonterminal`                                      the nonterminals
+--   `Item`, `Of`, `Part`, `Opt`, `Many`, `Inside`      the items of an alternative
 --   `rule`                                             the alternatives of each nonterminal
---   `counts`                                           the nonterminals of which at most 100 may be open
---   `begins`, `chosen`                                 what a nonterminal may begin with, and the alternative that the next token chooses
+--   `counts`                                           the nonterminals that the nesting limit counts
+--   `begins`, `chosen`                                 what a nonterminal may begin with, and its chosen alternative
 use Rattle.std.specs.Prelude.{ℕ, zero, suc, Bool, true, false, ◌||◌, List, [], ◌∷◌, Option}
 use Rattle.std.specs.List.{list_any, find}
 use Rattle.abs_lexer.specs.declared.lexeme.Keyword.{Keyword}
@@ -81,8 +82,8 @@ pub data Nonterminal : Type 0 where
   Patterns : Nonterminal
   CommaPattern : Nonterminal
 
--- what stands in an alternative: a token of a kind; a nonterminal, which may also be left out or stand any number of times; or one of
--- these that stands in so many more of the counted nonterminals than the alternative does
+-- An item of an alternative: a token of a kind; or a nonterminal, once, or optional, or repeated any number of times.
+-- `Inside` is an item that is nested in more counted nonterminals than the alternative is, by this number.
 pub data Item : Type 0 where
   Of : TokenKind → Item
   Part : Nonterminal → Item
@@ -180,8 +181,9 @@ rule Block = (open_brace ∷ Many Stmt ∷ close_brace ∷ []) ∷ []
 -- Stmt = Block | "skip" ";" | "suspend" ";" | "await" Guard ";" | "return" Expr ";" | "println" "(" Expr ")" ";"
 --      | "if" "(" Expr ")" Stmt ["else" Stmt] | "while" "(" Expr ")" Stmt
 --      | Type LName ["=" Rhs] ";" | Rhs ["=" Rhs] ";"
--- The second "=" may stand only after a variable, or "this" "." and a field, without parentheses. So what begins with a variable or
--- with "this" goes on as AfterName or AfterThis say. The variable stands in an Expr and a Unary all the same: it is part of a Rhs.
+-- The second "=" may follow only a variable, or "this" "." and a field, without parentheses. So a statement that begins
+-- with a variable or with "this" continues as AfterName or AfterThis. Its first token is in an Expr and a Unary all the
+-- same: it is part of a Rhs.
 rule Stmt =
     (Part Block ∷ [])
     ∷ (reserved keyword.Skip ∷ semicolon ∷ [])
@@ -198,12 +200,12 @@ rule Stmt =
     ∷ []
 rule Else = (reserved keyword.Else ∷ Part Stmt ∷ []) ∷ []
 rule Initial = (equals ∷ Part Rhs ∷ []) ∷ []
--- after the variable or the field of a statement: "=" Rhs ";", or the rest of a Rhs that begins with it
+-- after the variable or field that begins a statement: "=" Rhs ";", or the rest of a Rhs that begins with it
 rule AfterName =
     (equals ∷ Part Rhs ∷ semicolon ∷ [])
     ∷ (Inside 2 (Opt Arguments) ∷ Part Rest ∷ [])
     ∷ []
--- after the "this" of a statement: "." and a field or a call, or the rest of a Rhs
+-- after the "this" that begins a statement: "." and a field or a call, or the rest of a Rhs
 rule AfterThis =
     (Inside 2 dot ∷ Inside 2 lower ∷ Part AfterName ∷ [])
     ∷ (Part Rest ∷ [])
@@ -304,7 +306,7 @@ rule PatternArguments = (open_paren ∷ Opt Patterns ∷ close_paren ∷ []) ∷
 rule Patterns = (Part Pattern ∷ Many CommaPattern ∷ []) ∷ []
 rule CommaPattern = (comma ∷ Part Pattern ∷ []) ∷ []
 
--- the nonterminals of which at most 100 may be open at once, one inside another
+-- whether a nonterminal counts for nesting: a token may be in at most 100 such nonterminals
 abbrev pub counts : Nonterminal → Bool
 counts Stmt = true
 counts Expr = true
@@ -313,7 +315,8 @@ counts Type' = true
 counts Pattern = true
 counts _ = false
 
--- whether an item may begin with a token of a kind, given which nonterminals may, and whether what stands after the item may
+-- whether an item, with those after it, may begin with a token of a kind, given which nonterminals may and whether
+-- those after it may
 abbrev item_begins : (Nonterminal → TokenKind → Bool) → Item → TokenKind → Bool → Bool
 item_begins first (Of asked) kind after = fits asked kind
 item_begins first (Part nonterminal) kind after = first nonterminal kind
@@ -325,8 +328,8 @@ abbrev pub items_begin : (Nonterminal → TokenKind → Bool) → List Item → 
 items_begin first [] kind = false
 items_begin first (item ∷ others) kind = item_begins first item kind (items_begin first others kind)
 
--- whether a nonterminal may begin with a token of a kind: some alternative of it may. Of the nonterminals that begin with one another there
--- are no more than 12 in a row, from Stmt over Rhs to Primary.
+-- Whether a nonterminal may begin with a token of a kind: one of its alternatives may. A chain in which each
+-- nonterminal may begin with the next has at most 11, from Stmt to Primary, so 12 rounds are enough.
 unfoldable pub begins_within : ℕ → Nonterminal → TokenKind → Bool
 begins_within zero nonterminal kind = false
 begins_within (suc rounds) nonterminal kind = list_any (λ (items : List Item). items_begin (begins_within rounds) items kind) (rule nonterminal)

@@ -1,7 +1,7 @@
--- What a reader does with what is still to be read, and where it is refused; and what a reader of a part answers.
+-- The token at which wanted items are refused, and the code of the refusal.
 --
---   `Refuses`                                          at which token what is wanted is refused, and by which code
---   `AllWithin`                                        that no token is too deep
+--   `Refuses`                                          the token at which wanted items are refused, and the code
+--   `AllWithin`                                        no token is too deeply nested
 use Rattle.std.specs.Prelude.{◌≡◌, ⊤, ◌≤◌, ◌<◌, ℕ, true, false, List, [], ◌∷◌, ◌++◌, Some, None}
 use Rattle.abs_tree.specs.declared.refusal.Code.{Code}
 use Rattle.abs_tree.specs.declared.refusal.Code.TheVariants.{S1, S2}
@@ -9,7 +9,8 @@ use Rattle.abs_parser.specs.TokenKinds.{Mark, TokenKind, token_kind, fits, next}
 use Rattle.abs_parser.specs.Readings.{Goal, Wanted, Terminal, Subgoal, opened}
 use Rattle.abs_parser.specs.Stops.{limit, wrong_code}
 
--- What is wanted, at these tokens, is refused where the other list begins. That list is empty where the first one was cut off.
+-- The wanted items are refused in the first list of tokens where the second one begins. That one is empty if the tokens
+-- end too early.
 pub data Refuses : List Wanted → List Mark → List Mark → Code → Type 0 where
   Beyond : {mark : Mark} {ts : List Mark} {code : Code} → code ≡ wrong_code (token_kind mark) → Refuses [] (mark ∷ ts) (mark ∷ ts) code
   Other : {kind : TokenKind} {depth : ℕ} {items : List Wanted} {mark : Mark} {ts : List Mark} {code : Code}
@@ -24,7 +25,7 @@ pub data Refuses : List Wanted → List Mark → List Mark → Code → Type 0 w
       → opened goal (next ts) depth ≡ Some inner → Refuses (inner ++ items) ts rest code → Refuses (Subgoal goal depth ∷ items) ts rest code
   Cut : {item : Wanted} {items : List Wanted} {code : Code} → code ≡ S1 → Refuses (item ∷ items) [] [] code
 
--- each of these tokens may stand where it stands
+-- each of these nesting depths is at most the nesting limit
 abbrev pub AllWithin : List ℕ → Type 0
 AllWithin [] = ⊤
 AllWithin (depth ∷ others) = (depth ≤ limit) × AllWithin others

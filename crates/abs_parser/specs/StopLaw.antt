@@ -1,7 +1,8 @@
--- The law of the stop: each source is accepted with just one reading and one tree, or it stops at just one token with one code, and never both.
+-- The law of the grammar: a source is accepted, or the parser fails in it, and never both. It is accepted with exactly
+-- one reading and one tree, or the parser fails at exactly one token with one code.
 --
---   `IsTreeOf`                                         a tree of a list
---   `Outcome`                                          one reading and one tree, or one stop
+--   `IsTreeOf`                                         a tree of a list of tokens
+--   `Outcome`                                          one reading and one tree, or one token at which the parser fails
 --   `EachTextStopsOrIsAccepted`                        the law
 use Rattle.std.specs.Prelude.{◌≡◌, List}
 use Rattle.abs_tree.specs.declared.refusal.Code.{Code}
@@ -12,7 +13,7 @@ use Rattle.abs_parser.specs.Stops.{StopsAt, IsAccepted}
 use Rattle.abs_parser.specs.TreesOf.{tree_of}
 use Rattle.abs_tree.specs.Syntax.{SourceTree}
 
--- the tree is that of a reading of the list
+-- the tree is that of a reading of the list of tokens
 pub record IsTreeOf (ts : List Mark) (tree : SourceTree) : Type 0 where
   pub forest : Forest
   pub reads : IsProgram ts forest

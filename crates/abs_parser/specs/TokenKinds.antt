@@ -1,10 +1,10 @@
--- What the grammar tells apart in a source: its tokens by their kinds, and its end, which is a token after the last byte.
--- Three words are names with a source of their own: `local`, `ABS` and `StdLib`. Each is a kind, and stands where a name may, too.
+-- What the grammar distinguishes in a source: its tokens by their kinds, and its end, which is a token after the last
+-- byte. The names `local`, `ABS` and `StdLib` have token kinds of their own. Each is also allowed wherever a name is.
 --
---   `Mark`, `marks`                                    the tokens of a source, and its end after them
---   `place_of_mark`                                    where a token stands
---   `TokenKind`, `token_kind`                                  what the grammar tells apart, and which of it a token is
---   `fits`                                             which kind may stand where one is asked for
+--   `Mark`, `marks`                                    the tokens of a source, followed by its end
+--   `place_of_mark`                                    the place of a token
+--   `TokenKind`, `token_kind`                          the token kinds of the grammar, and the kind of a token
+--   `fits`                                             whether a kind is allowed where one is asked for
 --   `next`                                             the kind of the next token
 use Rattle.std.specs.Prelude.{ℕ, ◌++◌, Bool, true, false, List, [], ◌∷◌, map, codes, if◌then◌else◌}
 use Rattle.std.specs.Str.{bytes_eq}
@@ -16,12 +16,12 @@ use Rattle.abs_lexer.specs.declared.lexeme.Punctuator.{Punctuator}
 use Rattle.abs_lexer.specs.Tokens.{Lexed, TokenList}
 use Rattle.abs_lexer.specs.Words.{spelling, punctuator_bytes}
 
--- a token of the source, or its end
+-- a token of the source, or the end of the source
 pub data Mark : Type 0 where
   Token : Lexed → Mark
   TextEnd : Place → Mark
 
--- the tokens of a source, and its end after them
+-- the tokens of a source, followed by its end
 abbrev pub marks : TokenList → List Mark
 marks list = map Token list.tokens ++ TextEnd list.end ∷ []
 
@@ -30,8 +30,8 @@ abbrev pub place_of_mark : Mark → Place
 place_of_mark (Token token) = token.place
 place_of_mark (TextEnd place) = place
 
--- what the grammar asks for: names, the names with a source of their own, numbers, texts, words, signs, and the end; a word outside
--- the profile stands nowhere
+-- The token kinds of the grammar: names, three of which have kinds of their own, numbers, strings, keywords,
+-- punctuators, and the end. No production has a foreign keyword.
 pub data TokenKind : Type 0 where
   LowerName : TokenKind
   LocalName : TokenKind
@@ -58,7 +58,7 @@ abbrev pub token_kind : Mark → TokenKind
 token_kind (Token token) = token_kind_of token.kind token.bytes
 token_kind (TextEnd place) = End
 
--- whether a token of the second kind may stand where one of the first is asked for
+-- whether a token of the second kind is allowed where one of the first is asked for
 abbrev pub fits : TokenKind → TokenKind → Bool
 fits LowerName LowerName = true
 fits LowerName LocalName = true
@@ -75,7 +75,7 @@ fits (PunctuatorKind asked) (PunctuatorKind punctuator) = bytes_eq (punctuator_b
 fits End End = true
 fits _ _ = false
 
--- the kind of the next token; after the end there is none, which no alternative asks for
+-- the kind of the next token; after the end it is that of a foreign keyword, which no alternative asks for
 abbrev pub next : List Mark → TokenKind
 next [] = Foreign
 next (mark ∷ others) = token_kind mark

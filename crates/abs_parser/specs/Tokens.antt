@@ -1,4 +1,4 @@
--- The next token of what is left of a source's tokens.
+-- The tokens of a source that are left, and the next one of them.
 use Rattle.std.specs.Prelude.{◌≡◌, List, [], ◌∷◌}
 use Rattle.abs_tree.specs.declared.place.Place.{Place}
 use Rattle.abs_lexer.specs.Tokens.{Lexed, TokenList}
@@ -20,7 +20,7 @@ place_in (token ∷ others) end = token.place
 abbrev pub place_of : Spot → Place
 place_of spot = place_in spot.rest spot.end
 
--- This token is the next one at `from`, and after it is `to`.
+-- This token is the next one at `from`, followed by `to`.
 pub record TakesToken (token : Lexed) (from to : Spot) : Type 0 where
   pub rest : from.rest ≡ token ∷ to.rest
   pub end : to.end ≡ from.end

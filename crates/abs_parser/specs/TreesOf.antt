@@ -1,10 +1,11 @@
--- Which tree stands for what was read: one clause for each alternative of the grammar. Each function speaks of the inside of one symbol,
--- or of a part that may be left out or repeated, as a reading has it; what no reading has gives some tree, which nothing asks for.
+-- The tree of what was read, with a clause for each alternative of the grammar. Each function is given the inside of a
+-- nonterminal, or a part that may be left out or repeated, as in a reading. Any other forest gives some tree, which
+-- does not matter.
 --
 --   `type_in`                                          types
 --   `pattern_in`                                       patterns
 --   `expr_in`, `or_in` .. `mul_in`, `unary_in`, `primary_in`  expressions, by the precedences of their operators
---   `named`, `member`, `built`                         names with the arguments after them, or without
+--   `named`, `member`, `built`                         names with arguments or without
 --   `rhs_in`, `rest_in`                                right sides, from their beginning or after the first operand
 --   `guard_in`                                         guards
 --   `statement_in`, `block_in`                         statements
@@ -27,12 +28,12 @@ use Rattle.abs_lexer.specs.declared.lexeme.Punctuator.TheVariants as punctuator
 use Rattle.abs_parser.specs.TokenKinds.{Mark, Token, TextEnd, TokenKind, LowerName, LocalName, UpperName, AbsName, StdLibName, Number, Text, KeywordKind, PunctuatorKind, place_of_mark, token_kind}
 use Rattle.abs_parser.specs.Readings.{Forest, Empty, Leaf, Node}
 
--- how a token is written
+-- the bytes of a token; the end of the source has none
 abbrev pub written : Mark → List ℕ
 written (Token token) = token.bytes
 written (TextEnd place) = []
 
--- what a string literal stands for: an escape for its byte, and all else for itself, up to the quote that closes it
+-- the value of a string literal: an escape gives its byte, and any other byte gives itself, up to the closing quote
 abbrev pub escaped_byte : ℕ → ℕ
 escaped_byte byte = if byte == 110 then 10 else (if byte == 116 then 9 else (if byte == 114 then 13 else byte))
 
@@ -47,7 +48,7 @@ text_of mark = unescaped (drop 1 (written mark))
 abbrev pub number_of : Mark → ℕ
 number_of mark = digits_value 10 (written mark)
 
--- the place of the first token that was read
+-- the place of the first token that was read; where there is none, the given place
 abbrev pub first_place : Forest → Place → Place
 first_place Empty after = after
 first_place (Leaf mark depth others) after = place_of_mark mark
@@ -83,7 +84,7 @@ abbrev mutual
   pattern_in (Leaf mark _ others) = pattern_by (token_kind mark) mark others
   pattern_in _ = AnyValue start
 
-  -- by the first token
+  -- a pattern, by its first token
   pub pattern_by : TokenKind → Mark → Forest → PatternTree
   pattern_by LowerName mark others = Binds (place_of_mark mark) (Unresolved (written mark))
   pattern_by LocalName mark others = Binds (place_of_mark mark) (Unresolved (written mark))
@@ -114,12 +115,12 @@ abbrev mutual
 
 -- Expressions
 
--- a first operand with the operators after it: without one, the operand itself
+-- a first operand with the operators after it; without any it is the operand itself
 abbrev pub with_operators : Place → Phrase → Operands → Phrase
 with_operators place first NoOperands = first
 with_operators place first (NextOperand operator right others) = OperatorsOf place first (NextOperand operator right others)
 
--- the operator that a sign stands for
+-- the operator of a punctuator
 abbrev pub operator_of : TokenKind → Operator
 operator_of (PunctuatorKind punctuator.Or) = operator.Or
 operator_of (PunctuatorKind punctuator.And) = operator.And
@@ -142,12 +143,12 @@ prefix_of (PunctuatorKind punctuator.Tilde) = prefix.Tilde
 prefix_of (PunctuatorKind punctuator.Minus) = prefix.Minus
 prefix_of _ = prefix.Not
 
--- a name that begins with a lower-case letter: with arguments a function, without a variable
+-- a name that begins with a lower-case letter: a variable, or with arguments the application of a function
 abbrev pub named : Place → Name → Option Phrases → Phrase
 named place name None = VariableOf place (Unresolved name)
 named place name (Some arguments) = ApplyOf place name arguments
 
--- the same after "this" and ".": a method, and a field
+-- a name after "this" and ".": a field, or with arguments a call of a method
 abbrev pub member : Place → Place → Name → Option Phrases → Phrase
 member place name_place name None = FieldOf place name_place name
 member place name_place name (Some arguments) = OwnCallOf place name arguments
@@ -167,7 +168,7 @@ abbrev mutual
   expr_in (Node _ or _) = or_in or
   expr_in _ = NullOf start
 
-  -- Or, And, Equal, Compare, Sum, Mul: a first operand, and what follows it
+  -- Or, And, Equal, Compare, Sum, Mul: a first operand, and the operators after it
   pub or_in : Forest → Phrase
   or_in (Node _ first (Node _ others _)) = with_operators (place_in first) (and_in first) (or_operands others)
   or_in _ = NullOf start
@@ -291,13 +292,14 @@ abbrev pub mode_in : Forest → Mode
 mode_in (Node _ (Leaf mark _ _) _) = mode_by (token_kind mark) (place_of_mark mark)
 mode_in _ = mode.Plain
 
--- after the ".": "get", or a name and arguments, whose call has its receiver before them
+-- an expression with what follows its ".": "get", or a name and arguments. The call has its receiver before the
+-- arguments.
 abbrev pub selected_in : Place → Phrase → Forest → SideTree
 selected_in place first (Leaf name _ (Node _ arguments _)) = CallOf place (written name) (NextPhrase first (arguments_in arguments)) None
 selected_in place first (Leaf get _ _) = GetOf place (place_of_mark get) first
 selected_in place first _ = ValueOf place first
 
--- after an expression: perhaps "!", a name and arguments; perhaps "."
+-- an expression with what follows it: "!", a name and arguments; or "." and what follows that; or nothing
 abbrev pub tail_in : Place → Phrase → Forest → SideTree
 tail_in place first (Node _ (Leaf bang _ (Leaf name _ (Node _ arguments _))) _) = SendOf place (written name) (NextPhrase first (arguments_in arguments))
 tail_in place first (Node _ (Leaf dot _ (Node _ selected _)) _) = selected_in place first selected
@@ -309,7 +311,7 @@ rhs_in (Leaf mark _ (Node _ where_made (Leaf name _ (Node _ arguments _)))) =
 rhs_in (Node _ expr (Node _ tail _)) = tail_in (place_in expr) (expr_in expr) tail
 rhs_in _ = ValueOf start (NullOf start)
 
--- the rest of a right side whose first operand this is
+-- a right side whose first operand is given, by what follows this operand
 abbrev pub rest_in : Place → Phrase → Forest → SideTree
 rest_in place first (Node _ muls (Node _ sums (Node _ compared (Node _ equal (Node _ ands (Node _ ors (Node _ tail _))))))) =
     let product = with_operators place first (mul_operands muls) in
@@ -322,7 +324,7 @@ rest_in place first _ = ValueOf place first
 
 -- Guards
 
--- whether a "?" stands here
+-- whether a "?" was read
 abbrev pub is_asked : Forest → Bool
 is_asked Empty = false
 is_asked _ = true
@@ -346,13 +348,13 @@ abbrev pub initial_in : Forest → MaybeSide
 initial_in (Node _ (Leaf equals _ (Node _ rhs _)) _) = SomeSide (rhs_in rhs)
 initial_in _ = NoSide
 
--- after a variable that begins a statement: "=" and a right side, or the rest of one; the statement has this index
+-- a statement with this index that begins with a variable, by what follows: "=" and a right side, or the rest of one
 abbrev pub after_variable : ℕ → Place → Name → Forest → Statement
 after_variable index place name (Leaf equals _ (Node _ rhs _)) = AssignOf index place (ToVariable place (Unresolved name)) (rhs_in rhs)
 after_variable index place name (Node _ arguments (Node _ rest _)) = DoOf index place (rest_in place (named place name (arguments_maybe arguments)) rest)
 after_variable index place name _ = SkipOf index place
 
--- the same after "this", "." and a name
+-- the same for a statement that begins with "this", "." and a name
 abbrev pub after_field : ℕ → Place → Place → Name → Forest → Statement
 after_field index place name_place name (Leaf equals _ (Node _ rhs _)) = AssignOf index place (ToField place name_place name) (rhs_in rhs)
 after_field index place name_place name (Node _ arguments (Node _ rest _)) =
@@ -364,7 +366,7 @@ after_this index place (Leaf dot _ (Leaf name _ (Node _ after _))) = after_field
 after_this index place (Node _ rest _) = DoOf index place (rest_in place (ThisOf place) rest)
 after_this index place _ = SkipOf index place
 
--- the statements of a branch: those of a block, or the one that it is
+-- the statements of a branch: those of its block, or the one statement that was read for it
 abbrev pub branch_of : Statement → Statements
 branch_of (BlockOf place statements) = statements
 branch_of statement = NextStatement statement NoStatement
@@ -379,7 +381,7 @@ abbrev mutual
   statement_in index (Node _ rhs _) = DoOf index (place_in rhs) (rhs_in rhs)
   statement_in index Empty = SkipOf index start
 
-  -- by the first token
+  -- a statement, by its first token
   pub statement_by : ℕ → TokenKind → Mark → Forest → Statement
   statement_by index (KeywordKind keyword.Skip) mark others = SkipOf index (place_of_mark mark)
   statement_by index (KeywordKind keyword.Suspend) mark others = SuspendOf index (place_of_mark mark)
@@ -405,7 +407,7 @@ abbrev mutual
   block_in index (Leaf opening _ (Node _ statements _)) = statements_in index statements
   block_in index _ = NoStatement
 
-  -- each statement goes on where the one before it ends
+  -- the indices of each statement continue where those of the one before it end
   pub statements_in : ℕ → Forest → Statements
   statements_in index (Node _ statement (Node _ others _)) =
       let first = statement_in index statement in
@@ -426,7 +428,7 @@ abbrev pub more_names : Forest → List DeclaredTree
 more_names (Node _ (Leaf comma _ (Leaf name _ _)) (Node _ others _)) = declared name ∷ more_names others
 more_names _ = []
 
--- perhaps a word or a sign, a name, and others after commas
+-- perhaps a keyword or a punctuator, a name, and others after commas
 abbrev pub names_maybe : Forest → List DeclaredTree
 names_maybe (Node _ (Leaf first _ (Leaf name _ (Node _ others _))) _) = declared name ∷ more_names others
 names_maybe _ = []
@@ -484,7 +486,7 @@ abbrev pub signatures_in : Forest → List SignatureTree
 signatures_in (Node _ signature (Node _ others _)) = signature_in signature (signatures_in others)
 signatures_in _ = []
 
--- after the type and the name of a member: ";", a value, or parameters and a body, whose first statement has this index
+-- a member, by what follows its type and name: ";", a value, or parameters and a body, whose first index is this one
 abbrev pub member_by : ℕ → TypeTree → DeclaredTree → Forest → MemberTree
 member_by index type name (Leaf opening _ (Node _ params (Leaf closing _ (Node _ block _)))) =
     MethodTree (record { result = type; name = name; params = params_maybe params }) (block_end block) (block_in index block)
@@ -522,7 +524,7 @@ abbrev pub decls_in : ℕ → Forest → List DeclTree
 decls_in index (Node _ decl (Node _ more _)) = decl_in index decl (decls_in (index + decl_statements (decl_in index decl [])) more)
 decls_in index _ = []
 
--- Program: "module" and "import" lines are read and leave nothing; the statements of the main block come after those of the classes
+-- Program: the "module" and "import" lines leave nothing, and the indices of the main block follow those of the classes
 abbrev pub text_in : Forest → SourceTree
 text_in (Node _ heading (Node _ imported (Node _ decls (Node _ block _)))) =
     let declarations = decls_in 0 decls in

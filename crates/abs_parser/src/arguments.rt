@@ -1,9 +1,9 @@
 //! Reads the arguments of functions, constructors and methods.
-ghost use Rattle.std.specs.Prelude.{◌≡◌, ◌+◌, ◌<◌, ◌≤◌, ◌^◌, length, IfOk, IfErr};
+ghost use Rattle.std.specs.Prelude.{◌≡◌, ◌≤◌};
 ghost use Rattle.abs_tree.specs.SyntaxViews.{phrases};
 ghost use Rattle.abs_parser.specs.Productions.{Arguments, Args};
-ghost use Rattle.abs_parser.specs.Readings.{One, Optional, Subgoal};
-ghost use Rattle.abs_parser.specs.ReaderAnswers.{FoundAs, IsRefused, maybe_phrases};
+ghost use Rattle.abs_parser.specs.Readings.{One, Optional};
+ghost use Rattle.abs_parser.specs.ReaderAnswers.{Parses, parse_of, HasRoom, maybe_phrases};
 ghost use Rattle.abs_parser.specs.Stops.{limit};
 ghost use Rattle.abs_parser.specs.TreesOf.{arguments_in, arguments_maybe as maybe_arguments_in, args_in};
 ghost use Rattle.abs_parser.specs.Views.{spot};
@@ -19,7 +19,7 @@ use std::alloc::Global;
 /// The expressions between `(` and `)`, where there are parentheses, and the cursor after them.
 ///
 /// # Errors
-/// The refusal of the first token that no arguments have there, or that is too deeply nested.
+/// The refusal of the first token that is a syntax error or too deeply nested.
 #[cycle(phrases)]
 pub(crate) fn arguments_maybe<'a, 'b>(
     alloc: Global,
@@ -27,13 +27,10 @@ pub(crate) fn arguments_maybe<'a, 'b>(
     depth: u32,
     from: Cursor<'a, 'b>,
 ) -> Result<(Option<Vec<Expr>>, Cursor<'a, 'b>), ParseError>
-    requires names { length symbols.old + length (spot from).rest < 2 ^ 31 }
+    requires names { HasRoom symbols.old (spot from) }
     requires depth { depth ≤ limit }
-    ensures found { IfOk result (λ found. FoundAs (Optional Arguments) depth symbols.old symbols.new (spot from.entry)
-        (spot found.1)
-        (λ names inside. maybe_phrases names found.0 ≡ maybe_arguments_in inside)) }
-    ensures refused { IfErr result (λ error. IsRefused (Subgoal (Optional Arguments) depth)
-        (spot from.entry) error) }
+    ensures { Parses result (parse_of (Optional Arguments) depth symbols.old symbols.new (spot from.entry)
+        (λ found. spot found.1) (λ found names inside. maybe_phrases names found.0 ≡ maybe_arguments_in inside)) }
 {
     if !from.is(Lexeme::Punctuator(Punctuator::OpenParen)) {
         return Ok((None, from));
@@ -45,7 +42,7 @@ pub(crate) fn arguments_maybe<'a, 'b>(
 /// The expressions between `(` and `)`, and the cursor after them.
 ///
 /// # Errors
-/// The refusal of the first token that no arguments have there, or that is too deeply nested.
+/// The refusal of the first token that is a syntax error or too deeply nested.
 #[cycle(phrases)]
 pub(crate) fn arguments<'a, 'b>(
     alloc: Global,
@@ -53,12 +50,10 @@ pub(crate) fn arguments<'a, 'b>(
     depth: u32,
     from: Cursor<'a, 'b>,
 ) -> Result<(Vec<Expr>, Cursor<'a, 'b>), ParseError>
-    requires names { length symbols.old + length (spot from).rest < 2 ^ 31 }
+    requires names { HasRoom symbols.old (spot from) }
     requires depth { depth ≤ limit }
-    ensures found { IfOk result (λ found. FoundAs (One Arguments) depth symbols.old symbols.new (spot from.entry)
-        (spot found.1)
-        (λ names inside. phrases names found.0.items ≡ arguments_in inside)) }
-    ensures refused { IfErr result (λ error. IsRefused (Subgoal (One Arguments) depth) (spot from.entry) error) }
+    ensures { Parses result (parse_of (One Arguments) depth symbols.old symbols.new (spot from.entry)
+        (λ found. spot found.1) (λ found names inside. phrases names found.0.items ≡ arguments_in inside)) }
 {
     let (_, after) = from.take(Lexeme::Punctuator(Punctuator::OpenParen), depth)?;
     if let Some((_, end)) = after.accept(Lexeme::Punctuator(Punctuator::CloseParen)) {
@@ -77,12 +72,10 @@ fn expressions<'a, 'b>(
     depth: u32,
     from: Cursor<'a, 'b>,
 ) -> Result<(Vec<Expr>, Cursor<'a, 'b>), ParseError>
-    requires names { length symbols.old + length (spot from).rest < 2 ^ 31 }
+    requires names { HasRoom symbols.old (spot from) }
     requires depth { depth ≤ limit }
-    ensures found { IfOk result (λ found. FoundAs (One Args) depth symbols.old symbols.new (spot from.entry)
-        (spot found.1)
-        (λ names inside. phrases names found.0.items ≡ args_in inside)) }
-    ensures refused { IfErr result (λ error. IsRefused (Subgoal (One Args) depth) (spot from.entry) error) }
+    ensures { Parses result (parse_of (One Args) depth symbols.old symbols.new (spot from.entry)
+        (λ found. spot found.1) (λ found names inside. phrases names found.0.items ≡ args_in inside)) }
 {
     let (first, mut here) = expression(alloc, symbols, depth, from)?;
     let mut expressions = vec![in alloc; first]?;

@@ -1,12 +1,12 @@
 //! Reads `case` with its branches.
-ghost use Rattle.std.specs.Prelude.{◌≡◌, true, ◌+◌, ◌<◌, ◌≤◌, ◌^◌, length, IfOk, IfErr};
+ghost use Rattle.std.specs.Prelude.{◌≡◌, true, ◌+◌, ◌≤◌};
 ghost use Rattle.abs_lexer.specs.declared.lexeme.Keyword.TheVariants as keyword;
 ghost use Rattle.abs_tree.specs.Syntax.{Branches, NextBranch};
 ghost use Rattle.abs_tree.specs.SyntaxViews.{phrase, pattern_tree};
 ghost use Rattle.abs_parser.specs.TokenKinds.{KeywordKind, fits, next};
 ghost use Rattle.abs_parser.specs.Productions.{Primary, Branch as BranchSymbol};
-ghost use Rattle.abs_parser.specs.Readings.{One, Subgoal};
-ghost use Rattle.abs_parser.specs.ReaderAnswers.{FoundAs, IsRefused, left_at};
+ghost use Rattle.abs_parser.specs.Readings.{One};
+ghost use Rattle.abs_parser.specs.ReaderAnswers.{Parses, parse_of, HasRoom, left_at};
 ghost use Rattle.abs_parser.specs.Stops.{limit};
 ghost use Rattle.abs_parser.specs.TreesOf.{primary_in, branch_in};
 ghost use Rattle.abs_parser.specs.Views.{spot};
@@ -23,7 +23,7 @@ use std::alloc::Global;
 /// `case e { p => e; .. }`, and the cursor after it.
 ///
 /// # Errors
-/// The refusal of the first token that no `case` has there, or that is too deeply nested.
+/// The refusal of the first token that is a syntax error or too deeply nested.
 #[cycle(phrases)]
 pub(crate) fn case_primary<'a, 'b>(
     alloc: Global,
@@ -32,12 +32,10 @@ pub(crate) fn case_primary<'a, 'b>(
     from: Cursor<'a, 'b>,
 ) -> Result<(Expr, Cursor<'a, 'b>), ParseError>
     requires begins { fits (KeywordKind keyword.Case) (next (left_at (spot from))) ≡ true }
-    requires names { length symbols.old + length (spot from).rest < 2 ^ 31 }
+    requires names { HasRoom symbols.old (spot from) }
     requires depth { depth ≤ limit + 3 }
-    ensures found { IfOk result (λ found. FoundAs (One Primary) depth symbols.old symbols.new (spot from.entry)
-        (spot found.1)
-        (λ names inside. phrase names found.0 ≡ primary_in inside)) }
-    ensures refused { IfErr result (λ error. IsRefused (Subgoal (One Primary) depth) (spot from.entry) error) }
+    ensures { Parses result (parse_of (One Primary) depth symbols.old symbols.new (spot from.entry)
+        (λ found. spot found.1) (λ found names inside. phrase names found.0 ≡ primary_in inside)) }
 {
     let (token, subject_at) = from.take(Lexeme::Keyword(Keyword::Case), depth)?;
     let (subject, open) = expression(alloc, symbols, depth, subject_at)?;
@@ -67,13 +65,12 @@ fn branch<'a, 'b>(
     depth: u32,
     from: Cursor<'a, 'b>,
 ) -> Result<(Branch, Cursor<'a, 'b>), ParseError>
-    requires names { length symbols.old + length (spot from).rest < 2 ^ 31 }
+    requires names { HasRoom symbols.old (spot from) }
     requires depth { depth ≤ limit }
-    ensures found { IfOk result (λ found. FoundAs (One BranchSymbol) depth symbols.old symbols.new (spot from.entry)
-        (spot found.1)
-        (λ names inside. (others : Branches) → NextBranch (pattern_tree names found.0.pattern)
+    ensures { Parses result (parse_of (One BranchSymbol) depth symbols.old symbols.new (spot from.entry)
+        (λ found. spot found.1)
+        (λ found names inside. (others : Branches) → NextBranch (pattern_tree names found.0.pattern)
         (phrase names found.0.value) others ≡ branch_in inside others)) }
-    ensures refused { IfErr result (λ error. IsRefused (Subgoal (One BranchSymbol) depth) (spot from.entry) error) }
 {
     let (pattern, arrow) = pattern(alloc, symbols, depth, from)?;
     let (_, value_at) = arrow.take(Lexeme::Punctuator(Punctuator::Arrow), depth)?;

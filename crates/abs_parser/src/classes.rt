@@ -1,13 +1,13 @@
 //! Reads classes and their members.
-ghost use Rattle.std.specs.Prelude.{◌≡◌, true, List, [], ◌∷◌, ◌+◌, ◌<◌, ◌≤◌, ◌^◌, length, IfOk, IfErr};
+ghost use Rattle.std.specs.Prelude.{◌≡◌, true, List, [], ◌∷◌, ◌+◌, ◌≤◌, length, IfOk};
 ghost use Rattle.abs_lexer.specs.declared.lexeme.Keyword.TheVariants as keyword;
 ghost use Rattle.abs_tree.specs.Syntax.{Name, MemberTree, DeclTree};
 ghost use Rattle.abs_tree.specs.SyntaxSizes.{member_statements, decl_statements};
 ghost use Rattle.abs_tree.specs.SyntaxViews.{type_tree, declared as declared_tree, member_tree, decl_tree};
 ghost use Rattle.abs_parser.specs.TokenKinds.{KeywordKind, fits, next};
 ghost use Rattle.abs_parser.specs.Productions.{Decl as DeclSymbol, Member as MemberSymbol, MemberTail};
-ghost use Rattle.abs_parser.specs.Readings.{One, Subgoal};
-ghost use Rattle.abs_parser.specs.ReaderAnswers.{FoundAs, IsRefused, left_at};
+ghost use Rattle.abs_parser.specs.Readings.{One};
+ghost use Rattle.abs_parser.specs.ReaderAnswers.{Parses, parse_of, HasRoom, HasIndexes, left_at};
 ghost use Rattle.abs_parser.specs.TreesOf.{decl_in, member_in, member_by};
 ghost use Rattle.abs_parser.specs.Views.{spot};
 
@@ -28,7 +28,7 @@ use std::sync::Arc;
 /// after it.
 ///
 /// # Errors
-/// The refusal of the first token that no such declaration has there, or that is too deeply nested.
+/// The refusal of the first token that is a syntax error or too deeply nested.
 pub(crate) fn class<'a, 'b>(
     alloc: Global,
     symbols: &mut Symbols<'a>,
@@ -36,15 +36,15 @@ pub(crate) fn class<'a, 'b>(
     from: Cursor<'a, 'b>,
 ) -> Result<(Decl, u32, Cursor<'a, 'b>), ParseError>
     requires begins { fits (KeywordKind keyword.Class) (next (left_at (spot from))) ≡ true }
-    requires names { length symbols.old + length (spot from).rest < 2 ^ 31 }
-    requires few { index + length (spot from).rest < 2 ^ 31 }
-    ensures found { IfOk result (λ found. FoundAs (One DeclSymbol) 0 symbols.old symbols.new (spot from.entry)
-        (spot found.2)
-        (λ names inside. (others : List DeclTree) → decl_tree names found.0 ∷ others ≡ decl_in index inside others)) }
+    requires names { HasRoom symbols.old (spot from) }
+    requires few { HasIndexes index (spot from) }
+    ensures parses { Parses result (parse_of (One DeclSymbol) 0 symbols.old symbols.new (spot from.entry)
+        (λ found. spot found.2)
+        (λ found names inside. (others : List DeclTree)
+        → decl_tree names found.0 ∷ others ≡ decl_in index inside others)) }
     ensures free { IfOk result (λ found. (names : List Name)
         → found.1 ≡ index + decl_statements (decl_tree names found.0 ∷ [])) }
     ensures few { IfOk result (λ found. found.1 + length (spot found.2).rest ≤ index + length (spot from.entry).rest) }
-    ensures refused { IfErr result (λ error. IsRefused (Subgoal (One DeclSymbol) 0) (spot from.entry) error) }
 {
     let (token, name_at) = from.take(Lexeme::Keyword(Keyword::Class), 0)?;
     let (name, after) = name_at.take(Lexeme::UpperName, 0)?;
@@ -82,16 +82,15 @@ fn member<'a, 'b>(
     index: u32,
     from: Cursor<'a, 'b>,
 ) -> Result<(Member, u32, Cursor<'a, 'b>), ParseError>
-    requires names { length symbols.old + length (spot from).rest < 2 ^ 31 }
-    requires few { index + length (spot from).rest < 2 ^ 31 }
-    ensures found { IfOk result (λ found. FoundAs (One MemberSymbol) 0 symbols.old symbols.new (spot from.entry)
-        (spot found.2)
-        (λ names inside. (others : List MemberTree)
+    requires names { HasRoom symbols.old (spot from) }
+    requires few { HasIndexes index (spot from) }
+    ensures parses { Parses result (parse_of (One MemberSymbol) 0 symbols.old symbols.new (spot from.entry)
+        (λ found. spot found.2)
+        (λ found names inside. (others : List MemberTree)
         → member_tree names found.0 ∷ others ≡ member_in index inside others)) }
     ensures free { IfOk result (λ found. (names : List Name)
         → found.1 ≡ index + member_statements (member_tree names found.0 ∷ [])) }
     ensures few { IfOk result (λ found. found.1 + length (spot found.2).rest ≤ index + length (spot from.entry).rest) }
-    ensures refused { IfErr result (λ error. IsRefused (Subgoal (One MemberSymbol) 0) (spot from.entry) error) }
 {
     let (type_of, name_at) = type_term(alloc, symbols, 0, from)?;
     let (name, after) = name_at.take(Lexeme::LowerName, 0)?;
@@ -111,16 +110,15 @@ fn member_tail<'a, 'b>(
     name: Declared,
     from: Cursor<'a, 'b>,
 ) -> Result<(Member, u32, Cursor<'a, 'b>), ParseError>
-    requires names { length symbols.old + length (spot from).rest < 2 ^ 31 }
-    requires few { index + length (spot from).rest < 2 ^ 31 }
-    ensures found { IfOk result (λ found. FoundAs (One MemberTail) 0 symbols.old symbols.new (spot from.entry)
-        (spot found.2)
-        (λ names inside. member_tree names found.0 ≡ member_by index (type_tree names type_of)
+    requires names { HasRoom symbols.old (spot from) }
+    requires few { HasIndexes index (spot from) }
+    ensures parses { Parses result (parse_of (One MemberTail) 0 symbols.old symbols.new (spot from.entry)
+        (λ found. spot found.2)
+        (λ found names inside. member_tree names found.0 ≡ member_by index (type_tree names type_of)
         (declared_tree names name) inside)) }
     ensures free { IfOk result (λ found. (names : List Name)
         → found.1 ≡ index + member_statements (member_tree names found.0 ∷ [])) }
     ensures few { IfOk result (λ found. found.1 + length (spot found.2).rest ≤ index + length (spot from.entry).rest) }
-    ensures refused { IfErr result (λ error. IsRefused (Subgoal (One MemberTail) 0) (spot from.entry) error) }
 {
     if let Some((_, end)) = from.accept(Lexeme::Punctuator(Punctuator::Semicolon)) {
         let field = Member::Field {

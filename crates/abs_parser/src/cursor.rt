@@ -1,5 +1,5 @@
 //! A cursor over the tokens of a source: which of them are left, and what the next one is.
-ghost use Rattle.std.specs.Prelude.{◌≡◌, true, false, ◌^◌, ◌<◌, ◌≤◌, [], length, IfOk, OnOk, IfErr, IfSome, IfNone, pos, List};
+ghost use Rattle.std.specs.Prelude.{◌≡◌, true, false, ◌≤◌, [], length, IfOk, OnOk, IfErr, IfSome, IfNone};
 ghost use Rattle.abs_tree.specs.Limits.{source_limit};
 
 use crate::ParseError;
@@ -8,7 +8,7 @@ use abs_lexer::{Lexeme, Token};
 use abs_tree::limits::{NESTING_LIMIT, SOURCE_LIMIT};
 use abs_tree::{Code, Offence, Place, Refusal};
 
-/// How many counted nonterminals may be open at once.
+/// The nesting limit: the number of counted nonterminals that may be open at once.
 const LIMIT: u32 = NESTING_LIMIT;
 
 /// A name with a spelling of its own, for which the grammar asks in one place.
@@ -47,7 +47,7 @@ impl<'a, 'b> Cursor<'a, 'b> {
     pub fn new(tokens: &'b Tokens<'a>) -> Cursor<'a, 'b>
         ensures { spot result ≡ whole tokens.now }
     {
-        // read for the bound alone, which no clause of the list itself gives
+        // the length is read only for its bound, which no clause of the list itself gives
         let few = tokens.len() <= SOURCE_LIMIT;
         prove!(few);
         Cursor { tokens, index: 0 }
@@ -80,7 +80,7 @@ impl<'a, 'b> Cursor<'a, 'b> {
         }
     }
 
-    /// The refusal of the next token as a syntax error: a word outside the profile has a code of its own.
+    /// The refusal of the next token as a syntax error: a foreign keyword has a code of its own.
     pub fn wrong(self) -> ParseError
         ensures { result ≡ Refused (wrong_at (spot self.entry)) }
     {
@@ -109,7 +109,7 @@ impl<'a, 'b> Cursor<'a, 'b> {
         ParseError::Refused(offence.refusal())
     }
 
-    /// The next token and the cursor after it, if the token is of this kind.
+    /// The next token and the cursor after it, if the token is of this lexeme.
     pub fn accept(self, kind: Lexeme) -> Option<(Token<'a>, Cursor<'a, 'b>)>
         ensures found { IfSome result (λ found. TakesKind kind (lexed found.0) (spot self.entry) (spot found.1)) }
         ensures well_formed { IfSome result (λ found. IsWellFormed (lexed found.0)) }
@@ -121,7 +121,7 @@ impl<'a, 'b> Cursor<'a, 'b> {
         }
     }
 
-    /// Whether the next token is of this kind.
+    /// Whether the next token is of this lexeme.
     pub fn is(self, kind: Lexeme) -> bool
         requires asked { is_asked kind ≡ true }
         ensures { result ≡ fits (asked kind) (next (left_at (spot self.entry))) }
@@ -129,11 +129,11 @@ impl<'a, 'b> Cursor<'a, 'b> {
         self.accept(kind).is_some()
     }
 
-    /// The next token, which has to be of this kind and within the nesting limit, and the cursor after it. It is
+    /// The next token, which has to be of this lexeme and within the nesting limit, and the cursor after it. It is
     /// nested in `depth` counted nonterminals.
     ///
     /// # Errors
-    /// The refusal of the next token, if it is of another kind or too deeply nested.
+    /// The refusal of the next token, if it is of another lexeme or too deeply nested.
     pub fn take(self, kind: Lexeme, depth: u32) -> Result<(Token<'a>, Cursor<'a, 'b>), ParseError>
         requires asked { is_asked kind ≡ true }
         ensures found { IfOk result (λ found. TakesKind kind (lexed found.0) (spot self.entry) (spot found.1)) }
@@ -186,7 +186,7 @@ impl<'a, 'b> Cursor<'a, 'b> {
         }
     }
 
-    /// That no token is left.
+    /// Checks that no token is left.
     ///
     /// # Errors
     /// The refusal of the next token, if there is one.

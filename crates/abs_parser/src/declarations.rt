@@ -1,13 +1,13 @@
-//! Reads declarations of data, functions and interfaces.
-ghost use Rattle.std.specs.Prelude.{◌≡◌, true, ℕ, List, [], ◌∷◌, ◌+◌, ◌<◌, ◌≤◌, ◌^◌, length, IfOk, IfErr};
+//! Reads declarations of data types, functions and interfaces.
+ghost use Rattle.std.specs.Prelude.{◌≡◌, true, ℕ, List, [], ◌∷◌, IfOk};
 ghost use Rattle.abs_lexer.specs.declared.lexeme.Keyword.TheVariants as keyword;
 ghost use Rattle.abs_tree.specs.Syntax.{Name, ConstructorTree, SignatureTree, DeclTree};
 ghost use Rattle.abs_tree.specs.SyntaxSizes.{decl_statements};
 ghost use Rattle.abs_tree.specs.SyntaxViews.{constructor_tree, signature_tree, decl_tree};
 ghost use Rattle.abs_parser.specs.TokenKinds.{KeywordKind, fits, next};
 ghost use Rattle.abs_parser.specs.Productions.{Decl as DeclSymbol, Constructor as ConstructorSymbol, Signature as SignatureSymbol};
-ghost use Rattle.abs_parser.specs.Readings.{One, Subgoal};
-ghost use Rattle.abs_parser.specs.ReaderAnswers.{FoundAs, IsRefused, left_at};
+ghost use Rattle.abs_parser.specs.Readings.{One};
+ghost use Rattle.abs_parser.specs.ReaderAnswers.{Parses, parse_of, HasRoom, left_at};
 ghost use Rattle.abs_parser.specs.TreesOf.{decl_in, constructor_in, signature_in};
 ghost use Rattle.abs_parser.specs.Views.{spot};
 
@@ -29,13 +29,11 @@ fn constructor<'a, 'b>(
     symbols: &mut Symbols<'a>,
     from: Cursor<'a, 'b>,
 ) -> Result<(Constructor, Cursor<'a, 'b>), ParseError>
-    requires names { length symbols.old + length (spot from).rest < 2 ^ 31 }
-    ensures found { IfOk result (λ found. FoundAs (One ConstructorSymbol) 0 symbols.old symbols.new
-        (spot from.entry) (spot found.1)
-        (λ names inside. (others : List ConstructorTree)
+    requires names { HasRoom symbols.old (spot from) }
+    ensures { Parses result (parse_of (One ConstructorSymbol) 0 symbols.old symbols.new (spot from.entry)
+        (λ found. spot found.1)
+        (λ found names inside. (others : List ConstructorTree)
         → constructor_tree names found.0 ∷ others ≡ constructor_in inside others)) }
-    ensures refused { IfErr result (λ error. IsRefused (Subgoal (One ConstructorSymbol) 0)
-        (spot from.entry) error) }
 {
     let (name, open) = from.take(Lexeme::UpperName, 0)?;
     let place = name.place;
@@ -45,23 +43,22 @@ fn constructor<'a, 'b>(
     Ok((Constructor { name, types }, end))
 }
 
-/// A declaration of data, and the cursor after it.
+/// A declaration of a data type, and the cursor after it.
 ///
 /// # Errors
-/// The refusal of the first token that no such declaration has there, or that is too deeply nested.
+/// The refusal of the first token that is a syntax error or too deeply nested.
 pub(crate) fn data<'a, 'b>(
     alloc: Global,
     symbols: &mut Symbols<'a>,
     from: Cursor<'a, 'b>,
 ) -> Result<(Decl, Cursor<'a, 'b>), ParseError>
     requires begins { fits (KeywordKind keyword.Data) (next (left_at (spot from))) ≡ true }
-    requires names { length symbols.old + length (spot from).rest < 2 ^ 31 }
-    ensures found { IfOk result (λ found. FoundAs (One DeclSymbol) 0 symbols.old symbols.new (spot from.entry)
-        (spot found.1)
-        (λ names inside. (index : ℕ) (others : List DeclTree)
+    requires names { HasRoom symbols.old (spot from) }
+    ensures parses { Parses result (parse_of (One DeclSymbol) 0 symbols.old symbols.new (spot from.entry)
+        (λ found. spot found.1)
+        (λ found names inside. (index : ℕ) (others : List DeclTree)
         → decl_tree names found.0 ∷ others ≡ decl_in index inside others)) }
     ensures none { IfOk result (λ found. (names : List Name) → decl_statements (decl_tree names found.0 ∷ []) ≡ 0) }
-    ensures refused { IfErr result (λ error. IsRefused (Subgoal (One DeclSymbol) 0) (spot from.entry) error) }
 {
     let (token, name_at) = from.take(Lexeme::Keyword(Keyword::Data), 0)?;
     let (name, after) = name_at.take(Lexeme::UpperName, 0)?;
@@ -91,20 +88,19 @@ pub(crate) fn data<'a, 'b>(
 /// A declaration of a function, and the cursor after it.
 ///
 /// # Errors
-/// The refusal of the first token that no such declaration has there, or that is too deeply nested.
+/// The refusal of the first token that is a syntax error or too deeply nested.
 pub(crate) fn function<'a, 'b>(
     alloc: Global,
     symbols: &mut Symbols<'a>,
     from: Cursor<'a, 'b>,
 ) -> Result<(Decl, Cursor<'a, 'b>), ParseError>
     requires begins { fits (KeywordKind keyword.Def) (next (left_at (spot from))) ≡ true }
-    requires names { length symbols.old + length (spot from).rest < 2 ^ 31 }
-    ensures found { IfOk result (λ found. FoundAs (One DeclSymbol) 0 symbols.old symbols.new (spot from.entry)
-        (spot found.1)
-        (λ names inside. (index : ℕ) (others : List DeclTree)
+    requires names { HasRoom symbols.old (spot from) }
+    ensures parses { Parses result (parse_of (One DeclSymbol) 0 symbols.old symbols.new (spot from.entry)
+        (λ found. spot found.1)
+        (λ found names inside. (index : ℕ) (others : List DeclTree)
         → decl_tree names found.0 ∷ others ≡ decl_in index inside others)) }
     ensures none { IfOk result (λ found. (names : List Name) → decl_statements (decl_tree names found.0 ∷ []) ≡ 0) }
-    ensures refused { IfErr result (λ error. IsRefused (Subgoal (One DeclSymbol) 0) (spot from.entry) error) }
 {
     let (token, type_at) = from.take(Lexeme::Keyword(Keyword::Def), 0)?;
     let (result, name_at) = type_term(alloc, symbols, 0, type_at)?;
@@ -135,20 +131,19 @@ pub(crate) fn function<'a, 'b>(
 /// A declaration of an interface, and the cursor after it.
 ///
 /// # Errors
-/// The refusal of the first token that no such declaration has there, or that is too deeply nested.
+/// The refusal of the first token that is a syntax error or too deeply nested.
 pub(crate) fn interface<'a, 'b>(
     alloc: Global,
     symbols: &mut Symbols<'a>,
     from: Cursor<'a, 'b>,
 ) -> Result<(Decl, Cursor<'a, 'b>), ParseError>
     requires begins { fits (KeywordKind keyword.Interface) (next (left_at (spot from))) ≡ true }
-    requires names { length symbols.old + length (spot from).rest < 2 ^ 31 }
-    ensures found { IfOk result (λ found. FoundAs (One DeclSymbol) 0 symbols.old symbols.new (spot from.entry)
-        (spot found.1)
-        (λ names inside. (index : ℕ) (others : List DeclTree)
+    requires names { HasRoom symbols.old (spot from) }
+    ensures parses { Parses result (parse_of (One DeclSymbol) 0 symbols.old symbols.new (spot from.entry)
+        (λ found. spot found.1)
+        (λ found names inside. (index : ℕ) (others : List DeclTree)
         → decl_tree names found.0 ∷ others ≡ decl_in index inside others)) }
     ensures none { IfOk result (λ found. (names : List Name) → decl_statements (decl_tree names found.0 ∷ []) ≡ 0) }
-    ensures refused { IfErr result (λ error. IsRefused (Subgoal (One DeclSymbol) 0) (spot from.entry) error) }
 {
     let (token, name_at) = from.take(Lexeme::Keyword(Keyword::Interface), 0)?;
     let (name, after) = name_at.take(Lexeme::UpperName, 0)?;
@@ -180,13 +175,11 @@ fn signature<'a, 'b>(
     symbols: &mut Symbols<'a>,
     from: Cursor<'a, 'b>,
 ) -> Result<(Signature, Cursor<'a, 'b>), ParseError>
-    requires names { length symbols.old + length (spot from).rest < 2 ^ 31 }
-    ensures found { IfOk result (λ found. FoundAs (One SignatureSymbol) 0 symbols.old symbols.new
-        (spot from.entry) (spot found.1)
-        (λ names inside. (others : List SignatureTree)
+    requires names { HasRoom symbols.old (spot from) }
+    ensures { Parses result (parse_of (One SignatureSymbol) 0 symbols.old symbols.new (spot from.entry)
+        (λ found. spot found.1)
+        (λ found names inside. (others : List SignatureTree)
         → signature_tree names found.0 ∷ others ≡ signature_in inside others)) }
-    ensures refused { IfErr result (λ error. IsRefused (Subgoal (One SignatureSymbol) 0)
-        (spot from.entry) error) }
 {
     let (result, name_at) = type_term(alloc, symbols, 0, from)?;
     let (name, open) = name_at.take(Lexeme::LowerName, 0)?;

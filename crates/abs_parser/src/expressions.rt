@@ -1,11 +1,11 @@
-//! Reads expressions: `let`, `if`, and what else there is by the precedences of its operators.
-ghost use Rattle.std.specs.Prelude.{◌≡◌, true, ◌+◌, ◌<◌, ◌≤◌, ◌^◌, length, IfOk, IfErr};
+//! Reads expressions: `let`, `if`, and operator lists by the precedences of their operators.
+ghost use Rattle.std.specs.Prelude.{◌≡◌, true, ◌+◌, ◌≤◌, IfOk, IfErr};
 ghost use Rattle.abs_lexer.specs.declared.lexeme.Keyword.TheVariants as keyword;
 ghost use Rattle.abs_tree.specs.SyntaxViews.{phrase};
 ghost use Rattle.abs_parser.specs.TokenKinds.{KeywordKind, fits, next};
 ghost use Rattle.abs_parser.specs.Productions.{Expr as ExprSymbol};
-ghost use Rattle.abs_parser.specs.Readings.{One, Subgoal};
-ghost use Rattle.abs_parser.specs.ReaderAnswers.{FoundAs, IsRefused, left_at};
+ghost use Rattle.abs_parser.specs.Readings.{One};
+ghost use Rattle.abs_parser.specs.ReaderAnswers.{Parses, parse_of, HasRoom, FoundInParentheses, AreRefused, in_parentheses_at, left_at};
 ghost use Rattle.abs_parser.specs.Stops.{limit};
 ghost use Rattle.abs_parser.specs.TreesOf.{expr_in};
 ghost use Rattle.abs_parser.specs.Views.{spot};
@@ -22,7 +22,7 @@ use std::alloc::Global;
 /// An expression nested in `depth` counted nonterminals, and the cursor after it.
 ///
 /// # Errors
-/// The refusal of the first token that no expression has there, or that is too deeply nested.
+/// The refusal of the first token that is a syntax error or too deeply nested.
 #[cycle(phrases)]
 pub(crate) fn expression<'a, 'b>(
     alloc: Global,
@@ -30,12 +30,10 @@ pub(crate) fn expression<'a, 'b>(
     depth: u32,
     from: Cursor<'a, 'b>,
 ) -> Result<(Expr, Cursor<'a, 'b>), ParseError>
-    requires names { length symbols.old + length (spot from).rest < 2 ^ 31 }
+    requires names { HasRoom symbols.old (spot from) }
     requires depth { depth ≤ limit + 1 }
-    ensures found { IfOk result (λ found. FoundAs (One ExprSymbol) depth symbols.old symbols.new (spot from.entry)
-        (spot found.1)
-        (λ names inside. phrase names found.0 ≡ expr_in inside)) }
-    ensures refused { IfErr result (λ error. IsRefused (Subgoal (One ExprSymbol) depth) (spot from.entry) error) }
+    ensures { Parses result (parse_of (One ExprSymbol) depth symbols.old symbols.new (spot from.entry)
+        (λ found. spot found.1) (λ found names inside. phrase names found.0 ≡ expr_in inside)) }
 {
     if from.is(Lexeme::Keyword(Keyword::Let)) {
         return let_expression(alloc, symbols, depth, from);
@@ -44,6 +42,29 @@ pub(crate) fn expression<'a, 'b>(
         return if_expression(alloc, symbols, depth, from);
     }
     operators(alloc, symbols, Precedence::Or, depth + 1, from)
+}
+
+/// `(e)`, nested in `depth` counted nonterminals: the expression, and the cursor after the closing parenthesis.
+///
+/// # Errors
+/// The refusal of the first token that is a syntax error or too deeply nested.
+pub(crate) fn in_parentheses<'a, 'b>(
+    alloc: Global,
+    symbols: &mut Symbols<'a>,
+    depth: u32,
+    from: Cursor<'a, 'b>,
+) -> Result<(Expr, Cursor<'a, 'b>), ParseError>
+    requires names { HasRoom symbols.old (spot from) }
+    requires depth { depth ≤ limit + 1 }
+    ensures found { IfOk result (λ found. FoundInParentheses depth symbols.old symbols.new (spot from.entry)
+        (spot found.1)
+        (λ names inside. phrase names found.0 ≡ expr_in inside)) }
+    ensures refused { IfErr result (λ error. AreRefused (in_parentheses_at depth) (spot from.entry) error) }
+{
+    let (_, expr_at) = from.take(Lexeme::Punctuator(Punctuator::OpenParen), depth)?;
+    let (expr, close) = expression(alloc, symbols, depth, expr_at)?;
+    let (_, end) = close.take(Lexeme::Punctuator(Punctuator::CloseParen), depth)?;
+    Ok((expr, end))
 }
 
 /// `let (T x) = e in e`, and the cursor after it.
@@ -55,12 +76,10 @@ fn let_expression<'a, 'b>(
     from: Cursor<'a, 'b>,
 ) -> Result<(Expr, Cursor<'a, 'b>), ParseError>
     requires begins { fits (KeywordKind keyword.Let) (next (left_at (spot from))) ≡ true }
-    requires names { length symbols.old + length (spot from).rest < 2 ^ 31 }
+    requires names { HasRoom symbols.old (spot from) }
     requires depth { depth ≤ limit + 1 }
-    ensures found { IfOk result (λ found. FoundAs (One ExprSymbol) depth symbols.old symbols.new (spot from.entry)
-        (spot found.1)
-        (λ names inside. phrase names found.0 ≡ expr_in inside)) }
-    ensures refused { IfErr result (λ error. IsRefused (Subgoal (One ExprSymbol) depth) (spot from.entry) error) }
+    ensures { Parses result (parse_of (One ExprSymbol) depth symbols.old symbols.new (spot from.entry)
+        (λ found. spot found.1) (λ found names inside. phrase names found.0 ≡ expr_in inside)) }
 {
     let (token, open) = from.take(Lexeme::Keyword(Keyword::Let), depth + 1)?;
     let (_, type_at) = open.take(Lexeme::Punctuator(Punctuator::OpenParen), depth + 1)?;
@@ -94,12 +113,10 @@ fn if_expression<'a, 'b>(
     from: Cursor<'a, 'b>,
 ) -> Result<(Expr, Cursor<'a, 'b>), ParseError>
     requires begins { fits (KeywordKind keyword.If) (next (left_at (spot from))) ≡ true }
-    requires names { length symbols.old + length (spot from).rest < 2 ^ 31 }
+    requires names { HasRoom symbols.old (spot from) }
     requires depth { depth ≤ limit + 1 }
-    ensures found { IfOk result (λ found. FoundAs (One ExprSymbol) depth symbols.old symbols.new (spot from.entry)
-        (spot found.1)
-        (λ names inside. phrase names found.0 ≡ expr_in inside)) }
-    ensures refused { IfErr result (λ error. IsRefused (Subgoal (One ExprSymbol) depth) (spot from.entry) error) }
+    ensures { Parses result (parse_of (One ExprSymbol) depth symbols.old symbols.new (spot from.entry)
+        (λ found. spot found.1) (λ found names inside. phrase names found.0 ≡ expr_in inside)) }
 {
     let (token, test_at) = from.take(Lexeme::Keyword(Keyword::If), depth + 1)?;
     let (test, then_at) = expression(alloc, symbols, depth + 1, test_at)?;

@@ -1,10 +1,10 @@
 //! Reads guards.
-ghost use Rattle.std.specs.Prelude.{◌≡◌, ◌+◌, ◌<◌, ◌≤◌, ◌^◌, length, IfOk, IfErr};
+ghost use Rattle.std.specs.Prelude.{◌≡◌, ◌≤◌};
 ghost use Rattle.abs_tree.specs.Syntax.{Tests, NextTest};
 ghost use Rattle.abs_tree.specs.SyntaxViews.{phrase, tests as test_trees};
 ghost use Rattle.abs_parser.specs.Productions.{Guard, Test as TestSymbol};
-ghost use Rattle.abs_parser.specs.Readings.{One, Subgoal};
-ghost use Rattle.abs_parser.specs.ReaderAnswers.{FoundAs, IsRefused};
+ghost use Rattle.abs_parser.specs.Readings.{One};
+ghost use Rattle.abs_parser.specs.ReaderAnswers.{Parses, parse_of, HasRoom};
 ghost use Rattle.abs_parser.specs.Stops.{limit};
 ghost use Rattle.abs_parser.specs.TreesOf.{guard_in, test_in};
 ghost use Rattle.abs_parser.specs.Views.{spot};
@@ -21,19 +21,17 @@ use std::sync::Arc;
 /// Tests with `&&` between them, and the cursor after them.
 ///
 /// # Errors
-/// The refusal of the first token that no guard has there, or that is too deeply nested.
+/// The refusal of the first token that is a syntax error or too deeply nested.
 pub(crate) fn guard<'a, 'b>(
     alloc: Global,
     symbols: &mut Symbols<'a>,
     depth: u32,
     from: Cursor<'a, 'b>,
 ) -> Result<(Vec<Test>, Cursor<'a, 'b>), ParseError>
-    requires names { length symbols.old + length (spot from).rest < 2 ^ 31 }
+    requires names { HasRoom symbols.old (spot from) }
     requires depth { depth ≤ limit }
-    ensures found { IfOk result (λ found. FoundAs (One Guard) depth symbols.old symbols.new (spot from.entry)
-        (spot found.1)
-        (λ names inside. test_trees names found.0.items ≡ guard_in inside)) }
-    ensures refused { IfErr result (λ error. IsRefused (Subgoal (One Guard) depth) (spot from.entry) error) }
+    ensures { Parses result (parse_of (One Guard) depth symbols.old symbols.new (spot from.entry)
+        (λ found. spot found.1) (λ found names inside. test_trees names found.0.items ≡ guard_in inside)) }
 {
     let (first, mut here) = test(alloc, symbols, depth, from)?;
     let mut tests = vec![in alloc; first]?;
@@ -45,20 +43,19 @@ pub(crate) fn guard<'a, 'b>(
     Ok((tests, here))
 }
 
-/// An expression before `&&`, perhaps with `?` after it, and the cursor after it.
+/// A test: an expression of the precedence of `==`, perhaps with `?` after it; and the cursor after it.
 fn test<'a, 'b>(
     alloc: Global,
     symbols: &mut Symbols<'a>,
     depth: u32,
     from: Cursor<'a, 'b>,
 ) -> Result<(Test, Cursor<'a, 'b>), ParseError>
-    requires names { length symbols.old + length (spot from).rest < 2 ^ 31 }
+    requires names { HasRoom symbols.old (spot from) }
     requires depth { depth ≤ limit }
-    ensures found { IfOk result (λ found. FoundAs (One TestSymbol) depth symbols.old symbols.new (spot from.entry)
-        (spot found.1)
-        (λ names inside. (others : Tests) → NextTest found.0.place
+    ensures { Parses result (parse_of (One TestSymbol) depth symbols.old symbols.new (spot from.entry)
+        (λ found. spot found.1)
+        (λ found names inside. (others : Tests) → NextTest found.0.place
         (phrase names found.0.value.value) found.0.asks others ≡ test_in inside others)) }
-    ensures refused { IfErr result (λ error. IsRefused (Subgoal (One TestSymbol) depth) (spot from.entry) error) }
 {
     let place = from.place();
     let (value, after) = operators(alloc, symbols, Precedence::Equal, depth, from)?;

@@ -7,7 +7,7 @@ ghost use Rattle.abs_parser.specs.TreesOf.{unescaped, escaped_byte as byte_of_es
 use abs_tree::Text;
 use std::alloc::{AllocError, Global};
 
-/// The number that digits write.
+/// The value of decimal digits.
 pub(crate) fn numeral(digits: &[u8]) -> i128
     requires number { IsNumber digits.now }
     requires fits { digits_value 10 digits.now < 2 ^ 127 }

@@ -1,11 +1,11 @@
 //! Reads lists of upper-case names: the parameters of a type, and the interfaces that an interface extends or a class
 //! implements.
-ghost use Rattle.std.specs.Prelude.{◌≡◌, ◌+◌, ◌<◌, ◌^◌, ◌∷◌, length, map, IfOk, IfErr};
+ghost use Rattle.std.specs.Prelude.{◌≡◌, ◌∷◌, map};
 ghost use Rattle.abs_tree.specs.SyntaxViews.{declared as declared_tree};
 ghost use Rattle.abs_parser.specs.Headings.{nonterminal_of};
 ghost use Rattle.abs_parser.specs.Productions.{CommaUpper, TypeParameters};
-ghost use Rattle.abs_parser.specs.Readings.{Optional, Repeated, Subgoal};
-ghost use Rattle.abs_parser.specs.ReaderAnswers.{FoundAs, IsRefused};
+ghost use Rattle.abs_parser.specs.Readings.{Optional, Repeated};
+ghost use Rattle.abs_parser.specs.ReaderAnswers.{Parses, parse_of, HasRoom};
 ghost use Rattle.abs_parser.specs.TreesOf.{names_maybe, more_names as more_names_in};
 ghost use Rattle.abs_parser.specs.Views.{spot};
 
@@ -28,19 +28,16 @@ pub(crate) enum Heading {
 /// Names after a keyword, if the keyword is next, and the cursor after them.
 ///
 /// # Errors
-/// The refusal of the first token that no such list has there.
+/// The refusal of the first token that is a syntax error.
 pub(crate) fn interface_names<'a, 'b>(
     alloc: Global,
     symbols: &mut Symbols<'a>,
     heading: Heading,
     from: Cursor<'a, 'b>,
 ) -> Result<(Vec<Declared>, Cursor<'a, 'b>), ParseError>
-    requires names { length symbols.old + length (spot from).rest < 2 ^ 31 }
-    ensures found { IfOk result (λ found. FoundAs (Optional (nonterminal_of heading)) 0 symbols.old symbols.new
-        (spot from.entry) (spot found.1)
-        (λ names inside. map (declared_tree names) found.0.items ≡ names_maybe inside)) }
-    ensures refused { IfErr result (λ error. IsRefused (Subgoal (Optional (nonterminal_of heading)) 0)
-        (spot from.entry) error) }
+    requires names { HasRoom symbols.old (spot from) }
+    ensures { Parses result (parse_of (Optional (nonterminal_of heading)) 0 symbols.old symbols.new (spot from.entry)
+        (λ found. spot found.1) (λ found names inside. map (declared_tree names) found.0.items ≡ names_maybe inside)) }
 {
     let keyword = match heading {
         Heading::Extends => Keyword::Extends,
@@ -60,18 +57,15 @@ pub(crate) fn interface_names<'a, 'b>(
 /// The parameters of a type between `<` and `>`, where there are any, and the cursor after them.
 ///
 /// # Errors
-/// The refusal of the first token that no such list has there.
+/// The refusal of the first token that is a syntax error.
 pub(crate) fn type_parameters<'a, 'b>(
     alloc: Global,
     symbols: &mut Symbols<'a>,
     from: Cursor<'a, 'b>,
 ) -> Result<(Vec<Declared>, Cursor<'a, 'b>), ParseError>
-    requires names { length symbols.old + length (spot from).rest < 2 ^ 31 }
-    ensures found { IfOk result (λ found. FoundAs (Optional TypeParameters) 0 symbols.old symbols.new
-        (spot from.entry) (spot found.1)
-        (λ names inside. map (declared_tree names) found.0.items ≡ names_maybe inside)) }
-    ensures refused { IfErr result (λ error. IsRefused (Subgoal (Optional TypeParameters) 0)
-        (spot from.entry) error) }
+    requires names { HasRoom symbols.old (spot from) }
+    ensures { Parses result (parse_of (Optional TypeParameters) 0 symbols.old symbols.new (spot from.entry)
+        (λ found. spot found.1) (λ found names inside. map (declared_tree names) found.0.items ≡ names_maybe inside)) }
 {
     let Some((_, name_at)) = from.accept(Lexeme::Punctuator(Punctuator::Less)) else {
         return Ok((Vec::new(alloc), from));
@@ -93,12 +87,11 @@ fn more_names<'a, 'b>(
     first: Declared,
     from: Cursor<'a, 'b>,
 ) -> Result<(Vec<Declared>, Cursor<'a, 'b>), ParseError>
-    requires names { length symbols.old + length (spot from).rest < 2 ^ 31 }
-    ensures found { IfOk result (λ found. FoundAs (Repeated CommaUpper) 0 symbols.old symbols.new
-        (spot from.entry) (spot found.1)
-        (λ names inside. map (declared_tree names) found.0.items ≡ declared_tree names first ∷ more_names_in inside)) }
-    ensures refused { IfErr result (λ error. IsRefused (Subgoal (Repeated CommaUpper) 0)
-        (spot from.entry) error) }
+    requires names { HasRoom symbols.old (spot from) }
+    ensures { Parses result (parse_of (Repeated CommaUpper) 0 symbols.old symbols.new (spot from.entry)
+        (λ found. spot found.1)
+        (λ found names inside. map (declared_tree names) found.0.items
+        ≡ declared_tree names first ∷ more_names_in inside)) }
 {
     let mut listed = vec![in alloc; first]?;
     let mut here = from;

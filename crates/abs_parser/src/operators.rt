@@ -1,14 +1,14 @@
-//! Reads lists of operators with their operands: a unary once, and then the operators after it, one precedence after
-//! another, from the one that binds most.
-ghost use Rattle.std.specs.Prelude.{◌≡◌, ℕ, List, false, ◌+◌, ◌<◌, ◌≤◌, ◌^◌, length, IfOk, IfErr, IfSome, IfNone};
+//! Reads operator lists. A unary is read once, and then the operators after it, one precedence after another, from the
+//! one that binds most.
+ghost use Rattle.std.specs.Prelude.{◌≡◌, ℕ, List, false, ◌+◌, ◌≤◌, IfOk, IfErr, IfSome, IfNone};
 ghost use Rattle.abs_tree.specs.SyntaxViews.{phrase, operand_trees};
 ghost use Rattle.abs_lexer.specs.declared.lexeme.Lexeme.TheVariants as lexeme;
 ghost use Rattle.abs_tree.specs.declared.syntax.expression.Operator as operator_type;
 ghost use Rattle.abs_parser.specs.TokenKinds.{PunctuatorKind, fits, next};
 ghost use Rattle.abs_parser.specs.Precedences.{rank, looser as looser_of, nonterminal_of, operand_nonterminal, rest_of, precedence_in, operand_in, operands_in, precedence_of as on_precedence, punctuator_of, repeats as may_repeat};
 ghost use Rattle.abs_parser.specs.Climbing.{Climbs, FailsToClimb};
-ghost use Rattle.abs_parser.specs.Readings.{One, Subgoal};
-ghost use Rattle.abs_parser.specs.ReaderAnswers.{FoundAs, IsRefused, Passes, left_at};
+ghost use Rattle.abs_parser.specs.Readings.{One};
+ghost use Rattle.abs_parser.specs.ReaderAnswers.{Parses, parse_of, HasRoom, Passes, left_at};
 ghost use Rattle.abs_parser.specs.Stops.{limit};
 ghost use Rattle.abs_parser.specs.TreesOf.{with_operators};
 ghost use Rattle.abs_parser.specs.Views.{spot};
@@ -49,7 +49,7 @@ impl Precedence {
         }
     }
 
-    /// The next precedence that binds less; below `||` there is none.
+    /// The next precedence that binds less; `||`, for which there is none, gives itself.
     fn looser(self) -> Precedence
         ensures { result ≡ looser_of self }
     {
@@ -79,7 +79,7 @@ fn precedence_of(operator: Operator) -> Precedence
     }
 }
 
-/// The operator that a sign is, where it is one.
+/// The operator of a punctuator, if it is one.
 fn operator_of(punctuator: Punctuator) -> Option<Operator>
     ensures some { IfSome result (λ operator. punctuator ≡ punctuator_of operator) }
     ensures none { IfNone result ((operator : operator_type.Operator) → punctuator ≡ punctuator_of operator → ⊥) }
@@ -102,7 +102,7 @@ fn operator_of(punctuator: Punctuator) -> Option<Operator>
     }
 }
 
-/// The operator of a precedence that is next, if there is one, and the cursor after it.
+/// The next token as an operator of a precedence, if it is one, and the cursor after it.
 fn operator_at<'a, 'b>(
     precedence: Precedence,
     from: Cursor<'a, 'b>,
@@ -124,7 +124,7 @@ fn operator_at<'a, 'b>(
     Some((operator, after))
 }
 
-/// Whether an operator between operands is the next token.
+/// Whether the next token is an operator between operands.
 fn operator_follows(from: Cursor<'_, '_>) -> bool
     ensures { result ≡ false → (operator : operator_type.Operator)
         → fits (PunctuatorKind (punctuator_of operator)) (next (left_at (spot from.entry))) ≡ false }
@@ -142,7 +142,7 @@ fn operator_follows(from: Cursor<'_, '_>) -> bool
 /// after it, one precedence after another.
 ///
 /// # Errors
-/// The refusal of the first token that no such list has there, or that is too deeply nested.
+/// The refusal of the first token that is a syntax error or too deeply nested.
 #[cycle(phrases)]
 pub(crate) fn operators<'a, 'b>(
     alloc: Global,
@@ -151,13 +151,10 @@ pub(crate) fn operators<'a, 'b>(
     depth: u32,
     from: Cursor<'a, 'b>,
 ) -> Result<(Expr, Cursor<'a, 'b>), ParseError>
-    requires names { length symbols.old + length (spot from).rest < 2 ^ 31 }
+    requires names { HasRoom symbols.old (spot from) }
     requires depth { depth ≤ limit + 2 }
-    ensures found { IfOk result (λ found. FoundAs (One (nonterminal_of precedence)) depth symbols.old symbols.new
-        (spot from.entry) (spot found.1)
-        (λ names inside. phrase names found.0 ≡ precedence_in precedence inside)) }
-    ensures refused { IfErr result (λ error. IsRefused (Subgoal (One (nonterminal_of precedence)) depth)
-        (spot from.entry) error) }
+    ensures { Parses result (parse_of (One (nonterminal_of precedence)) depth symbols.old symbols.new (spot from.entry)
+        (λ found. spot found.1) (λ found names inside. phrase names found.0 ≡ precedence_in precedence inside)) }
 {
     let (first, here) = unary(alloc, symbols, depth, from)?;
     climb(
@@ -172,8 +169,8 @@ pub(crate) fn operators<'a, 'b>(
     )
 }
 
-/// A first operand of the precedence `at`, which begins at `place`, with the operators and operands after it, up to
-/// the precedence `to`; and the cursor after them.
+/// An expression of the precedence `to`, and the cursor after it. Its first operand is of the precedence `at` and
+/// begins at `place`; the operators and operands after it are read.
 #[cycle(phrases)]
 fn climb<'a, 'b>(
     alloc: Global,
@@ -186,7 +183,7 @@ fn climb<'a, 'b>(
     from: Cursor<'a, 'b>,
 ) -> Result<(Expr, Cursor<'a, 'b>), ParseError>
     requires order { rank at ≤ rank to }
-    requires names { length symbols.old + length (spot from).rest < 2 ^ 31 }
+    requires names { HasRoom symbols.old (spot from) }
     requires depth { depth ≤ limit }
     ensures found { IfOk result (λ found. Climbs at to depth symbols.old symbols.new place first found.0
         (spot from.entry) (spot found.1)) }
@@ -202,11 +199,11 @@ fn climb<'a, 'b>(
     climb(alloc, symbols, at.looser(), to, depth, place, left, here)
 }
 
-/// A first operand of a precedence, which begins at `place`, with the operators of this precedence and the operands
-/// after it; and the cursor after them.
+/// A first operand, which begins at `place`, with the operators of a precedence and the operands after it; and the
+/// cursor after them.
 ///
 /// # Errors
-/// The refusal of the first token that no such list has there, or that is too deeply nested.
+/// The refusal of the first token that is a syntax error or too deeply nested.
 #[cycle(phrases)]
 pub(crate) fn operators_after<'a, 'b>(
     alloc: Global,
@@ -217,13 +214,12 @@ pub(crate) fn operators_after<'a, 'b>(
     first: Expr,
     from: Cursor<'a, 'b>,
 ) -> Result<(Expr, Cursor<'a, 'b>), ParseError>
-    requires names { length symbols.old + length (spot from).rest < 2 ^ 31 }
+    requires names { HasRoom symbols.old (spot from) }
     requires depth { depth ≤ limit }
-    ensures found { IfOk result (λ found. FoundAs (rest_of precedence) depth symbols.old symbols.new (spot from.entry)
-        (spot found.1)
-        (λ names inside. phrase names found.0
+    ensures { Parses result (parse_of (rest_of precedence) depth symbols.old symbols.new (spot from.entry)
+        (λ found. spot found.1)
+        (λ found names inside. phrase names found.0
         ≡ with_operators place (phrase names first) (operands_in precedence inside))) }
-    ensures refused { IfErr result (λ error. IsRefused (Subgoal (rest_of precedence) depth) (spot from.entry) error) }
 {
     let mut operands = Vec::new(alloc);
     let mut here = from;
@@ -247,13 +243,11 @@ fn operand<'a, 'b>(
     depth: u32,
     from: Cursor<'a, 'b>,
 ) -> Result<(Expr, Cursor<'a, 'b>), ParseError>
-    requires names { length symbols.old + length (spot from).rest < 2 ^ 31 }
+    requires names { HasRoom symbols.old (spot from) }
     requires depth { depth ≤ limit + 2 }
-    ensures found { IfOk result (λ found. FoundAs (One (operand_nonterminal precedence)) depth symbols.old symbols.new
-        (spot from.entry) (spot found.1)
-        (λ names inside. phrase names found.0 ≡ operand_in precedence inside)) }
-    ensures refused { IfErr result (λ error. IsRefused (Subgoal (One (operand_nonterminal precedence)) depth)
-        (spot from.entry) error) }
+    ensures { Parses result (parse_of (One (operand_nonterminal precedence)) depth symbols.old symbols.new
+        (spot from.entry) (λ found. spot found.1)
+        (λ found names inside. phrase names found.0 ≡ operand_in precedence inside)) }
 {
     match precedence {
         Precedence::Or => operators(alloc, symbols, Precedence::And, depth, from),

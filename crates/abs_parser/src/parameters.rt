@@ -1,10 +1,10 @@
 //! Reads parameters, and the types between the parentheses of a constructor.
-ghost use Rattle.std.specs.Prelude.{◌≡◌, List, ◌∷◌, ◌+◌, ◌<◌, ◌≤◌, ◌^◌, length, map, IfOk, IfErr};
+ghost use Rattle.std.specs.Prelude.{◌≡◌, List, ◌∷◌, map};
 ghost use Rattle.abs_tree.specs.Syntax.{ParamTree};
 ghost use Rattle.abs_tree.specs.SyntaxViews.{param_tree, type_trees};
 ghost use Rattle.abs_parser.specs.Productions.{Param as ParamSymbol, Params, ClassParameters, ConstructorTypes};
-ghost use Rattle.abs_parser.specs.Readings.{One, Optional, Subgoal};
-ghost use Rattle.abs_parser.specs.ReaderAnswers.{FoundAs, IsRefused};
+ghost use Rattle.abs_parser.specs.Readings.{One, Optional};
+ghost use Rattle.abs_parser.specs.ReaderAnswers.{Parses, parse_of, HasRoom};
 ghost use Rattle.abs_parser.specs.TreesOf.{param_in, params_in, params_maybe as maybe_params_in, class_params_maybe, constructor_types as types_of_constructor};
 ghost use Rattle.abs_parser.specs.Views.{spot};
 
@@ -22,11 +22,10 @@ fn param<'a, 'b>(
     symbols: &mut Symbols<'a>,
     from: Cursor<'a, 'b>,
 ) -> Result<(Param, Cursor<'a, 'b>), ParseError>
-    requires names { length symbols.old + length (spot from).rest < 2 ^ 31 }
-    ensures found { IfOk result (λ found. FoundAs (One ParamSymbol) 0 symbols.old symbols.new (spot from.entry)
-        (spot found.1)
-        (λ names inside. (others : List ParamTree) → param_tree names found.0 ∷ others ≡ param_in inside others)) }
-    ensures refused { IfErr result (λ error. IsRefused (Subgoal (One ParamSymbol) 0) (spot from.entry) error) }
+    requires names { HasRoom symbols.old (spot from) }
+    ensures { Parses result (parse_of (One ParamSymbol) 0 symbols.old symbols.new (spot from.entry)
+        (λ found. spot found.1)
+        (λ found names inside. (others : List ParamTree) → param_tree names found.0 ∷ others ≡ param_in inside others)) }
 {
     let (type_of, name_at) = type_term(alloc, symbols, 0, from)?;
     let (name, end) = name_at.take(Lexeme::LowerName, 0)?;
@@ -45,11 +44,9 @@ fn params<'a, 'b>(
     symbols: &mut Symbols<'a>,
     from: Cursor<'a, 'b>,
 ) -> Result<(Vec<Param>, Cursor<'a, 'b>), ParseError>
-    requires names { length symbols.old + length (spot from).rest < 2 ^ 31 }
-    ensures found { IfOk result (λ found. FoundAs (One Params) 0 symbols.old symbols.new (spot from.entry)
-        (spot found.1)
-        (λ names inside. map (param_tree names) found.0.items ≡ params_in inside)) }
-    ensures refused { IfErr result (λ error. IsRefused (Subgoal (One Params) 0) (spot from.entry) error) }
+    requires names { HasRoom symbols.old (spot from) }
+    ensures { Parses result (parse_of (One Params) 0 symbols.old symbols.new (spot from.entry)
+        (λ found. spot found.1) (λ found names inside. map (param_tree names) found.0.items ≡ params_in inside)) }
 {
     let (first, mut here) = param(alloc, symbols, from)?;
     let mut params = vec![in alloc; first]?;
@@ -64,17 +61,15 @@ fn params<'a, 'b>(
 /// Parameters, if there are any, and the cursor after them.
 ///
 /// # Errors
-/// The refusal of the first token that no parameters have there, or that is too deeply nested.
+/// The refusal of the first token that is a syntax error or too deeply nested.
 pub(crate) fn params_maybe<'a, 'b>(
     alloc: Global,
     symbols: &mut Symbols<'a>,
     from: Cursor<'a, 'b>,
 ) -> Result<(Vec<Param>, Cursor<'a, 'b>), ParseError>
-    requires names { length symbols.old + length (spot from).rest < 2 ^ 31 }
-    ensures found { IfOk result (λ found. FoundAs (Optional Params) 0 symbols.old symbols.new (spot from.entry)
-        (spot found.1)
-        (λ names inside. map (param_tree names) found.0.items ≡ maybe_params_in inside)) }
-    ensures refused { IfErr result (λ error. IsRefused (Subgoal (Optional Params) 0) (spot from.entry) error) }
+    requires names { HasRoom symbols.old (spot from) }
+    ensures { Parses result (parse_of (Optional Params) 0 symbols.old symbols.new (spot from.entry)
+        (λ found. spot found.1) (λ found names inside. map (param_tree names) found.0.items ≡ maybe_params_in inside)) }
 {
     if !from.is(Lexeme::UpperName) {
         return Ok((Vec::new(alloc), from));
@@ -85,18 +80,16 @@ pub(crate) fn params_maybe<'a, 'b>(
 /// The parameters of a class between parentheses, if these are next, and the cursor after them.
 ///
 /// # Errors
-/// The refusal of the first token that no such parameters have there, or that is too deeply nested.
+/// The refusal of the first token that is a syntax error or too deeply nested.
 pub(crate) fn class_parameters<'a, 'b>(
     alloc: Global,
     symbols: &mut Symbols<'a>,
     from: Cursor<'a, 'b>,
 ) -> Result<(Vec<Param>, Cursor<'a, 'b>), ParseError>
-    requires names { length symbols.old + length (spot from).rest < 2 ^ 31 }
-    ensures found { IfOk result (λ found. FoundAs (Optional ClassParameters) 0 symbols.old symbols.new
-        (spot from.entry) (spot found.1)
-        (λ names inside. map (param_tree names) found.0.items ≡ class_params_maybe inside)) }
-    ensures refused { IfErr result (λ error. IsRefused (Subgoal (Optional ClassParameters) 0)
-        (spot from.entry) error) }
+    requires names { HasRoom symbols.old (spot from) }
+    ensures { Parses result (parse_of (Optional ClassParameters) 0 symbols.old symbols.new (spot from.entry)
+        (λ found. spot found.1)
+        (λ found names inside. map (param_tree names) found.0.items ≡ class_params_maybe inside)) }
 {
     let Some((_, after)) = from.accept(Lexeme::Punctuator(Punctuator::OpenParen)) else {
         return Ok((Vec::new(alloc), from));
@@ -109,18 +102,15 @@ pub(crate) fn class_parameters<'a, 'b>(
 /// The types of a constructor's arguments between parentheses, if these are next, and the cursor after them.
 ///
 /// # Errors
-/// The refusal of the first token that no such types have there, or that is too deeply nested.
+/// The refusal of the first token that is a syntax error or too deeply nested.
 pub(crate) fn constructor_types<'a, 'b>(
     alloc: Global,
     symbols: &mut Symbols<'a>,
     from: Cursor<'a, 'b>,
 ) -> Result<(Vec<TypeTerm>, Cursor<'a, 'b>), ParseError>
-    requires names { length symbols.old + length (spot from).rest < 2 ^ 31 }
-    ensures found { IfOk result (λ found. FoundAs (Optional ConstructorTypes) 0 symbols.old symbols.new
-        (spot from.entry) (spot found.1)
-        (λ names inside. type_trees names found.0.items ≡ types_of_constructor inside)) }
-    ensures refused { IfErr result (λ error. IsRefused (Subgoal (Optional ConstructorTypes) 0)
-        (spot from.entry) error) }
+    requires names { HasRoom symbols.old (spot from) }
+    ensures { Parses result (parse_of (Optional ConstructorTypes) 0 symbols.old symbols.new (spot from.entry)
+        (λ found. spot found.1) (λ found names inside. type_trees names found.0.items ≡ types_of_constructor inside)) }
 {
     let Some((_, after)) = from.accept(Lexeme::Punctuator(Punctuator::OpenParen)) else {
         return Ok((Vec::new(alloc), from));

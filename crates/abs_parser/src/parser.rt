@@ -1,5 +1,5 @@
 //! Reads a whole source: its declarations and its main block, and nothing after it.
-ghost use Rattle.std.specs.Prelude.{◌≡◌, ◌≤◌, length, All, IfOk, IfErr};
+ghost use Rattle.std.specs.Prelude.{◌≤◌, length, All, IfOk, IfErr};
 ghost use Rattle.abs_tree.specs.Limits.{parsed_table_limit};
 ghost use Rattle.abs_tree.specs.SyntaxSizes.{all_statements};
 ghost use Rattle.abs_tree.specs.SourceNumbers.{IsNumberedWhole};
@@ -22,10 +22,10 @@ use std::alloc::Global;
 /// from 0, in the order in which they begin.
 ///
 /// # Errors
-/// [`ParseError::Refused`] if the source has a syntax error or a token that is too deeply nested, with the code and the
-/// place of the first such token (the end of the source counts as one): S2 for one that is nested in more than 100
-/// counted nonterminals, S3 for a word outside the profile, and S1 for any other; and [`ParseError::Memory`] if an
-/// allocation fails.
+/// [`ParseError::Refused`] if the source has a syntax error or a token that is too deeply nested. It has the code and
+/// the place of the first such token; the end of the source counts as a token. The code is S2 for a token that is
+/// nested in more than 100 counted nonterminals, S3 for a foreign keyword, and S1 for any other token.
+/// [`ParseError::Memory`] if an allocation fails.
 pub fn parse<'a>(alloc: Global, list: &Tokens<'a>) -> Result<Program<'a>, ParseError>
     ensures found { IfOk result (λ program. IsTextOf list.now program.symbols (source_tree program)) }
     ensures numbered { IfOk result (λ program. IsNumberedWhole (source_tree program)) }

@@ -1,11 +1,11 @@
 //! Reads patterns.
-ghost use Rattle.std.specs.Prelude.{◌≡◌, true, List, ◌+◌, ◌<◌, ◌≤◌, ◌^◌, length, IfOk, IfErr};
+ghost use Rattle.std.specs.Prelude.{◌≡◌, true, List, ◌≤◌, IfOk, IfErr};
 ghost use Rattle.abs_tree.specs.Syntax.{Name};
 ghost use Rattle.abs_tree.specs.SyntaxViews.{pattern_tree, pattern_trees};
 ghost use Rattle.abs_parser.specs.TokenKinds.{PunctuatorKind, UpperName, fits, next};
 ghost use Rattle.abs_parser.specs.Productions.{Pattern as PatternSymbol, PatternArguments, Patterns};
 ghost use Rattle.abs_parser.specs.Readings.{One, Optional, Subgoal};
-ghost use Rattle.abs_parser.specs.ReaderAnswers.{FoundAs, IsRefused, left_at};
+ghost use Rattle.abs_parser.specs.ReaderAnswers.{Parses, parse_of, HasRoom, FoundAs, IsRefused, left_at};
 ghost use Rattle.abs_parser.specs.Stops.{limit};
 ghost use Rattle.abs_parser.specs.TreesOf.{pattern_in, pattern_arguments as arguments_in, patterns_in};
 ghost use Rattle.abs_parser.specs.Views.{spot};
@@ -21,7 +21,7 @@ use std::alloc::Global;
 /// A pattern nested in `depth` counted nonterminals, and the cursor after it.
 ///
 /// # Errors
-/// The refusal of the first token that no pattern has there, or that is too deeply nested.
+/// The refusal of the first token that is a syntax error or too deeply nested.
 #[cycle(patterns)]
 pub(crate) fn pattern<'a, 'b>(
     alloc: Global,
@@ -29,13 +29,10 @@ pub(crate) fn pattern<'a, 'b>(
     depth: u32,
     from: Cursor<'a, 'b>,
 ) -> Result<(Pattern, Cursor<'a, 'b>), ParseError>
-    requires names { length symbols.old + length (spot from).rest < 2 ^ 31 }
+    requires names { HasRoom symbols.old (spot from) }
     requires depth { depth ≤ limit }
-    ensures found { IfOk result (λ found. FoundAs (One PatternSymbol) depth symbols.old symbols.new (spot from.entry)
-        (spot found.1)
-        (λ names inside. pattern_tree names found.0 ≡ pattern_in inside)) }
-    ensures refused { IfErr result (λ error. IsRefused (Subgoal (One PatternSymbol) depth)
-        (spot from.entry) error) }
+    ensures { Parses result (parse_of (One PatternSymbol) depth symbols.old symbols.new (spot from.entry)
+        (λ found. spot found.1) (λ found names inside. pattern_tree names found.0 ≡ pattern_in inside)) }
 {
     let Some((first, _)) = from.next() else {
         return Err(from.wrong());
@@ -72,13 +69,10 @@ fn constructor_pattern<'a, 'b>(
     from: Cursor<'a, 'b>,
 ) -> Result<(Pattern, Cursor<'a, 'b>), ParseError>
     requires begins { fits UpperName (next (left_at (spot from))) ≡ true }
-    requires names { length symbols.old + length (spot from).rest < 2 ^ 31 }
+    requires names { HasRoom symbols.old (spot from) }
     requires depth { depth ≤ limit }
-    ensures found { IfOk result (λ found. FoundAs (One PatternSymbol) depth symbols.old symbols.new (spot from.entry)
-        (spot found.1)
-        (λ names inside. pattern_tree names found.0 ≡ pattern_in inside)) }
-    ensures refused { IfErr result (λ error. IsRefused (Subgoal (One PatternSymbol) depth)
-        (spot from.entry) error) }
+    ensures { Parses result (parse_of (One PatternSymbol) depth symbols.old symbols.new (spot from.entry)
+        (λ found. spot found.1) (λ found names inside. pattern_tree names found.0 ≡ pattern_in inside)) }
 {
     let (name, open) = from.take(Lexeme::UpperName, depth + 1)?;
     let constructor = symbols.intern(name.slice)?;
@@ -122,13 +116,10 @@ fn pattern_arguments<'a, 'b>(
     depth: u32,
     from: Cursor<'a, 'b>,
 ) -> Result<(Vec<Pattern>, Cursor<'a, 'b>), ParseError>
-    requires names { length symbols.old + length (spot from).rest < 2 ^ 31 }
+    requires names { HasRoom symbols.old (spot from) }
     requires depth { depth ≤ limit }
-    ensures found { IfOk result (λ found. FoundAs (Optional PatternArguments) depth symbols.old symbols.new
-        (spot from.entry) (spot found.1)
-        (λ names inside. pattern_trees names found.0.items ≡ arguments_in inside)) }
-    ensures refused { IfErr result (λ error. IsRefused (Subgoal (Optional PatternArguments) depth)
-        (spot from.entry) error) }
+    ensures { Parses result (parse_of (Optional PatternArguments) depth symbols.old symbols.new (spot from.entry)
+        (λ found. spot found.1) (λ found names inside. pattern_trees names found.0.items ≡ arguments_in inside)) }
 {
     let Some((_, after)) = from.accept(Lexeme::Punctuator(Punctuator::OpenParen)) else {
         return Ok((Vec::new(alloc), from));
@@ -149,12 +140,10 @@ fn patterns<'a, 'b>(
     depth: u32,
     from: Cursor<'a, 'b>,
 ) -> Result<(Vec<Pattern>, Cursor<'a, 'b>), ParseError>
-    requires names { length symbols.old + length (spot from).rest < 2 ^ 31 }
+    requires names { HasRoom symbols.old (spot from) }
     requires depth { depth ≤ limit }
-    ensures found { IfOk result (λ found. FoundAs (One Patterns) depth symbols.old symbols.new (spot from.entry)
-        (spot found.1)
-        (λ names inside. pattern_trees names found.0.items ≡ patterns_in inside)) }
-    ensures refused { IfErr result (λ error. IsRefused (Subgoal (One Patterns) depth) (spot from.entry) error) }
+    ensures { Parses result (parse_of (One Patterns) depth symbols.old symbols.new (spot from.entry)
+        (λ found. spot found.1) (λ found names inside. pattern_trees names found.0.items ≡ patterns_in inside)) }
 {
     let (first, mut here) = pattern(alloc, symbols, depth, from)?;
     let mut patterns = vec![in alloc; first]?;

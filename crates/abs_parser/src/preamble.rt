@@ -1,8 +1,8 @@
-//! Reads the `module` and the `import` line that may be before a program. They leave nothing in its tree.
-ghost use Rattle.std.specs.Prelude.{◌≡◌, ⊤, ◌+◌, ◌<◌, ◌^◌, length, IfOk, IfErr};
+//! Reads the `module` and the `import` line that may come before a program. They leave nothing in its tree.
+ghost use Rattle.std.specs.Prelude.{⊤};
 ghost use Rattle.abs_parser.specs.Productions.{Module, Import, Path};
-ghost use Rattle.abs_parser.specs.Readings.{One, Optional, Subgoal};
-ghost use Rattle.abs_parser.specs.ReaderAnswers.{FoundAs, IsRefused};
+ghost use Rattle.abs_parser.specs.Readings.{One, Optional};
+ghost use Rattle.abs_parser.specs.ReaderAnswers.{Parses, parse_of, HasRoom};
 ghost use Rattle.abs_parser.specs.Views.{spot};
 
 use crate::ParseError;
@@ -13,15 +13,14 @@ use abs_tree::Symbols;
 /// The cursor after a `module` line, if one is next.
 ///
 /// # Errors
-/// The refusal of the first token that no such line has there.
+/// The refusal of the first token that is a syntax error.
 pub(crate) fn module_line<'a, 'b>(
     symbols: &mut Symbols<'a>,
     from: Cursor<'a, 'b>,
 ) -> Result<Cursor<'a, 'b>, ParseError>
-    requires names { length symbols.old + length (spot from).rest < 2 ^ 31 }
-    ensures found { IfOk result (λ to. FoundAs (Optional Module) 0 symbols.old symbols.new (spot from.entry) (spot to)
-        (λ names inside. ⊤)) }
-    ensures refused { IfErr result (λ error. IsRefused (Subgoal (Optional Module) 0) (spot from.entry) error) }
+    requires names { HasRoom symbols.old (spot from) }
+    ensures { Parses result (parse_of (Optional Module) 0 symbols.old symbols.new (spot from.entry)
+        (λ to. spot to) (λ to names inside. ⊤)) }
 {
     let Some((_, path_at)) = from.accept(Lexeme::Keyword(Keyword::Module)) else {
         return Ok(from);
@@ -36,10 +35,9 @@ fn path<'a, 'b>(
     symbols: &mut Symbols<'a>,
     from: Cursor<'a, 'b>,
 ) -> Result<Cursor<'a, 'b>, ParseError>
-    requires names { length symbols.old + length (spot from).rest < 2 ^ 31 }
-    ensures found { IfOk result (λ to. FoundAs (One Path) 0 symbols.old symbols.new (spot from.entry) (spot to)
-        (λ names inside. ⊤)) }
-    ensures refused { IfErr result (λ error. IsRefused (Subgoal (One Path) 0) (spot from.entry) error) }
+    requires names { HasRoom symbols.old (spot from) }
+    ensures { Parses result (parse_of (One Path) 0 symbols.old symbols.new (spot from.entry)
+        (λ to. spot to) (λ to names inside. ⊤)) }
 {
     let (first, mut here) = from.take(Lexeme::UpperName, 0)?;
     symbols.intern(first.slice)?;
@@ -54,15 +52,14 @@ fn path<'a, 'b>(
 /// The cursor after the `import` line, if it is next.
 ///
 /// # Errors
-/// The refusal of the first token that this line does not have there.
+/// The refusal of the first token that is a syntax error.
 pub(crate) fn import_line<'a, 'b>(
     symbols: &mut Symbols<'a>,
     from: Cursor<'a, 'b>,
 ) -> Result<Cursor<'a, 'b>, ParseError>
-    requires names { length symbols.old + length (spot from).rest < 2 ^ 31 }
-    ensures found { IfOk result (λ to. FoundAs (Optional Import) 0 symbols.old symbols.new (spot from.entry) (spot to)
-        (λ names inside. ⊤)) }
-    ensures refused { IfErr result (λ error. IsRefused (Subgoal (Optional Import) 0) (spot from.entry) error) }
+    requires names { HasRoom symbols.old (spot from) }
+    ensures { Parses result (parse_of (Optional Import) 0 symbols.old symbols.new (spot from.entry)
+        (λ to. spot to) (λ to names inside. ⊤)) }
 {
     let Some((_, star)) = from.accept(Lexeme::Keyword(Keyword::Import)) else {
         return Ok(from);

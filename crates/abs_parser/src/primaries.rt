@@ -1,6 +1,6 @@
-//! Reads unaries and primaries: an operator before its operand, numbers and texts, names with their arguments, `this`
-//! with what follows it, and what is in parentheses.
-ghost use Rattle.std.specs.Prelude.{◌≡◌, ℕ, List, true, ◌+◌, ◌<◌, ◌≤◌, ◌^◌, length, IfOk, IfErr, IfSome, IfNone};
+//! Reads unaries and primaries: prefix operators, numbers, strings, names with their arguments, `this` with what
+//! follows it, and expressions in parentheses.
+ghost use Rattle.std.specs.Prelude.{◌≡◌, List, true, ◌+◌, ◌≤◌, IfOk, IfSome, IfNone};
 ghost use Rattle.abs_lexer.specs.declared.lexeme.Keyword.TheVariants as keyword;
 ghost use Rattle.abs_lexer.specs.declared.lexeme.Lexeme.TheVariants as lexeme;
 ghost use Rattle.abs_tree.specs.declared.syntax.expression.Prefix as prefix_type;
@@ -10,8 +10,8 @@ ghost use Rattle.abs_tree.specs.Trees.{name_of};
 ghost use Rattle.abs_parser.specs.TokenKinds.{LowerName, UpperName, KeywordKind, PunctuatorKind, fits, next, token_kind_of};
 ghost use Rattle.abs_parser.specs.Precedences.{prefix_punctuator};
 ghost use Rattle.abs_parser.specs.Productions.{begins, Unary, Primary};
-ghost use Rattle.abs_parser.specs.Readings.{One, Subgoal};
-ghost use Rattle.abs_parser.specs.ReaderAnswers.{FoundAs, IsRefused, left_at, maybe_phrases};
+ghost use Rattle.abs_parser.specs.Readings.{One};
+ghost use Rattle.abs_parser.specs.ReaderAnswers.{Parses, parse_of, HasRoom, left_at, maybe_phrases};
 ghost use Rattle.abs_parser.specs.Stops.{limit};
 ghost use Rattle.abs_parser.specs.TreesOf.{unary_in, primary_in, named as named_tree, member as member_tree};
 ghost use Rattle.abs_parser.specs.Views.{spot};
@@ -28,10 +28,11 @@ use abs_tree::{Place, Symbol, Symbols};
 use std::alloc::{AllocError, Global};
 use std::sync::Arc;
 
-/// The operator before an operand that a token of this kind is, where it is one.
+/// The prefix operator of a lexeme, if it is one.
 fn prefix_of(kind: Lexeme) -> Option<Prefix>
     ensures some { IfSome result (λ prefix. kind ≡ lexeme.Punctuator (prefix_punctuator prefix)) }
-    ensures none { IfNone result ((prefix : prefix_type.Prefix) → kind ≡ lexeme.Punctuator (prefix_punctuator prefix) → ⊥) }
+    ensures none { IfNone result ((prefix : prefix_type.Prefix)
+        → kind ≡ lexeme.Punctuator (prefix_punctuator prefix) → ⊥) }
 {
     let Lexeme::Punctuator(punctuator) = kind else {
         return None;
@@ -47,7 +48,7 @@ fn prefix_of(kind: Lexeme) -> Option<Prefix>
 /// A unary nested in `depth` counted nonterminals, and the cursor after it.
 ///
 /// # Errors
-/// The refusal of the first token that no unary has there, or that is too deeply nested.
+/// The refusal of the first token that is a syntax error or too deeply nested.
 #[cycle(phrases)]
 pub(crate) fn unary<'a, 'b>(
     alloc: Global,
@@ -55,12 +56,10 @@ pub(crate) fn unary<'a, 'b>(
     depth: u32,
     from: Cursor<'a, 'b>,
 ) -> Result<(Expr, Cursor<'a, 'b>), ParseError>
-    requires names { length symbols.old + length (spot from).rest < 2 ^ 31 }
+    requires names { HasRoom symbols.old (spot from) }
     requires depth { depth ≤ limit + 2 }
-    ensures found { IfOk result (λ found. FoundAs (One Unary) depth symbols.old symbols.new (spot from.entry)
-        (spot found.1)
-        (λ names inside. phrase names found.0 ≡ unary_in inside)) }
-    ensures refused { IfErr result (λ error. IsRefused (Subgoal (One Unary) depth) (spot from.entry) error) }
+    ensures { Parses result (parse_of (One Unary) depth symbols.old symbols.new (spot from.entry)
+        (λ found. spot found.1) (λ found names inside. phrase names found.0 ≡ unary_in inside)) }
 {
     let Some((first, _)) = from.next() else {
         return Err(from.wrong());
@@ -87,12 +86,10 @@ fn primary<'a, 'b>(
     depth: u32,
     from: Cursor<'a, 'b>,
 ) -> Result<(Expr, Cursor<'a, 'b>), ParseError>
-    requires names { length symbols.old + length (spot from).rest < 2 ^ 31 }
+    requires names { HasRoom symbols.old (spot from) }
     requires depth { depth ≤ limit + 3 }
-    ensures found { IfOk result (λ found. FoundAs (One Primary) depth symbols.old symbols.new (spot from.entry)
-        (spot found.1)
-        (λ names inside. phrase names found.0 ≡ primary_in inside)) }
-    ensures refused { IfErr result (λ error. IsRefused (Subgoal (One Primary) depth) (spot from.entry) error) }
+    ensures { Parses result (parse_of (One Primary) depth symbols.old symbols.new (spot from.entry)
+        (λ found. spot found.1) (λ found names inside. phrase names found.0 ≡ primary_in inside)) }
 {
     let Some((first, _)) = from.next() else {
         return Err(from.wrong());
@@ -123,12 +120,10 @@ fn name_primary<'a, 'b>(
     from: Cursor<'a, 'b>,
 ) -> Result<(Expr, Cursor<'a, 'b>), ParseError>
     requires begins { fits LowerName (next (left_at (spot from))) ≡ true }
-    requires names { length symbols.old + length (spot from).rest < 2 ^ 31 }
+    requires names { HasRoom symbols.old (spot from) }
     requires depth { depth ≤ limit + 3 }
-    ensures found { IfOk result (λ found. FoundAs (One Primary) depth symbols.old symbols.new (spot from.entry)
-        (spot found.1)
-        (λ names inside. phrase names found.0 ≡ primary_in inside)) }
-    ensures refused { IfErr result (λ error. IsRefused (Subgoal (One Primary) depth) (spot from.entry) error) }
+    ensures { Parses result (parse_of (One Primary) depth symbols.old symbols.new (spot from.entry)
+        (λ found. spot found.1) (λ found names inside. phrase names found.0 ≡ primary_in inside)) }
 {
     let (name, after) = from.take(Lexeme::LowerName, depth)?;
     let symbol = symbols.intern(name.slice)?;
@@ -151,7 +146,7 @@ pub(crate) fn named(place: Place, name: Symbol, arguments: Option<Vec<Expr>>) ->
     }
 }
 
-/// A constructor with its arguments, where it has any, and the cursor after it.
+/// A constructor with its arguments, if it has any, and the cursor after it.
 #[cycle(phrases)]
 fn constructor_primary<'a, 'b>(
     alloc: Global,
@@ -160,12 +155,10 @@ fn constructor_primary<'a, 'b>(
     from: Cursor<'a, 'b>,
 ) -> Result<(Expr, Cursor<'a, 'b>), ParseError>
     requires begins { fits UpperName (next (left_at (spot from))) ≡ true }
-    requires names { length symbols.old + length (spot from).rest < 2 ^ 31 }
+    requires names { HasRoom symbols.old (spot from) }
     requires depth { depth ≤ limit + 3 }
-    ensures found { IfOk result (λ found. FoundAs (One Primary) depth symbols.old symbols.new (spot from.entry)
-        (spot found.1)
-        (λ names inside. phrase names found.0 ≡ primary_in inside)) }
-    ensures refused { IfErr result (λ error. IsRefused (Subgoal (One Primary) depth) (spot from.entry) error) }
+    ensures { Parses result (parse_of (One Primary) depth symbols.old symbols.new (spot from.entry)
+        (λ found. spot found.1) (λ found names inside. phrase names found.0 ≡ primary_in inside)) }
 {
     let (name, after) = from.take(Lexeme::UpperName, depth)?;
     let symbol = symbols.intern(name.slice)?;
@@ -192,12 +185,10 @@ fn keyword_primary<'a, 'b>(
     from: Cursor<'a, 'b>,
 ) -> Result<(Expr, Cursor<'a, 'b>), ParseError>
     requires begins { next (left_at (spot from)) ≡ KeywordKind keyword }
-    requires names { length symbols.old + length (spot from).rest < 2 ^ 31 }
+    requires names { HasRoom symbols.old (spot from) }
     requires depth { depth ≤ limit + 3 }
-    ensures found { IfOk result (λ found. FoundAs (One Primary) depth symbols.old symbols.new (spot from.entry)
-        (spot found.1)
-        (λ names inside. phrase names found.0 ≡ primary_in inside)) }
-    ensures refused { IfErr result (λ error. IsRefused (Subgoal (One Primary) depth) (spot from.entry) error) }
+    ensures { Parses result (parse_of (One Primary) depth symbols.old symbols.new (spot from.entry)
+        (λ found. spot found.1) (λ found names inside. phrase names found.0 ≡ primary_in inside)) }
 {
     match keyword {
         Keyword::Null => {
@@ -223,12 +214,10 @@ fn this_primary<'a, 'b>(
     from: Cursor<'a, 'b>,
 ) -> Result<(Expr, Cursor<'a, 'b>), ParseError>
     requires begins { fits (KeywordKind keyword.This) (next (left_at (spot from))) ≡ true }
-    requires names { length symbols.old + length (spot from).rest < 2 ^ 31 }
+    requires names { HasRoom symbols.old (spot from) }
     requires depth { depth ≤ limit + 3 }
-    ensures found { IfOk result (λ found. FoundAs (One Primary) depth symbols.old symbols.new (spot from.entry)
-        (spot found.1)
-        (λ names inside. phrase names found.0 ≡ primary_in inside)) }
-    ensures refused { IfErr result (λ error. IsRefused (Subgoal (One Primary) depth) (spot from.entry) error) }
+    ensures { Parses result (parse_of (One Primary) depth symbols.old symbols.new (spot from.entry)
+        (λ found. spot found.1) (λ found names inside. phrase names found.0 ≡ primary_in inside)) }
 {
     let (this, after) = from.take(Lexeme::Keyword(Keyword::This), depth)?;
     let Some((_, name_at)) = after.accept(Lexeme::Punctuator(Punctuator::Dot)) else {
@@ -266,7 +255,7 @@ pub(crate) fn member(
     }
 }
 
-/// An expression in parentheses, which leave no node, and the cursor after it.
+/// An expression in parentheses, which leave no node in the tree, and the cursor after it.
 #[cycle(phrases)]
 fn parenthesized<'a, 'b>(
     alloc: Global,
@@ -276,12 +265,10 @@ fn parenthesized<'a, 'b>(
     from: Cursor<'a, 'b>,
 ) -> Result<(Expr, Cursor<'a, 'b>), ParseError>
     requires begins { next (left_at (spot from)) ≡ PunctuatorKind punctuator }
-    requires names { length symbols.old + length (spot from).rest < 2 ^ 31 }
+    requires names { HasRoom symbols.old (spot from) }
     requires depth { depth ≤ limit + 3 }
-    ensures found { IfOk result (λ found. FoundAs (One Primary) depth symbols.old symbols.new (spot from.entry)
-        (spot found.1)
-        (λ names inside. phrase names found.0 ≡ primary_in inside)) }
-    ensures refused { IfErr result (λ error. IsRefused (Subgoal (One Primary) depth) (spot from.entry) error) }
+    ensures { Parses result (parse_of (One Primary) depth symbols.old symbols.new (spot from.entry)
+        (λ found. spot found.1) (λ found names inside. phrase names found.0 ≡ primary_in inside)) }
 {
     let (_, inside) = from.take(Lexeme::Punctuator(Punctuator::OpenParen), depth)?;
     let (expr, close) = expression(alloc, symbols, depth, inside)?;

@@ -1,11 +1,11 @@
 //! Reads declarations of every kind, one after another.
-ghost use Rattle.std.specs.Prelude.{◌≡◌, List, [], ◌∷◌, ◌+◌, ◌<◌, ◌≤◌, ◌^◌, length, map, IfOk, IfErr};
+ghost use Rattle.std.specs.Prelude.{◌≡◌, List, [], ◌∷◌, ◌+◌, ◌≤◌, length, map, IfOk, IfErr};
 ghost use Rattle.abs_tree.specs.Syntax.{Name, DeclTree};
 ghost use Rattle.abs_tree.specs.SyntaxViews.{decl_tree};
 ghost use Rattle.abs_tree.specs.SyntaxSizes.{decl_statements};
 ghost use Rattle.abs_parser.specs.Productions.{Block, Decl as DeclSymbol};
 ghost use Rattle.abs_parser.specs.Readings.{One, Repeated, Subgoal};
-ghost use Rattle.abs_parser.specs.ReaderAnswers.{FoundAs, IsRefused, IsRefusedWith};
+ghost use Rattle.abs_parser.specs.ReaderAnswers.{Parses, parse_of, HasRoom, HasIndexes, FoundAs, AreRefused};
 ghost use Rattle.abs_parser.specs.TreesOf.{decl_in, decls_in};
 ghost use Rattle.abs_parser.specs.Views.{spot};
 
@@ -22,24 +22,23 @@ use std::alloc::Global;
 /// them; and the cursor after them.
 ///
 /// # Errors
-/// The refusal of the first token that neither a declaration nor the main block has there, or that is too deeply
-/// nested.
+/// The refusal of the first token that is a syntax error or too deeply nested.
 pub(crate) fn declarations<'a, 'b>(
     alloc: Global,
     symbols: &mut Symbols<'a>,
     index: u32,
     from: Cursor<'a, 'b>,
 ) -> Result<(Vec<Decl>, u32, Cursor<'a, 'b>), ParseError>
-    requires names { length symbols.old + length (spot from).rest < 2 ^ 31 }
-    requires few { index + length (spot from).rest < 2 ^ 31 }
+    requires names { HasRoom symbols.old (spot from) }
+    requires few { HasIndexes index (spot from) }
     ensures found { IfOk result (λ found. FoundAs (Repeated DeclSymbol) 0 symbols.old symbols.new (spot from.entry)
         (spot found.2)
         (λ names inside. map (decl_tree names) found.0.items ≡ decls_in index inside)) }
     ensures free { IfOk result (λ found. (names : List Name)
         → found.1 ≡ index + decl_statements (map (decl_tree names) found.0.items)) }
     ensures few { IfOk result (λ found. found.1 + length (spot found.2).rest ≤ index + length (spot from.entry).rest) }
-    ensures refused { IfErr result (λ error. IsRefusedWith (Subgoal (Repeated DeclSymbol) 0)
-        (Subgoal (One Block) 0) (spot from.entry) error) }
+    ensures refused { IfErr result (λ error. AreRefused (Subgoal (Repeated DeclSymbol) 0
+        ∷ Subgoal (One Block) 0 ∷ []) (spot from.entry) error) }
 {
     let mut declarations = Vec::new(alloc);
     let mut free = index;
@@ -60,15 +59,15 @@ fn declaration<'a, 'b>(
     index: u32,
     from: Cursor<'a, 'b>,
 ) -> Result<(Decl, u32, Cursor<'a, 'b>), ParseError>
-    requires names { length symbols.old + length (spot from).rest < 2 ^ 31 }
-    requires few { index + length (spot from).rest < 2 ^ 31 }
-    ensures found { IfOk result (λ found. FoundAs (One DeclSymbol) 0 symbols.old symbols.new (spot from.entry)
-        (spot found.2)
-        (λ names inside. (others : List DeclTree) → decl_tree names found.0 ∷ others ≡ decl_in index inside others)) }
+    requires names { HasRoom symbols.old (spot from) }
+    requires few { HasIndexes index (spot from) }
+    ensures parses { Parses result (parse_of (One DeclSymbol) 0 symbols.old symbols.new (spot from.entry)
+        (λ found. spot found.2)
+        (λ found names inside. (others : List DeclTree)
+        → decl_tree names found.0 ∷ others ≡ decl_in index inside others)) }
     ensures free { IfOk result (λ found. (names : List Name)
         → found.1 ≡ index + decl_statements (decl_tree names found.0 ∷ [])) }
     ensures few { IfOk result (λ found. found.1 + length (spot found.2).rest ≤ index + length (spot from.entry).rest) }
-    ensures refused { IfErr result (λ error. IsRefused (Subgoal (One DeclSymbol) 0) (spot from.entry) error) }
 {
     let Some((token, _)) = from.next() else {
         return Err(from.wrong());

@@ -1,12 +1,12 @@
 //! Reads right sides: a new object, or an expression with what follows it.
-ghost use Rattle.std.specs.Prelude.{◌≡◌, ℕ, List, true, false, ◌+◌, ◌<◌, ◌≤◌, ◌^◌, length, IfOk, IfErr, OnErr};
+ghost use Rattle.std.specs.Prelude.{◌≡◌, ℕ, List, true, ◌+◌, ◌≤◌, IfOk};
 ghost use Rattle.abs_lexer.specs.declared.lexeme.Keyword.TheVariants as keyword;
 ghost use Rattle.abs_tree.specs.Syntax.{Name, NextPhrase};
 ghost use Rattle.abs_tree.specs.SyntaxViews.{phrase, phrases, side_tree};
 ghost use Rattle.abs_parser.specs.TokenKinds.{KeywordKind, fits, next};
 ghost use Rattle.abs_parser.specs.Productions.{Rhs, RhsTail, Selected, Where};
-ghost use Rattle.abs_parser.specs.Readings.{One, Optional, Subgoal};
-ghost use Rattle.abs_parser.specs.ReaderAnswers.{FoundAs, IsRefused, left_at};
+ghost use Rattle.abs_parser.specs.Readings.{One, Optional};
+ghost use Rattle.abs_parser.specs.ReaderAnswers.{Parses, parse_of, HasRoom, FoundAs, left_at};
 ghost use Rattle.abs_parser.specs.Stops.{limit};
 ghost use Rattle.abs_parser.specs.TreesOf.{rhs_in, tail_in, selected_in, mode_in};
 ghost use Rattle.abs_parser.specs.Views.{spot};
@@ -24,19 +24,17 @@ use std::sync::Arc;
 /// A right side nested in `depth` counted nonterminals, and the cursor after it.
 ///
 /// # Errors
-/// The refusal of the first token that no right side has there, or that is too deeply nested.
+/// The refusal of the first token that is a syntax error or too deeply nested.
 pub(crate) fn right_side<'a, 'b>(
     alloc: Global,
     symbols: &mut Symbols<'a>,
     depth: u32,
     from: Cursor<'a, 'b>,
 ) -> Result<(RightSide, Cursor<'a, 'b>), ParseError>
-    requires names { length symbols.old + length (spot from).rest < 2 ^ 31 }
+    requires names { HasRoom symbols.old (spot from) }
     requires depth { depth ≤ limit + 1 }
-    ensures found { IfOk result (λ found. FoundAs (One Rhs) depth symbols.old symbols.new (spot from.entry)
-        (spot found.1)
-        (λ names inside. side_tree names found.0 ≡ rhs_in inside)) }
-    ensures refused { IfErr result (λ error. IsRefused (Subgoal (One Rhs) depth) (spot from.entry) error) }
+    ensures { Parses result (parse_of (One Rhs) depth symbols.old symbols.new (spot from.entry)
+        (λ found. spot found.1) (λ found names inside. side_tree names found.0 ≡ rhs_in inside)) }
 {
     if from.is(Lexeme::Keyword(Keyword::New)) {
         return new_object(alloc, symbols, depth, from);
@@ -53,12 +51,10 @@ fn new_object<'a, 'b>(
     from: Cursor<'a, 'b>,
 ) -> Result<(RightSide, Cursor<'a, 'b>), ParseError>
     requires begins { fits (KeywordKind keyword.New) (next (left_at (spot from))) ≡ true }
-    requires names { length symbols.old + length (spot from).rest < 2 ^ 31 }
+    requires names { HasRoom symbols.old (spot from) }
     requires depth { depth ≤ limit + 1 }
-    ensures found { IfOk result (λ found. FoundAs (One Rhs) depth symbols.old symbols.new (spot from.entry)
-        (spot found.1)
-        (λ names inside. side_tree names found.0 ≡ rhs_in inside)) }
-    ensures refused { IfErr result (λ error. IsRefused (Subgoal (One Rhs) depth) (spot from.entry) error) }
+    ensures { Parses result (parse_of (One Rhs) depth symbols.old symbols.new (spot from.entry)
+        (λ found. spot found.1) (λ found names inside. side_tree names found.0 ≡ rhs_in inside)) }
 {
     let (token, here) = from.take(Lexeme::Keyword(Keyword::New), depth)?;
     let (mode, name_at) = mode(symbols, here)?;
@@ -75,13 +71,13 @@ fn new_object<'a, 'b>(
     Ok((side, end))
 }
 
-/// Where a new object is to live, by the keyword after `new`, and the cursor after that word. `local` is a name like
-/// others, so the table has it then.
+/// Where a new object is to live, by `cog` or `local` after `new`, and the cursor after it. `local` is a name like
+/// others, so it is added to the table.
 fn mode<'a, 'b>(
     symbols: &mut Symbols<'a>,
     from: Cursor<'a, 'b>,
 ) -> Result<(Mode, Cursor<'a, 'b>), AllocError>
-    requires names { length symbols.old + length (spot from).rest < 2 ^ 31 }
+    requires names { HasRoom symbols.old (spot from) }
     ensures found { IfOk result (λ found. (depth : ℕ) → depth ≤ limit
         → FoundAs (Optional Where) depth symbols.old symbols.new (spot from.entry) (spot found.1)
         (λ names inside. found.0 ≡ mode_in inside)) }
@@ -100,7 +96,7 @@ fn mode<'a, 'b>(
 /// and the cursor after that.
 ///
 /// # Errors
-/// The refusal of the first token that is nothing of this form, or that is too deeply nested.
+/// The refusal of the first token that is a syntax error or too deeply nested.
 pub(crate) fn right_side_tail<'a, 'b>(
     alloc: Global,
     symbols: &mut Symbols<'a>,
@@ -109,12 +105,11 @@ pub(crate) fn right_side_tail<'a, 'b>(
     first: Expr,
     from: Cursor<'a, 'b>,
 ) -> Result<(RightSide, Cursor<'a, 'b>), ParseError>
-    requires names { length symbols.old + length (spot from).rest < 2 ^ 31 }
+    requires names { HasRoom symbols.old (spot from) }
     requires depth { depth ≤ limit }
-    ensures found { IfOk result (λ found. FoundAs (Optional RhsTail) depth symbols.old symbols.new (spot from.entry)
-        (spot found.1)
-        (λ names inside. side_tree names found.0 ≡ tail_in place (phrase names first) inside)) }
-    ensures refused { IfErr result (λ error. IsRefused (Subgoal (Optional RhsTail) depth) (spot from.entry) error) }
+    ensures { Parses result (parse_of (Optional RhsTail) depth symbols.old symbols.new (spot from.entry)
+        (λ found. spot found.1)
+        (λ found names inside. side_tree names found.0 ≡ tail_in place (phrase names first) inside)) }
 {
     if let Some((_, after)) = from.accept(Lexeme::Punctuator(Punctuator::Not)) {
         let (name, open) = after.take(Lexeme::LowerName, depth)?;
@@ -138,12 +133,11 @@ fn selected<'a, 'b>(
     first: Expr,
     from: Cursor<'a, 'b>,
 ) -> Result<(RightSide, Cursor<'a, 'b>), ParseError>
-    requires names { length symbols.old + length (spot from).rest < 2 ^ 31 }
+    requires names { HasRoom symbols.old (spot from) }
     requires depth { depth ≤ limit }
-    ensures found { IfOk result (λ found. FoundAs (One Selected) depth symbols.old symbols.new (spot from.entry)
-        (spot found.1)
-        (λ names inside. side_tree names found.0 ≡ selected_in place (phrase names first) inside)) }
-    ensures refused { IfErr result (λ error. IsRefused (Subgoal (One Selected) depth) (spot from.entry) error) }
+    ensures { Parses result (parse_of (One Selected) depth symbols.old symbols.new (spot from.entry)
+        (λ found. spot found.1)
+        (λ found names inside. side_tree names found.0 ≡ selected_in place (phrase names first) inside)) }
 {
     if let Some((token, end)) = from.accept(Lexeme::Keyword(Keyword::Get)) {
         let side = RightSide::Get {
@@ -165,7 +159,7 @@ fn selected<'a, 'b>(
     Ok((side, end))
 }
 
-/// The row of a call: its receiver, and after it its arguments.
+/// The receiver of a call, followed by its arguments.
 fn row_of(alloc: Global, receiver: Expr, arguments: Vec<Expr>) -> Result<Arc<Vec<Expr>>, AllocError>
     ensures { IfOk result (λ row. (names : List Name) → phrases names row.value.items
         ≡ NextPhrase (phrase names receiver) (phrases names arguments.items)) }

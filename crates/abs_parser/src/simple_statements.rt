@@ -1,22 +1,24 @@
 //! Reads the statements that hold no others.
-ghost use Rattle.std.specs.Prelude.{◌≡◌, List, true, false, ◌+◌, ◌<◌, ◌≤◌, ◌^◌, length, IfOk, IfErr};
+ghost use Rattle.std.specs.Prelude.{◌≡◌, List, true, false, ◌+◌, ◌≤◌, IfOk, IfErr};
 ghost use Rattle.abs_lexer.specs.declared.lexeme.Keyword.TheVariants as keyword;
+ghost use Rattle.abs_lexer.specs.declared.lexeme.Lexeme.TheVariants as lexeme;
+ghost use Rattle.abs_lexer.specs.declared.lexeme.Punctuator.TheVariants as punctuator;
 ghost use Rattle.abs_tree.specs.Syntax.{Name};
 ghost use Rattle.abs_tree.specs.SyntaxSizes.{count_of};
 ghost use Rattle.abs_tree.specs.SyntaxViews.{phrase, side_tree, target_tree, statement as statement_tree, maybe_side};
-ghost use Rattle.abs_parser.specs.TokenKinds.{LowerName, UpperName, KeywordKind, fits, next};
-ghost use Rattle.abs_parser.specs.Productions.{begins, Stmt as StmtSymbol, Rhs, Initial, Rest, AfterName};
-ghost use Rattle.abs_parser.specs.Readings.{One, Optional, Subgoal};
-ghost use Rattle.abs_parser.specs.ReaderAnswers.{FoundAs, IsRefused, left_at, maybe_phrases};
+ghost use Rattle.abs_parser.specs.TokenKinds.{LowerName, UpperName, KeywordKind, PunctuatorKind, fits, next};
+ghost use Rattle.abs_parser.specs.Productions.{begins, Stmt as StmtSymbol, Initial, Rest, AfterName};
+ghost use Rattle.abs_parser.specs.Readings.{One, Optional, Terminal};
+ghost use Rattle.abs_parser.specs.ReaderAnswers.{Parses, parse_of, Passes, IsRefused, HasRoom, left_at, maybe_phrases};
 ghost use Rattle.abs_parser.specs.Stops.{limit};
-ghost use Rattle.abs_parser.specs.Firsts.{place_of_first, target_of, phrase_of, after_first, begins_another};
+ghost use Rattle.abs_parser.specs.Firsts.{place_of_first, target_of, phrase_of, after_first, begins_another, is_simple};
 ghost use Rattle.abs_parser.specs.TreesOf.{statement_in, initial_in, rest_in};
 ghost use Rattle.abs_parser.specs.Views.{spot};
 
 use crate::ParseError;
 use crate::arguments::arguments_maybe;
 use crate::cursor::Cursor;
-use crate::expressions::expression;
+use crate::expressions::{expression, in_parentheses};
 use crate::guards::guard;
 use crate::operators::{Precedence, operators_after};
 use crate::primaries::{member, named};
@@ -47,7 +49,7 @@ impl First {
         }
     }
 
-    /// The same as what a value goes to.
+    /// The same as the target of an assignment.
     fn target(self) -> Target
         ensures { (names : List Name) → target_tree names result ≡ target_of names self }
     {
@@ -61,7 +63,7 @@ impl First {
         }
     }
 
-    /// The same as an expression, with arguments after it or without.
+    /// The same as an expression, with or without arguments after it.
     ///
     /// # Errors
     /// [`AllocError`] if an allocation fails.
@@ -78,152 +80,74 @@ impl First {
     }
 }
 
-/// `skip;`, and the cursor after it.
-pub(crate) fn skip_statement<'a, 'b>(
+/// `skip;`, `suspend;`, `await g;`, `return e;` or `println(e);`, and the cursor after it.
+pub(crate) fn simple_statement<'a, 'b>(
     alloc: Global,
     symbols: &mut Symbols<'a>,
     index: u32,
     depth: u32,
+    keyword: Keyword,
     from: Cursor<'a, 'b>,
 ) -> Result<(Stmt, Cursor<'a, 'b>), ParseError>
-    requires begins { fits (KeywordKind keyword.Skip) (next (left_at (spot from))) ≡ true }
-    requires names { length symbols.old + length (spot from).rest < 2 ^ 31 }
+    requires simple { is_simple keyword ≡ true }
+    requires begins { next (left_at (spot from)) ≡ KeywordKind keyword }
+    requires names { HasRoom symbols.old (spot from) }
     requires depth { depth ≤ limit }
-    ensures found { IfOk result (λ found. FoundAs (One StmtSymbol) depth symbols.old symbols.new (spot from.entry)
-        (spot found.1)
-        (λ names inside. statement_tree names found.0 ≡ statement_in index inside)) }
+    ensures parses { Parses result (parse_of (One StmtSymbol) depth symbols.old symbols.new (spot from.entry)
+        (λ found. spot found.1) (λ found names inside. statement_tree names found.0 ≡ statement_in index inside)) }
     ensures one { IfOk result (λ found. (names : List Name) → count_of (statement_tree names found.0) ≡ 1) }
-    ensures shorter { IfOk result (λ found. length (spot found.1).rest < length (spot from.entry).rest) }
-    ensures refused { IfErr result (λ error. IsRefused (Subgoal (One StmtSymbol) depth) (spot from.entry) error) }
 {
-    let (token, last) = from.take(Lexeme::Keyword(Keyword::Skip), depth + 1)?;
-    let (_, end) = last.take(Lexeme::Punctuator(Punctuator::Semicolon), depth + 1)?;
-    Ok((
-        Stmt::Skip {
-            index,
-            place: token.place,
-        },
-        end,
-    ))
+    let (token, after) = from.take(Lexeme::Keyword(keyword), depth + 1)?;
+    let place = token.place;
+    match keyword {
+        Keyword::Skip => closed(Stmt::Skip { index, place }, depth + 1, after),
+        Keyword::Suspend => closed(Stmt::Suspend { index, place }, depth + 1, after),
+        Keyword::Await => {
+            let (guard, last) = guard(alloc, symbols, depth + 1, after)?;
+            let stmt = Stmt::Await {
+                index,
+                place,
+                guard,
+            };
+            closed(stmt, depth + 1, last)
+        }
+        Keyword::Return => {
+            let (returned, last) = expression(alloc, symbols, depth + 1, after)?;
+            let value = Arc::new(alloc, returned)?;
+            let stmt = Stmt::Return {
+                index,
+                place,
+                value,
+            };
+            closed(stmt, depth + 1, last)
+        }
+        Keyword::Println => {
+            let (printed, last) = in_parentheses(alloc, symbols, depth + 1, after)?;
+            let value = Arc::new(alloc, printed)?;
+            let stmt = Stmt::Print {
+                index,
+                place,
+                value,
+            };
+            closed(stmt, depth + 1, last)
+        }
+        _ => unreachable!(),
+    }
 }
 
-/// `suspend;`, and the cursor after it.
-pub(crate) fn suspend_statement<'a, 'b>(
-    alloc: Global,
-    symbols: &mut Symbols<'a>,
-    index: u32,
+/// A statement that only its semicolon is still to follow, and the cursor after the semicolon.
+fn closed<'a, 'b>(
+    stmt: Stmt,
     depth: u32,
     from: Cursor<'a, 'b>,
 ) -> Result<(Stmt, Cursor<'a, 'b>), ParseError>
-    requires begins { fits (KeywordKind keyword.Suspend) (next (left_at (spot from))) ≡ true }
-    requires names { length symbols.old + length (spot from).rest < 2 ^ 31 }
-    requires depth { depth ≤ limit }
-    ensures found { IfOk result (λ found. FoundAs (One StmtSymbol) depth symbols.old symbols.new (spot from.entry)
-        (spot found.1)
-        (λ names inside. statement_tree names found.0 ≡ statement_in index inside)) }
-    ensures one { IfOk result (λ found. (names : List Name) → count_of (statement_tree names found.0) ≡ 1) }
-    ensures shorter { IfOk result (λ found. length (spot found.1).rest < length (spot from.entry).rest) }
-    ensures refused { IfErr result (λ error. IsRefused (Subgoal (One StmtSymbol) depth) (spot from.entry) error) }
+    ensures same { IfOk result (λ found. found.0 ≡ stmt) }
+    ensures found { IfOk result (λ found. Passes (lexeme.Punctuator punctuator.Semicolon) (spot from.entry)
+        (spot found.1)) }
+    ensures refused { IfErr result (λ error. IsRefused (Terminal (PunctuatorKind punctuator.Semicolon) depth)
+        (spot from.entry) error) }
 {
-    let (token, last) = from.take(Lexeme::Keyword(Keyword::Suspend), depth + 1)?;
-    let (_, end) = last.take(Lexeme::Punctuator(Punctuator::Semicolon), depth + 1)?;
-    Ok((
-        Stmt::Suspend {
-            index,
-            place: token.place,
-        },
-        end,
-    ))
-}
-
-/// `await g;`, and the cursor after it.
-pub(crate) fn await_statement<'a, 'b>(
-    alloc: Global,
-    symbols: &mut Symbols<'a>,
-    index: u32,
-    depth: u32,
-    from: Cursor<'a, 'b>,
-) -> Result<(Stmt, Cursor<'a, 'b>), ParseError>
-    requires begins { fits (KeywordKind keyword.Await) (next (left_at (spot from))) ≡ true }
-    requires names { length symbols.old + length (spot from).rest < 2 ^ 31 }
-    requires depth { depth ≤ limit }
-    ensures found { IfOk result (λ found. FoundAs (One StmtSymbol) depth symbols.old symbols.new (spot from.entry)
-        (spot found.1)
-        (λ names inside. statement_tree names found.0 ≡ statement_in index inside)) }
-    ensures one { IfOk result (λ found. (names : List Name) → count_of (statement_tree names found.0) ≡ 1) }
-    ensures shorter { IfOk result (λ found. length (spot found.1).rest < length (spot from.entry).rest) }
-    ensures refused { IfErr result (λ error. IsRefused (Subgoal (One StmtSymbol) depth) (spot from.entry) error) }
-{
-    let (token, guard_at) = from.take(Lexeme::Keyword(Keyword::Await), depth + 1)?;
-    let (guard, last) = guard(alloc, symbols, depth + 1, guard_at)?;
-    let (_, end) = last.take(Lexeme::Punctuator(Punctuator::Semicolon), depth + 1)?;
-    let stmt = Stmt::Await {
-        index,
-        place: token.place,
-        guard,
-    };
-    Ok((stmt, end))
-}
-
-/// `return e;`, and the cursor after it.
-pub(crate) fn return_statement<'a, 'b>(
-    alloc: Global,
-    symbols: &mut Symbols<'a>,
-    index: u32,
-    depth: u32,
-    from: Cursor<'a, 'b>,
-) -> Result<(Stmt, Cursor<'a, 'b>), ParseError>
-    requires begins { fits (KeywordKind keyword.Return) (next (left_at (spot from))) ≡ true }
-    requires names { length symbols.old + length (spot from).rest < 2 ^ 31 }
-    requires depth { depth ≤ limit }
-    ensures found { IfOk result (λ found. FoundAs (One StmtSymbol) depth symbols.old symbols.new (spot from.entry)
-        (spot found.1)
-        (λ names inside. statement_tree names found.0 ≡ statement_in index inside)) }
-    ensures one { IfOk result (λ found. (names : List Name) → count_of (statement_tree names found.0) ≡ 1) }
-    ensures shorter { IfOk result (λ found. length (spot found.1).rest < length (spot from.entry).rest) }
-    ensures refused { IfErr result (λ error. IsRefused (Subgoal (One StmtSymbol) depth) (spot from.entry) error) }
-{
-    let (token, value_at) = from.take(Lexeme::Keyword(Keyword::Return), depth + 1)?;
-    let (value, last) = expression(alloc, symbols, depth + 1, value_at)?;
-    let (_, end) = last.take(Lexeme::Punctuator(Punctuator::Semicolon), depth + 1)?;
-    let value = Arc::new(alloc, value)?;
-    let stmt = Stmt::Return {
-        index,
-        place: token.place,
-        value,
-    };
-    Ok((stmt, end))
-}
-
-/// `println(e);`, and the cursor after it.
-pub(crate) fn println_statement<'a, 'b>(
-    alloc: Global,
-    symbols: &mut Symbols<'a>,
-    index: u32,
-    depth: u32,
-    from: Cursor<'a, 'b>,
-) -> Result<(Stmt, Cursor<'a, 'b>), ParseError>
-    requires begins { fits (KeywordKind keyword.Println) (next (left_at (spot from))) ≡ true }
-    requires names { length symbols.old + length (spot from).rest < 2 ^ 31 }
-    requires depth { depth ≤ limit }
-    ensures found { IfOk result (λ found. FoundAs (One StmtSymbol) depth symbols.old symbols.new (spot from.entry)
-        (spot found.1)
-        (λ names inside. statement_tree names found.0 ≡ statement_in index inside)) }
-    ensures one { IfOk result (λ found. (names : List Name) → count_of (statement_tree names found.0) ≡ 1) }
-    ensures shorter { IfOk result (λ found. length (spot found.1).rest < length (spot from.entry).rest) }
-    ensures refused { IfErr result (λ error. IsRefused (Subgoal (One StmtSymbol) depth) (spot from.entry) error) }
-{
-    let (token, open) = from.take(Lexeme::Keyword(Keyword::Println), depth + 1)?;
-    let (_, text_at) = open.take(Lexeme::Punctuator(Punctuator::OpenParen), depth + 1)?;
-    let (text, close) = expression(alloc, symbols, depth + 1, text_at)?;
-    let (_, last) = close.take(Lexeme::Punctuator(Punctuator::CloseParen), depth + 1)?;
-    let (_, end) = last.take(Lexeme::Punctuator(Punctuator::Semicolon), depth + 1)?;
-    let value = Arc::new(alloc, text)?;
-    let stmt = Stmt::Print {
-        index,
-        place: token.place,
-        value,
-    };
+    let (_, end) = from.take(Lexeme::Punctuator(Punctuator::Semicolon), depth)?;
     Ok((stmt, end))
 }
 
@@ -236,14 +160,11 @@ pub(crate) fn variable_declaration<'a, 'b>(
     from: Cursor<'a, 'b>,
 ) -> Result<(Stmt, Cursor<'a, 'b>), ParseError>
     requires begins { fits UpperName (next (left_at (spot from))) ≡ true }
-    requires names { length symbols.old + length (spot from).rest < 2 ^ 31 }
+    requires names { HasRoom symbols.old (spot from) }
     requires depth { depth ≤ limit }
-    ensures found { IfOk result (λ found. FoundAs (One StmtSymbol) depth symbols.old symbols.new (spot from.entry)
-        (spot found.1)
-        (λ names inside. statement_tree names found.0 ≡ statement_in index inside)) }
+    ensures parses { Parses result (parse_of (One StmtSymbol) depth symbols.old symbols.new (spot from.entry)
+        (λ found. spot found.1) (λ found names inside. statement_tree names found.0 ≡ statement_in index inside)) }
     ensures one { IfOk result (λ found. (names : List Name) → count_of (statement_tree names found.0) ≡ 1) }
-    ensures shorter { IfOk result (λ found. length (spot found.1).rest < length (spot from.entry).rest) }
-    ensures refused { IfErr result (λ error. IsRefused (Subgoal (One StmtSymbol) depth) (spot from.entry) error) }
 {
     let (type_of, name_at) = type_term(alloc, symbols, depth + 1, from)?;
     let (name, after) = name_at.take(Lexeme::LowerName, depth + 1)?;
@@ -268,12 +189,10 @@ fn initial<'a, 'b>(
     depth: u32,
     from: Cursor<'a, 'b>,
 ) -> Result<(Option<RightSide>, Cursor<'a, 'b>), ParseError>
-    requires names { length symbols.old + length (spot from).rest < 2 ^ 31 }
+    requires names { HasRoom symbols.old (spot from) }
     requires depth { depth ≤ limit }
-    ensures found { IfOk result (λ found. FoundAs (Optional Initial) depth symbols.old symbols.new (spot from.entry)
-        (spot found.1)
-        (λ names inside. maybe_side names found.0 ≡ initial_in inside)) }
-    ensures refused { IfErr result (λ error. IsRefused (Subgoal (Optional Initial) depth) (spot from.entry) error) }
+    ensures { Parses result (parse_of (Optional Initial) depth symbols.old symbols.new (spot from.entry)
+        (λ found. spot found.1) (λ found names inside. maybe_side names found.0 ≡ initial_in inside)) }
 {
     let Some((_, after)) = from.accept(Lexeme::Punctuator(Punctuator::Assign)) else {
         return Ok((None, from));
@@ -291,14 +210,11 @@ pub(crate) fn variable_statement<'a, 'b>(
     from: Cursor<'a, 'b>,
 ) -> Result<(Stmt, Cursor<'a, 'b>), ParseError>
     requires begins { fits LowerName (next (left_at (spot from))) ≡ true }
-    requires names { length symbols.old + length (spot from).rest < 2 ^ 31 }
+    requires names { HasRoom symbols.old (spot from) }
     requires depth { depth ≤ limit }
-    ensures found { IfOk result (λ found. FoundAs (One StmtSymbol) depth symbols.old symbols.new (spot from.entry)
-        (spot found.1)
-        (λ names inside. statement_tree names found.0 ≡ statement_in index inside)) }
+    ensures parses { Parses result (parse_of (One StmtSymbol) depth symbols.old symbols.new (spot from.entry)
+        (λ found. spot found.1) (λ found names inside. statement_tree names found.0 ≡ statement_in index inside)) }
     ensures one { IfOk result (λ found. (names : List Name) → count_of (statement_tree names found.0) ≡ 1) }
-    ensures shorter { IfOk result (λ found. length (spot found.1).rest < length (spot from.entry).rest) }
-    ensures refused { IfErr result (λ error. IsRefused (Subgoal (One StmtSymbol) depth) (spot from.entry) error) }
 {
     // the name is part of a right side, and so nested in an expression and a unary too
     let side = depth + 1;
@@ -317,14 +233,11 @@ pub(crate) fn this_statement<'a, 'b>(
     from: Cursor<'a, 'b>,
 ) -> Result<(Stmt, Cursor<'a, 'b>), ParseError>
     requires begins { fits (KeywordKind keyword.This) (next (left_at (spot from))) ≡ true }
-    requires names { length symbols.old + length (spot from).rest < 2 ^ 31 }
+    requires names { HasRoom symbols.old (spot from) }
     requires depth { depth ≤ limit }
-    ensures found { IfOk result (λ found. FoundAs (One StmtSymbol) depth symbols.old symbols.new (spot from.entry)
-        (spot found.1)
-        (λ names inside. statement_tree names found.0 ≡ statement_in index inside)) }
+    ensures parses { Parses result (parse_of (One StmtSymbol) depth symbols.old symbols.new (spot from.entry)
+        (λ found. spot found.1) (λ found names inside. statement_tree names found.0 ≡ statement_in index inside)) }
     ensures one { IfOk result (λ found. (names : List Name) → count_of (statement_tree names found.0) ≡ 1) }
-    ensures shorter { IfOk result (λ found. length (spot found.1).rest < length (spot from.entry).rest) }
-    ensures refused { IfErr result (λ error. IsRefused (Subgoal (One StmtSymbol) depth) (spot from.entry) error) }
 {
     // `this` is part of a right side, and so nested in an expression and a unary too
     let side = depth + 1;
@@ -356,12 +269,11 @@ fn after_name<'a, 'b>(
     from: Cursor<'a, 'b>,
 ) -> Result<(Stmt, Cursor<'a, 'b>), ParseError>
     requires within { depth + 2 ≤ limit }
-    requires names { length symbols.old + length (spot from).rest < 2 ^ 31 }
-    ensures found { IfOk result (λ found. FoundAs (One AfterName) depth symbols.old symbols.new (spot from.entry)
-        (spot found.1)
-        (λ names inside. statement_tree names found.0 ≡ after_first index names first inside)) }
+    requires names { HasRoom symbols.old (spot from) }
+    ensures parses { Parses result (parse_of (One AfterName) depth symbols.old symbols.new (spot from.entry)
+        (λ found. spot found.1)
+        (λ found names inside. statement_tree names found.0 ≡ after_first index names first inside)) }
     ensures one { IfOk result (λ found. (names : List Name) → count_of (statement_tree names found.0) ≡ 1) }
-    ensures refused { IfErr result (λ error. IsRefused (Subgoal (One AfterName) depth) (spot from.entry) error) }
 {
     let place = first.place();
     if let Some((_, side_at)) = from.accept(Lexeme::Punctuator(Punctuator::Assign)) {
@@ -391,11 +303,10 @@ fn rest<'a, 'b>(
     from: Cursor<'a, 'b>,
 ) -> Result<(RightSide, Cursor<'a, 'b>), ParseError>
     requires within { depth + 2 ≤ limit }
-    requires names { length symbols.old + length (spot from).rest < 2 ^ 31 }
-    ensures found { IfOk result (λ found. FoundAs (One Rest) depth symbols.old symbols.new (spot from.entry)
-        (spot found.1)
-        (λ names inside. side_tree names found.0 ≡ rest_in place (phrase names first) inside)) }
-    ensures refused { IfErr result (λ error. IsRefused (Subgoal (One Rest) depth) (spot from.entry) error) }
+    requires names { HasRoom symbols.old (spot from) }
+    ensures { Parses result (parse_of (One Rest) depth symbols.old symbols.new (spot from.entry)
+        (λ found. spot found.1)
+        (λ found names inside. side_tree names found.0 ≡ rest_in place (phrase names first) inside)) }
 {
     let precedence = depth + 1;
     let (product, here) = operators_after(
@@ -466,14 +377,11 @@ pub(crate) fn right_side_statement<'a, 'b>(
     from: Cursor<'a, 'b>,
 ) -> Result<(Stmt, Cursor<'a, 'b>), ParseError>
     requires plain { begins_another (next (left_at (spot from))) ≡ false }
-    requires names { length symbols.old + length (spot from).rest < 2 ^ 31 }
+    requires names { HasRoom symbols.old (spot from) }
     requires depth { depth ≤ limit }
-    ensures found { IfOk result (λ found. FoundAs (One StmtSymbol) depth symbols.old symbols.new (spot from.entry)
-        (spot found.1)
-        (λ names inside. statement_tree names found.0 ≡ statement_in index inside)) }
+    ensures parses { Parses result (parse_of (One StmtSymbol) depth symbols.old symbols.new (spot from.entry)
+        (λ found. spot found.1) (λ found names inside. statement_tree names found.0 ≡ statement_in index inside)) }
     ensures one { IfOk result (λ found. (names : List Name) → count_of (statement_tree names found.0) ≡ 1) }
-    ensures shorter { IfOk result (λ found. length (spot found.1).rest < length (spot from.entry).rest) }
-    ensures refused { IfErr result (λ error. IsRefused (Subgoal (One StmtSymbol) depth) (spot from.entry) error) }
 {
     let (side, last) = right_side(alloc, symbols, depth + 1, from)?;
     let (_, end) = last.take(Lexeme::Punctuator(Punctuator::Semicolon), depth + 1)?;

@@ -1,5 +1,5 @@
 //! Reads statements and blocks.
-ghost use Rattle.std.specs.Prelude.{◌≡◌, ℕ, List, true, ◌+◌, ◌<◌, ◌≤◌, ◌^◌, length, IfOk, IfErr};
+ghost use Rattle.std.specs.Prelude.{◌≡◌, List, true, ◌+◌, ◌≤◌, length, IfOk};
 ghost use Rattle.abs_lexer.specs.declared.lexeme.Keyword.TheVariants as keyword;
 ghost use Rattle.abs_lexer.specs.declared.lexeme.Punctuator.TheVariants as punctuator;
 ghost use Rattle.abs_tree.specs.Syntax.{Name};
@@ -7,8 +7,8 @@ ghost use Rattle.abs_tree.specs.SyntaxSizes.{count_of, count_of_else, statement_
 ghost use Rattle.abs_tree.specs.SyntaxViews.{statement as statement_tree, statements as statement_trees, maybe_statements};
 ghost use Rattle.abs_parser.specs.TokenKinds.{PunctuatorKind, KeywordKind, fits, next};
 ghost use Rattle.abs_parser.specs.Productions.{Stmt as StmtSymbol, Block as BlockSymbol, Else};
-ghost use Rattle.abs_parser.specs.Readings.{One, Optional, Subgoal};
-ghost use Rattle.abs_parser.specs.ReaderAnswers.{FoundAs, IsRefused, left_at};
+ghost use Rattle.abs_parser.specs.Readings.{One, Optional};
+ghost use Rattle.abs_parser.specs.ReaderAnswers.{Parses, parse_of, HasRoom, HasIndexes, left_at};
 ghost use Rattle.abs_parser.specs.Stops.{limit};
 ghost use Rattle.abs_parser.specs.Firsts.{IsBlock};
 ghost use Rattle.abs_parser.specs.TreesOf.{statement_in, branch_of, else_in};
@@ -16,10 +16,10 @@ ghost use Rattle.abs_parser.specs.Views.{spot};
 
 use crate::ParseError;
 use crate::cursor::Cursor;
-use crate::expressions::expression;
+use crate::expressions::in_parentheses;
 use crate::simple_statements::{
-    await_statement, println_statement, return_statement, right_side_statement, skip_statement,
-    suspend_statement, this_statement, variable_declaration, variable_statement,
+    right_side_statement, simple_statement, this_statement, variable_declaration,
+    variable_statement,
 };
 use abs_lexer::{Keyword, Lexeme, Punctuator};
 use abs_tree::Symbols;
@@ -31,7 +31,7 @@ use std::sync::Arc;
 /// free after it; and the cursor after it.
 ///
 /// # Errors
-/// The refusal of the first token that no statement has there, or that is too deeply nested.
+/// The refusal of the first token that is a syntax error or too deeply nested.
 #[cycle(statements)]
 pub(crate) fn statement<'a, 'b>(
     alloc: Global,
@@ -40,22 +40,22 @@ pub(crate) fn statement<'a, 'b>(
     depth: u32,
     from: Cursor<'a, 'b>,
 ) -> Result<(Stmt, u32, Cursor<'a, 'b>), ParseError>
-    requires names { length symbols.old + length (spot from).rest < 2 ^ 31 }
-    requires few { index + length (spot from).rest < 2 ^ 31 }
+    requires names { HasRoom symbols.old (spot from) }
+    requires few { HasIndexes index (spot from) }
     requires depth { depth ≤ limit }
-    ensures found { IfOk result (λ found. FoundAs (One StmtSymbol) depth symbols.old symbols.new (spot from.entry)
-        (spot found.2)
-        (λ names inside. statement_tree names found.0 ≡ statement_in index inside)) }
+    ensures parses { Parses result (parse_of (One StmtSymbol) depth symbols.old symbols.new (spot from.entry)
+        (λ found. spot found.2) (λ found names inside. statement_tree names found.0 ≡ statement_in index inside)) }
     ensures free { IfOk result (λ found. (names : List Name)
         → found.1 ≡ index + count_of (statement_tree names found.0)) }
     ensures few { IfOk result (λ found. found.1 + length (spot found.2).rest ≤ index + length (spot from.entry).rest) }
-    ensures refused { IfErr result (λ error. IsRefused (Subgoal (One StmtSymbol) depth) (spot from.entry) error) }
 {
     let Some((token, _)) = from.next() else {
         return Err(from.wrong());
     };
     let (stmt, end) = match token.kind {
-        Lexeme::Keyword(keyword) => return keyword_statement(alloc, symbols, index, depth, keyword, from),
+        Lexeme::Keyword(keyword) => return keyword_statement(
+            alloc, symbols, index, depth, keyword, from,
+        ),
         Lexeme::UpperName => variable_declaration(alloc, symbols, index, depth, from)?,
         Lexeme::LowerName => variable_statement(alloc, symbols, index, depth, from)?,
         Lexeme::Punctuator(punctuator) => {
@@ -82,26 +82,21 @@ fn keyword_statement<'a, 'b>(
     from: Cursor<'a, 'b>,
 ) -> Result<(Stmt, u32, Cursor<'a, 'b>), ParseError>
     requires begins { next (left_at (spot from)) ≡ KeywordKind keyword }
-    requires names { length symbols.old + length (spot from).rest < 2 ^ 31 }
-    requires few { index + length (spot from).rest < 2 ^ 31 }
+    requires names { HasRoom symbols.old (spot from) }
+    requires few { HasIndexes index (spot from) }
     requires depth { depth ≤ limit }
-    ensures found { IfOk result (λ found. FoundAs (One StmtSymbol) depth symbols.old symbols.new (spot from.entry)
-        (spot found.2)
-        (λ names inside. statement_tree names found.0 ≡ statement_in index inside)) }
+    ensures parses { Parses result (parse_of (One StmtSymbol) depth symbols.old symbols.new (spot from.entry)
+        (λ found. spot found.2) (λ found names inside. statement_tree names found.0 ≡ statement_in index inside)) }
     ensures free { IfOk result (λ found. (names : List Name)
         → found.1 ≡ index + count_of (statement_tree names found.0)) }
     ensures few { IfOk result (λ found. found.1 + length (spot found.2).rest ≤ index + length (spot from.entry).rest) }
-    ensures refused { IfErr result (λ error. IsRefused (Subgoal (One StmtSymbol) depth) (spot from.entry) error) }
 {
     let (stmt, end) = match keyword {
         Keyword::If => return if_statement(alloc, symbols, index, depth, from),
         Keyword::While => return while_statement(alloc, symbols, index, depth, from),
-        Keyword::Skip => skip_statement(alloc, symbols, index, depth, from)?,
-        Keyword::Suspend => suspend_statement(alloc, symbols, index, depth, from)?,
-        Keyword::Await => await_statement(alloc, symbols, index, depth, from)?,
-        Keyword::Return => return_statement(alloc, symbols, index, depth, from)?,
-        Keyword::Println => println_statement(alloc, symbols, index, depth, from)?,
         Keyword::This => this_statement(alloc, symbols, index, depth, from)?,
+        Keyword::Skip | Keyword::Suspend | Keyword::Await | Keyword::Return | Keyword::Println =>
+            simple_statement(alloc, symbols, index, depth, keyword, from)?,
         _ => right_side_statement(alloc, symbols, index, depth, from)?,
     };
     Ok((stmt, index + 1, end))
@@ -117,16 +112,14 @@ fn block_statement<'a, 'b>(
     from: Cursor<'a, 'b>,
 ) -> Result<(Stmt, u32, Cursor<'a, 'b>), ParseError>
     requires begins { fits (PunctuatorKind punctuator.OpenBrace) (next (left_at (spot from))) ≡ true }
-    requires names { length symbols.old + length (spot from).rest < 2 ^ 31 }
-    requires few { index + length (spot from).rest < 2 ^ 31 }
+    requires names { HasRoom symbols.old (spot from) }
+    requires few { HasIndexes index (spot from) }
     requires depth { depth ≤ limit }
-    ensures found { IfOk result (λ found. FoundAs (One StmtSymbol) depth symbols.old symbols.new (spot from.entry)
-        (spot found.2)
-        (λ names inside. statement_tree names found.0 ≡ statement_in index inside)) }
+    ensures parses { Parses result (parse_of (One StmtSymbol) depth symbols.old symbols.new (spot from.entry)
+        (λ found. spot found.2) (λ found names inside. statement_tree names found.0 ≡ statement_in index inside)) }
     ensures free { IfOk result (λ found. (names : List Name)
         → found.1 ≡ index + count_of (statement_tree names found.0)) }
     ensures few { IfOk result (λ found. found.1 + length (spot found.2).rest ≤ index + length (spot from.entry).rest) }
-    ensures refused { IfErr result (λ error. IsRefused (Subgoal (One StmtSymbol) depth) (spot from.entry) error) }
 {
     let place = from.place();
     let (body, after, end) = block(alloc, symbols, index, depth + 1, from)?;
@@ -143,21 +136,17 @@ fn if_statement<'a, 'b>(
     from: Cursor<'a, 'b>,
 ) -> Result<(Stmt, u32, Cursor<'a, 'b>), ParseError>
     requires begins { fits (KeywordKind keyword.If) (next (left_at (spot from))) ≡ true }
-    requires names { length symbols.old + length (spot from).rest < 2 ^ 31 }
-    requires few { index + length (spot from).rest < 2 ^ 31 }
+    requires names { HasRoom symbols.old (spot from) }
+    requires few { HasIndexes index (spot from) }
     requires depth { depth ≤ limit }
-    ensures found { IfOk result (λ found. FoundAs (One StmtSymbol) depth symbols.old symbols.new (spot from.entry)
-        (spot found.2)
-        (λ names inside. statement_tree names found.0 ≡ statement_in index inside)) }
+    ensures parses { Parses result (parse_of (One StmtSymbol) depth symbols.old symbols.new (spot from.entry)
+        (λ found. spot found.2) (λ found names inside. statement_tree names found.0 ≡ statement_in index inside)) }
     ensures free { IfOk result (λ found. (names : List Name)
         → found.1 ≡ index + count_of (statement_tree names found.0)) }
     ensures few { IfOk result (λ found. found.1 + length (spot found.2).rest ≤ index + length (spot from.entry).rest) }
-    ensures refused { IfErr result (λ error. IsRefused (Subgoal (One StmtSymbol) depth) (spot from.entry) error) }
 {
-    let (token, open) = from.take(Lexeme::Keyword(Keyword::If), depth + 1)?;
-    let (_, test_at) = open.take(Lexeme::Punctuator(Punctuator::OpenParen), depth + 1)?;
-    let (test, close) = expression(alloc, symbols, depth + 1, test_at)?;
-    let (_, first_at) = close.take(Lexeme::Punctuator(Punctuator::CloseParen), depth + 1)?;
+    let (token, test_at) = from.take(Lexeme::Keyword(Keyword::If), depth + 1)?;
+    let (test, first_at) = in_parentheses(alloc, symbols, depth + 1, test_at)?;
     let (first, middle, here) = statement(alloc, symbols, index + 1, depth + 1, first_at)?;
     let condition = Arc::new(alloc, test)?;
     let first = branch(alloc, first)?;
@@ -181,16 +170,14 @@ fn else_branch<'a, 'b>(
     depth: u32,
     from: Cursor<'a, 'b>,
 ) -> Result<(Option<Vec<Stmt>>, u32, Cursor<'a, 'b>), ParseError>
-    requires names { length symbols.old + length (spot from).rest < 2 ^ 31 }
-    requires few { index + length (spot from).rest < 2 ^ 31 }
+    requires names { HasRoom symbols.old (spot from) }
+    requires few { HasIndexes index (spot from) }
     requires depth { depth ≤ limit }
-    ensures found { IfOk result (λ found. FoundAs (Optional Else) depth symbols.old symbols.new (spot from.entry)
-        (spot found.2)
-        (λ names inside. maybe_statements names found.0 ≡ else_in index inside)) }
+    ensures parses { Parses result (parse_of (Optional Else) depth symbols.old symbols.new (spot from.entry)
+        (λ found. spot found.2) (λ found names inside. maybe_statements names found.0 ≡ else_in index inside)) }
     ensures free { IfOk result (λ found. (names : List Name)
         → found.1 ≡ index + count_of_else (maybe_statements names found.0)) }
     ensures few { IfOk result (λ found. found.1 + length (spot found.2).rest ≤ index + length (spot from.entry).rest) }
-    ensures refused { IfErr result (λ error. IsRefused (Subgoal (Optional Else) depth) (spot from.entry) error) }
 {
     let Some((_, other_at)) = from.accept(Lexeme::Keyword(Keyword::Else)) else {
         return Ok((None, index, from));
@@ -209,21 +196,17 @@ fn while_statement<'a, 'b>(
     from: Cursor<'a, 'b>,
 ) -> Result<(Stmt, u32, Cursor<'a, 'b>), ParseError>
     requires begins { fits (KeywordKind keyword.While) (next (left_at (spot from))) ≡ true }
-    requires names { length symbols.old + length (spot from).rest < 2 ^ 31 }
-    requires few { index + length (spot from).rest < 2 ^ 31 }
+    requires names { HasRoom symbols.old (spot from) }
+    requires few { HasIndexes index (spot from) }
     requires depth { depth ≤ limit }
-    ensures found { IfOk result (λ found. FoundAs (One StmtSymbol) depth symbols.old symbols.new (spot from.entry)
-        (spot found.2)
-        (λ names inside. statement_tree names found.0 ≡ statement_in index inside)) }
+    ensures parses { Parses result (parse_of (One StmtSymbol) depth symbols.old symbols.new (spot from.entry)
+        (λ found. spot found.2) (λ found names inside. statement_tree names found.0 ≡ statement_in index inside)) }
     ensures free { IfOk result (λ found. (names : List Name)
         → found.1 ≡ index + count_of (statement_tree names found.0)) }
     ensures few { IfOk result (λ found. found.1 + length (spot found.2).rest ≤ index + length (spot from.entry).rest) }
-    ensures refused { IfErr result (λ error. IsRefused (Subgoal (One StmtSymbol) depth) (spot from.entry) error) }
 {
-    let (token, open) = from.take(Lexeme::Keyword(Keyword::While), depth + 1)?;
-    let (_, test_at) = open.take(Lexeme::Punctuator(Punctuator::OpenParen), depth + 1)?;
-    let (test, close) = expression(alloc, symbols, depth + 1, test_at)?;
-    let (_, body_at) = close.take(Lexeme::Punctuator(Punctuator::CloseParen), depth + 1)?;
+    let (token, test_at) = from.take(Lexeme::Keyword(Keyword::While), depth + 1)?;
+    let (test, body_at) = in_parentheses(alloc, symbols, depth + 1, test_at)?;
     let (body, after, end) = statement(alloc, symbols, index + 1, depth + 1, body_at)?;
     let condition = Arc::new(alloc, test)?;
     let body = branch(alloc, body)?;
@@ -240,7 +223,7 @@ fn while_statement<'a, 'b>(
 /// after it.
 ///
 /// # Errors
-/// The refusal of the first token that no block has there, or that is too deeply nested.
+/// The refusal of the first token that is a syntax error or too deeply nested.
 #[cycle(statements)]
 pub(crate) fn block<'a, 'b>(
     alloc: Global,
@@ -249,16 +232,14 @@ pub(crate) fn block<'a, 'b>(
     depth: u32,
     from: Cursor<'a, 'b>,
 ) -> Result<(Body, u32, Cursor<'a, 'b>), ParseError>
-    requires names { length symbols.old + length (spot from).rest < 2 ^ 31 }
-    requires few { index + length (spot from).rest < 2 ^ 31 }
+    requires names { HasRoom symbols.old (spot from) }
+    requires few { HasIndexes index (spot from) }
     requires depth { depth ≤ limit + 1 }
-    ensures found { IfOk result (λ found. FoundAs (One BlockSymbol) depth symbols.old symbols.new (spot from.entry)
-        (spot found.2)
-        (λ names inside. IsBlock index names found.0 inside)) }
+    ensures parses { Parses result (parse_of (One BlockSymbol) depth symbols.old symbols.new (spot from.entry)
+        (λ found. spot found.2) (λ found names inside. IsBlock index names found.0 inside)) }
     ensures free { IfOk result (λ found. (names : List Name)
         → found.1 ≡ index + statement_count (statement_trees names found.0.statements.items)) }
     ensures few { IfOk result (λ found. found.1 + length (spot found.2).rest ≤ index + length (spot from.entry).rest) }
-    ensures refused { IfErr result (λ error. IsRefused (Subgoal (One BlockSymbol) depth) (spot from.entry) error) }
 {
     let (_, mut here) = from.take(Lexeme::Punctuator(Punctuator::OpenBrace), depth)?;
     let mut statements = Vec::new(alloc);
@@ -277,7 +258,7 @@ pub(crate) fn block<'a, 'b>(
     Ok((body, free, end))
 }
 
-/// The statements of a branch: those of a block, or the one that it is.
+/// The statements of a branch: those of its block, or the one statement itself.
 fn branch(alloc: Global, stmt: Stmt) -> Result<Vec<Stmt>, AllocError>
     ensures found { IfOk result (λ branch. (names : List Name)
         → statement_trees names branch.items ≡ branch_of (statement_tree names stmt)) }

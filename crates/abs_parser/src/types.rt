@@ -1,9 +1,9 @@
 //! Reads types.
-ghost use Rattle.std.specs.Prelude.{◌≡◌, ◌+◌, ◌<◌, ◌≤◌, ◌^◌, length, IfOk, IfErr};
+ghost use Rattle.std.specs.Prelude.{◌≡◌, ◌+◌, ◌≤◌};
 ghost use Rattle.abs_tree.specs.SyntaxViews.{type_tree, type_trees};
 ghost use Rattle.abs_parser.specs.Productions.{Type', TypeArguments as ArgumentsOfType, Types};
-ghost use Rattle.abs_parser.specs.Readings.{One, Optional, Subgoal};
-ghost use Rattle.abs_parser.specs.ReaderAnswers.{FoundAs, IsRefused};
+ghost use Rattle.abs_parser.specs.Readings.{One, Optional};
+ghost use Rattle.abs_parser.specs.ReaderAnswers.{Parses, parse_of, HasRoom};
 ghost use Rattle.abs_parser.specs.Stops.{limit};
 ghost use Rattle.abs_parser.specs.TreesOf.{type_in, type_arguments as arguments_in, types_in};
 ghost use Rattle.abs_parser.specs.Views.{spot};
@@ -14,12 +14,11 @@ use abs_lexer::{Lexeme, Punctuator};
 use abs_tree::Symbols;
 use abs_tree::syntax::TypeTerm;
 use std::alloc::Global;
-use std::sync::Arc;
 
 /// A type nested in `depth` counted nonterminals, and the cursor after it.
 ///
 /// # Errors
-/// The refusal of the first token that no type has there, or that is too deeply nested.
+/// The refusal of the first token that is a syntax error or too deeply nested.
 #[cycle(types)]
 pub(crate) fn type_term<'a, 'b>(
     alloc: Global,
@@ -27,12 +26,10 @@ pub(crate) fn type_term<'a, 'b>(
     depth: u32,
     from: Cursor<'a, 'b>,
 ) -> Result<(TypeTerm, Cursor<'a, 'b>), ParseError>
-    requires names { length symbols.old + length (spot from).rest < 2 ^ 31 }
+    requires names { HasRoom symbols.old (spot from) }
     requires depth { depth ≤ limit + 1 }
-    ensures found { IfOk result (λ found. FoundAs (One Type') depth symbols.old symbols.new (spot from.entry)
-        (spot found.1)
-        (λ names inside. type_tree names found.0 ≡ type_in inside)) }
-    ensures refused { IfErr result (λ error. IsRefused (Subgoal (One Type') depth) (spot from.entry) error) }
+    ensures { Parses result (parse_of (One Type') depth symbols.old symbols.new (spot from.entry)
+        (λ found. spot found.1) (λ found names inside. type_tree names found.0 ≡ type_in inside)) }
 {
     let (name, after) = from.take(Lexeme::UpperName, depth + 1)?;
     let symbol = symbols.intern(name.slice)?;
@@ -40,7 +37,7 @@ pub(crate) fn type_term<'a, 'b>(
     let term = TypeTerm::Unresolved {
         place: name.place,
         name: symbol,
-        arguments: Arc::new(alloc, arguments)?,
+        arguments,
     };
     Ok((term, end))
 }
@@ -53,13 +50,10 @@ fn type_arguments<'a, 'b>(
     depth: u32,
     from: Cursor<'a, 'b>,
 ) -> Result<(Vec<TypeTerm>, Cursor<'a, 'b>), ParseError>
-    requires names { length symbols.old + length (spot from).rest < 2 ^ 31 }
+    requires names { HasRoom symbols.old (spot from) }
     requires depth { depth ≤ limit }
-    ensures found { IfOk result (λ found. FoundAs (Optional ArgumentsOfType) depth symbols.old symbols.new
-        (spot from.entry) (spot found.1)
-        (λ names inside. type_trees names found.0.items ≡ arguments_in inside)) }
-    ensures refused { IfErr result (λ error. IsRefused (Subgoal (Optional ArgumentsOfType) depth)
-        (spot from.entry) error) }
+    ensures { Parses result (parse_of (Optional ArgumentsOfType) depth symbols.old symbols.new (spot from.entry)
+        (λ found. spot found.1) (λ found names inside. type_trees names found.0.items ≡ arguments_in inside)) }
 {
     let Some((_, after)) = from.accept(Lexeme::Punctuator(Punctuator::Less)) else {
         return Ok((Vec::new(alloc), from));
@@ -77,12 +71,10 @@ pub(crate) fn types<'a, 'b>(
     depth: u32,
     from: Cursor<'a, 'b>,
 ) -> Result<(Vec<TypeTerm>, Cursor<'a, 'b>), ParseError>
-    requires names { length symbols.old + length (spot from).rest < 2 ^ 31 }
+    requires names { HasRoom symbols.old (spot from) }
     requires depth { depth ≤ limit }
-    ensures found { IfOk result (λ found. FoundAs (One Types) depth symbols.old symbols.new (spot from.entry)
-        (spot found.1)
-        (λ names inside. type_trees names found.0.items ≡ types_in inside)) }
-    ensures refused { IfErr result (λ error. IsRefused (Subgoal (One Types) depth) (spot from.entry) error) }
+    ensures { Parses result (parse_of (One Types) depth symbols.old symbols.new (spot from.entry)
+        (λ found. spot found.1) (λ found names inside. type_trees names found.0.items ≡ types_in inside)) }
 {
     let (first, mut here) = type_term(alloc, symbols, depth, from)?;
     let mut types = vec![in alloc; first]?;

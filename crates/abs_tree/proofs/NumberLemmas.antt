@@ -13,12 +13,12 @@ use Rattle.abs_tree.specs.declared.symbol.Symbol.{Symbol}
 use Rattle.abs_tree.specs.Names.{number_of_name, symbol_in}
 use Rattle.abs_tree.specs.Trees.{name_of}
 
--- a fact of what each piece holds is a fact of each entry of the list of what they hold
+-- a fact of the image of each element is a fact of each element of the mapped list
 all-map : {A B : Type 0} (f : A → B) (P : B → Type 0) (xs : List A) → AllByRecursion (λ x. P (f x)) xs → AllByRecursion P (map f xs)
 all-map f P [] all = tt
 all-map f P (x ∷ xs) all = (all.0, all-map f P xs all.1)
 
--- where no two pieces hold the same, no two entries of the list of what they hold are the same
+-- if no two elements have the same image, no two elements of the mapped list are the same
 distinct-map : {A B : Type 0} (f : A → B) (same : B → B → Bool) (xs : List A) → IsDistinct (λ x y. same (f x) (f y)) xs
     → IsDistinct same (map f xs)
 unfolding IsDistinct
@@ -35,7 +35,7 @@ own_number names symbol distinct there =
     (λ k before. nat_list_eq_equiv.symm name (get_or names k []) ∙ apart_from_distinct bytes_eq names k symbol.0 [] distinct before there)
     (λ _. nat_list_eq_equiv.refl name)
 
--- the same for the list of what pieces hold
+-- the same for a mapped list
 pub own_number-map : {A : Type 0} (f : A → List ℕ) (pieces : List A) (symbol : Symbol)
     → IsDistinct (λ x y. bytes_eq (f x) (f y)) pieces → symbol.0 < length pieces
     → number_of_name (map f pieces) (name_of (map f pieces) symbol) ≡ symbol.0
@@ -46,16 +46,16 @@ own_number-map f pieces symbol distinct there =
 pub outside_name : (names : List (List ℕ)) (symbol : Symbol) → length names ≤ symbol.0 → name_of names symbol ≡ []
 outside_name names symbol outside = rw (slice_get_past names symbol.0 outside)
 
--- the symbol that looking for a name finds is the number of the name
+-- the symbol that a search for a name finds has the number of the name
 pub number_of_found : (names : List (List ℕ)) (name : List ℕ) (symbol : Symbol) → Some symbol ≡ symbol_in names name
     → symbol.0 ≡ number_of_name names name
 number_of_found names name symbol found = grind (arith, nat_tests)
 
--- a name that looking for does not find has the next number
+-- a name that the search does not find has the next number
 pub number_of_new : (names : List (List ℕ)) (name : List ℕ) → None ≡ symbol_in names name → length names ≡ number_of_name names name
 number_of_new names name none = grind (arith, nat_tests, prefix_len-le-length)
 
--- a name that the table has stands at its number
+-- a name that the table has is its entry at the number of the name
 name_at_number : (names : List (List ℕ)) (name : List ℕ) → number_of_name names name < length names
     → name ≡ get_or names (number_of_name names name) []
 name_at_number names name there = (bytes_eq-Decides name _).0 (passes_at_first (bytes_eq name) names [] there)
@@ -73,7 +73,7 @@ name_without_number names symbol absent = elim (leb_tells (length names) symbol.
       absurd (true≢false (sym equal ∙ apart))
 ]
 
--- two symbols with the same number have the same name
+-- two symbols whose names have the same number have the same name
 same_name : (names : List (List ℕ)) (one other : Symbol)
     → number_of_name names (name_of names one) ≡ number_of_name names (name_of names other) → name_of names one ≡ name_of names other
 same_name names one other same = elim (leb_tells (length names) (number_of_name names (name_of names one))) [
@@ -83,7 +83,7 @@ same_name names one other same = elim (leb_tells (length names) (number_of_name 
       ∙ sym (name_at_number names (name_of names other) (omega (arith, there.1)))
 ]
 
--- two symbols have the same number exactly where they have the same name
+-- the names of two symbols have the same number exactly if they are the same name
 pub numbers_tell_names : (names : List (List ℕ)) (one other : Symbol)
     → (number_of_name names (name_of names one) ≡ number_of_name names (name_of names other)) ↔ (name_of names one ≡ name_of names other)
 numbers_tell_names names one other = (same_name names one other, ap (number_of_name names))

@@ -1,4 +1,4 @@
--- The rules of evaluation and its function give the same.
+-- The rules of evaluation and the function `evaluate` give the same outcomes.
 use Rattle.std.proofs.Common.{◌≡◌, ℕ, zero, suc, List, refl, ap, subst, ◌∙◌}
 use Rattle.abs_tree.specs.declared.value.Value.{Value}
 use Rattle.abs_tree.specs.declared.value.Fault.{Fault}
@@ -8,7 +8,7 @@ use Rattle.abs_tree.specs.Evaluation.{Outcome, Outcomes, evaluate, outcomes_of, 
 use Rattle.abs_tree.specs.Rules.{EvaluatesTo, too_deep, number, local, apply, negation, operators, EvaluateAllTo, no_more, next_value, first_fault, OperatesTo, no_operand, operand, after_fault, outcome_with, HasOneOutcome}
 use Rattle.abs_tree.specs.Trees.{ExprTree, ExprTrees, OperandTrees, Number, Local, Apply, Negate, Operators, NoMore, More, NoOperand, Then, name_of}
 
--- a fault stays what operators give
+-- after a fault, the outcome of an operator list is that fault
 stays : (give : ExprTree → ℕ → Outcome) (cause : Fault) (made : ℕ) (operands : OperandTrees) → outcome_with (Bad cause) made ≡ operators_outcome give (outcome_with (Bad cause) made) operands
 stays give cause made NoOperand = refl
 stays give cause made (Then operator right rest) = stays give cause made rest
@@ -16,7 +16,7 @@ stays give cause made (Then operator right rest) = stays give cause made rest
 mutual
   unfolding evaluate
 
-  -- what the rules allow is what the function gives
+  -- an outcome that the rules allow is the one that the function returns
   only : (names : List (List ℕ)) (slots : List Value) (left : ℕ) (expr : ExprTree) (made : ℕ) (outcome : Outcome) → EvaluatesTo names slots left expr made outcome
       → outcome ≡ evaluate names slots left expr made
   only names slots _ _ _ _ (too_deep expr made) = refl
@@ -46,11 +46,11 @@ mutual
       ∙ ap (λ (o : Outcome). operators_outcome (evaluate names slots left) (outcome_with (operator_result operator v o.result) o.applications) rest) (only names slots left right made found h)
   only_operators names slots _ _ _ _ (after_fault left made cause operator right rest) = stays (evaluate names slots left) cause made rest
 
--- what each expression comes to by the rules, at one number of levels
+-- with this many levels left, the rules allow what the function returns for each expression
 abbrev Come : List (List ℕ) → List Value → ℕ → Type 0
 Come names slots left = (expr : ExprTree) (made : ℕ) → EvaluatesTo names slots left expr made (evaluate names slots left expr made)
 
--- then a list of expressions comes to what the function gives
+-- then they allow what the function returns for a list of expressions
 all_by : (names : List (List ℕ)) (slots : List Value) (left : ℕ) (expr : ExprTree) (rest : ExprTrees) (made : ℕ) (result : Evaluated) (now : ℕ)
     → EvaluatesTo names slots left expr made (outcome_with result now)
     → ((now : ℕ) → EvaluateAllTo names slots left rest now (outcomes_of (evaluate names slots left) rest now))
@@ -65,7 +65,7 @@ all_come names slots left come (More expr rest) made =
     all_by names slots left expr rest made (evaluate names slots left expr made).result (evaluate names slots left expr made).applications
     (come expr made) (all_come names slots left come rest)
 
--- and so do operators
+-- and what it returns for an operator list
 operators_come : (names : List (List ℕ)) (slots : List Value) (left : ℕ) → Come names slots left → (result : Evaluated) (made : ℕ) (operands : OperandTrees)
     → OperatesTo names slots left (outcome_with result made) operands (operators_outcome (evaluate names slots left) (outcome_with result made) operands)
 operators_come names slots left come result made NoOperand = no_operand left (outcome_with result made)
@@ -77,7 +77,7 @@ operators_come names slots left come (Bad cause) made (Then operator right rest)
     subst (OperatesTo names slots left (outcome_with (Bad cause) made) (Then operator right rest)) (stays (evaluate names slots left) cause made rest)
     (after_fault left made cause operator right rest)
 
--- what the function gives the rules allow
+-- the rules allow what the function returns
 some : (names : List (List ℕ)) (slots : List Value) (left : ℕ) → Come names slots left
 unfolding evaluate
 some names slots zero expr made = too_deep expr made

@@ -1,4 +1,4 @@
--- Statements that hold others: the trees of the statements inside one in memory are those of its lists.
+-- Statements that contain others: the trees of the statements inside are those of its vectors.
 use Rattle.std.proofs.Common.{◌≡◌, ℕ, List, Option, Some, None, refl, ap, ◌∙◌}
 use Rattle.std.specs.declared.alloc.Global.{Global}
 use Rattle.std.specs.declared.sync.Arc.{Arc}

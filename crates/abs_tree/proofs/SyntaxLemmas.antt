@@ -1,4 +1,4 @@
--- The trees of the parts inside a type, a pattern or an expression that stands in memory are those of its list.
+-- The trees of the parts inside a type, a pattern or an expression in memory are those of its vector.
 use Rattle.std.proofs.Common.{◌≡◌, ℕ, List, refl, ap, ◌∙◌}
 use Rattle.std.specs.declared.alloc.Global.{Global}
 use Rattle.std.specs.declared.sync.Arc.{Arc}
@@ -26,15 +26,15 @@ types_in_row names n (more_of-TypeTerm type others) = ap (NextType (type_tree na
 
 -- how many arguments a type has, and the row of them
 abbrev row_of : TypeTerm → (n : Count) × Row_of-TypeTerm n
-row_of (Unresolved' _ _ _ _ row) = (_, row)
+row_of (Unresolved' _ _ _ row) = (_, row)
 row_of _ = (_, end_of-TypeTerm)
 
 -- the arguments of a type are those of its vector
-pub type_tree-unresolved : (names : List (List ℕ)) (place : Place) (symbol : Symbol) (arguments : Arc (Vec TypeTerm Global) Global)
-    → type_tree names (code_type.Unresolved place symbol arguments) ≡ UnresolvedType place (name_of names symbol) (type_trees names arguments.value.items)
+pub type_tree-unresolved : (names : List (List ℕ)) (place : Place) (symbol : Symbol) (arguments : Vec TypeTerm Global)
+    → type_tree names (code_type.Unresolved place symbol arguments) ≡ UnresolvedType place (name_of names symbol) (type_trees names arguments.items)
 type_tree-unresolved names place symbol arguments =
     let row = row_of (code_type.Unresolved place symbol arguments) in
-    ap (UnresolvedType place (name_of names symbol)) (types_in_row names row.0 row.1 ∙ ap (type_trees names) (items_hidden-the_row-TypeTerm-0 arguments.value))
+    ap (UnresolvedType place (name_of names symbol)) (types_in_row names row.0 row.1 ∙ ap (type_trees names) (items_hidden-the_row-TypeTerm-0 arguments))
 
 -- the patterns in a row in memory
 patterns_in_row : (names : List (List ℕ)) (n : _) (row : Row_of-Pattern n) → pattern_row names row ≡ pattern_trees names (items-the_row-Pattern n row)

@@ -1,4 +1,4 @@
--- The tree of an expression that stands in memory.
+-- The tree of an expression in memory.
 use Rattle.std.proofs.Common.{◌≡◌, refl, ap, ◌∙◌}
 use Rattle.std.specs.declared.alloc.Global.{Global}
 use Rattle.std.specs.declared.boxed.Box.{Box}
@@ -33,7 +33,7 @@ operands_trees : (n : _) (row : Row_of-Operand n) → operand_trees row ≡ oper
 operands_trees n end_of-Operand = refl
 operands_trees n (more_of-Operand operator right rest) = ap (Then operator (expr_tree right)) (operands_trees _ rest)
 
--- the operators of a operators are those of its vector
+-- the operands of an operator list are those of its vector
 pub expr_tree-operators : (place : Place) (first : Box Expr Global) (operands : Vec Operand Global) → expr_tree (code.Operators place first operands) ≡ Operators place (expr_tree first.value) (operands_of operands.items)
 expr_tree-operators place first operands =
     let row = operands_row (code.Operators place first operands) in

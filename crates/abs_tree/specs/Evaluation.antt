@@ -1,6 +1,7 @@
--- The definition of evaluation: the value or the fault of an expression, and how many function applications its statement
--- has made by then. It is a recursion on the levels that are left, since a part of an expression has one level more than
--- the expression. It has one equation for each form of expression, so each expression has exactly one result.
+-- The definition of evaluation: the value or the fault of an expression, and how many function applications its
+-- statement has made by then. It is a recursion on the levels that are left, since a part of an expression is one level
+-- deeper than the expression. It has one equation for each form of expression, so each expression has exactly one
+-- result.
 --
 --   `result_of`                                    the result of a statement's own expression
 --   `evaluate`                                     the outcome of an expression at a level
@@ -108,8 +109,8 @@ abbrev pub local_result : List Value → Variable → Evaluated
 local_result slots (Slot number) = slot_result (slice_get slots number)
 local_result slots (Named symbol) = Bad fault.Mistyped
 
--- the outcome of an expression with this many levels left, after this many applications; the program has these names, and its
--- slots have these values
+-- the outcome of an expression with this many levels left, after this many applications; the program has these names,
+-- and its slots have these values
 unfoldable pub evaluate : List (List ℕ) → List Value → ℕ → ExprTree → ℕ → Outcome
 evaluate names slots zero expr made = record { result = Bad fault.Levels; applications = made }
 evaluate names slots (suc left) (Number place number) made = record { result = Good (Int number); applications = made }

@@ -1,4 +1,4 @@
--- The limits of sources, of programs and of runs, each said once. The code has the same numbers as constants.
+-- The limits of sources, of programs and of runs, each defined once. The code has the same numbers as constants.
 --
 --   `source_limit`         the bytes of a source                                            1,048,576
 --   `nesting_limit`        the counted nonterminals in which a token may be nested               100
@@ -39,6 +39,6 @@ level_limit = 2000
 abbrev pub application_limit : ℕ
 application_limit = 1000000
 
--- the bytes that a string may have that a run makes
+-- the bytes that a string made by a run may have
 abbrev pub string_limit : ℕ
 string_limit = 65536

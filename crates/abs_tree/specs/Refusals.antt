@@ -1,6 +1,6 @@
 -- Offences and refusals.
 --
---   `IsFirst`                      an offence is the first one of some
+--   `IsFirst`                      an offence is the first one of these
 --   `refusal_of`                   the refusal for an offence
 --   `code_name`, `code_words`      the name of a code, and the offence in words
 use Rattle.std.specs.Prelude.{ℕ, ◌≤◌, List, codes, All, Contains}
@@ -13,7 +13,7 @@ use Rattle.abs_tree.specs.declared.refusal.Refusal.{Refusal}
 abbrev pub refusal_of : Offence → Refusal
 refusal_of offence = record { code = offence.code; line = offence.place.line; column = offence.place.column }
 
--- One of some offences, and none of them comes before it in the source.
+-- The offence is one of these, and none of them comes before it in the source.
 pub record IsFirst (offences : List Offence) (offence : Offence) : Type 0 where
   pub among : Contains offences offence
   pub least : All (λ (other : Offence). offence.place.offset ≤ other.place.offset) offences

@@ -1,9 +1,9 @@
--- Evaluation by rules: one for each form of expression, and one for an expression without a level. The function of evaluation
--- returns exactly what they allow, so they give each expression one outcome.
+-- Evaluation by rules: one for each form of expression, and one for an expression with no level left. The function
+-- `evaluate` returns exactly what the rules allow, so they give each expression one outcome.
 --
---   `HasOneOutcome`                        the rules give one outcome, that of the function
+--   `HasOneOutcome`                        the rules give one outcome, that of `evaluate`
 --   `EvaluatesTo`                          an expression has an outcome
---   `EvaluateAllTo`, `OperatesTo`          a list of expressions has, and an operator list
+--   `EvaluateAllTo`, `OperatesTo`          a list of expressions has an outcome, and an operator list
 --   `outcome_with`, `outcomes_with`        an outcome from its parts
 use Rattle.std.specs.Prelude.{◌≡◌, ℕ, zero, suc, ℤ, List, []}
 use Rattle.abs_tree.specs.declared.operator.Operator.{Operator}
@@ -59,7 +59,7 @@ mutual
     after_fault : (left made : ℕ) (cause : Fault) (operator : Operator) (right : ExprTree) (rest : OperandTrees)
         → OperatesTo names slots left (outcome_with (Bad cause) made) (Then operator right rest) (outcome_with (Bad cause) made)
 
--- The rules give the expression one outcome, which the function of evaluation returns.
+-- The rules give the expression one outcome, which `evaluate` returns.
 pub record HasOneOutcome (names : List (List ℕ)) (slots : List Value) (left : ℕ) (expr : ExprTree) (made : ℕ) : Type 0 where
   pub some : EvaluatesTo names slots left expr made (evaluate names slots left expr made)
   pub only : (outcome : Outcome) → EvaluatesTo names slots left expr made outcome → outcome ≡ evaluate names slots left expr made

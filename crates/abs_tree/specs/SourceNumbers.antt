@@ -1,5 +1,5 @@
--- How the statements of a source are numbered: from 0, in the order in which they begin. The statements of the methods of classes
--- come first, and then those of the main block.
+-- How the statements of a source are numbered: from 0, in the order in which they begin. The statements of the methods
+-- of classes come first, followed by those of the main block.
 --
 --   `MembersAreNumbered`                               the statements of the methods of a class
 --   `DeclsAreNumbered`                                 those of the classes of a source

@@ -1,7 +1,7 @@
--- The tree of a source without its memory, for every kind of phrase: one constructor for each alternative of its rule. A constructor
--- has the place of the first token and a field for each name, literal, operator and part, in order; where a name or a keyword after the
--- first token can offend, it has that place too. Names are written out. Operators of one precedence make one node, so a long sum is not
--- deep. Parentheses, and a rule with one operand, make no node.
+-- The tree of a source without its memory, for every kind of phrase: one constructor for each alternative of its rule.
+-- A constructor has the place of the first token, and in order a field for each name, literal, operator and part. If a
+-- later name or keyword can offend, the constructor has that place too. Names are written out. Operators of one
+-- precedence make one node, so a long sum is not deeply nested. Parentheses, and a rule with one operand, make no node.
 --
 --   `VariableTree`                                     variables
 --   `TypeTree`, `PatternTree`                          types, patterns
@@ -19,16 +19,18 @@ use Rattle.abs_tree.specs.declared.syntax.statement.Mode.{Mode}
 abbrev pub Name : Type 0
 Name = List ℕ
 
--- a variable: unresolved, its name; resolved, a slot of its body, a variable of a pattern or of `let` (by how many of these are visible
--- where it is bound), or a field of the own object
+-- a variable. Unresolved it is its name. Resolved it is a slot of its body, a variable of a pattern or of `let`, or a
+-- field of the own object. A variable of a pattern or of `let` is given by how many of these are visible where it is
+-- bound
 pub data VariableTree : Type 0 where
   Unresolved : (name : Name) → VariableTree
   AtSlot : (slot : ℕ) → VariableTree
   AtBound : (depth : ℕ) → VariableTree
   AtField : (field : ℕ) → VariableTree
 
--- a type: unresolved, its name with its arguments; resolved, a built-in type, `Fut` of a type, data, an interface, or a type parameter by
--- its index; or one that no source writes: of no value, of `null`, or of an object of a class
+-- a type. Unresolved it is its name with its arguments. Resolved it is a built-in type, `Fut` of a type, data, an
+-- interface, or a type parameter by its index. The last three are types that no source writes: of no value, of `null`,
+-- and of an object of a class
 mutual
   pub data TypeTree : Type 0 where
     UnresolvedType : (place : Place) (name : Name) (arguments : TypeTrees) → TypeTree
@@ -91,8 +93,9 @@ mutual
     NoBranch : Branches
     NextBranch : (pattern : PatternTree) (value : Phrase) (others : Branches) → Branches
 
--- the right side of "=", which may also be a statement: a new object, an expression, a call by "!" or by ".", or the value of a future. A
--- call has one row: its receiver, and after it its arguments. One by "." has the hidden slot of its result once names are resolved.
+-- the right side of "=", which may also be a statement: a new object, an expression, a call by "!" or by ".", or the
+-- value of a future. A call has one row: its receiver, followed by its arguments. Once names are resolved, a call by
+-- "." has the hidden slot of its result.
 pub data SideTree : Type 0 where
   NewOf : (place : Place) (mode : Mode) (class_place : Place) (class : Name) (arguments : Phrases) → SideTree
   ValueOf : (place : Place) (value : Phrase) → SideTree
@@ -115,7 +118,7 @@ pub data MaybeSide : Type 0 where
   SomeSide : (side : SideTree) → MaybeSide
 
 mutual
-  -- a statement; but for a block it has an index. A branch is a list of statements.
+  -- a statement; all but a block have an index. A branch is a list of statements.
   pub data Statement : Type 0 where
     BlockOf : (place : Place) (block : Statements) → Statement
     SkipOf : (index : ℕ) (place : Place) → Statement

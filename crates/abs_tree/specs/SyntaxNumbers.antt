@@ -1,5 +1,5 @@
--- How the statements of a body are numbered: in the order in which they begin, without a gap. A block has no index, only the statements
--- in it do. In each definition the first index is the one that is free before.
+-- How the statements of a body are numbered: in the order in which they begin, without a gap. A block has no index, but
+-- the statements in it do. In each definition `first` is the first index that is still free.
 --
 --   `IsNumbered`, `BranchIsNumbered`                   a statement, and a branch that may be missing
 --   `AreNumbered`                                      the statements of a list
@@ -8,7 +8,7 @@ use Rattle.abs_tree.specs.Syntax.{Statement, BlockOf, SkipOf, SuspendOf, AwaitOf
 use Rattle.abs_tree.specs.SyntaxSizes.{count_of, statement_count}
 
 abbrev mutual
-  -- a statement has the first index, and those in it follow
+  -- a statement has the first index, and the statements in it have the next ones
   pub IsNumbered : ℕ → Statement → Type 0
   IsNumbered first (BlockOf place block) = AreNumbered first block
   IsNumbered first (IfOf index place condition branch other) =
@@ -27,7 +27,7 @@ abbrev mutual
   BranchIsNumbered first NoElse = ⊤
   BranchIsNumbered first (Else branch) = AreNumbered first branch
 
-  -- in a list, each goes on where the one before it ends
+  -- in a list, each statement is numbered from where the one before it ends
   pub AreNumbered : ℕ → Statements → Type 0
   AreNumbered first NoStatement = ⊤
   AreNumbered first (NextStatement one others) = IsNumbered first one × AreNumbered (first + count_of one) others

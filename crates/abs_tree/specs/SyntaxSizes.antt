@@ -1,4 +1,4 @@
--- How large a source is, by its tree.
+-- The sizes of a source, counted in its tree.
 --
 --   `all_statements`                                   how many statements it has
 --   `pattern_variables`, `phrase_variables`, ..        how many variables are declared in a part of it
@@ -7,7 +7,7 @@
 use Rattle.std.specs.Prelude.{ℕ, ◌+◌, List, [], ◌∷◌, ◌++◌, length}
 use Rattle.abs_tree.specs.Syntax.{PatternTree, Binds, Built, PatternTrees, NoPattern, NextPattern, Phrase, LetIn, IfElse, OperatorsOf, Prefixed, OwnCallOf, ApplyOf, BuildOf, CaseOf, Phrases, NoPhrase, NextPhrase, Operands, NoOperands, NextOperand, Branches, NoBranch, NextBranch, SideTree, NewOf, ValueOf, SendOf, GetOf, CallOf, Tests, NoTest, NextTest, NoSide, SomeSide, Statement, BlockOf, AwaitOf, ReturnOf, PrintOf, IfOf, WhileOf, DeclareOf, AssignOf, DoOf, MaybeStatements, NoElse, Else, Statements, NoStatement, NextStatement, Value, MemberTree, FieldTree, MethodTree, DeclTree, FunctionTree, ClassTree, SourceTree}
 
--- statements; a block counts as those in it
+-- the number of statements; a block counts as the statements in it
 abbrev mutual
   pub statement_count : Statements → ℕ
   statement_count NoStatement = 0
@@ -37,7 +37,7 @@ decl_statements (_ ∷ others) = decl_statements others
 abbrev pub all_statements : SourceTree → ℕ
 all_statements source = decl_statements source.declarations + statement_count source.main
 
--- variables: those of patterns
+-- the number of variables: those of patterns
 abbrev mutual
   pub pattern_variables : PatternTree → ℕ
   pattern_variables (Binds _ _) = 1
@@ -110,24 +110,24 @@ field_variables [] = 0
 field_variables (FieldTree _ _ (Value value) ∷ others) = phrase_variables value + field_variables others
 field_variables (_ ∷ others) = field_variables others
 
--- bodies: the methods of a class
+-- the sizes of bodies: those of the methods of a class
 abbrev pub method_sizes : List MemberTree → List ℕ
 method_sizes [] = []
 method_sizes (MethodTree signature _ body ∷ others) = (length signature.params + statements_variables body) ∷ method_sizes others
 method_sizes (FieldTree _ _ _ ∷ others) = method_sizes others
 
--- functions, and classes with their initial values
+-- those of functions, and of classes with their initial values
 abbrev pub decl_sizes : List DeclTree → List ℕ
 decl_sizes [] = []
 decl_sizes (FunctionTree _ _ _ _ params value ∷ others) = (length params + phrase_variables value) ∷ decl_sizes others
 decl_sizes (ClassTree _ _ _ _ members ∷ others) = field_variables members ∷ method_sizes members ++ decl_sizes others
 decl_sizes (_ ∷ others) = decl_sizes others
 
--- and the main block
+-- and that of the main block, which comes first
 abbrev pub body_sizes : SourceTree → List ℕ
 body_sizes source = statements_variables source.main ∷ decl_sizes source.declarations
 
--- fields: the parameters of a class, and the fields among its members
+-- the number of fields: the parameters of a class, and the fields among its members
 abbrev pub fields_among : List MemberTree → ℕ
 fields_among [] = 0
 fields_among (FieldTree _ _ _ ∷ others) = 1 + fields_among others

@@ -43,11 +43,11 @@ variable_tree names (variable.Field field) = AtField field
 abbrev mutual
   -- the tree of a type
   pub type_tree : List Name → code_type.TypeTerm → TypeTree
-  type_tree names (code_type.Unresolved' place symbol shared shape arguments) = UnresolvedType place (name_of names symbol) (type_row names arguments)
+  type_tree names (code_type.Unresolved' place symbol shape arguments) = UnresolvedType place (name_of names symbol) (type_row names arguments)
   type_tree names (code_type.Int place) = IntType place
   type_tree names (code_type.String place) = StringType place
-  type_tree names (code_type.Fut' place shared value) = FutType place (type_tree names value)
-  type_tree names (code_type.Data' place symbol shared shape arguments) = DataType place (name_of names symbol) (type_row names arguments)
+  type_tree names (code_type.Fut' place at value) = FutType place (type_tree names value)
+  type_tree names (code_type.Data' place symbol shape arguments) = DataType place (name_of names symbol) (type_row names arguments)
   type_tree names (code_type.Interface place symbol) = InterfaceType place (name_of names symbol)
   type_tree names (code_type.Parameter place parameter) = ParameterType place parameter
   type_tree names code_type.Bottom = BottomType

@@ -1,5 +1,5 @@
--- The tree of a program of the part of the language that runs, without its memory. The rules of a run are about these trees. In an
--- unresolved program each local is its name, in a resolved one its slot.
+-- The tree of a program of the supported part of the language, without its memory. The rules of a run are about these
+-- trees. In an unresolved program each local is its symbol, in a resolved one its slot.
 --
 --   `ExprTree`, `StmtTree`                         expressions, statements
 --   `ProgramTree`, `NamedTree`                     unresolved programs, resolved programs
@@ -18,7 +18,8 @@ use Rattle.abs_tree.specs.declared.program.Named as code_named
 use Rattle.abs_tree.specs.declared.program.Variable.{Variable}
 
 mutual
-  -- a number; a local; the name of a function with its arguments; a minus before an operand; or operators of one precedence
+  -- a number; a local; the symbol of a function with its arguments; a minus before an operand; or operators of one
+  -- precedence
   pub data ExprTree : Type 0 where
     Number : Place → ℤ → ExprTree
     Local : Place → Variable → ExprTree

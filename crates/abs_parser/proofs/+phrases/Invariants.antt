@@ -7,7 +7,7 @@ use Rattle.abs_parser.proofs.reader.ListLemmas.{list_of_expressions, trees_of_ex
 use Rattle.abs_parser.proofs.reader.ListSteps.{ReadsSoFar}
 use Rattle.abs_parser.proofs.+phrases.Given as goal
 
--- each call reads fewer tokens than its caller, or as many and less of the grammar
+-- each call has fewer tokens left than its caller, or as many and a smaller part of the grammar
 abbrev pub decreases-expressions::expression : goal.decreases-expressions::expression
 decreases-expressions::expression l = 40 * length (spot l.from).rest + 32
 

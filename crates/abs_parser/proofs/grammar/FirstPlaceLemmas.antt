@@ -1,6 +1,6 @@
--- The first token of what was read as a nonterminal: the tree has its place, which is that of the spot where the reader began, it stands in no
--- fewer counted nonterminals than the part does, and without it fewer tokens are left. For this goes what was wanted, up to the first of it that
--- is not left out.
+-- The first token of a parsed nonterminal. Its place is that of the tree and of the spot where the reader began. Its
+-- depth is at least that of the nonterminal, and fewer tokens are left after it. The proof follows the wanted items up
+-- to the first one that is not left out.
 use Rattle.std.proofs.Common.{◌≡◌, ◌≤◌, ◌<◌, ℕ, ◌+◌, length, Bool, true, false, ◌||◌, cond, List, [], ◌∷◌, Option, Some, None, option_map, refl, sym, ap, subst, ◌∙◌, arith}
 use mathlib.Core.Logic.{◌⊎◌, inl, inr}
 use Rattle.std.specs.List.{find}
@@ -20,7 +20,7 @@ use Rattle.abs_parser.specs.TreesOf.{first_place, place_in}
 use Rattle.abs_parser.proofs.stop.MoveLemmas.{within_first}
 use Rattle.abs_parser.proofs.reader.StepLemmas.{reads_shorter, left_length}
 
--- what is found passes the test by which it is found
+-- an element that `find` finds passes the test
 found_fits : {X : Type 0} (test : X → Bool) (list : List X) (one : X) → find test list ≡ Some one → test one ≡ true
 found_fits test [] one e = cc
 found_fits test (x ∷ others) one e = at (cases_Bool (test x)) (found_fits test others one)
@@ -32,19 +32,19 @@ found_fits test (x ∷ others) one e = at (cases_Bool (test x)) (found_fits test
         subst (λ y. test y ≡ true) same is
     at (inr is_not) after = after (sym (cond-false (test x) (Some x) (find test others) is_not) ∙ e)
 
--- whether what is wanted may begin with a token of a kind, given whether what stands after it may
+-- whether a wanted item may begin with a token of this kind, given whether the items after it may
 abbrev pub one_may : Wanted → TokenKind → Bool → Bool
 one_may (Terminal asked depth) kind after = fits asked kind
 one_may (Subgoal (One nonterminal) depth) kind after = begins nonterminal kind
 one_may (Subgoal (Optional nonterminal) depth) kind after = begins nonterminal kind || after
 one_may (Subgoal (Repeated nonterminal) depth) kind after = begins nonterminal kind || after
 
--- the same of a list
+-- whether a list of wanted items may begin with a token of this kind
 abbrev pub may : List Wanted → TokenKind → Bool
 may [] kind = false
 may (item ∷ others) kind = one_may item kind (may others kind)
 
--- an item before others may begin with a token where what is wanted for it may
+-- an item, followed by others, may begin with the tokens that its wanted item may begin with
 item_may : (item : Item) (others : List Item) (depth : ℕ) (kind : TokenKind) → one_may (place_item depth item) kind (items_begin begins others kind) ≡ items_begin begins (item ∷ others) kind
 item_may (Of asked) others depth kind = refl
 item_may (Part nonterminal) others depth kind = refl
@@ -52,22 +52,22 @@ item_may (Opt nonterminal) others depth kind = refl
 item_may (Many nonterminal) others depth kind = refl
 item_may (Inside more item) others depth kind = item_may item others (depth + more) kind
 
--- and so may the items of an alternative
+-- the items of an alternative may begin with the tokens that their wanted items may begin with
 items_may : (items : List Item) (depth : ℕ) (kind : TokenKind) → may (place depth items) kind ≡ items_begin begins items kind
 items_may [] depth kind = refl
 items_may (item ∷ others) depth kind = ap (one_may (place_item depth item) kind) (items_may others depth kind) ∙ item_may item others depth kind
 
--- in how many counted nonterminals what is wanted stands
+-- the nesting depth of a wanted item
 abbrev pub depth_of : Wanted → ℕ
 depth_of (Terminal kind depth) = depth
 depth_of (Subgoal goal depth) = depth
 
--- all that is wanted stands in so many or more
+-- each wanted item has at least this nesting depth
 abbrev pub AllBelow : ℕ → List Wanted → Type 0
 AllBelow least [] = ⊤
 AllBelow least (item ∷ others) = (least ≤ depth_of item) × AllBelow least others
 
--- an item stands in no fewer than its alternative
+-- an item is at least as deeply nested as its alternative
 item_below : (item : Item) (least depth : ℕ) → least ≤ depth → least ≤ depth_of (place_item depth item)
 item_below (Of asked) least depth below = below
 item_below (Part nonterminal) least depth below = below
@@ -75,17 +75,17 @@ item_below (Opt nonterminal) least depth below = below
 item_below (Many nonterminal) least depth below = below
 item_below (Inside more item) least depth below = item_below item least (depth + more) (omega (arith, below))
 
--- and so does each of them
+-- all items of an alternative are at least as deeply nested as the alternative
 items_below : (items : List Item) (least depth : ℕ) → least ≤ depth → AllBelow least (place depth items)
 items_below [] least depth below = tt
 items_below (item ∷ others) least depth below = (item_below item least depth below, items_below others least depth below)
 
--- inside a nonterminal everything stands in no fewer than the nonterminal does
+-- the inside of a nonterminal is at least as deeply nested as the nonterminal
 inner_below : (is_counted : Bool) (least depth : ℕ) → least ≤ depth → least ≤ cond is_counted (depth + 1) depth
 inner_below true least depth below = omega (arith, below)
 inner_below false least depth below = below
 
--- a nonterminal is opened to what may begin with the next token, and stands no higher
+-- a nonterminal opens to items that may begin with the next token and are at least as deeply nested
 pub one_opened : (nonterminal : Nonterminal) (kind : TokenKind) (least depth : ℕ) (inner : List Wanted) → least ≤ depth → opened (One nonterminal) kind depth ≡ Some inner
     → (may inner kind ≡ true) × AllBelow least inner
 unfolding chosen
@@ -99,12 +99,12 @@ one_opened nonterminal kind least depth inner below is = at (chosen nonterminal 
         let same : inner ≡ place deeper items = cc in
         rw same (items_may items deeper kind ∙ found_fits (λ (list : List Item). items_begin begins list kind) (rule nonterminal) items some, items_below items least deeper (inner_below (counts nonterminal) least depth below))
 
--- A part is opened to what may begin with the next token, or it is left out, and then what stands after it may.
+-- A part opens to items that may begin with the next token, or it is left out and the items after it may.
 pub data OpenedTo (least : ℕ) (kind : TokenKind) (after : Bool) (inner : List Wanted) : Type 0 where
   Standing : may inner kind ≡ true → AllBelow least inner → OpenedTo least kind after inner
   LeftOut : inner ≡ [] → after ≡ true → OpenedTo least kind after inner
 
--- a part that may be left out is the nonterminal first where that may begin
+-- an optional or repeated part opens to its nonterminal first, where that may begin, and is left out elsewhere
 maybe_opened : {inner : List Wanted} (nonterminal : Nonterminal) (kind : TokenKind) (least depth : ℕ) (after : Bool) (others : List Wanted) → least ≤ depth → AllBelow least others
     → cond (begins nonterminal kind) (Some (Subgoal (One nonterminal) depth ∷ others)) (Some []) ≡ Some inner → (begins nonterminal kind || after) ≡ true → OpenedTo least kind after inner
 maybe_opened {inner} nonterminal kind least depth after others below all is starts = at (cases_Bool (begins nonterminal kind))
@@ -119,30 +119,30 @@ maybe_opened {inner} nonterminal kind least depth after others below all is star
         let same : inner ≡ [] = cc in
         LeftOut same (rw missing at starts)
 
--- each part is opened so
+-- each part opens to items that may begin with the next token, or is left out
 pub part_opened : (goal : Goal) (kind : TokenKind) (least depth : ℕ) (after : Bool) (inner : List Wanted) → least ≤ depth → opened goal kind depth ≡ Some inner
     → one_may (Subgoal goal depth) kind after ≡ true → OpenedTo least kind after inner
 part_opened (One nonterminal) kind least depth after inner below is starts = let inside = one_opened nonterminal kind least depth inner below is in Standing inside.0 inside.1
 part_opened (Optional nonterminal) kind least depth after inner below is starts = maybe_opened nonterminal kind least depth after [] below tt is starts
 part_opened (Repeated nonterminal) kind least depth after inner below is starts = maybe_opened nonterminal kind least depth after (Subgoal (Repeated nonterminal) depth ∷ []) below (below, tt) is starts
 
--- the place of the first of some tokens
+-- the place of the first token of a list
 abbrev place_first : List Mark → Place
 place_first [] = start
 place_first (mark ∷ others) = place_of_mark mark
 
--- What was read begins with the first of the tokens, which stands in no fewer counted nonterminals than this, and fewer of them are left.
+-- The forest begins with the first token; `least` is within the limit if all its tokens are; and fewer tokens are left.
 pub record BeginsWith (least : ℕ) (ts rest : List Mark) (forest : Forest) : Type 0 where
   pub place_is : (after : Place) → first_place forest after ≡ place_first ts
   pub within : AllWithin (depths forest) → least ≤ limit
   pub fewer : length rest < length ts
 
--- with a part that is left out in front it begins so too
+-- a part that is left out before a forest does not change what the forest begins with
 left_out : (items : List Wanted) {least : ℕ} {goal : Goal} {ts middle rest : List Mark} {inside forest : Forest} → Reads [] ts inside middle → may items (next ts) ≡ true
     → (may items (next middle) ≡ true → BeginsWith least middle rest forest) → BeginsWith least ts rest (Node goal inside forest)
 left_out items Nothing starts after = record { place_is = λ place. (after starts).place_is place; within = λ all. (after starts).within all; fewer = (after starts).fewer }
 
--- so does a part with what stands after it
+-- a part and what follows it begin with the first token
 part_first : (items : List Wanted) {least : ℕ} {goal : Goal} {inner : List Wanted} {ts middle rest : List Mark} {inside forest : Forest} → OpenedTo least (next ts) (may items (next ts)) inner
     → Reads inner ts inside middle → Reads items middle forest rest → (may inner (next ts) ≡ true → AllBelow least inner → BeginsWith least ts middle inside)
     → (may items (next middle) ≡ true → BeginsWith least middle rest forest) → BeginsWith least ts rest (Node goal inside forest)
@@ -153,7 +153,7 @@ part_first items {inside = inside} {forest = forest} (Standing starts below) rea
 }
 part_first items (LeftOut none starts) reads others first after = left_out items (rw none at reads) starts after
 
--- what may begin with the next token begins with it
+-- what was read as items that may begin with the next token begins with it
 pub first_read : {wanted : List Wanted} {ts rest : List Mark} {forest : Forest} (least : ℕ) → may wanted (next ts) ≡ true → AllBelow least wanted → Reads wanted ts forest rest → BeginsWith least ts rest forest
 first_read least starts below Nothing = absurd cc
 first_read least starts below (Taken fit reads) = record { place_is = λ place. refl; within = λ all. omega (arith, below.0, all.0); fewer = omega (arith, reads_shorter reads) }
@@ -165,24 +165,24 @@ left_first : (rest : List Lexed) (end : Place) → place_first (left_at (record 
 left_first [] end = refl
 left_first (token ∷ others) end = refl
 
--- a nonterminal that was found begins with the token that stands where its reader began
+-- a nonterminal that was found begins with the token at which its reader began
 found_first : {nonterminal : Nonterminal} {depth : ℕ} {old new : List (List ℕ)} {from to : Spot} {is_read : List (List ℕ) → Forest → Type 0} → (found : FoundAs (One nonterminal) depth old new from to is_read)
     → BeginsWith depth (left_at from) (left_at to) found.inside
 found_first {nonterminal} {depth} {from = from} found =
     let inside = one_opened nonterminal (next (left_at from)) depth depth found.inner (omega arith) found.rule_is in
     first_read depth inside.0 inside.1 found.reads
 
--- so it has that place
+-- a nonterminal that was found has the place at which its reader began
 pub first_place_found : {nonterminal : Nonterminal} {depth : ℕ} {old new : List (List ℕ)} {from to : Spot} {is_read : List (List ℕ) → Forest → Type 0} → (found : FoundAs (One nonterminal) depth old new from to is_read)
     → place_in found.inside ≡ place_of from
 first_place_found {from = from} found = (found_first found).place_is start ∙ left_first from.rest from.end
 
--- and it stands within the limit
+-- the nesting depth of a nonterminal that was found is within the limit
 pub found_within : {nonterminal : Nonterminal} {depth : ℕ} {old new : List (List ℕ)} {from to : Spot} {is_read : List (List ℕ) → Forest → Type 0} → FoundAs (One nonterminal) depth old new from to is_read
     → depth ≤ limit
 found_within found = (found_first found).within found.within
 
--- and fewer tokens are left
+-- fewer tokens are left after a nonterminal that was found
 pub found_fewer : {nonterminal : Nonterminal} {depth : ℕ} {old new : List (List ℕ)} {from to : Spot} {is_read : List (List ℕ) → Forest → Type 0} → FoundAs (One nonterminal) depth old new from to is_read
     → length to.rest < length from.rest
 found_fewer {from = from} {to} found = omega (arith, (found_first found).fewer, left_length from, left_length to)

@@ -1,5 +1,6 @@
--- Which tokens a nonterminal may begin with, by the kind of the token alone, however the token is written. The keywords and the signs that begin
--- one stand in lists: what is one of a list passes each test that all of the list pass, and what is none of it is not found there.
+-- Which tokens a nonterminal may begin with, by the token's lexeme alone, however the token is written. The keywords
+-- and punctuators that begin it are listed. An element of a list passes each test that all elements pass, and a value
+-- that is not in the list is not found there.
 use Rattle.std.proofs.Common.{◌≡◌, ℕ, Bool, true, false, cond, List, [], ◌∷◌, refl, sym, ap, ◌∙◌}
 use Rattle.std.proofs.lemmas.Bool.{and_parts}
 use Rattle.std.specs.List.{list_all, list_any}
@@ -17,26 +18,26 @@ use Rattle.abs_parser.specs.ReaderAnswers.{left_at, asked}
 use Rattle.abs_parser.specs.Tokens.{Spot, TakesToken}
 use Rattle.abs_parser.proofs.reader.StepLemmas.{next_is}
 
--- A nonterminal begins with tokens of just the kinds that pass a test; of the names of a kind it begins with each or with none.
+-- A nonterminal begins with just the tokens whose lexeme passes a test, and with all names of a lexeme or with none.
 pub record BeginsBy (nonterminal : Nonterminal) (test : Lexeme → Bool) : Type 0 where
   pub told : (kind : Lexeme) → test kind ≡ begins nonterminal (asked kind)
   pub local_too : begins nonterminal LowerName ≡ begins nonterminal LocalName
   pub abs_too : begins nonterminal UpperName ≡ begins nonterminal AbsName
   pub library_too : begins nonterminal UpperName ≡ begins nonterminal StdLibName
 
--- so it is for a lower-case name, whichever it is
+-- a nonterminal begins with all lower-case names or with none
 lower_alike : {nonterminal : Nonterminal} {test : Lexeme → Bool} → BeginsBy nonterminal test → (is_local : Bool) → begins nonterminal LowerName ≡ begins nonterminal (cond is_local LocalName LowerName)
 lower_alike by true = by.local_too
 lower_alike by false = refl
 
--- and for an upper-case name
+-- a nonterminal begins with all upper-case names or with none
 upper_alike : {nonterminal : Nonterminal} {test : Lexeme → Bool} → BeginsBy nonterminal test → (is_abs is_library : Bool)
     → begins nonterminal UpperName ≡ begins nonterminal (cond is_abs AbsName (cond is_library StdLibName UpperName))
 upper_alike by true is_library = by.abs_too
 upper_alike by false true = by.library_too
 upper_alike by false false = refl
 
--- then the test tells whether the nonterminal may begin with a token, however the token is written
+-- the test decides whether the nonterminal may begin with a token, however the token is written
 pub begins_by_kind : {nonterminal : Nonterminal} {test : Lexeme → Bool} → BeginsBy nonterminal test → (kind : Lexeme) (bytes : List ℕ) → test kind ≡ begins nonterminal (token_kind_of kind bytes)
 begins_by_kind by lexeme.LowerName bytes = by.told lexeme.LowerName ∙ lower_alike by (bytes_eq bytes (codes "local"))
 begins_by_kind by lexeme.UpperName bytes = by.told lexeme.UpperName ∙ upper_alike by (bytes_eq bytes (codes "ABS")) (bytes_eq bytes (codes "StdLib"))
@@ -46,39 +47,39 @@ begins_by_kind by (lexeme.Keyword keyword) bytes = by.told (lexeme.Keyword keywo
 begins_by_kind by lexeme.Foreign bytes = by.told lexeme.Foreign
 begins_by_kind by (lexeme.Punctuator punctuator) bytes = by.told (lexeme.Punctuator punctuator)
 
--- so a token of a kind that is known is told
+-- the answer of the test for a known lexeme holds for each token of that lexeme
 pub begins_as : {nonterminal : Nonterminal} {test : Lexeme → Bool} {kind : Lexeme} → BeginsBy nonterminal test → (known : Lexeme) {answer : Bool} → kind ≡ known → answer ≡ test known
     → (bytes : List ℕ) → answer ≡ begins nonterminal (token_kind_of kind bytes)
 begins_as {test = test} by known is answers bytes = answers ∙ (ap test (sym is) ∙ begins_by_kind by _ bytes)
 
--- and so is the next one
+-- the answer of the test for a known lexeme holds for the next token, if it has that lexeme
 pub begins_next : {nonterminal : Nonterminal} {test : Lexeme → Bool} {token : Lexed} {from after : Spot} → BeginsBy nonterminal test → (known : Lexeme) {answer : Bool} → TakesToken token from after
     → token.kind ≡ known → answer ≡ test known → answer ≡ begins nonterminal (next (left_at from))
 begins_next {nonterminal} {token = token} by known takes is answers = begins_as by known is answers token.bytes ∙ sym (ap (begins nonterminal) (next_is takes))
 
--- names, numbers and texts
+-- the lexemes of names, numbers and strings
 abbrev pub plain_kinds : List Lexeme
 plain_kinds = lexeme.Number ∷ lexeme.Text ∷ lexeme.LowerName ∷ lexeme.UpperName ∷ []
 
--- this is one of a list
+-- the value is one of a list
 abbrev pub IsOneOf : {X : Type 0} → List X → X → Type 0
 IsOneOf [] x = ⊥
 IsOneOf (last ∷ []) x = x ≡ last
 IsOneOf (first ∷ second ∷ others) x = (x ≡ first) ⊎ IsOneOf (second ∷ others) x
 
--- and this is none of it
+-- the value is none of a list
 abbrev pub IsNoneOf : {X : Type 0} → List X → X → Type 0
 IsNoneOf [] x = ⊤
 IsNoneOf (first ∷ others) x = (x ≡ first → ⊥) × IsNoneOf others x
 
--- one of a list passes a test that all of it pass
+-- an element of a list passes a test that all elements pass
 pub one_passes : {X : Type 0} (test : X → Bool) (list : List X) {x : X} → list_all test list ≡ true → IsOneOf list x → true ≡ test x
 one_passes test [] all one = absurd one
 one_passes test (last ∷ []) all same = sym (ap test same ∙ (and_parts (test last) true all).0)
 one_passes test (first ∷ second ∷ others) all (inl same) = sym (ap test same ∙ (and_parts (test first) (list_all test (second ∷ others)) all).0)
 one_passes test (first ∷ second ∷ others) all (inr one) = one_passes test (second ∷ others) (and_parts (test first) (list_all test (second ∷ others)) all).1 one
 
--- a value of an enum without fields that is none of a list is not found there
+-- a value of an enum without fields that is none of a list is not found in the list
 pub none_found : (D : Declared) → Bare D.parts → (list : List D.D) (x : D.D) → IsNoneOf list x → false ≡ list_any (sameb D x) list
 none_found D bare [] x none = refl
 none_found D bare (first ∷ others) x none = rw (false_same D bare x first none.0) (none_found D bare others x none.1)

@@ -1,4 +1,4 @@
--- Two kinds of tokens that compare as equal are one, and two that do not are different.
+-- Two lexemes that compare as equal are the same, and two that do not are different.
 use Rattle.std.proofs.Common.{◌≡◌, ◌∙◌, refl, sym, ap, Bool, true, false, not, List, [], ◌∷◌}
 use mathlib.Core.Logic.{inl, inr}
 use denote.Struct.Field.{Field}
@@ -22,7 +22,7 @@ abbrev AllTell : (parts : List (List Field)) → Each Bool parts → Type 0
 AllTell [] each = Unit {0}
 AllTell (part ∷ parts) each = ((x y : Values part) → each.0 x y ≡ true → x ≡ y) × AllTell parts each.1
 
--- then so are two choices of a variant and its fields
+-- two choices of a variant and its fields that compare as equal are the same
 choices_same : (parts : List (List Field)) (each : Each Bool parts) → AllTell parts each → (c d : Choice parts) → by false false parts each c d ≡ true → c ≡ d
 choices_same [] each all c d same = absurd c
 choices_same (part ∷ parts) each all (inl x) (inl y) same = ap inl (all.0 x y same)
@@ -34,15 +34,15 @@ choices_same (part ∷ parts) each all (inr x) (inr y) same = ap inr (choices_sa
 abbrev always : Unit {0} → Unit {0} → Bool
 always x y = true
 
--- and they are the same
+-- two values of a variant without fields are the same
 no_field : (x y : Unit {0}) → true ≡ true → x ≡ y
 no_field x y same = refl
 
--- how the fields of kinds are compared, variant by variant: only words and signs have one
+-- how the fields of lexemes are compared, variant by variant: only keywords and punctuators have a field
 abbrev compared : Each Bool enum.parts
 compared = (always, (always, (always, (always, (λ x y. sameb keyword x.0 y.0, (always, (λ x y. sameb punctuator x.0 y.0, tt)))))))
 
--- that comparison tells the fields of kinds
+-- fields of lexemes that compare as equal are the same
 all_tell : AllTell enum.parts compared
 all_tell = (
   no_field,
@@ -61,36 +61,36 @@ all_tell = (
   ),
 )
 
--- kinds that compare as equal are one
+-- lexemes that compare as equal are the same
 same_kind : (k l : Lexeme) → ghosts.eq k l ≡ true → k ≡ l
 same_kind k l same =
     let values : enum.as_values k ≡ enum.as_values l = choices_same enum.parts compared all_tell (enum.as_values k) (enum.as_values l) same in
     sym (enum.eta k) ∙ (ap enum.make values ∙ enum.eta l)
 
--- a test that is not false is true
+-- a Boolean is true where its negation is false
 not_false : (b : Bool) → not b ≡ false → b ≡ true
 not_false true h = refl
 not_false false h = cc
 
--- kinds that do not compare as different are one
+-- lexemes that do not compare as different are the same
 pub kind_told : (k l : Lexeme) (differ : Bool) → differ ≡ not (ghosts.eq k l) → differ ≡ false → k ≡ l
 kind_told k l differ is same = same_kind k l (not_false (ghosts.eq k l) (sym is ∙ same))
 
--- kinds whose comparison answers true are one
+-- lexemes are the same where their comparison answers true
 pub kind_equal : (k l : Lexeme) (equal : Bool) → equal ≡ ghosts.eq k l → equal ≡ true → k ≡ l
 kind_equal k l equal is same = same_kind k l (sym is ∙ same)
 
--- a word compares as equal with itself
+-- a keyword compares as equal with itself
 same_keyword : (w : Keyword) → sameb keyword w w ≡ true
 same_keyword the_keyword.Module = refl
 same_keyword _ = refl
 
--- so does a sign
+-- a punctuator compares as equal with itself
 same_punctuator : (s : Punctuator) → sameb punctuator s s ≡ true
 same_punctuator the_punctuator.OpenParen = refl
 same_punctuator _ = refl
 
--- and so does any kind
+-- any lexeme compares as equal with itself
 kind_self : (k : Lexeme) → ghosts.eq k k ≡ true
 kind_self lexeme.LowerName = refl
 kind_self lexeme.UpperName = refl
@@ -100,10 +100,10 @@ kind_self (lexeme.Keyword w) = same_keyword w
 kind_self lexeme.Foreign = refl
 kind_self (lexeme.Punctuator s) = same_punctuator s
 
--- so kinds whose comparison answers false are different
+-- lexemes are different where their comparison answers false
 pub kind_other : (k l : Lexeme) (equal : Bool) → equal ≡ ghosts.eq k l → equal ≡ false → k ≡ l → ⊥
 kind_other k l equal is differ same = let clash : true ≡ false = sym (kind_self l) ∙ (ap (λ (j : Lexeme). ghosts.eq j l) (sym same) ∙ (sym is ∙ differ)) in cc
 
--- a sign that compares as equal with another is that one
+-- a punctuator that compares as equal with the wanted one is the wanted one
 pub punctuator_is : {kind : Lexeme} (one wanted : Punctuator) {is : Bool} → kind ≡ lexeme.Punctuator one → is ≡ sameb punctuator one wanted → is ≡ true → kind ≡ lexeme.Punctuator wanted
 punctuator_is one wanted kind_is tells holds = kind_is ∙ ap lexeme.Punctuator (same_true punctuator tt one wanted (sym tells ∙ holds))

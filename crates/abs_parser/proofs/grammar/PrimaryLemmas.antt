@@ -1,5 +1,5 @@
--- What a unary and a primary consist of, by the next token; which kinds of tokens a primary may begin with, by the kind of the token
--- alone; and which trees stand for what was read of them.
+-- What a unary and a primary open to, given the next token. Also the tokens that a primary may begin with, by the
+-- token's lexeme alone, and the trees of what was read.
 use Rattle.std.proofs.Common.{◌≡◌, ℕ, ◌+◌, Bool, true, false, List, [], ◌∷◌, Option, Some, None, cond, refl, sym, ap, ◌∙◌}
 use Rattle.std.specs.List.{list_any}
 use Rattle.std.specs.Prelude.{codes}
@@ -34,36 +34,36 @@ use Rattle.abs_parser.specs.TreesOf.{written, prefix_of, named, member, built, u
 use Rattle.abs_parser.proofs.grammar.FirstTokens.{BeginsBy, none_found}
 use Rattle.abs_parser.proofs.reader.StepLemmas.{asked_fits}
 
--- these words begin a primary
+-- the keywords that begin a primary
 abbrev first_keywords : List Keyword
 first_keywords = keyword.Null ∷ keyword.Destiny ∷ keyword.This ∷ keyword.Case ∷ []
 
--- whether a primary may begin with a token of a kind
+-- whether a primary may begin with a token of this lexeme
 abbrev pub may_begin : Lexeme → Bool
 may_begin (lexeme.Keyword keyword) = list_any (sameb keywords keyword) first_keywords
 may_begin lexeme.Foreign = false
 may_begin (lexeme.Punctuator which) = sameb punctuators which punctuator.OpenParen
 may_begin _ = true
 
--- that is so for each kind
+-- the test agrees with the grammar on each lexeme
 may_begin_told : (kind : Lexeme) → may_begin kind ≡ begins Primary (asked kind)
 unfolding begins begins_within
 may_begin_told (lexeme.Keyword keyword.Null) = refl
 may_begin_told (lexeme.Punctuator punctuator.OpenParen) = refl
 may_begin_told _ = refl
 
--- and for each name
+-- the test decides which tokens a primary may begin with
 pub first_kinds : BeginsBy Primary may_begin
 unfolding begins begins_within
 first_kinds = record { told = may_begin_told; local_too = refl; abs_too = refl; library_too = refl }
 
--- no other word begins one
+-- no other keyword begins a primary
 pub other_keyword : (which : Keyword) → (which ≡ keyword.Null → ⊥) → (which ≡ keyword.Destiny → ⊥) → (which ≡ keyword.This → ⊥) → (which ≡ keyword.Case → ⊥) → false ≡ may_begin (lexeme.Keyword which)
 other_keyword which not_null not_destiny not_this not_case = none_found keywords tt first_keywords which (not_null, (not_destiny, (not_this, (not_case, tt))))
 
--- What they consist of, by the next token
+-- What they open to, given the next token
 
--- after the token of a kind that begins a primary stands this
+-- the items after the first token of a primary, which has this lexeme
 abbrev pub after_first : Lexeme → ℕ → List Wanted
 after_first lexeme.LowerName depth = Subgoal (Optional Arguments) depth ∷ []
 after_first lexeme.UpperName depth = Subgoal (Optional Arguments) depth ∷ []
@@ -74,14 +74,14 @@ after_first (lexeme.Keyword keyword.Case) depth =
 after_first (lexeme.Punctuator punctuator.OpenParen) depth = Subgoal (One Expr) depth ∷ Terminal (PunctuatorKind punctuator.CloseParen) depth ∷ []
 after_first _ depth = []
 
--- a lower-case name opens a primary, whichever it is
+-- a lower-case name opens a primary, whether it is `local` or not
 pub lower_opened : (kind : TokenKind) (depth : ℕ) → fits LowerName kind ≡ true → opened (One Primary) kind depth ≡ Some (Terminal LowerName depth ∷ Subgoal (Optional Arguments) depth ∷ [])
 unfolding begins chosen begins_within
 lower_opened LowerName depth fit = refl
 lower_opened LocalName depth fit = refl
 lower_opened _ depth fit = absurd cc
 
--- and so does an upper-case name
+-- an upper-case name opens a primary, whether it is `ABS`, `StdLib` or neither
 pub upper_opened : (kind : TokenKind) (depth : ℕ) → fits UpperName kind ≡ true → opened (One Primary) kind depth ≡ Some (Terminal UpperName depth ∷ Subgoal (Optional Arguments) depth ∷ [])
 unfolding begins chosen begins_within
 upper_opened UpperName depth fit = refl
@@ -104,12 +104,12 @@ primary_opened (lexeme.Keyword keyword.Case) bytes depth is = refl
 primary_opened (lexeme.Punctuator punctuator.OpenParen) bytes depth is = refl
 primary_opened _ bytes depth is = absurd cc
 
--- the grammar asks for each kind that may begin one
+-- the grammar asks for each lexeme that may begin a primary
 pub first_asked : (kind : Lexeme) → may_begin kind ≡ true → is_asked kind ≡ true
 first_asked lexeme.Foreign is = absurd cc
 first_asked _ is = refl
 
--- a token that may begin no primary opens none
+-- a token that may not begin a primary opens none
 pub primary_shut : (kind : Lexeme) (bytes : List ℕ) (depth : ℕ) → may_begin kind ≡ false → opened (One Primary) (token_kind_of kind bytes) depth ≡ None
 unfolding begins chosen begins_within
 primary_shut lexeme.LowerName bytes depth is = absurd cc
@@ -123,18 +123,18 @@ primary_shut (lexeme.Keyword keyword.Case) bytes depth is = absurd cc
 primary_shut (lexeme.Punctuator punctuator.OpenParen) bytes depth is = absurd cc
 primary_shut _ bytes depth is = refl
 
--- nor does the end of the source
+-- the end of the source opens no primary
 pub primary_end : (depth : ℕ) → opened (One Primary) End depth ≡ None
 unfolding begins chosen begins_within
 primary_end depth = refl
 
--- of the signs only "(" opens one
+-- no punctuator but "(" opens a primary
 pub group_shut : (which : Punctuator) (depth : ℕ) → fits (PunctuatorKind punctuator.OpenParen) (PunctuatorKind which) ≡ false → opened (One Primary) (PunctuatorKind which) depth ≡ None
 unfolding begins chosen begins_within
 group_shut punctuator.OpenParen depth differs = absurd cc
 group_shut _ depth differs = refl
 
--- where a primary may begin, a unary is one
+-- a unary opens to a primary where a primary may begin
 pub operand_opened : (kind : TokenKind) (depth : ℕ) → begins Primary kind ≡ true → opened (One Unary) kind depth ≡ Some (Subgoal (One Primary) (depth + 1) ∷ [])
 unfolding begins chosen begins_within
 operand_opened LowerName depth is = refl
@@ -151,7 +151,7 @@ operand_opened (KeywordKind keyword.Case) depth is = refl
 operand_opened (PunctuatorKind punctuator.OpenParen) depth is = refl
 operand_opened _ depth is = absurd cc
 
--- an operator before an operand opens a unary, and after it stands another
+-- a prefix operator opens a unary, followed by another unary
 pub prefix_opened : (operation : Prefix) (depth : ℕ)
     → opened (One Unary) (PunctuatorKind (prefix_punctuator operation)) depth ≡ Some (Terminal (PunctuatorKind (prefix_punctuator operation)) (depth + 1) ∷ Subgoal (One Unary) (depth + 1) ∷ [])
 unfolding begins chosen begins_within
@@ -159,7 +159,7 @@ prefix_opened prefix.Not depth = refl
 prefix_opened prefix.Tilde depth = refl
 prefix_opened prefix.Minus depth = refl
 
--- what is no such operator and may begin no primary opens no unary
+-- a token that is no prefix operator and may not begin a primary opens no unary
 pub unary_shut : (kind : Lexeme) (bytes : List ℕ) (depth : ℕ) → may_begin kind ≡ false → ((operation : Prefix) → kind ≡ lexeme.Punctuator (prefix_punctuator operation) → ⊥)
     → opened (One Unary) (token_kind_of kind bytes) depth ≡ None
 unfolding begins chosen begins_within
@@ -177,48 +177,48 @@ unary_shut (lexeme.Punctuator punctuator.Tilde) bytes depth is none = absurd (no
 unary_shut (lexeme.Punctuator punctuator.Minus) bytes depth is none = absurd (none prefix.Minus refl)
 unary_shut _ bytes depth is none = refl
 
--- nor does the end of the source
+-- the end of the source opens no unary
 pub unary_end : (depth : ℕ) → opened (One Unary) End depth ≡ None
 unfolding begins chosen begins_within
 unary_end depth = refl
 
--- after "this" a dot opens what may be left out
+-- a dot after `this` opens the optional tail
 pub tail_follows : (depth : ℕ) (kind : TokenKind) → fits (PunctuatorKind punctuator.Dot) kind ≡ true → opened (Optional ThisTail) kind depth ≡ Some (Subgoal (One ThisTail) depth ∷ [])
 unfolding begins begins_within
 tail_follows depth kind fit = rw fit refl
 
--- which is the dot, a name and perhaps arguments
+-- the tail after `this` is a dot, a name and optional arguments
 pub tail_opened : (depth : ℕ) (kind : TokenKind) → fits (PunctuatorKind punctuator.Dot) kind ≡ true
     → opened (One ThisTail) kind depth ≡ Some (Terminal (PunctuatorKind punctuator.Dot) depth ∷ Terminal LowerName depth ∷ Subgoal (Optional Arguments) depth ∷ [])
 unfolding begins chosen begins_within
 tail_opened depth kind fit = rw fit refl
 
--- without a dot it is left out
+-- the tail is left out where no dot is next
 pub no_tail : (depth : ℕ) (kind : TokenKind) → fits (PunctuatorKind punctuator.Dot) kind ≡ false → opened (Optional ThisTail) kind depth ≡ Some []
 unfolding begins begins_within
 no_tail depth kind other = rw other refl
 
 -- The trees
 
--- the tree of a primary is that of its first token and of what stands after it
+-- the tree of a primary is given by its first token and by what follows it
 pub tree_by : {kind : Lexeme} (token : Lexed) (at : ℕ) (others : Forest) → token.kind ≡ kind
     → primary_in (Leaf (Token token) at others) ≡ primary_by (token_kind_of kind token.bytes) (Token token) others
 tree_by token at others is = ap (λ (kind : Lexeme). primary_by (token_kind_of kind token.bytes) (Token token) others) is
 
--- each kind of lower-case name is a function or a variable
+-- a lower-case name is a function call or a variable, whether it is `local` or not
 named_by : (is_local : Bool) (mark : Mark) (arguments : Forest)
     → primary_by (cond is_local LocalName LowerName) mark (Node (Optional Arguments) arguments Empty) ≡ named (place_of_mark mark) (written mark) (arguments_maybe arguments)
 named_by true mark arguments = refl
 named_by false mark arguments = refl
 
--- so a lower-case name is one, by whether it has arguments
+-- a lower-case name is a function call where it has arguments, and else a variable
 pub named_tree : (token : Lexed) (at : ℕ) (arguments : Forest) {trees : Option Phrases} → token.kind ≡ lexeme.LowerName → trees ≡ arguments_maybe arguments
     → named token.place token.bytes trees ≡ primary_in (Leaf (Token token) at (Node (Optional Arguments) arguments Empty))
 named_tree token at arguments is trees =
     ap (named token.place token.bytes) trees
     ∙ sym (tree_by token at (Node (Optional Arguments) arguments Empty) is ∙ named_by (bytes_eq token.bytes (codes "local")) (Token token) arguments)
 
--- each kind of upper-case name builds a value
+-- an upper-case name builds a value, whether it is `ABS`, `StdLib` or neither
 built_by : (is_abs is_library : Bool) (mark : Mark) (arguments : Forest)
     → primary_by (cond is_abs AbsName (cond is_library StdLibName UpperName)) mark (Node (Optional Arguments) arguments Empty)
     ≡ built (place_of_mark mark) (written mark) (arguments_maybe arguments)
@@ -226,14 +226,14 @@ built_by true is_library mark arguments = refl
 built_by false true mark arguments = refl
 built_by false false mark arguments = refl
 
--- so an upper-case name does, of its arguments where it has any
+-- an upper-case name builds a value of its arguments, if it has any
 pub built_tree : (token : Lexed) (at : ℕ) (arguments : Forest) {trees : Option Phrases} → token.kind ≡ lexeme.UpperName → trees ≡ arguments_maybe arguments
     → built token.place token.bytes trees ≡ primary_in (Leaf (Token token) at (Node (Optional Arguments) arguments Empty))
 built_tree token at arguments is trees =
     ap (built token.place token.bytes) trees
     ∙ sym (tree_by token at (Node (Optional Arguments) arguments Empty) is ∙ built_by (bytes_eq token.bytes (codes "ABS")) (bytes_eq token.bytes (codes "StdLib")) (Token token) arguments)
 
--- `this`, a dot and a name are a method or a field, by whether there are arguments
+-- `this`, a dot and a name are a method call where there are arguments, and else a field
 pub member_tree : (this dot name : Lexed) (at : ℕ) (arguments : Forest) {trees : Option Phrases} → this.kind ≡ lexeme.Keyword keyword.This → trees ≡ arguments_maybe arguments
     → member this.place name.place name.bytes trees
     ≡ primary_in (Leaf (Token this) at (Node (Optional ThisTail) (Node (One ThisTail) (Leaf (Token dot) at (Leaf (Token name) at (Node (Optional Arguments) arguments Empty))) Empty) Empty))
@@ -241,34 +241,34 @@ member_tree this dot name at arguments is trees =
     ap (member this.place name.place name.bytes) trees
     ∙ sym (tree_by this at (Node (Optional ThisTail) (Node (One ThisTail) (Leaf (Token dot) at (Leaf (Token name) at (Node (Optional Arguments) arguments Empty))) Empty) Empty) is)
 
--- without a dot `this` stands for itself
+-- `this` without a dot is the object itself
 pub this_tree : (this : Lexed) (at : ℕ) → this.kind ≡ lexeme.Keyword keyword.This → ThisOf this.place ≡ primary_in (Leaf (Token this) at (Node (Optional ThisTail) Empty Empty))
 this_tree this at is = sym (tree_by this at (Node (Optional ThisTail) Empty Empty) is)
 
--- what stands in parentheses is its own tree
+-- an expression in parentheses has the tree of the expression
 pub group_tree : (opening closing : Lexed) (at : ℕ) (inside : Forest) {tree : Phrase} → opening.kind ≡ lexeme.Punctuator punctuator.OpenParen → tree ≡ expr_in inside
     → tree ≡ primary_in (Leaf (Token opening) at (Node (One Expr) inside (Leaf (Token closing) at Empty)))
 group_tree opening closing at inside is trees = trees ∙ sym (tree_by opening at (Node (One Expr) inside (Leaf (Token closing) at Empty)) is)
 
--- an operator before an operand is told by its sign
+-- the punctuator of a prefix operator is read as that operator
 prefix_told : (operation : Prefix) → prefix_of (PunctuatorKind (prefix_punctuator operation)) ≡ operation
 prefix_told prefix.Not = refl
 prefix_told prefix.Tilde = refl
 prefix_told prefix.Minus = refl
 
--- the tree of an operator and the unary after it
+-- the tree of a prefix operator and the unary after it
 pub prefixed_tree : (operation : Prefix) (token : Lexed) (at : ℕ) (operand : Forest) {tree : Phrase} → token.kind ≡ lexeme.Punctuator (prefix_punctuator operation) → tree ≡ unary_in operand
     → Prefixed token.place operation tree ≡ unary_in (Leaf (Token token) at (Node (One Unary) operand Empty))
 prefixed_tree operation token at operand is trees =
     ap (Prefixed token.place operation) trees
     ∙ ap (λ (told : Prefix). Prefixed token.place told (unary_in operand)) (sym (ap (λ (kind : Lexeme). prefix_of (token_kind_of kind token.bytes)) is ∙ prefix_told operation))
 
--- a constructor has the arguments that are there
+-- a constructor has the given arguments
 pub build_phrase : (names : List (List ℕ)) (place : Place) (symbol : Symbol) (arguments : Vec code_expr.Expr Global) {given : Option (Vec code_expr.Expr Global)} {name : List ℕ}
     → given ≡ Some arguments → name_of names symbol ≡ name → phrase names (code_expr.Build place symbol arguments) ≡ built place name (maybe_phrases names given)
 build_phrase names place symbol arguments there is = rw (there, sym is) (phrase-build names place symbol arguments)
 
--- and where there are none, it has an empty list of them
+-- a constructor without arguments has an empty list of them
 pub constant_phrase : (names : List (List ℕ)) (place : Place) (symbol : Symbol) (arguments : Vec code_expr.Expr Global) {given : Option (Vec code_expr.Expr Global)} {name : List ℕ}
     → given ≡ None → arguments.items ≡ [] → name_of names symbol ≡ name → phrase names (code_expr.Build place symbol arguments) ≡ built place name (maybe_phrases names given)
 constant_phrase names place symbol arguments none empty is =

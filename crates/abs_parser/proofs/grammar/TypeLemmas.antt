@@ -1,11 +1,10 @@
--- What the readers of types rest on: what a type and its arguments consist of, by the next token; and which tree stands for a type.
+-- What the readers of types use: what a type and its arguments open to, given the next token; and the tree of a type.
 use Rattle.std.proofs.Common.{◌≡◌, ℕ, ◌+◌, true, false, List, [], ◌∷◌, Some, None, refl, ap, ◌∙◌}
 use Rattle.abs_lexer.specs.declared.lexeme.Punctuator.TheVariants as punctuator
 use Rattle.abs_tree.specs.Syntax.{UnresolvedType, TypeTrees}
 use Rattle.abs_tree.specs.SyntaxViews.{type_tree, type_trees}
 use Rattle.abs_tree.proofs.SyntaxLemmas.{type_tree-unresolved}
 use Rattle.std.specs.declared.alloc.Global.{Global}
-use Rattle.std.specs.declared.sync.Arc.{Arc}
 use Rattle.std.specs.declared.vec.Vec.{Vec}
 use Rattle.abs_tree.specs.declared.place.Place.{Place}
 use Rattle.abs_tree.specs.declared.symbol.Symbol.{Symbol}
@@ -16,23 +15,23 @@ use Rattle.abs_parser.specs.TokenKinds.{TokenKind, UpperName, PunctuatorKind, fi
 use Rattle.abs_parser.specs.Productions.{Type', TypeArguments, Types, begins, begins_within, chosen}
 use Rattle.abs_parser.specs.Readings.{One, Optional, Terminal, Subgoal, opened}
 
--- a type is a name, and perhaps arguments
+-- a type is an upper-case name with optional arguments
 pub type_opened : (depth : ℕ) (kind : TokenKind) → fits UpperName kind ≡ true
     → opened (One Type') kind depth ≡ Some (Terminal UpperName (depth + 1) ∷ Subgoal (Optional TypeArguments) (depth + 1) ∷ [])
 unfolding begins chosen begins_within
 type_opened depth kind fit = rw fit refl
 
--- where no name stands, no type is opened
+-- where no upper-case name is next, no type opens
 pub type_shut : (depth : ℕ) (kind : TokenKind) → fits UpperName kind ≡ false → opened (One Type') kind depth ≡ None
 unfolding begins chosen begins_within
 type_shut depth kind other = rw other refl
 
--- where "<" stands, there are arguments
+-- where "<" is next, there are arguments
 pub arguments_follow : (depth : ℕ) (kind : TokenKind) → fits (PunctuatorKind punctuator.Less) kind ≡ true → opened (Optional TypeArguments) kind depth ≡ Some (Subgoal (One TypeArguments) depth ∷ [])
 unfolding begins begins_within
 arguments_follow depth kind fit = rw fit refl
 
--- where it does not, there are none
+-- where "<" is not next, there are no arguments
 pub no_arguments : (depth : ℕ) (kind : TokenKind) → fits (PunctuatorKind punctuator.Less) kind ≡ false → opened (Optional TypeArguments) kind depth ≡ Some []
 unfolding begins begins_within
 no_arguments depth kind other = rw other refl
@@ -43,9 +42,9 @@ pub arguments_opened : (depth : ℕ) (kind : TokenKind) → fits (PunctuatorKind
 unfolding begins chosen begins_within
 arguments_opened depth kind fit = rw fit refl
 
--- the tree of a name with arguments, by the name of its symbol and the trees of the arguments
-pub type_named : (names : List (List ℕ)) (place : Place) (symbol : Symbol) (arguments : Arc (Vec TypeTerm Global) Global) {types : List TypeTerm} {name : List ℕ} {trees : TypeTrees}
-    → arguments.value.items ≡ types → name_of names symbol ≡ name → type_trees names types ≡ trees → type_tree names (code_type.Unresolved place symbol arguments) ≡ UnresolvedType place name trees
-type_named names place symbol arguments {trees = trees} same named is =
+-- the tree of a type, given the name of its symbol and the trees of its arguments
+pub type_named : (names : List (List ℕ)) (place : Place) (symbol : Symbol) (arguments : Vec TypeTerm Global) {name : List ℕ} {trees : TypeTrees}
+    → name_of names symbol ≡ name → type_trees names arguments.items ≡ trees → type_tree names (code_type.Unresolved place symbol arguments) ≡ UnresolvedType place name trees
+type_named names place symbol arguments {trees = trees} named is =
     type_tree-unresolved names place symbol arguments
-    ∙ (ap (λ (t : TypeTrees). UnresolvedType place (name_of names symbol) t) (ap (type_trees names) same ∙ is) ∙ ap (λ (n : List ℕ). UnresolvedType place n trees) named)
+    ∙ (ap (UnresolvedType place (name_of names symbol)) is ∙ ap (λ (n : List ℕ). UnresolvedType place n trees) named)

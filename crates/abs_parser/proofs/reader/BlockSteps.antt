@@ -1,5 +1,5 @@
--- The statements of a block, up to the "}" that closes it: those that were read so far, with the trees of them; and where the block is
--- refused.
+-- The statements of a block, up to its "}". These are the statements that were read so far, with their trees. The
+-- lemmas also say where the block is refused.
 use Rattle.std.proofs.Common.{◌≡◌, ◌≤◌, ◌<◌, ℕ, true, false, List, [], ◌∷◌, ◌++◌, ◌+◌, length, refl, sym, ap, ◌∙◌, arith}
 use Rattle.abs_tree.specs.declared.syntax.declaration.Body.{Body}
 use Rattle.abs_tree.specs.declared.syntax.statement.Stmt.{Stmt as CodeStmt}
@@ -26,29 +26,29 @@ use Rattle.abs_parser.proofs.reader.StatementSteps.{IsStatement, block_opened}
 use Rattle.abs_parser.proofs.reader.StepLemmas.{HasRead, opens, over_token, over_part, all_read, refused_inside, fits_next, token_shorter, found_goes_on}
 use Rattle.abs_parser.proofs.grammar.NonterminalLemmas.{part_begun, repeated_opened}
 
--- the trees of statements, before others
+-- the trees of these statements, followed by others
 abbrev pub statements_before : List Name → List CodeStmt → Statements → Statements
 statements_before names [] after = after
 statements_before names (stmt ∷ others) after = NextStatement (statement names stmt) (statements_before names others after)
 
--- with nothing after them they are the trees of the statements
+-- followed by no others, they are the trees of the statements alone
 all_statements : (names : List Name) (listed : List CodeStmt) → statements_before names listed NoStatement ≡ statements names listed
 all_statements names [] = refl
 all_statements names (stmt ∷ others) = ap (NextStatement (statement names stmt)) (all_statements names others)
 
--- one more statement stands before the others
+-- the tree of one more statement comes just before the others
 one_statement : (names : List Name) (listed : List CodeStmt) (stmt : CodeStmt) (after : Statements)
     → statements_before names (listed ++ stmt ∷ []) after ≡ statements_before names listed (NextStatement (statement names stmt) after)
 one_statement names [] stmt after = refl
 one_statement names (first ∷ others) stmt after = ap (NextStatement (statement names first)) (one_statement names others stmt after)
 
--- statements before others are numbered up to these
+-- one more statement adds its count to that of the statements before it
 before_count : (names : List Name) (listed : List CodeStmt) (stmt : CodeStmt) → statement_count (statements names (listed ++ stmt ∷ [])) ≡ statement_count (statements names listed) + count_of (statement names stmt)
 before_count names [] stmt = omega arith
 before_count names (first ∷ others) stmt = omega (arith, before_count names others stmt)
 
--- What was read of a block up to here, with the trees of its statements from a first index: whatever further statements are read, from the
--- index that is free then, and the "}" after them, complete it.
+-- A block was read up to here, with the trees of its statements from a first index. Any further statements, from the
+-- index that is free then, and the "}" after them complete it.
 pub record ReadsBlock (index depth : ℕ) (old now : List (List ℕ)) (from here : Spot) (listed : List CodeStmt) : Type 0 where
   pub make : Forest → Forest
   pub read : HasRead (One Block) depth old now from make (Subgoal (Repeated Stmt) depth ∷ Terminal (PunctuatorKind punctuator.CloseBrace) depth ∷ []) here
@@ -57,11 +57,11 @@ pub record ReadsBlock (index depth : ℕ) (old now : List (List ℕ)) (from here
       → statements_before names listed (statements_in (index + statement_count (statements names listed)) inside) ≡ block_in index (make (Node (Repeated Stmt) inside (Leaf mark at Empty)))
   pub end_is : (inside : Forest) (mark : Mark) (at : ℕ) → place_of_mark mark ≡ block_end (make (Node (Repeated Stmt) inside (Leaf mark at Empty)))
 
--- the index that is free after none is the first
+-- without statements, the first index is free
 none_counted : (index : ℕ) (inside : Forest) → statements_in (index + 0) inside ≡ statements_in index inside
 none_counted index inside = let same : index + 0 ≡ index = omega arith in rw same refl
 
--- up to the first statement
+-- a block was read up to its first statement
 pub first_statement : {brace : Lexed} {from here : Spot} {depth : ℕ} {listed : List CodeStmt} (index : ℕ) (table : List (List ℕ)) → listed ≡ [] → TakesKind (lexeme.Punctuator punctuator.OpenBrace) brace from here → depth ≤ limit
     → ReadsBlock index depth table table from here listed
 first_statement {brace} {from} {depth = depth} index table same takes within = rw same (record {
@@ -72,7 +72,7 @@ first_statement {brace} {from} {depth = depth} index table same takes within = r
   end_is = λ inside mark at. refl;
 })
 
--- one more statement stands before those that follow from the next index
+-- one more statement comes before the further ones, whose indices begin after its own
 one_more : (names : List Name) (index : ℕ) (listed : List CodeStmt) (stmt : CodeStmt) (found inside : Forest) → statement names stmt ≡ statement_in (index + statement_count (statements names listed)) found
     → statements_before names (listed ++ stmt ∷ []) (statements_in (index + statement_count (statements names (listed ++ stmt ∷ []))) inside)
     ≡ statements_before names listed (statements_in (index + statement_count (statements names listed)) (Node (One Stmt) found (Node (Repeated Stmt) inside Empty)))
@@ -83,7 +83,7 @@ one_more names index listed stmt found inside is =
     ∙ (ap (λ (n : ℕ). statements_before names listed (NextStatement (statement names stmt) (statements_in n inside))) free
     ∙ ap (λ (tree : Statement). statements_before names listed (NextStatement tree (statements_in (index + statement_count (statements names listed) + count_of tree) inside))) is)
 
--- and over one more
+-- one more statement of the block was read
 pub next_statement : {index depth free : ℕ} {old now new : List (List ℕ)} {from here to : Spot} {listed longer : List CodeStmt} (stmt : CodeStmt) → longer ≡ listed ++ stmt ∷ []
     → ReadsBlock index depth old now from here listed → ((names : List Name) → free ≡ index + statement_count (statements names listed))
     → FoundAs (One Stmt) depth now new here to (IsStatement free stmt) → ReadsBlock index depth old new from to longer
@@ -97,12 +97,12 @@ next_statement {index} {depth} {listed = listed} stmt same so is_free found = rw
   end_is = λ inside mark at. so.end_is (Node (One Stmt) found.inside (Node (Repeated Stmt) inside Empty)) mark at;
 })
 
--- the index that is free after one more
+-- the index that is free after one more statement
 pub next_free : {free after : ℕ} {longer : List CodeStmt} (index : ℕ) (listed : List CodeStmt) (stmt : CodeStmt) → longer ≡ listed ++ stmt ∷ [] → ((names : List Name) → free ≡ index + statement_count (statements names listed))
     → ((names : List Name) → after ≡ free + count_of (statement names stmt)) → (names : List Name) → after ≡ index + statement_count (statements names longer)
 next_free index listed stmt same is_free is_after names = rw same (omega (arith, is_free names, is_after names, before_count names listed stmt))
 
--- where the "}" is not next, the block is refused where the next statement is
+-- where "}" is not next, what refuses the next statement refuses the block
 pub refused_statement : {depth : ℕ} {old now : List (List ℕ)} {index : ℕ} {from here : Spot} {listed : List CodeStmt} (error : SourceError) → ReadsBlock index depth old now from here listed
     → fits (PunctuatorKind punctuator.CloseBrace) (next (left_at here)) ≡ false → IsRefused (Subgoal (One Stmt) depth) here error → IsRefused (Subgoal (One Block) depth) from error
 refused_statement error so other refused = refused_up_to (PunctuatorKind punctuator.CloseBrace) error so.read other refused
@@ -112,17 +112,17 @@ no_statement_closes : begins Stmt (PunctuatorKind punctuator.CloseBrace) ≡ fal
 unfolding begins begins_within
 no_statement_closes = refl
 
--- so where it is next, there is no further statement
+-- so where "}" is next, there is no further statement
 no_statement : (depth : ℕ) (table : List (List ℕ)) (here : Spot) → fits (PunctuatorKind punctuator.CloseBrace) (next (left_at here)) ≡ true
     → FoundAs (Repeated Stmt) depth table table here here (λ names inside. inside ≡ Empty)
 no_statement depth table here closes = none_before Stmt punctuator.CloseBrace depth table here no_statement_closes closes
 
--- and the block is refused where the "}" is
+-- where "}" is next, what refuses it refuses the block
 pub refused_brace : {depth : ℕ} {old now : List (List ℕ)} {index : ℕ} {from here : Spot} {listed : List CodeStmt} (error : SourceError) → ReadsBlock index depth old now from here listed
     → fits (PunctuatorKind punctuator.CloseBrace) (next (left_at here)) ≡ true → IsRefused (Terminal (PunctuatorKind punctuator.CloseBrace) depth) here error → IsRefused (Subgoal (One Block) depth) from error
 refused_brace {depth} {now = now} {here = here} error so closes refused = refused_inside (over_part so.read (no_statement depth now here closes)) error refused
 
--- after its "}" the block is found
+-- with its "}" the block is found
 pub block_found : {brace : Lexed} {depth : ℕ} {old now : List (List ℕ)} {index : ℕ} {from here end : Spot} (body : Body) → body.end ≡ brace.place → ReadsBlock index depth old now from here body.statements.items
     → TakesKind (lexeme.Punctuator punctuator.CloseBrace) brace here end → depth ≤ limit
     → FoundAs (One Block) depth old now from end (λ names inside. IsBlock index names body inside)

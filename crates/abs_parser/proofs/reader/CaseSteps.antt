@@ -1,5 +1,5 @@
--- The steps of the readers of `case` and of its branches: what a `case`, a branch and further branches consist of, by the next token;
--- over their tokens and parts; and the branches that were read so far, with the trees of them.
+-- The steps of the parsing functions of `case` and its branches. They say what a `case` and a branch consist of, given
+-- the next token, and how their tokens and parts are read. The branches that were read so far come with their trees.
 use Rattle.std.proofs.Common.{◌≡◌, ◌≤◌, ◌<◌, ℕ, true, false, List, [], ◌∷◌, ◌++◌, length, Some, None, refl, sym, ap, ◌∙◌, arith}
 use Rattle.std.specs.declared.alloc.Global.{Global}
 use Rattle.std.specs.declared.boxed.Box.{Box}
@@ -30,7 +30,7 @@ use Rattle.abs_parser.proofs.reader.StepLemmas.{HasRead, opens, over_token, over
 use Rattle.abs_parser.proofs.grammar.NonterminalLemmas.{begins_with_part, part_shut, part_begun, part_opened, repeated_opened}
 use Rattle.abs_parser.proofs.reader.InFrontSteps.{refused_in_front}
 use Rattle.abs_parser.proofs.reader.KeywordSteps.{keyword_read}
-use Rattle.abs_parser.proofs.reader.RepeatSteps.{in_front, over_one_more, refused_up_to, none_before, row_shorter}
+use Rattle.abs_parser.proofs.reader.RepeatSteps.{in_front, over_one_more, refused_up_to, none_before}
 use Rattle.abs_parser.proofs.reader.ExpressionSteps.{IsExpression}
 
 -- Branches
@@ -39,7 +39,7 @@ use Rattle.abs_parser.proofs.reader.ExpressionSteps.{IsExpression}
 abbrev pub IsBranch : code_branch.Branch → List (List ℕ) → Forest → Type 0
 IsBranch branch names inside = (others : Branches) → NextBranch (pattern_tree names branch.pattern) (phrase names branch.value) others ≡ branch_in inside others
 
--- a branch begins where a pattern does
+-- a branch begins with the same tokens as a pattern
 branch_begins : (kind : TokenKind) → begins Branch kind ≡ begins Pattern kind
 branch_begins kind = begins_with_part Branch kind refl
 
@@ -49,16 +49,11 @@ branch_opened : (kind : TokenKind) (depth : ℕ) → begins Pattern kind ≡ tru
     ≡ Some (Subgoal (One Pattern) depth ∷ Terminal (PunctuatorKind punctuator.Arrow) depth ∷ Subgoal (One ExprSymbol) depth ∷ Terminal (PunctuatorKind punctuator.Semicolon) depth ∷ [])
 branch_opened kind depth may = part_opened Branch kind depth refl refl (branch_begins kind ∙ may)
 
--- where no pattern may begin, there is no branch
+-- where no pattern may begin, no branch opens
 branch_shut : (kind : TokenKind) (depth : ℕ) → begins Pattern kind ≡ false → opened (One Branch) kind depth ≡ None
 branch_shut kind depth none = part_shut Branch kind depth (branch_begins kind ∙ none)
 
--- a branch that was found leaves fewer tokens than there were
-pub branch_shorter : {depth : ℕ} {old new : List (List ℕ)} {from to : Spot} {is_read : List (List ℕ) → Forest → Type 0}
-    → FoundAs (One Branch) depth old new from to is_read → length to.rest < length from.rest
-branch_shorter {depth} found = row_shorter (branch_opened _ depth (sym (branch_begins _) ∙ part_begun Branch _ depth found.rule_is)) found
-
--- over the pattern of a branch
+-- the pattern of a branch was read
 pub pattern_read : {depth : ℕ} {old new : List (List ℕ)} {from to : Spot} {is_read : List (List ℕ) → Forest → Type 0} → (found : FoundAs (One Pattern) depth old new from to is_read)
     → HasRead (One Branch) depth old new from (λ rest. Node (One Pattern) found.inside rest)
     (Terminal (PunctuatorKind punctuator.Arrow) depth ∷ Subgoal (One ExprSymbol) depth ∷ Terminal (PunctuatorKind punctuator.Semicolon) depth ∷ []) to
@@ -77,17 +72,17 @@ branch_found branch pattern arrow value semicolon within =
     all_read (over_token (over_part (over_token (pattern_read pattern) arrow refl refl within) value) semicolon refl refl within)
     (λ names more others. rw (pattern.is names (goes_on_further (found_goes_on value) more), value.is names more) refl)
 
--- the trees of branches, before others
+-- the trees of these branches, followed by others
 abbrev pub branches_before : List (List ℕ) → List code_branch.Branch → Branches → Branches
 branches_before names [] after = after
 branches_before names (branch ∷ others) after = NextBranch (pattern_tree names branch.pattern) (phrase names branch.value) (branches_before names others after)
 
--- with nothing after them they are the trees of the branches
+-- followed by no others, they are the trees of the branches alone
 all_branches : (names : List (List ℕ)) (arms : List code_branch.Branch) → branches_before names arms NoBranch ≡ branches names arms
 all_branches names [] = refl
 all_branches names (branch ∷ others) = ap (NextBranch (pattern_tree names branch.pattern) (phrase names branch.value)) (all_branches names others)
 
--- one more branch stands before the others
+-- the tree of one more branch comes just before the others
 one_branch : (names : List (List ℕ)) (arms : List code_branch.Branch) (branch : code_branch.Branch) (after : Branches)
     → branches_before names (arms ++ branch ∷ []) after ≡ branches_before names arms (NextBranch (pattern_tree names branch.pattern) (phrase names branch.value) after)
 one_branch names [] branch after = refl
@@ -95,7 +90,7 @@ one_branch names (first ∷ others) branch after = ap (NextBranch (pattern_tree 
 
 -- A `case`
 
--- after the keyword of a `case` stands this
+-- what follows the keyword of a `case`
 abbrev after_case : ℕ → List Wanted
 after_case at =
     Subgoal (One ExprSymbol) at ∷ Terminal (PunctuatorKind punctuator.OpenBrace) at ∷ Subgoal (One Branch) at ∷ Subgoal (Repeated Branch) at ∷ Terminal (PunctuatorKind punctuator.CloseBrace) at ∷ []
@@ -105,12 +100,12 @@ case_opened : (depth : ℕ) → opened (One Primary) (KeywordKind keyword.Case) 
 unfolding begins chosen begins_within
 case_opened depth = refl
 
--- over the keyword of a `case`
+-- the keyword of a `case` was read
 pub case_begins : {token : Lexed} {from after : Spot} (depth : ℕ) (table : List (List ℕ)) → TakesKind (lexeme.Keyword keyword.Case) token from after → depth ≤ limit
     → HasRead (One Primary) depth table table from (λ rest. Leaf (Token token) depth rest) (after_case depth) after
 case_begins depth table takes within = keyword_read depth table (case_opened depth) takes within
 
--- over its expression and "{"
+-- the keyword and the expression of a `case` were read, and "{"
 pub case_asked : {token brace : Lexed} {from subject_at brace_at first_at : Spot} {depth : ℕ} {old now : List (List ℕ)} {is_read : List (List ℕ) → Forest → Type 0}
     → TakesKind (lexeme.Keyword keyword.Case) token from subject_at → (subject : FoundAs (One ExprSymbol) depth old now subject_at brace_at is_read)
     → TakesKind (lexeme.Punctuator punctuator.OpenBrace) brace brace_at first_at → depth ≤ limit
@@ -118,8 +113,8 @@ pub case_asked : {token brace : Lexed} {from subject_at brace_at first_at : Spot
     (Subgoal (One Branch) depth ∷ Subgoal (Repeated Branch) depth ∷ Terminal (PunctuatorKind punctuator.CloseBrace) depth ∷ []) first_at
 case_asked {depth = depth} {old} token subject brace within = over_token (over_part (case_begins depth old token within) subject) brace refl refl within
 
--- What was read of a `case` up to here, with the trees of its expression and of these branches: whatever further branches are read, and
--- the token after them, complete it.
+-- A `case` was read up to here, with the trees of its expression and of these branches. Any further branches and the
+-- token after them complete it.
 pub record ReadsCase (depth : ℕ) (old now : List (List ℕ)) (from here : Spot) (place : Place) (subject : Expr) (arms : List code_branch.Branch) : Type 0 where
   pub make : Forest → Forest
   pub read : HasRead (One Primary) depth old now from make (Subgoal (Repeated Branch) depth ∷ Terminal (PunctuatorKind punctuator.CloseBrace) depth ∷ []) here
@@ -127,7 +122,7 @@ pub record ReadsCase (depth : ℕ) (old now : List (List ℕ)) (from here : Spot
   pub is : (names : List (List ℕ)) → GoesOn now names → (inside : Forest) (mark : Mark) (at : ℕ)
       → primary_in (make (Node (Repeated Branch) inside (Leaf mark at Empty))) ≡ CaseOf place (phrase names subject) (branches_before names arms (branches_in inside))
 
--- so far the first branch
+-- a `case` was read with its first branch
 pub first_branch : {token brace : Lexed} {from subject_at brace_at first_at here : Spot} {depth : ℕ} {old now new : List (List ℕ)} {subject : Expr} (first : code_branch.Branch) {arms : List code_branch.Branch} → arms ≡ first ∷ []
     → TakesKind (lexeme.Keyword keyword.Case) token from subject_at → FoundAs (One ExprSymbol) depth old now subject_at brace_at (IsExpression subject)
     → TakesKind (lexeme.Punctuator punctuator.OpenBrace) brace brace_at first_at → FoundAs (One Branch) depth now new first_at here (IsBranch first) → depth ≤ limit → ReadsCase depth old new from here token.place subject arms
@@ -142,7 +137,7 @@ first_branch {token} {brace} {depth = depth} {subject = expr} branch same takes 
       ∙ ap (CaseOf token.place (phrase names expr)) (sym (first.is names more (branches_in inside))));
 })
 
--- and one more branch
+-- one more branch of a `case` was read
 pub next_branch : {depth : ℕ} {old now new : List (List ℕ)} {from here to : Spot} {place : Place} {subject : Expr} {arms longer : List code_branch.Branch} (branch : code_branch.Branch) → longer ≡ arms ++ branch ∷ []
     → ReadsCase depth old now from here place subject arms → FoundAs (One Branch) depth now new here to (IsBranch branch)
     → ReadsCase depth old new from to place subject longer
@@ -155,7 +150,7 @@ next_branch {depth} {place = place} {subject} {arms} branch same so found = rw s
       ∙ ap (CaseOf place (phrase names subject)) (ap (branches_before names arms) (sym (found.is names more (branches_in inside))) ∙ sym (one_branch names arms branch (branches_in inside)));
 })
 
--- where the "}" is not next, a `case` is refused where the next branch is
+-- where "}" is not next, what refuses the next branch refuses the `case`
 pub refused_branch : {depth : ℕ} {old now : List (List ℕ)} {from here : Spot} {place : Place} {subject : Expr} {arms : List code_branch.Branch} (error : SourceError)
     → ReadsCase depth old now from here place subject arms → fits (PunctuatorKind punctuator.CloseBrace) (next (left_at here)) ≡ false → IsRefused (Subgoal (One Branch) depth) here error
     → IsRefused (Subgoal (One Primary) depth) from error
@@ -166,18 +161,18 @@ no_branch_closes : begins Branch (PunctuatorKind punctuator.CloseBrace) ≡ fals
 unfolding begins begins_within
 no_branch_closes = refl
 
--- so where it is next, there is no further branch
+-- so where "}" is next, there is no further branch
 no_branch : (depth : ℕ) (table : List (List ℕ)) (here : Spot) → fits (PunctuatorKind punctuator.CloseBrace) (next (left_at here)) ≡ true
     → FoundAs (Repeated Branch) depth table table here here (λ names inside. inside ≡ Empty)
 no_branch depth table here closes = none_before Branch punctuator.CloseBrace depth table here no_branch_closes closes
 
--- and a `case` is refused where the "}" is
+-- where "}" is next, what refuses it refuses the `case`
 pub refused_brace : {depth : ℕ} {old now : List (List ℕ)} {from here : Spot} {place : Place} {subject : Expr} {arms : List code_branch.Branch} (error : SourceError)
     → ReadsCase depth old now from here place subject arms → fits (PunctuatorKind punctuator.CloseBrace) (next (left_at here)) ≡ true → IsRefused (Terminal (PunctuatorKind punctuator.CloseBrace) depth) here error
     → IsRefused (Subgoal (One Primary) depth) from error
 refused_brace {depth} {now = now} {here = here} error so closes refused = refused_inside (over_part so.read (no_branch depth now here closes)) error refused
 
--- after the last branch and "}" a `case` is found, as it is held in memory
+-- with its last branch and "}" a `case` is found, as it is stored
 pub case_found : {brace : Lexed} {depth : ℕ} {old now : List (List ℕ)} {from here end : Spot} {place : Place} {subject : Expr} (held : Box Expr Global) (arms : Vec code_branch.Branch Global) → held.value ≡ subject
     → ReadsCase depth old now from here place subject arms.items → TakesKind (lexeme.Punctuator punctuator.CloseBrace) brace here end → depth ≤ limit
     → FoundAs (One Primary) depth old now from end (λ names inside. phrase names (code_expr.Case place held arms) ≡ primary_in inside)

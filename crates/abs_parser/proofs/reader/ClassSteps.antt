@@ -1,5 +1,5 @@
--- The steps of the reader of classes: what a class consists of, over its keyword, its name, its parameters and the interfaces that it implements;
--- and its members, which repeat up to `}`, with the trees of those that were read so far.
+-- The steps of the parsing function of classes. They read the keyword, the name, the parameters and the implemented
+-- interfaces of a class. Its members repeat up to `}`, with the trees of those that were read so far.
 use Rattle.std.proofs.Common.{◌≡◌, ◌≤◌, ℕ, ◌+◌, false, List, [], ◌∷◌, ◌++◌, map, Some, refl, ap, ◌∙◌, arith}
 use Rattle.std.proofs.lemmas.List.{map-append}
 use Rattle.abs_tree.specs.Names.{with_name, number_of_name}
@@ -34,7 +34,7 @@ pub no_member_closes : begins Member (PunctuatorKind punctuator.CloseBrace) ≡ 
 unfolding begins begins_within
 no_member_closes = refl
 
--- the members of a class repeat up to it
+-- the members of a class repeat up to "}"
 abbrev pub members_of : Parts CodeMember MemberTree
 members_of = record {
   nonterminal = Member;
@@ -47,7 +47,7 @@ members_of = record {
   trees_none = λ index before. refl;
 }
 
--- after the name of a class stands this
+-- what follows the name of a class
 abbrev pub after_class : ℕ → List Wanted
 after_class at =
     Subgoal (Optional ClassParameters) at ∷ Subgoal (Optional Implements) at ∷ Terminal (PunctuatorKind punctuator.OpenBrace) at
@@ -58,17 +58,17 @@ pub class_opened : (depth : ℕ) → opened (One Decl) (KeywordKind keyword.Clas
 unfolding begins chosen begins_within
 class_opened depth = refl
 
--- the tree of a class, by those of its members
+-- the tree of a class, given the trees of its members
 abbrev pub class_of : Place → Declared → List Param → List Declared → List Name → List MemberTree → DeclTree
 class_of place name params implemented names members = ClassTree place (declared_tree names name) (map (param_tree names) params) (map (declared_tree names) implemented) members
 
--- the tree of a class is made of those of its parts
+-- the trees of two classes with equal parts are equal
 class_made : {name held_name : DeclaredTree} {params held_params : List ParamTree} {implemented held_implemented : List DeclaredTree}
     (place : Place) (members : List MemberTree) (others : List DeclTree) → held_name ≡ name → held_params ≡ params → held_implemented ≡ implemented
     → ClassTree place name params implemented members ∷ others ≡ ClassTree place held_name held_params held_implemented members ∷ others
 class_made place members others name params implemented = rw (name, params, implemented) refl
 
--- over the keyword, the name and the parameters of a class
+-- the keyword, the name and the parameters of a class were read
 pub class_begun : {token name : Lexed} {from name_at after heading_at : Spot} {depth : ℕ} {old table now : List (List ℕ)} {is_read : List (List ℕ) → Forest → Type 0}
     → TakesKind (lexeme.Keyword keyword.Class) token from name_at → TakesKind lexeme.UpperName name name_at after → table ≡ with_name old name.bytes
     → (params : FoundAs (Optional ClassParameters) depth table now after heading_at is_read) → depth ≤ limit
@@ -96,18 +96,18 @@ first_member {token} {name} {brace} {depth = depth} {old} index symbol params li
       ∙ ap (λ (n : ℕ). class_of token.place (record { place = name.place; name = symbol }) params listed names (members_in n inside) ∷ others) (omega arith));
 })
 
--- the statements of members before others are those of both
+-- the statement counts of two lists of members add up
 pub members_counted : (first others : List MemberTree) → member_statements (first ++ others) ≡ member_statements first + member_statements others
 members_counted [] others = omega arith
 members_counted (MethodTree signature end body ∷ first) others = omega (arith, members_counted first others)
 members_counted (FieldTree type name initial ∷ first) others = members_counted first others
 
--- those of one more are after them
+-- one more member adds its statement count to that of the members before it
 pub one_member_counted : (names : List Name) (listed : List CodeMember) (one : CodeMember)
     → member_statements (map (member_tree names) (listed ++ one ∷ [])) ≡ member_statements (map (member_tree names) listed) + member_statements (member_tree names one ∷ [])
 one_member_counted names listed one = ap member_statements (map-append (member_tree names) listed (one ∷ [])) ∙ members_counted (map (member_tree names) listed) (member_tree names one ∷ [])
 
--- one more member, before those that follow from the next index
+-- one more member comes before the further ones, whose indices begin after its own
 member_in_turn : (names : List Name) (index free : ℕ) (listed : List CodeMember) (one : CodeMember) (found others : Forest) → free ≡ index + member_statements (map (member_tree names) listed)
     → ((after : List MemberTree) → member_tree names one ∷ after ≡ member_in free found after)
     → member_tree names one ∷ members_in (index + member_statements (map (member_tree names) (listed ++ one ∷ []))) others
@@ -118,7 +118,7 @@ member_in_turn names index free listed one found others is_free is =
     ap (λ (n : ℕ). member_tree names one ∷ members_in n others) next ∙ (is (members_in (free + member_statements (member_in free found [])) others)
     ∙ ap (λ (n : ℕ). members_in n (Node (One Member) found (Node (Repeated Member) others Empty))) is_free)
 
--- and up to one more
+-- one more member of a class was read
 pub next_member : {index free : ℕ} {whole : List Name → List MemberTree → DeclTree} {from here to : Spot} {depth : ℕ} {old now new : List (List ℕ)} {members longer : List CodeMember}
     (one : CodeMember) → longer ≡ members ++ one ∷ [] → ReadsParts members_of (λ at. at ≡ index) whole depth old now from here members
     → ((names : List Name) → free ≡ index + member_statements (map (member_tree names) members))
@@ -127,7 +127,7 @@ next_member {index} {free} {members = members} one same so is_free found =
     next_part one same so found (λ first starts names more others.
     rw starts (member_in_turn names index free members one found.inside others (is_free names) (found.is names more)))
 
--- the index that is free after one more
+-- the index that is free after one more member
 pub next_member_free : {free after : ℕ} {longer : List CodeMember} (index : ℕ) (members : List CodeMember) (one : CodeMember) → longer ≡ members ++ one ∷ []
     → ((names : List Name) → free ≡ index + member_statements (map (member_tree names) members)) → ((names : List Name) → after ≡ free + member_statements (member_tree names one ∷ []))
     → (names : List Name) → after ≡ index + member_statements (map (member_tree names) longer)

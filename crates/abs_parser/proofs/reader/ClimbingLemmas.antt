@@ -1,5 +1,6 @@
--- What the reader that climbs operators rests on: a first operand that no operator follows is each precedence that binds as much or less; what refuses
--- a precedence refuses each that binds less; and a precedence that was read is an operand of the next.
+-- The lemmas for the parsing function that climbs operators. An operand that no operator follows is an expression of
+-- each precedence that binds as much or less. What refuses a precedence refuses each one that binds less. An expression
+-- of a precedence is an operand of the next one.
 use denote.Enum.Bare.{sameb, same_true}
 use Rattle.std.proofs.Common.{◌≡◌, ◌≤◌, ℕ, true, false, List, refl, arith}
 use Rattle.abs_tree.specs.SyntaxViews.{phrase}
@@ -22,15 +23,15 @@ use Rattle.abs_parser.proofs.grammar.OperatorLemmas.{no_operators, first_operand
 abbrev pub IsOperand : Precedence → Expr → List (List ℕ) → Forest → Type 0
 IsOperand precedence expr names inside = phrase names expr ≡ operand_in precedence inside
 
--- this precedence was read
+-- this expression of a precedence was read
 abbrev pub IsPrecedence : Precedence → Expr → List (List ℕ) → Forest → Type 0
 IsPrecedence precedence expr names inside = phrase names expr ≡ precedence_in precedence inside
 
--- no operator is the next token
+-- the next token is no operator
 abbrev pub NoOperatorAt : Spot → Type 0
 NoOperatorAt spot = (operator : Operator) → fits (PunctuatorKind (punctuator_of operator)) (next (left_at spot)) ≡ false
 
--- What holds of a precedence, and goes over from each precedence to the next that binds less, holds of each precedence that binds as much or less
+-- Induction: a property of a precedence holds of each one that binds as much or less, if it passes to the next one
 
 from_or : (P : Precedence → Type 0) → (to : Precedence) → rank precedence.Or ≤ rank to → P precedence.Or → P to
 from_or P precedence.Or order x = x
@@ -64,7 +65,7 @@ climbs P next precedence.Compare to order x = from_compare P next to order x
 climbs P next precedence.Sum to order x = from_sum P next to order x
 climbs P next precedence.Mul to order x = from_mul P next to order x
 
--- What refuses a precedence refuses each that binds less
+-- What refuses a precedence refuses each one that binds less
 
 refused_next : (depth : ℕ) (from : Spot) (error : SourceError) (at : Precedence) → IsRefused (Subgoal (One (nonterminal_of at)) depth) from error → IsRefused (Subgoal (One (nonterminal_of (looser at))) depth) from error
 refused_next depth from error precedence.Or refused = refused
@@ -74,23 +75,23 @@ refused_next depth from error precedence.Compare refused = first_operand_refused
 refused_next depth from error precedence.Sum refused = first_operand_refused precedence.Compare depth from error refused
 refused_next depth from error precedence.Mul refused = first_operand_refused precedence.Sum depth from error refused
 
--- a precedence is refused where one that binds as much or more is
+-- what refuses a precedence refuses each one that binds as much or less
 pub precedence_refused : (at to : Precedence) (depth : ℕ) (from : Spot) (error : SourceError) → rank at ≤ rank to → IsRefused (Subgoal (One (nonterminal_of at)) depth) from error
     → IsRefused (Subgoal (One (nonterminal_of to)) depth) from error
 precedence_refused at to depth from error order refused = climbs (λ precedence. IsRefused (Subgoal (One (nonterminal_of precedence)) depth) from error) (refused_next depth from error) at to order refused
 
--- and where the unary with which it begins is
+-- what refuses a unary refuses each precedence that begins with it
 pub unary_refused : (precedence : Precedence) (depth : ℕ) (from : Spot) (error : SourceError) → IsRefused (Subgoal (One Unary) depth) from error → IsRefused (Subgoal (One (nonterminal_of precedence)) depth) from error
 unary_refused to depth from error refused = precedence_refused precedence.Mul to depth from error (omega arith) (first_operand_refused precedence.Mul depth from error refused)
 
--- Where no operator follows, an operand is each precedence that binds as much or less
+-- An operand that no operator follows is an expression of each precedence that binds as much or less
 
--- it is its own precedence
+-- such an operand of a precedence is an expression of this precedence
 alone_found : {depth : ℕ} {old now : List (List ℕ)} {from here : Spot} (precedence : Precedence) (place : Place) (expr : Expr) → NoOperatorAt here → place ≡ place_of from
     → FoundAs (One (operand_nonterminal precedence)) depth old now from here (IsOperand precedence expr) → FoundAs (One (nonterminal_of precedence)) depth old now from here (IsPrecedence precedence expr)
 alone_found precedence place expr none at found = precedence_found precedence place expr expr found at (no_operators precedence place expr (λ operator is. none operator))
 
--- and so the next one
+-- such an expression of a precedence is one of the next precedence
 alone_next : {depth : ℕ} {old now : List (List ℕ)} {from here : Spot} (place : Place) (expr : Expr) → NoOperatorAt here → place ≡ place_of from
     → (at : Precedence) → FoundAs (One (nonterminal_of at)) depth old now from here (IsPrecedence at expr) → FoundAs (One (nonterminal_of (looser at))) depth old now from here (IsPrecedence (looser at) expr)
 alone_next place expr none begins precedence.Or found = found
@@ -100,7 +101,7 @@ alone_next place expr none begins precedence.Compare found = alone_found precede
 alone_next place expr none begins precedence.Sum found = alone_found precedence.Compare place expr none begins found
 alone_next place expr none begins precedence.Mul found = alone_found precedence.Sum place expr none begins found
 
--- so it is each of them
+-- so such an operand is an expression of each precedence that binds as much or less
 pub nothing_follows : {depth : ℕ} {old now : List (List ℕ)} {from here : Spot} (at to : Precedence) (place : Place) (expr : Expr) → rank at ≤ rank to → NoOperatorAt here → place ≡ place_of from
     → FoundAs (One (operand_nonterminal at)) depth old now from here (IsOperand at expr) → FoundAs (One (nonterminal_of to)) depth old now from here (IsPrecedence to expr)
 nothing_follows {depth} {old} {now} {from} {here} at to place expr order none begins found =
@@ -108,7 +109,7 @@ nothing_follows {depth} {old} {now} {from} {here} at to place expr order none be
 
 -- From one precedence to the next
 
--- two precedences that compare as equal are one precedence
+-- two precedences that compare as equal are equal
 pub same_precedence : (at to : Precedence) → sameb the_type at to ≡ true → at ≡ to
 same_precedence at to same = same_true the_type tt at to same
 
@@ -121,18 +122,18 @@ equal_to_itself precedence.Compare = refl
 equal_to_itself precedence.Sum = refl
 equal_to_itself precedence.Mul = refl
 
--- so two that do not are two
+-- so two precedences that compare as different are different
 pub other_precedence : (at to : Precedence) → sameb the_type at to ≡ false → (at ≡ to → ⊥)
 other_precedence at to other is =
     let same = equal_to_itself at in
     absurd cc
 
--- the last precedence is read where its own precedence is
+-- an expression of a precedence is one of the last precedence, if the two are equal
 pub last_precedence : {depth : ℕ} {old now : List (List ℕ)} {from here : Spot} {at to : Precedence} (expr : Expr) → at ≡ to
     → FoundAs (One (nonterminal_of at)) depth old now from here (IsPrecedence at expr) → FoundAs (One (nonterminal_of to)) depth old now from here (IsPrecedence to expr)
 last_precedence expr is found = rw (← is) found
 
--- the next precedence binds no less than the last one
+-- after a precedence that is not the last, the next one binds no less than the last
 pub next_order : (at to : Precedence) → rank at ≤ rank to → (at ≡ to → ⊥) → rank (looser at) ≤ rank to
 next_order precedence.Mul precedence.Mul order other = absurd (other refl)
 next_order precedence.Sum precedence.Sum order other = absurd (other refl)
@@ -147,7 +148,7 @@ next_order precedence.Equal _ order other = omega (arith, order)
 next_order precedence.And _ order other = omega (arith, order)
 next_order precedence.Or _ order other = omega (arith, order)
 
--- and a precedence that is not the last is its operand
+-- an expression of a precedence that is not the last is an operand of the next one
 pub next_operand : {depth : ℕ} {old now : List (List ℕ)} {from here : Spot} (at to : Precedence) (expr : Expr) → rank at ≤ rank to → (at ≡ to → ⊥)
     → FoundAs (One (nonterminal_of at)) depth old now from here (IsPrecedence at expr) → FoundAs (One (operand_nonterminal (looser at))) depth old now from here (IsOperand (looser at) expr)
 next_operand precedence.Mul to expr order other found = found

@@ -1,6 +1,7 @@
--- The steps of the readers of declarations, one after another: which tokens begin one; and what was read up to a next
--- one, with the trees of those that the code has, and the index that is free after them.
-use Rattle.std.proofs.Common.{◌≡◌, ◌≤◌, ◌<◌, ℕ, ◌+◌, Bool, true, false, List, [], ◌∷◌, ◌++◌, length, map, refl, sym, ap, ◌∙◌, arith}
+-- The steps of the parsing functions of declarations, one after another. They say which tokens begin a declaration, and
+-- what was read before the next one. That comes with the trees of the declarations in the code, and with the index that
+-- is free after them.
+use Rattle.std.proofs.Common.{◌≡◌, ◌≤◌, ℕ, ◌+◌, Bool, true, false, List, [], ◌∷◌, ◌++◌, length, map, refl, sym, ap, ◌∙◌, arith}
 use Rattle.std.proofs.lemmas.List.{append-nil, map-append}
 use Rattle.std.specs.List.{list_any}
 use denote.Enum.Bare.{sameb}
@@ -16,92 +17,80 @@ use Rattle.abs_tree.specs.SyntaxViews.{decl_tree}
 use Rattle.abs_tree.specs.SyntaxSizes.{decl_statements}
 use Rattle.abs_tree.specs.declared.syntax.declaration.Decl.{Decl as CodeDecl}
 use Rattle.abs_parser.specs.Answers.{GoesOn}
-use Rattle.abs_parser.specs.TokenKinds.{Mark, PunctuatorKind, fits, next}
+use Rattle.abs_parser.specs.TokenKinds.{PunctuatorKind, fits, next}
 use Rattle.abs_parser.specs.Productions.{Decl, Block, begins, begins_within}
-use Rattle.abs_parser.specs.Readings.{One, Repeated, Wanted, Subgoal, Forest, Empty, Leaf, Node, Reads, Taken}
-use Rattle.abs_parser.specs.ReaderAnswers.{left_at, asked, wrong_at, FoundAs, IsRefused, IsRefusedWith}
+use Rattle.abs_parser.specs.Readings.{One, Repeated, Subgoal, Forest, Empty, Node}
+use Rattle.abs_parser.specs.ReaderAnswers.{left_at, asked, wrong_at, FoundAs, IsRefused, AreRefused}
 use Rattle.abs_parser.specs.Tokens.{Spot, TakesToken}
 use Rattle.abs_parser.specs.TreesOf.{decl_in, decls_in}
 use Rattle.abs_tree.specs.declared.source_error.SourceError.{SourceError}
 use Rattle.abs_tree.specs.declared.source_error.SourceError.TheVariants.{Refused}
 use Rattle.abs_parser.proofs.reader.DeclarationSteps.{one_more, no_part}
 use Rattle.abs_parser.proofs.grammar.FirstTokens.{BeginsBy, begins_next, IsNoneOf, none_found}
-use Rattle.abs_parser.proofs.grammar.NameLemmas.{goes_on_itself, goes_on_further}
+use Rattle.abs_parser.proofs.grammar.NameLemmas.{goes_on_further}
 use Rattle.abs_parser.proofs.reader.PatternSteps.{next_end}
 use Rattle.abs_parser.proofs.reader.RepeatSteps.{in_front, over_one_more, none_before}
 use Rattle.abs_parser.proofs.reader.StatementSteps.{block_shut}
-use Rattle.abs_parser.proofs.reader.StepLemmas.{HasRead, inside_alone, left_whole, opens, over_part, all_read, refused_inside, refused_after, refused_alike, refused_shut, reads_shorter, left_length, found_goes_on}
+use Rattle.abs_parser.proofs.reader.StepLemmas.{HasRead, inside_alone, left_whole, opens, over_part, all_read, refused_inside, refused_after, refused_alike, refused_shut, found_goes_on}
 use Rattle.abs_parser.proofs.grammar.NonterminalLemmas.{part_shut, part_begun, repeated_opened, repeated_ends}
 
 -- The first token
 
--- these words begin a declaration
+-- the keywords that begin a declaration
 abbrev pub declaration_keywords : List Keyword
 declaration_keywords = keyword.Data ∷ keyword.Def ∷ keyword.Interface ∷ keyword.Class ∷ []
 
--- whether a declaration may begin with a token of a kind
+-- whether a declaration may begin with a token of this lexeme
 abbrev begins_declaration : Lexeme → Bool
 begins_declaration (lexeme.Keyword keyword) = list_any (sameb keywords keyword) declaration_keywords
 begins_declaration _ = false
 
--- that is so for each kind
+-- the test agrees with the grammar on each lexeme
 declaration_told : (kind : Lexeme) → begins_declaration kind ≡ begins Decl (asked kind)
 unfolding begins begins_within
 declaration_told (lexeme.Keyword keyword.Data) = refl
 declaration_told _ = refl
 
--- and for each name
+-- the test decides which tokens a declaration may begin with
 declaration_kinds : BeginsBy Decl begins_declaration
 unfolding begins begins_within
 declaration_kinds = record { told = declaration_told; local_too = refl; abs_too = refl; library_too = refl }
 
--- with another word none begins
+-- no declaration begins with another keyword
 pub no_declaration_keyword : {token : Lexed} {from after : Spot} (keyword : Keyword) → TakesToken token from after → token.kind ≡ lexeme.Keyword keyword → IsNoneOf declaration_keywords keyword
     → false ≡ begins Decl (next (left_at from))
 no_declaration_keyword keyword takes is none = begins_next declaration_kinds (lexeme.Keyword keyword) takes is (none_found keywords tt declaration_keywords keyword none)
 
--- what is no word begins none
+-- no declaration begins with a lexeme that is no keyword
 no_keyword_begins : (kind : Lexeme) → ((keyword : Keyword) → kind ≡ lexeme.Keyword keyword → ⊥) → false ≡ begins_declaration kind
 no_keyword_begins (lexeme.Keyword keyword) no_word = absurd (no_word keyword refl)
 no_keyword_begins _ no_word = refl
 
--- nor does a token that is none
+-- no declaration begins with a token that is no keyword
 pub no_declaration_kind : {token : Lexed} {from after : Spot} → TakesToken token from after → ((keyword : Keyword) → token.kind ≡ lexeme.Keyword keyword → ⊥)
     → false ≡ begins Decl (next (left_at from))
 no_declaration_kind {token} takes no_word = begins_next declaration_kinds token.kind takes refl (no_keyword_begins token.kind no_word)
 
--- nor with the end of the source
+-- no declaration begins at the end of the source
 pub no_declaration_at_end : (from : Spot) → from.rest ≡ [] → false ≡ begins Decl (next (left_at from))
 unfolding begins begins_within
 no_declaration_at_end from ended = rw (next_end from ended) refl
 
--- where none begins, it is refused
+-- a declaration is refused where none may begin
 pub refused_no_declaration : (from : Spot) (error : SourceError) → error ≡ Refused (wrong_at from) → false ≡ begins Decl (next (left_at from))
     → IsRefused (Subgoal (One Decl) 0) from error
 refused_no_declaration from error is none = rw is (refused_shut (One Decl) 0 from (part_shut Decl _ 0 (sym none)))
 
 -- One declaration
 
--- this declaration was read from its first index, before others
+-- this declaration was read from its first index, and its tree comes before any others
 abbrev pub IsDeclaration : ℕ → CodeDecl → List (List ℕ) → Forest → Type 0
 IsDeclaration index decl names inside = (others : List DeclTree) → decl_tree names decl ∷ others ≡ decl_in index inside others
 
--- what is read with a tree has a token
-token_read : {items : List Wanted} {ts to : List Mark} {inside : Forest} {tree : DeclTree} (index : ℕ) → Reads items ts inside to → tree ∷ [] ≡ decl_in index inside [] → length to < length ts
-token_read {inside = Empty} index reads is = absurd cc
-token_read {inside = Leaf mark depth after} index (Taken fit reads) is = omega (arith, reads_shorter reads)
-token_read {inside = Node goal first after} index reads is = absurd cc
-
--- so a declaration leaves fewer tokens than there were
-pub declaration_shorter : {from to : Spot} {old new : List (List ℕ)} (index : ℕ) (decl : CodeDecl) → FoundAs (One Decl) 0 old new from to (IsDeclaration index decl) → length to.rest < length from.rest
-declaration_shorter {from} {to} {new = new} index decl found =
-    let less = token_read index found.reads (found.is new (goes_on_itself new) []) in
-    omega (arith, less, left_length from, left_length to)
-
 -- Declarations
 
--- Declarations were read up to here from a first index, with the trees of those that the code has and the index that is free after them:
--- what is read as further ones has its trees after these.
+-- Declarations were read up to here from a first index. Their trees are those that the code has, and the index after
+-- them is free. The trees of further declarations come after these.
 pub record DeclsSoFar (old now : List (List ℕ)) (index free : ℕ) (from here : Spot) (listed : List CodeDecl) : Type 0 where
   pub make : Forest → Forest
   pub read : HasRead (Repeated Decl) 0 old now from make (Subgoal (Repeated Decl) 0 ∷ []) here
@@ -109,7 +98,7 @@ pub record DeclsSoFar (old now : List (List ℕ)) (index free : ℕ) (from here 
   pub is_free : (names : List (List ℕ)) → free ≡ index + decl_statements (map (decl_tree names) listed)
   pub few : free + length here.rest ≤ index + length from.rest
 
--- none was at first, as the repeated part is left whole
+-- at first no declaration was read, since the repeated part is left as a whole
 none_so_far : (table : List (List ℕ)) (index : ℕ) (from : Spot) → HasRead (Repeated Decl) 0 table table from inside_alone (Subgoal (Repeated Decl) 0 ∷ []) from
     → DeclsSoFar table table index index from from []
 none_so_far table index from read = record {
@@ -120,7 +109,7 @@ none_so_far table index from read = record {
   few = omega arith;
 }
 
--- which it is whether a declaration begins there or not
+-- at first no declaration was read, whether one may begin here or not
 none_by : (may : Bool) (table : List (List ℕ)) (index : ℕ) (from : Spot) → begins Decl (next (left_at from)) ≡ may → DeclsSoFar table table index index from from []
 none_by true table index from is = none_so_far table index from (left_whole (Repeated Decl) 0 table from _ (repeated_opened Decl _ 0 is))
 none_by false table index from is = none_so_far table index from (left_whole (Repeated Decl) 0 table from _ (repeated_ends Decl _ 0 is))
@@ -129,7 +118,7 @@ none_by false table index from is = none_so_far table index from (left_whole (Re
 pub no_declaration_yet : (table : List (List ℕ)) (index : ℕ) (from : Spot) {listed : List CodeDecl} → listed ≡ [] → DeclsSoFar table table index index from from listed
 no_declaration_yet table index from none = rw none (none_by (begins Decl (next (left_at from))) table index from refl)
 
--- the statements of declarations before others are those of both
+-- the statement counts of two lists of declarations add up
 decls_counted : (first others : List DeclTree) → decl_statements (first ++ others) ≡ decl_statements first + decl_statements others
 decls_counted [] others = omega arith
 decls_counted (ClassTree place name params implemented members ∷ first) others = omega (arith, decls_counted first others)
@@ -137,13 +126,13 @@ decls_counted (DataTree place name parameters constructors ∷ first) others = d
 decls_counted (FunctionTree place result name parameters params value ∷ first) others = decls_counted first others
 decls_counted (InterfaceTree place name extended signatures ∷ first) others = decls_counted first others
 
--- those of one more are after them
+-- one more declaration adds its statement count to that of the declarations before it
 one_declaration_counted : (names : List (List ℕ)) (listed : List CodeDecl) (decl : CodeDecl)
     → decl_statements (map (decl_tree names) (listed ++ decl ∷ [])) ≡ decl_statements (map (decl_tree names) listed) + decl_statements (decl_tree names decl ∷ [])
 one_declaration_counted names listed decl =
     ap decl_statements (map-append (decl_tree names) listed (decl ∷ [])) ∙ decls_counted (map (decl_tree names) listed) (decl_tree names decl ∷ [])
 
--- one more declaration, before those that follow from the next index
+-- one more declaration comes before the further ones, whose indices begin after its own
 declaration_in_turn : (names : List (List ℕ)) (free after : ℕ) (decl : CodeDecl) (found inside : Forest) → after ≡ free + decl_statements (decl_tree names decl ∷ [])
     → ((others : List DeclTree) → decl_tree names decl ∷ others ≡ decl_in free found others)
     → decls_in free (Node (One Decl) found (Node (Repeated Decl) inside Empty)) ≡ decl_tree names decl ∷ decls_in after inside
@@ -151,7 +140,7 @@ declaration_in_turn names free after decl found inside is_after is =
     let next : free + decl_statements (decl_in free found []) ≡ after = ap (λ (trees : List DeclTree). free + decl_statements trees) (sym (is [])) ∙ sym is_after in
     sym (is (decls_in (free + decl_statements (decl_in free found [])) inside)) ∙ ap (λ (n : ℕ). decl_tree names decl ∷ decls_in n inside) next
 
--- over one more declaration
+-- one more declaration was read
 pub next_declaration : {old now new : List (List ℕ)} {index free after : ℕ} {from here to : Spot} {listed longer : List CodeDecl} (decl : CodeDecl) → longer ≡ listed ++ decl ∷ []
     → DeclsSoFar old now index free from here listed → FoundAs (One Decl) 0 now new here to (IsDeclaration free decl)
     → ((names : List (List ℕ)) → after ≡ free + decl_statements (decl_tree names decl ∷ [])) → after + length to.rest ≤ free + length here.rest → DeclsSoFar old new index after from to longer
@@ -166,19 +155,19 @@ next_declaration {index = index} {free} {after} {listed = listed} decl same so f
   few = omega (arith, so.few, few);
 })
 
--- by cases of whether one more may begin
+-- the next lemma, by cases of whether one more declaration may begin
 refused_by : (may : Bool) {old now : List (List ℕ)} {index free : ℕ} {from here : Spot} {listed : List CodeDecl} (error : SourceError) → begins Decl (next (left_at here)) ≡ may
     → DeclsSoFar old now index free from here listed → fits (PunctuatorKind punctuator.OpenBrace) (next (left_at here)) ≡ false → IsRefused (Subgoal (One Decl) 0) here error
-    → IsRefusedWith (Subgoal (Repeated Decl) 0) (Subgoal (One Block) 0) from error
+    → AreRefused (Subgoal (Repeated Decl) 0 ∷ Subgoal (One Block) 0 ∷ []) from error
 refused_by true {now = now} {here = here} error e so other refused = λ items.
     refused_inside so.read error (refused_inside (opens (Repeated Decl) 0 now here _ (repeated_opened Decl _ 0 e)) error refused) (Subgoal (One Block) 0 ∷ items)
 refused_by false {now = now} {here = here} error e so other refused = refused_after (Subgoal (One Block) 0) so.read (no_part Decl 0 now here e) error
     (refused_alike (One Decl) 0 (One Block) 0 here error (part_shut Decl _ 0 e) (block_shut _ 0 other) refused)
 
--- where the main block is not next, what refuses one more declaration refuses them with the block
+-- where the main block is not next, what refuses one more declaration refuses the declarations with the block
 pub refused_declaration : {old now : List (List ℕ)} {index free : ℕ} {from here : Spot} {listed : List CodeDecl} (error : SourceError)
     → DeclsSoFar old now index free from here listed → fits (PunctuatorKind punctuator.OpenBrace) (next (left_at here)) ≡ false → IsRefused (Subgoal (One Decl) 0) here error
-    → IsRefusedWith (Subgoal (Repeated Decl) 0) (Subgoal (One Block) 0) from error
+    → AreRefused (Subgoal (Repeated Decl) 0 ∷ Subgoal (One Block) 0 ∷ []) from error
 refused_declaration {here = here} error so other refused = refused_by (begins Decl (next (left_at here))) error refl so other refused
 
 -- no declaration begins with "{"
@@ -186,7 +175,7 @@ no_declaration_opens : begins Decl (PunctuatorKind punctuator.OpenBrace) ≡ fal
 unfolding begins begins_within
 no_declaration_opens = refl
 
--- so where it is next, these are all declarations
+-- so where "{" is next, these are all the declarations
 pub declarations_found : {old now : List (List ℕ)} {index free : ℕ} {from here : Spot} {listed : List CodeDecl} → DeclsSoFar old now index free from here listed
     → fits (PunctuatorKind punctuator.OpenBrace) (next (left_at here)) ≡ true → FoundAs (Repeated Decl) 0 old now from here (λ names inside. map (decl_tree names) listed ≡ decls_in index inside)
 declarations_found {now = now} {index} {free} {here = here} {listed = listed} so opens_block =

@@ -1,6 +1,6 @@
--- The steps of the readers of declarations: over the keyword and the name that begin one; over the parts that repeat up to a token that
--- closes, with the trees of those that were read so far; and what constructors and data consist of, by the next token, over their tokens
--- and parts.
+-- The steps of the parsing functions of declarations. They read the keyword and the name of a declaration, and the
+-- parts that repeat up to a closing token. The parts that were read so far come with their trees. Constructors and data
+-- types follow, given the next token.
 use Rattle.std.proofs.Common.{◌≡◌, ◌≤◌, ℕ, true, false, List, [], ◌∷◌, ◌++◌, map, Some, None, refl, sym, ap, ◌∙◌, append_assoc}
 use Rattle.std.specs.Prelude.{⊤}
 use Rattle.std.proofs.lemmas.List.{append-nil, map-append}
@@ -34,14 +34,15 @@ use Rattle.abs_parser.proofs.reader.RepeatSteps.{in_front, over_one_more, refuse
 use Rattle.abs_parser.proofs.reader.NameListSteps.{declared_kept}
 use Rattle.abs_parser.proofs.reader.KeywordSteps.{keyword_read}
 
--- Parts that repeat up to a token that closes
+-- Parts that repeat up to a closing token
 
 -- a declaration without statements may have any first index
 abbrev pub AnyIndex : ℕ → Type 0
 AnyIndex index = ⊤
 
--- The parts of a declaration that repeat up to a token that closes: which nonterminal they are, which token closes, and the trees of one of them
--- in the code and of those that were read, from the index that is free before the declaration and after those of these trees.
+-- The parts of a declaration that repeat up to a closing token: their nonterminal, this token, and their trees. `tree`
+-- gives the tree of a part in the code. `trees_in` gives those that were read, by the first index of the declaration
+-- and the trees before them.
 pub record Parts (Listed Tree : Type 0) : Type 0 where
   pub nonterminal : Nonterminal
   pub closing : Lexeme
@@ -52,8 +53,8 @@ pub record Parts (Listed Tree : Type 0) : Type 0 where
   pub trees_in : ℕ → List Tree → Forest → List Tree
   pub trees_none : (index : ℕ) (before : List Tree) → trees_in index before Empty ≡ []
 
--- What was read of a declaration up to here, with the trees of those of the parts that the code has, and the tree of the whole by them:
--- whatever further parts are read, and the token after them, complete it, where the declaration has one of these first indexes.
+-- A declaration was read up to here, with the trees of these parts in the code. They give the tree of the whole. Any
+-- further parts and the closing token complete it, if the declaration has one of these first indices.
 pub record ReadsParts {Listed Tree : Type 0} (parts : Parts Listed Tree) (Starts : ℕ → Type 0) (whole : List Name → List Tree → DeclTree) (depth : ℕ) (old now : List (List ℕ)) (from here : Spot) (listed : List Listed) : Type 0 where
   pub make : Forest → Forest
   pub read : HasRead (One Decl) depth old now from make (Subgoal (Repeated parts.nonterminal) depth ∷ Terminal (asked parts.closing) depth ∷ []) here
@@ -61,11 +62,11 @@ pub record ReadsParts {Listed Tree : Type 0} (parts : Parts Listed Tree) (Starts
       → decl_in index (make (Node (Repeated parts.nonterminal) inside (Leaf mark at Empty))) others
       ≡ whole names (map (parts.tree names) listed ++ parts.trees_in index (map (parts.tree names) listed) inside) ∷ others
 
--- the tree of one more stands after those of the others
+-- the tree of one more part comes between those before it and those after it
 pub one_more : {Listed Tree : Type 0} (tree : Listed → Tree) (listed : List Listed) (one : Listed) (after : List Tree) → map tree (listed ++ one ∷ []) ++ after ≡ map tree listed ++ tree one ∷ after
 one_more tree listed one after = ap (λ trees. trees ++ after) (map-append tree listed (one ∷ [])) ∙ append_assoc (map tree listed) (tree one ∷ []) after
 
--- over one more of the parts
+-- one more of the parts was read
 pub next_part : {Listed Tree : Type 0} {parts : Parts Listed Tree} {Starts : ℕ → Type 0} {whole : List Name → List Tree → DeclTree} {depth : ℕ} {old now new : List (List ℕ)} {from here to : Spot} {listed longer : List Listed}
     {is_read : List (List ℕ) → Forest → Type 0} (one : Listed) → longer ≡ listed ++ one ∷ [] → ReadsParts parts Starts whole depth old now from here listed
     → (found : FoundAs (One parts.nonterminal) depth now new here to is_read)
@@ -83,23 +84,23 @@ next_part {parts = parts} {whole = whole} {depth} {listed = listed} one same so 
       ∙ sym (one_more (parts.tree names) listed one (parts.trees_in index (map (parts.tree names) (listed ++ one ∷ [])) inside)));
 })
 
--- where the token that closes is not next, the declaration is refused where one more is
+-- where the closing token is not next, what refuses one more part refuses the declaration
 pub refused_part : {Listed Tree : Type 0} {parts : Parts Listed Tree} {Starts : ℕ → Type 0} {whole : List Name → List Tree → DeclTree} {depth : ℕ} {old now : List (List ℕ)} {from here : Spot} {listed : List Listed} (error : SourceError)
     → ReadsParts parts Starts whole depth old now from here listed → fits (asked parts.closing) (next (left_at here)) ≡ false → IsRefused (Subgoal (One parts.nonterminal) depth) here error
     → IsRefused (Subgoal (One Decl) depth) from error
 refused_part {parts = parts} error so other refused = refused_up_to (asked parts.closing) error so.read other refused
 
--- where no further one begins, there is none
-pub no_part : (symbol : Nonterminal) (depth : ℕ) (table : List (List ℕ)) (here : Spot) → begins symbol (next (left_at here)) ≡ false → FoundAs (Repeated symbol) depth table table here here (λ names inside. inside ≡ Empty)
-no_part symbol depth table here ends = nothing_found (Repeated symbol) depth table here (repeated_ends symbol _ depth ends)
+-- where no further part begins, the repetition is empty
+pub no_part : (nonterminal : Nonterminal) (depth : ℕ) (table : List (List ℕ)) (here : Spot) → begins nonterminal (next (left_at here)) ≡ false → FoundAs (Repeated nonterminal) depth table table here here (λ names inside. inside ≡ Empty)
+no_part nonterminal depth table here ends = nothing_found (Repeated nonterminal) depth table here (repeated_ends nonterminal _ depth ends)
 
--- and the declaration is refused where the token is that closes
+-- where no further part begins, what refuses the closing token refuses the declaration
 pub refused_closing : {Listed Tree : Type 0} {parts : Parts Listed Tree} {Starts : ℕ → Type 0} {whole : List Name → List Tree → DeclTree} {depth : ℕ} {old now : List (List ℕ)} {from here : Spot} {listed : List Listed} (error : SourceError)
     → ReadsParts parts Starts whole depth old now from here listed → begins parts.nonterminal (next (left_at here)) ≡ false → IsRefused (Terminal (asked parts.closing) depth) here error
     → IsRefused (Subgoal (One Decl) depth) from error
 refused_closing {parts = parts} {depth = depth} {now = now} {here = here} error so ends refused = refused_inside (over_part so.read (no_part parts.nonterminal depth now here ends)) error refused
 
--- after the token that closes, the declaration is found
+-- with its closing token the declaration is found
 pub all_parts : {Listed Tree : Type 0} {parts : Parts Listed Tree} {Starts : ℕ → Type 0} {whole : List Name → List Tree → DeclTree} {depth : ℕ} {old now : List (List ℕ)} {from here end : Spot} {token : Lexed} {listed : List Listed}
     → ReadsParts parts Starts whole depth old now from here listed → TakesKind parts.closing token here end → depth ≤ limit
     → FoundAs (One Decl) depth old now from end (λ names inside. (index : ℕ) → Starts index → (others : List DeclTree) → whole names (map (parts.tree names) listed) ∷ others ≡ decl_in index inside others)
@@ -113,7 +114,7 @@ all_parts {parts = parts} {whole = whole} {depth} {now = now} {here = here} {tok
 
 -- The first token of a declaration
 
--- over the keyword that opens a declaration, and the name after it
+-- the keyword that opens a declaration and the name after it were read
 pub heading_read : {keyword : Keyword} {left : List Wanted} {token name : Lexed} {from name_at after : Spot} {depth : ℕ} {old table : List (List ℕ)}
     → opened (One Decl) (KeywordKind keyword) depth ≡ Some (Terminal (KeywordKind keyword) depth ∷ Terminal UpperName depth ∷ left) → TakesKind (lexeme.Keyword keyword) token from name_at
     → TakesKind lexeme.UpperName name name_at after → table ≡ with_name old name.bytes → depth ≤ limit
@@ -135,15 +136,15 @@ IsConstructor constructor names inside = (others : List ConstructorTree) → con
 constructor_begins : (kind : TokenKind) → begins Constructor kind ≡ fits UpperName kind
 constructor_begins kind = begins_with_token Constructor kind refl
 
--- which opens it
+-- an upper-case name opens a constructor
 pub constructor_opened : (kind : TokenKind) (depth : ℕ) → fits UpperName kind ≡ true → opened (One Constructor) kind depth ≡ Some (Terminal UpperName depth ∷ Subgoal (Optional ConstructorTypes) depth ∷ [])
 constructor_opened kind depth fit = part_opened Constructor kind depth refl refl (constructor_begins kind ∙ fit)
 
--- nothing else opens one
+-- nothing else opens a constructor
 pub constructor_shut : (kind : TokenKind) (depth : ℕ) → fits UpperName kind ≡ false → opened (One Constructor) kind depth ≡ None
 constructor_shut kind depth differs = part_shut Constructor kind depth (constructor_begins kind ∙ differs)
 
--- over the name of a constructor
+-- the name of a constructor was read and added to the table
 pub constructor_named : {name : Lexed} {from after : Spot} {depth : ℕ} {old table : List (List ℕ)} → TakesKind lexeme.UpperName name from after → table ≡ with_name old name.bytes → depth ≤ limit
     → HasRead (One Constructor) depth old table from (λ rest. Leaf (Token name) depth rest) (Subgoal (Optional ConstructorTypes) depth ∷ []) after
 constructor_named {from = from} {depth = depth} {old} name is within =
@@ -158,14 +159,14 @@ constructor_found {name} {old = old} constructor same takes number is types with
     all_read (over_part (constructor_named takes is within) types) (λ names more others.
     rw (same, symbol_kept old constructor.name.name number is names (goes_on_further (found_goes_on types) more), types.is names more) refl)
 
--- Data
+-- Data types
 
 -- no further constructor begins with ";"
 pub no_constructor_closes : begins NextConstructor (PunctuatorKind punctuator.Semicolon) ≡ false
 unfolding begins begins_within
 no_constructor_closes = refl
 
--- the constructors of data repeat up to ";"
+-- the constructors of a data type repeat up to ";"
 abbrev pub constructors_of : Parts CodeConstructor ConstructorTree
 constructors_of = record {
   nonterminal = NextConstructor;
@@ -178,17 +179,17 @@ constructors_of = record {
   trees_none = λ index before. refl;
 }
 
--- a further one begins with "|"
+-- a further constructor begins with "|"
 pub next_constructor_begins : (kind : TokenKind) → begins NextConstructor kind ≡ fits (PunctuatorKind punctuator.Bar) kind
 next_constructor_begins kind = begins_with_token NextConstructor kind refl
 
--- over "|"
+-- "|" was read
 bar_read : {bar : Lexed} {from after : Spot} (depth : ℕ) (table : List (List ℕ)) → TakesKind (lexeme.Punctuator punctuator.Bar) bar from after → depth ≤ limit
     → HasRead (One NextConstructor) depth table table from (λ rest. Leaf (Token bar) depth rest) (Subgoal (One Constructor) depth ∷ []) after
 bar_read {from = from} depth table takes within =
     over_token (opens (One NextConstructor) depth table from _ (part_opened NextConstructor _ depth refl refl (next_constructor_begins _ ∙ fits_next refl takes))) takes refl refl within
 
--- after the name of data stands this
+-- what follows the name of a data type
 abbrev pub after_data : ℕ → List Wanted
 after_data at =
     Subgoal (Optional TypeParameters) at ∷ Terminal (PunctuatorKind punctuator.Assign) at ∷ Subgoal (One Constructor) at ∷ Subgoal (Repeated NextConstructor) at ∷ Terminal (PunctuatorKind punctuator.Semicolon) at ∷ []
@@ -198,11 +199,11 @@ pub data_opened : (depth : ℕ) → opened (One Decl) (KeywordKind keyword.Data)
 unfolding begins chosen begins_within
 data_opened depth = refl
 
--- the tree of data, by those of its constructors
+-- the tree of a data type, given the trees of its constructors
 abbrev pub data_of : Place → Declared → List Declared → List Name → List ConstructorTree → DeclTree
 data_of place name parameters names constructors = DataTree place (declared_tree names name) (map (declared_tree names) parameters) constructors
 
--- over the parameters of data and "="
+-- the keyword, the name and the parameters of a data type were read, and "="
 pub data_assigned : {token name equals : Lexed} {from name_at after equals_at first_at : Spot} {depth : ℕ} {old table now : List (List ℕ)} {is_read : List (List ℕ) → Forest → Type 0}
     → TakesKind (lexeme.Keyword keyword.Data) token from name_at → TakesKind lexeme.UpperName name name_at after → table ≡ with_name old name.bytes
     → (parameters : FoundAs (Optional TypeParameters) depth table now after equals_at is_read) → TakesKind (lexeme.Punctuator punctuator.Assign) equals equals_at first_at → depth ≤ limit
@@ -210,12 +211,12 @@ pub data_assigned : {token name equals : Lexed} {from name_at after equals_at fi
     (Subgoal (One Constructor) depth ∷ Subgoal (Repeated NextConstructor) depth ∷ Terminal (PunctuatorKind punctuator.Semicolon) depth ∷ []) first_at
 data_assigned {depth = depth} token name is parameters equals within = over_token (over_part (heading_read (data_opened depth) token name is within) parameters) equals refl refl within
 
--- the tree of data is made of those of its parts
+-- the trees of two data types with equal parts are equal
 data_made : {name held_name : DeclaredTree} {parameters held_parameters : List DeclaredTree} {constructors held_constructors : List ConstructorTree} (place : Place) (others : List DeclTree)
     → held_name ≡ name → held_parameters ≡ parameters → held_constructors ≡ constructors → DataTree place name parameters constructors ∷ others ≡ DataTree place held_name held_parameters held_constructors ∷ others
 data_made place others name parameters constructors = rw (name, parameters, constructors) refl
 
--- data was read up to its first constructor
+-- a data type was read with its first constructor
 pub first_constructor : {token name equals : Lexed} {from name_at after equals_at first_at here : Spot} {depth : ℕ} {old table now new : List (List ℕ)} {constructors : List CodeConstructor}
     (symbol : NameSymbol) (listed : List Declared) (first : CodeConstructor) → constructors ≡ first ∷ [] → TakesKind (lexeme.Keyword keyword.Data) token from name_at → TakesKind lexeme.UpperName name name_at after
     → symbol.0 ≡ number_of_name old name.bytes → table ≡ with_name old name.bytes
@@ -231,7 +232,7 @@ first_constructor {token} {name} {equals} {depth = depth} {old} symbol listed fi
       ∙ data_made token.place others (declared_kept old name symbol number is names (goes_on_further (found_goes_on parameters) since)) (parameters.is names since) (found.is names more (more_constructors inside));
 })
 
--- and up to one more after "|"
+-- one more constructor was read after "|"
 pub next_constructor : {whole : List Name → List ConstructorTree → DeclTree} {bar : Lexed} {from here constructor_at to : Spot} {depth : ℕ} {old now new : List (List ℕ)} {constructors longer : List CodeConstructor}
     (constructor : CodeConstructor) → longer ≡ constructors ++ constructor ∷ [] → ReadsParts constructors_of AnyIndex whole depth old now from here constructors → TakesKind (lexeme.Punctuator punctuator.Bar) bar here constructor_at
     → FoundAs (One Constructor) depth now new constructor_at to (IsConstructor constructor) → depth ≤ limit → ReadsParts constructors_of AnyIndex whole depth old new from to longer
@@ -242,7 +243,7 @@ next_constructor {bar = bar} {depth = depth} {now = now} {new = new} constructor
     found.is names more (more_constructors others)
     ∙ sym (ap (λ inside. more_constructors (Node (One NextConstructor) inside (Node (Repeated NextConstructor) others Empty))) (next.is names more)))
 
--- after "|" data is refused where the constructor is
+-- after "|", what refuses the constructor refuses the data type
 pub refused_constructor : {whole : List Name → List ConstructorTree → DeclTree} {bar : Lexed} {from here constructor_at : Spot} {depth : ℕ} {old now : List (List ℕ)} {constructors : List CodeConstructor} (error : SourceError)
     → ReadsParts constructors_of AnyIndex whole depth old now from here constructors → TakesKind (lexeme.Punctuator punctuator.Bar) bar here constructor_at → depth ≤ limit
     → IsRefused (Subgoal (One Constructor) depth) constructor_at error → IsRefused (Subgoal (One Decl) depth) from error

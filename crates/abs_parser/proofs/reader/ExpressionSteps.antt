@@ -1,5 +1,6 @@
--- The steps of the readers of expressions: what an expression consists of, by the next token; over the tokens and the parts of a `let`
--- and of an `if`, and which trees stand for what was read of them; and an expression that is one of operators.
+-- The steps of the parsing functions of expressions. The next token says whether an expression is a `let`, an `if` or
+-- an operator list. The tokens and parts of a `let` and of an `if` are read one by one, with the trees of what was
+-- read.
 use Rattle.std.proofs.Common.{◌≡◌, ◌≤◌, ℕ, ◌+◌, true, false, List, [], ◌∷◌, Some, None, refl, ap, ◌∙◌}
 use Rattle.abs_tree.specs.Names.{with_name, number_of_name}
 use Rattle.abs_tree.specs.declared.place.Place.{Place}
@@ -28,18 +29,18 @@ use Rattle.abs_parser.proofs.grammar.NonterminalLemmas.{part_begun}
 use Rattle.abs_parser.proofs.reader.InFrontSteps.{refused_in_front}
 use Rattle.abs_parser.proofs.reader.KeywordSteps.{keyword_read}
 
--- an expression that is neither a `let` nor an `if` is one of operators
+-- an expression that begins with neither `let` nor `if` is an operator list
 or_opened : (kind : TokenKind) (depth : ℕ) → fits (KeywordKind keyword.Let) kind ≡ false → fits (KeywordKind keyword.If) kind ≡ false → begins Or kind ≡ true
     → opened (One ExprSymbol) kind depth ≡ Some (Subgoal (One Or) (depth + 1) ∷ [])
 unfolding chosen
 or_opened kind depth no_let no_if e = rw (no_let, no_if, e) refl
 
--- and where operators may not begin either, there is none
+-- where no operator list may begin either, no expression opens
 expression_shut : (kind : TokenKind) (depth : ℕ) → fits (KeywordKind keyword.Let) kind ≡ false → fits (KeywordKind keyword.If) kind ≡ false → begins Or kind ≡ false → opened (One ExprSymbol) kind depth ≡ None
 unfolding chosen
 expression_shut kind depth no_let no_if e = rw (no_let, no_if, e) refl
 
--- operators that were found are an expression
+-- an operator list that was found is an expression
 pub or_found : {depth : ℕ} {old new : List (List ℕ)} {from to : Spot} (expr : Expr) → fits (KeywordKind keyword.Let) (next (left_at from)) ≡ false → fits (KeywordKind keyword.If) (next (left_at from)) ≡ false
     → FoundAs (One Or) (depth + 1) old new from to (λ names inside. phrase names expr ≡ or_in inside)
     → FoundAs (One ExprSymbol) depth old new from to (λ names inside. phrase names expr ≡ expr_in inside)
@@ -47,13 +48,13 @@ or_found {depth} {old} {from = from} expr no_let no_if found =
     let begun = part_begun Or _ (depth + 1) found.rule_is in
     all_read (over_part (opens (One ExprSymbol) depth old from _ (or_opened _ depth no_let no_if begun)) found) found.is
 
--- what refuses operators refuses the expression
+-- what refuses the operator list refuses the expression
 pub or_refused : (depth : ℕ) (from : Spot) (error : SourceError) → fits (KeywordKind keyword.Let) (next (left_at from)) ≡ false → fits (KeywordKind keyword.If) (next (left_at from)) ≡ false
     → IsRefused (Subgoal (One Or) (depth + 1)) from error → IsRefused (Subgoal (One ExprSymbol) depth) from error
 or_refused depth from error no_let no_if refused =
     refused_in_front Or (depth + 1) (One ExprSymbol) depth from error (or_opened _ depth no_let no_if) (expression_shut _ depth no_let no_if) refused
 
--- after the keyword of an `if` stands this
+-- what follows the keyword of an `if`
 abbrev after_if : ℕ → List Wanted
 after_if at =
     Subgoal (One ExprSymbol) at ∷ Terminal (KeywordKind keyword.Then) at ∷ Subgoal (One ExprSymbol) at ∷ Terminal (KeywordKind keyword.Else) at ∷ Subgoal (One ExprSymbol) at ∷ []
@@ -63,17 +64,17 @@ pub if_opened : (depth : ℕ) → opened (One ExprSymbol) (KeywordKind keyword.I
 unfolding begins chosen begins_within
 if_opened depth = refl
 
--- over the keyword of an `if`
+-- the keyword of an `if` was read
 pub if_begins : {token : Lexed} {from after : Spot} (depth : ℕ) (table : List (List ℕ)) → TakesKind (lexeme.Keyword keyword.If) token from after → depth + 1 ≤ limit
     → HasRead (One ExprSymbol) depth table table from (λ rest. Leaf (Token token) (depth + 1) rest) (after_if (depth + 1)) after
 if_begins depth table takes within = keyword_read depth table (if_opened depth) takes within
 
--- after the name of a `let` stands this
+-- what follows the name of a `let`
 abbrev after_let_name : ℕ → List Wanted
 after_let_name at =
     Terminal (PunctuatorKind punctuator.CloseParen) at ∷ Terminal (PunctuatorKind punctuator.Assign) at ∷ Subgoal (One ExprSymbol) at ∷ Terminal (KeywordKind keyword.In) at ∷ Subgoal (One ExprSymbol) at ∷ []
 
--- after the keyword of a `let` stands this
+-- what follows the keyword of a `let`
 abbrev after_let : ℕ → List Wanted
 after_let at = Terminal (PunctuatorKind punctuator.OpenParen) at ∷ Subgoal (One Type') at ∷ Terminal LowerName at ∷ after_let_name at
 
@@ -82,7 +83,7 @@ pub let_opened : (depth : ℕ) → opened (One ExprSymbol) (KeywordKind keyword.
 unfolding begins chosen begins_within
 let_opened depth = refl
 
--- over the keyword of a `let`
+-- the keyword of a `let` was read
 pub let_begins : {token : Lexed} {from after : Spot} (depth : ℕ) (table : List (List ℕ)) → TakesKind (lexeme.Keyword keyword.Let) token from after → depth + 1 ≤ limit
     → HasRead (One ExprSymbol) depth table table from (λ rest. Leaf (Token token) (depth + 1) rest) (after_let (depth + 1)) after
 let_begins depth table takes within = keyword_read depth table (let_opened depth) takes within
@@ -91,21 +92,21 @@ let_begins depth table takes within = keyword_read depth table (let_opened depth
 abbrev pub IsExpression : Expr → List (List ℕ) → Forest → Type 0
 IsExpression expr names inside = phrase names expr ≡ expr_in inside
 
--- over the first expression of an `if` and `then`
+-- the test of an `if` and `then` were read
 pub if_tested : {token then_token : Lexed} {from test_at then_at first_at : Spot} {depth : ℕ} {old now : List (List ℕ)} {is_read : List (List ℕ) → Forest → Type 0} → TakesKind (lexeme.Keyword keyword.If) token from test_at
     → (test : FoundAs (One ExprSymbol) (depth + 1) old now test_at then_at is_read) → TakesKind (lexeme.Keyword keyword.Then) then_token then_at first_at → depth + 1 ≤ limit
     → HasRead (One ExprSymbol) depth old now from (λ rest. Leaf (Token token) (depth + 1) (Node (One ExprSymbol) test.inside (Leaf (Token then_token) (depth + 1) rest)))
     (Subgoal (One ExprSymbol) (depth + 1) ∷ Terminal (KeywordKind keyword.Else) (depth + 1) ∷ Subgoal (One ExprSymbol) (depth + 1) ∷ []) first_at
 if_tested {depth = depth} {old} token test then_token within = over_token (over_part (if_begins depth old token within) test) then_token refl refl within
 
--- over the second one and `else`
+-- the first choice of an `if` and `else` were read
 pub if_chosen : {else_token : Lexed} {from first_at else_at second_at : Spot} {depth at : ℕ} {old now new : List (List ℕ)} {make : Forest → Forest} {is_read : List (List ℕ) → Forest → Type 0}
     → HasRead (One ExprSymbol) depth old now from make (Subgoal (One ExprSymbol) at ∷ Terminal (KeywordKind keyword.Else) at ∷ Subgoal (One ExprSymbol) at ∷ []) first_at
     → (first : FoundAs (One ExprSymbol) at now new first_at else_at is_read) → TakesKind (lexeme.Keyword keyword.Else) else_token else_at second_at → at ≤ limit
     → HasRead (One ExprSymbol) depth old new from (λ rest. make (Node (One ExprSymbol) first.inside (Leaf (Token else_token) at rest))) (Subgoal (One ExprSymbol) at ∷ []) second_at
 if_chosen so first else_token within = over_token (over_part so first) else_token refl refl within
 
--- an `if` with its three expressions is found, each as it is held in memory
+-- an `if` is found with its three expressions, each as it is stored
 pub if_found : {token then_token else_token : Lexed} {from test_at then_at first_at else_at second_at end : Spot} {depth : ℕ} {old one two new : List (List ℕ)} {test first second : Expr} (held_test held_first held_second : Expr)
     → held_test ≡ test → held_first ≡ first → held_second ≡ second → TakesKind (lexeme.Keyword keyword.If) token from test_at
     → FoundAs (One ExprSymbol) (depth + 1) old one test_at then_at (IsExpression test) → TakesKind (lexeme.Keyword keyword.Then) then_token then_at first_at
@@ -117,7 +118,7 @@ if_found held_test held_first held_second same_test same_first same_second token
     let after = goes_on_further (found_goes_on second) more in
     rw (same_test, same_first, same_second, test.is names (goes_on_further (found_goes_on first) after), first.is names after, second.is names more) refl)
 
--- over the type and the name of a `let`, which the table has then
+-- the type and the name of a `let` were read, and the name was added to the table
 pub let_named : {token paren name : Lexed} {from open_at type_at name_at close_at : Spot} {depth : ℕ} {old now table : List (List ℕ)} {is_read : List (List ℕ) → Forest → Type 0}
     → TakesKind (lexeme.Keyword keyword.Let) token from open_at → TakesKind (lexeme.Punctuator punctuator.OpenParen) paren open_at type_at
     → (type : FoundAs (One Type') (depth + 1) old now type_at name_at is_read) → TakesKind lexeme.LowerName name name_at close_at → table ≡ with_name now name.bytes → depth + 1 ≤ limit
@@ -125,7 +126,7 @@ pub let_named : {token paren name : Lexed} {from open_at type_at name_at close_a
     (λ rest. Leaf (Token token) (depth + 1) (Leaf (Token paren) (depth + 1) (Node (One Type') type.inside (Leaf (Token name) (depth + 1) rest)))) (after_let_name (depth + 1)) close_at
 let_named {depth = depth} {old} token paren type name is within = over_name (over_part (over_token (let_begins depth old token within) paren refl refl within) type) name refl refl within is
 
--- over ")" and "=" of a `let`
+-- ")" and "=" of a `let` were read
 pub let_assigned : {close equals : Lexed} {from close_at equals_at value_at : Spot} {depth at : ℕ} {old now : List (List ℕ)} {make : Forest → Forest}
     → HasRead (One ExprSymbol) depth old now from make (after_let_name at) close_at → TakesKind (lexeme.Punctuator punctuator.CloseParen) close close_at equals_at
     → TakesKind (lexeme.Punctuator punctuator.Assign) equals equals_at value_at → at ≤ limit
@@ -133,23 +134,23 @@ pub let_assigned : {close equals : Lexed} {from close_at equals_at value_at : Sp
     (Subgoal (One ExprSymbol) at ∷ Terminal (KeywordKind keyword.In) at ∷ Subgoal (One ExprSymbol) at ∷ []) value_at
 let_assigned so close equals within = over_token (over_token so close refl refl within) equals refl refl within
 
--- over the value of a `let` and `in`
+-- the value of a `let` and `in` were read
 pub let_valued : {in_token : Lexed} {from value_at in_at body_at : Spot} {depth at : ℕ} {old now new : List (List ℕ)} {make : Forest → Forest} {is_read : List (List ℕ) → Forest → Type 0}
     → HasRead (One ExprSymbol) depth old now from make (Subgoal (One ExprSymbol) at ∷ Terminal (KeywordKind keyword.In) at ∷ Subgoal (One ExprSymbol) at ∷ []) value_at
     → (value : FoundAs (One ExprSymbol) at now new value_at in_at is_read) → TakesKind (lexeme.Keyword keyword.In) in_token in_at body_at → at ≤ limit
     → HasRead (One ExprSymbol) depth old new from (λ rest. make (Node (One ExprSymbol) value.inside (Leaf (Token in_token) at rest))) (Subgoal (One ExprSymbol) at ∷ []) body_at
 let_valued so value in_token within = over_token (over_part so value) in_token refl refl within
 
--- a table goes on with one that has one more name
+-- a table with one more name extends the table before
 pub goes_on_name : {table : List (List ℕ)} (names : List (List ℕ)) (name : List ℕ) → table ≡ with_name names name → GoesOn names table
 goes_on_name names name is = rw is (goes_on_all names (name ∷ []))
 
--- the tree of a `let` is made of those of its parts
+-- the trees of two `let` expressions with equal parts are equal
 let_tree : {type held_type : TypeTree} {name held_name : List ℕ} {value held_value body held_body : Phrase} (place name_place : Place) → held_type ≡ type → held_name ≡ name → held_value ≡ value → held_body ≡ body
     → LetIn place held_type name_place (Unresolved held_name) held_value held_body ≡ LetIn place type name_place (Unresolved name) value body
 let_tree place name_place type name value body = rw (type, name, value, body) refl
 
--- a `let` with its type, its name, its value and its body is found, each as it is held in memory
+-- a `let` is found with its type, its name, its value and its body, each as it is stored
 pub let_found : {token paren name close equals in_token : Lexed} {from open_at type_at name_at close_at equals_at value_at in_at body_at end : Spot} {depth : ℕ} {old one two three new : List (List ℕ)}
     {value body : Expr} (type_term : TypeTerm) (symbol : Symbol) (held_value held_body : Expr)
     → held_value ≡ value → held_body ≡ body → TakesKind (lexeme.Keyword keyword.Let) token from open_at → TakesKind (lexeme.Punctuator punctuator.OpenParen) paren open_at type_at

@@ -1,5 +1,6 @@
--- The steps of the readers of statements that begin with a variable or with `this`: over the token or the tokens that begin one; over `=` and
--- a right side, or arguments that may be left out and the rest of a right side, after a variable or a field; and where each is refused.
+-- The steps of the parsing functions of statements that begin with a variable or with `this`. After a variable or a
+-- field they read `=` and a right side, or optional arguments and the rest of a right side. They also say where each
+-- part is refused.
 use Rattle.std.proofs.Common.{◌≡◌, ◌≤◌, ℕ, ◌+◌, Bool, true, false, ◌||◌, cond, List, [], ◌∷◌, Option, Some, None, refl, sym, ap, ◌∙◌}
 use Rattle.std.proofs.lemmas.Bool.{or_parts}
 use Rattle.std.specs.Prelude.{codes}
@@ -46,37 +47,37 @@ assign_tree : (index : ℕ) (names : List Name) (start : First) (equals : Mark) 
 assign_tree index names (first.Variable place symbol) equals at part side others = refl
 assign_tree index names (first.Field place name_place symbol) equals at part side others = refl
 
--- with arguments or without, and the rest of a right side, they are that right side
+-- a variable or a field, with or without arguments, and the rest of a right side are a right side as a statement
 do_tree : (index : ℕ) (names : List Name) (start : First) (part last : Goal) (arguments rest others : Forest)
     → after_first index names start (Node part arguments (Node last rest others))
     ≡ DoOf index (place_of_first start) (rest_in (place_of_first start) (phrase_of names start (arguments_maybe arguments)) rest)
 do_tree index names (first.Variable place symbol) part last arguments rest others = refl
 do_tree index names (first.Field place name_place symbol) part last arguments rest others = refl
 
--- Beyond a variable or a field
+-- After a variable or a field
 
--- `=` opens what stands after a variable or a field
+-- `=` opens `AfterName`, which follows a variable or a field
 assign_opened : (depth : ℕ) → opened (One AfterName) (PunctuatorKind punctuator.Assign) depth
     ≡ Some (Terminal (PunctuatorKind punctuator.Assign) depth ∷ Subgoal (One Rhs) depth ∷ Terminal (PunctuatorKind punctuator.Semicolon) depth ∷ [])
 unfolding begins chosen begins_within
 assign_opened depth = refl
 
--- whether anything else does
+-- whether arguments or the rest of a right side may begin with this token kind
 abbrev pub goes_on_by : TokenKind → Bool
 goes_on_by kind = begins Arguments kind || begins Rest kind
 
--- it may be arguments and the rest of a right side
+-- such a token kind opens `AfterName`: optional arguments and the rest of a right side
 rest_opened : (kind : TokenKind) (depth : ℕ) → fits (PunctuatorKind punctuator.Assign) kind ≡ false → goes_on_by kind ≡ true
     → opened (One AfterName) kind depth ≡ Some (Subgoal (Optional Arguments) (depth + 2) ∷ Subgoal (One Rest) depth ∷ [])
 unfolding chosen
 rest_opened kind depth no_equals may = rw (no_equals, may) refl
 
--- and nothing else
+-- nothing else opens `AfterName`
 after_shut : (kind : TokenKind) (depth : ℕ) → fits (PunctuatorKind punctuator.Assign) kind ≡ false → goes_on_by kind ≡ false → opened (One AfterName) kind depth ≡ None
 unfolding chosen
 after_shut kind depth no_equals none = rw (no_equals, none) refl
 
--- over `=`
+-- `=` was read
 pub assign_begins : {equals : Lexed} {from side_at : Spot} (depth : ℕ) (table : List (List ℕ)) → TakesKind (lexeme.Punctuator punctuator.Assign) equals from side_at → depth ≤ limit
     → HasRead (One AfterName) depth table table from (λ rest. Leaf (Token equals) depth rest) (Subgoal (One Rhs) depth ∷ Terminal (PunctuatorKind punctuator.Semicolon) depth ∷ []) side_at
 assign_begins {from = from} depth table equals within =
@@ -92,29 +93,29 @@ assign_found {equals} {semicolon} {depth = depth} {old} index start place target
     all_read (over_token {kind = lexeme.Punctuator punctuator.Semicolon} (over_part (assign_begins depth old assigns within) found) ends refl refl within) (λ names more.
     rw (at, goes_to names, found.is names more) (sym (assign_tree index names start (Token equals) depth (One Rhs) found.inside (Leaf (Token semicolon) depth Empty))))
 
--- What stands after a variable or a field, and is no `=`, begins with arguments, which may be left out.
+-- where `=` is not next, `AfterName` begins with optional arguments
 pub after_begins : (depth : ℕ) (table : List (List ℕ)) (from : Spot) → fits (PunctuatorKind punctuator.Assign) (next (left_at from)) ≡ false
     → MayHaveRead (goes_on_by (next (left_at from))) (One AfterName) depth table table from (λ rest. rest)
     (Subgoal (Optional Arguments) (depth + 2) ∷ Subgoal (One Rest) depth ∷ []) from
 after_begins depth table from no_equals = may_open (One AfterName) depth table from _ (rest_opened _ depth no_equals)
 
--- where nothing of it is opened, there are no arguments
+-- where neither arguments nor the rest of a right side may begin, the arguments are left out
 no_arguments : (kind : TokenKind) (depth : ℕ) → goes_on_by kind ≡ false → opened (Optional Arguments) kind depth ≡ Some []
 no_arguments kind depth none = optional_left_out Arguments kind depth (or_parts _ _ none).0
 
--- it is refused where the arguments are
+-- where `=` is not next, `AfterName` is refused where the arguments are
 pub arguments_refused : (depth : ℕ) (from : Spot) (error : SourceError) → fits (PunctuatorKind punctuator.Assign) (next (left_at from)) ≡ false
     → IsRefused (Subgoal (Optional Arguments) (depth + 2)) from error → IsRefused (Subgoal (One AfterName) depth) from error
 arguments_refused depth from error no_equals refused = refused_left_out (after_begins depth [] from no_equals) (no_arguments _ (depth + 2)) error refused
 
--- over the arguments
+-- the optional arguments were read
 over_arguments : {from after : Spot} {depth : ℕ} {old now : List (List ℕ)} {is_read : List (List ℕ) → Forest → Type 0} → fits (PunctuatorKind punctuator.Assign) (next (left_at from)) ≡ false
     → (found : FoundAs (Optional Arguments) (depth + 2) old now from after is_read)
     → MayHaveRead (goes_on_by (next (left_at from))) (One AfterName) depth old now from (λ rest. Node (Optional Arguments) found.inside rest)
     (Subgoal (One Rest) depth ∷ []) after
 over_arguments {from} {depth = depth} {old} no_equals found = over_left_out (after_begins depth old from no_equals) (no_arguments _ (depth + 2)) found
 
--- it is refused where the rest after them is
+-- `AfterName` is refused where the rest after the arguments is
 pub rest_refused : {from after : Spot} {old now : List (List ℕ)} {is_read : List (List ℕ) → Forest → Type 0} (depth : ℕ) (error : SourceError)
     → fits (PunctuatorKind punctuator.Assign) (next (left_at from)) ≡ false → FoundAs (Optional Arguments) (depth + 2) old now from after is_read
     → IsRefused (Subgoal (One Rest) depth) after error → IsRefused (Subgoal (One AfterName) depth) from error
@@ -143,7 +144,7 @@ side_found {from} {depth = depth} index start place given expr side no_equals at
 
 -- Statements that begin with a variable
 
--- a name that begins with a lower-case letter opens a statement
+-- a lower-case name opens a statement
 variable_opened : (kind : TokenKind) (depth : ℕ) → fits LowerName kind ≡ true
     → opened (One Stmt) kind depth ≡ Some (Terminal LowerName (depth + 1 + 2) ∷ Subgoal (One AfterName) (depth + 1) ∷ [])
 unfolding begins chosen begins_within
@@ -151,32 +152,32 @@ variable_opened LowerName depth fit = refl
 variable_opened LocalName depth fit = refl
 variable_opened _ depth fit = absurd cc
 
--- where the name is refused, so is the statement
+-- what refuses this name refuses the statement
 pub variable_refused : (depth : ℕ) (from : Spot) (error : SourceError) → fits LowerName (next (left_at from)) ≡ true → IsRefused (Terminal LowerName (depth + 1 + 2)) from error
     → IsRefused (Subgoal (One Stmt) depth) from error
 variable_refused depth from error fit refused = refused_inside (opens (One Stmt) depth [] from _ (variable_opened _ depth fit)) error refused
 
--- over the name, which the table has then
+-- the name was read and added to the table
 pub variable_begins : {name : Lexed} {from after : Spot} {names : List (List ℕ)} (depth : ℕ) (table : List (List ℕ)) → TakesKind lexeme.LowerName name from after
     → depth + 1 + 2 ≤ limit → names ≡ with_name table name.bytes
     → HasRead (One Stmt) depth table names from (λ rest. Leaf (Token name) (depth + 1 + 2) rest) (Subgoal (One AfterName) (depth + 1) ∷ []) after
 variable_begins {from = from} depth table name within is =
     over_name (opens (One Stmt) depth table from _ (variable_opened _ depth (fits_next {kind = lexeme.LowerName} refl name))) name refl refl within is
 
--- each kind of lower-case name is a variable before what stands after it
+-- a lower-case name begins a statement as a variable, whether it is `local` or not
 variable_by : (index : ℕ) (is_local : Bool) (mark : Mark) (part : Goal) (after others : Forest)
     → statement_by index (cond is_local LocalName LowerName) mark (Node part after others) ≡ after_variable index (place_of_mark mark) (written mark) after
 variable_by index true mark part after others = refl
 variable_by index false mark part after others = refl
 
--- so a lower-case name is one
+-- so a statement that begins with a lower-case name begins with a variable
 variable_tree : (index : ℕ) (name : Lexed) (at : ℕ) (part : Goal) (after others : Forest) → name.kind ≡ lexeme.LowerName
     → statement_in index (Leaf (Token name) at (Node part after others)) ≡ after_variable index name.place name.bytes after
 variable_tree index name at part after others is =
     ap (λ (kind : Lexeme). statement_by index (token_kind_of kind name.bytes) (Token name) (Node part after others)) is
     ∙ variable_by index (bytes_eq name.bytes (codes "local")) (Token name) part after others
 
--- a statement is found with what stands after its variable
+-- a statement is found with its variable and what follows it
 pub variable_found : {name : Lexed} {from after to : Spot} {depth : ℕ} {now new : List (List ℕ)} (index : ℕ) (old : List (List ℕ)) (symbol : code_symbol.Symbol) (tree : List Name → Statement)
     → TakesKind lexeme.LowerName name from after → depth + 1 + 2 ≤ limit → symbol.0 ≡ number_of_name old name.bytes → now ≡ with_name old name.bytes
     → FoundAs (One AfterName) (depth + 1) now new after to (λ names inside. tree names ≡ after_variable index name.place (name_of names symbol) inside)
@@ -194,43 +195,43 @@ pub this_opened : (depth : ℕ) → opened (One Stmt) (KeywordKind keyword.This)
 unfolding begins chosen begins_within
 this_opened depth = refl
 
--- over `this`
+-- `this` was read
 pub this_begins : {this : Lexed} {from after : Spot} (depth : ℕ) (table : List (List ℕ)) → TakesKind (lexeme.Keyword keyword.This) this from after → depth + 1 + 2 ≤ limit
     → HasRead (One Stmt) depth table table from (λ rest. Leaf (Token this) (depth + 1 + 2) rest) (Subgoal (One AfterThis) (depth + 1) ∷ []) after
 this_begins {from = from} depth table this within =
     over_token {kind = lexeme.Keyword keyword.This}
     (opens (One Stmt) depth table from _ (ap (λ (k : TokenKind). opened (One Stmt) k depth) (next_taken this) ∙ this_opened depth)) this refl refl within
 
--- a dot opens what stands after it
+-- a dot opens `AfterThis`, which follows `this`
 dot_opened : (depth : ℕ)
     → opened (One AfterThis) (PunctuatorKind punctuator.Dot) depth ≡ Some (Terminal (PunctuatorKind punctuator.Dot) (depth + 2) ∷ Terminal LowerName (depth + 2) ∷ Subgoal (One AfterName) depth ∷ [])
 unfolding begins chosen begins_within
 dot_opened depth = refl
 
--- and so does the rest of a right side
+-- the rest of a right side opens it, too
 alone_opened : (kind : TokenKind) (depth : ℕ) → fits (PunctuatorKind punctuator.Dot) kind ≡ false → begins Rest kind ≡ true
     → opened (One AfterThis) kind depth ≡ Some (Subgoal (One Rest) depth ∷ [])
 unfolding chosen
 alone_opened kind depth no_dot may = rw (no_dot, may) refl
 
--- nothing else does
+-- nothing else opens it
 alone_shut : (kind : TokenKind) (depth : ℕ) → fits (PunctuatorKind punctuator.Dot) kind ≡ false → begins Rest kind ≡ false → opened (One AfterThis) kind depth ≡ None
 unfolding chosen
 alone_shut kind depth no_dot none = rw (no_dot, none) refl
 
--- the tree of a statement that begins with `this` is that of what stands after it
+-- the tree of a statement that begins with `this` is given by what follows `this`
 this_tree : (index : ℕ) (this : Lexed) (at : ℕ) (part : Goal) (after others : Forest) → this.kind ≡ lexeme.Keyword keyword.This
     → statement_in index (Leaf (Token this) at (Node part after others)) ≡ after_this index this.place after
 this_tree index this at part after others is = ap (λ (kind : Lexeme). statement_by index (token_kind_of kind this.bytes) (Token this) (Node part after others)) is
 
--- where no dot stands after `this`, the statement is refused where the rest of the right side is
+-- where no dot follows `this`, the statement is refused where the rest of the right side is
 pub alone_refused : {this : Lexed} {from after : Spot} (depth : ℕ) (error : SourceError) → TakesKind (lexeme.Keyword keyword.This) this from after → depth + 1 + 2 ≤ limit
     → fits (PunctuatorKind punctuator.Dot) (next (left_at after)) ≡ false → IsRefused (Subgoal (One Rest) (depth + 1)) after error → IsRefused (Subgoal (One Stmt) depth) from error
 alone_refused {after = after} depth error this within no_dot refused =
     refused_inside (this_begins depth [] this within) error
     (refused_in_front Rest (depth + 1) (One AfterThis) (depth + 1) after error (alone_opened _ (depth + 1) no_dot) (alone_shut _ (depth + 1) no_dot) refused)
 
--- and found with it
+-- where no dot follows `this`, the statement is found with the rest of the right side
 pub alone_found : {this : Lexed} {from after to : Spot} {depth : ℕ} {old new : List (List ℕ)} (index : ℕ) (place : Place) (start : code_expr.Expr) (side : RightSide)
     → TakesKind (lexeme.Keyword keyword.This) this from after → depth + 1 + 2 ≤ limit → fits (PunctuatorKind punctuator.Dot) (next (left_at after)) ≡ false → place ≡ this.place
     → ((names : List Name) → phrase names start ≡ ThisOf place)
@@ -241,7 +242,7 @@ alone_found {this} {after = after} {depth = depth} {old} index place start side 
     (over_part (opens (One AfterThis) (depth + 1) old after _ (alone_opened _ (depth + 1) no_dot (part_begun Rest _ (depth + 1) rest.rule_is))) rest)) (λ names more.
     rw (rest.is names more, is names, at) (sym (this_tree index this (depth + 1 + 2) (One AfterThis) (Node (One Rest) rest.inside Empty) Empty takes.kind_is)))
 
--- over `this` and a dot, after which a name is to stand
+-- `this` and a dot were read, and a name must follow
 pub field_begins : {this dot : Lexed} {from after name_at : Spot} (depth : ℕ) (table : List (List ℕ)) → TakesKind (lexeme.Keyword keyword.This) this from after
     → TakesKind (lexeme.Punctuator punctuator.Dot) dot after name_at → depth + 1 + 2 ≤ limit
     → HasRead (One Stmt) depth table table from (λ rest. Leaf (Token this) (depth + 1 + 2) (Node (One AfterThis) (Leaf (Token dot) (depth + 1 + 2) rest) Empty))
@@ -251,7 +252,7 @@ field_begins {after = after} depth table this dot within =
     (over_token {kind = lexeme.Punctuator punctuator.Dot}
     (opens (One AfterThis) (depth + 1) table after _ (ap (λ (k : TokenKind). opened (One AfterThis) k (depth + 1)) (next_taken dot) ∙ dot_opened (depth + 1))) dot refl refl within)
 
--- over the name, which the table has then
+-- the name after the dot was read and added to the table
 pub field_named : {this dot name : Lexed} {from after name_at last : Spot} {names : List (List ℕ)} (depth : ℕ) (table : List (List ℕ))
     → TakesKind (lexeme.Keyword keyword.This) this from after → TakesKind (lexeme.Punctuator punctuator.Dot) dot after name_at → TakesKind lexeme.LowerName name name_at last
     → depth + 1 + 2 ≤ limit → names ≡ with_name table name.bytes
@@ -260,7 +261,7 @@ pub field_named : {this dot name : Lexed} {from after name_at last : Spot} {name
     (Subgoal (One AfterName) (depth + 1) ∷ []) last
 field_named depth table this dot name within is = over_name {kind = lexeme.LowerName} (field_begins depth table this dot within) name refl refl within is
 
--- a statement is found with what stands after its field
+-- a statement is found with its field and what follows it
 pub field_found : {this dot name : Lexed} {from after name_at last to : Spot} {depth : ℕ} {now new : List (List ℕ)} (index : ℕ) (old : List (List ℕ)) (symbol : code_symbol.Symbol)
     (tree : List Name → Statement) → TakesKind (lexeme.Keyword keyword.This) this from after → TakesKind (lexeme.Punctuator punctuator.Dot) dot after name_at
     → TakesKind lexeme.LowerName name name_at last → depth + 1 + 2 ≤ limit → symbol.0 ≡ number_of_name old name.bytes → now ≡ with_name old name.bytes

@@ -1,4 +1,5 @@
--- A part of the grammar that begins with another one is refused where that one is, whether the next token begins it or not.
+-- A part of the grammar that begins with another part is refused where that part is, whether the next token begins it
+-- or not.
 use Rattle.std.proofs.Common.{◌≡◌, ℕ, Bool, true, false, List, [], ◌∷◌, Some, None, refl}
 use Rattle.abs_parser.specs.TokenKinds.{next}
 use Rattle.abs_parser.specs.Productions.{Nonterminal, begins}
@@ -9,7 +10,7 @@ use Rattle.abs_tree.specs.declared.source_error.SourceError.{SourceError}
 use Rattle.abs_parser.proofs.reader.StepLemmas.{opens, refused_inside, refused_alike}
 use Rattle.abs_parser.proofs.grammar.NonterminalLemmas.{part_shut}
 
--- by cases of whether the next token begins the first part
+-- the next lemma, by cases of whether the next token begins the first part
 by_beginning : (may : Bool) (first : Nonterminal) (at : ℕ) (goal : Goal) (depth : ℕ) {inner : List Wanted} (from : Spot) (error : SourceError) → begins first (next (left_at from)) ≡ may
     → (begins first (next (left_at from)) ≡ true → opened goal (next (left_at from)) depth ≡ Some (Subgoal (One first) at ∷ inner))
     → (begins first (next (left_at from)) ≡ false → opened goal (next (left_at from)) depth ≡ None)
@@ -17,7 +18,7 @@ by_beginning : (may : Bool) (first : Nonterminal) (at : ℕ) (goal : Goal) (dept
 by_beginning true first at goal depth from error e is_opened is_shut refused = refused_inside (opens goal depth [] from _ (is_opened e)) error refused
 by_beginning false first at goal depth from error e is_opened is_shut refused = refused_alike (One first) at goal depth from error (part_shut first _ at e) (is_shut e) refused
 
--- a part that the first one opens, and nothing else does, is refused where the first one is
+-- what refuses the first part refuses a part that begins with it and with nothing else
 pub refused_in_front : (first : Nonterminal) (at : ℕ) (goal : Goal) (depth : ℕ) {inner : List Wanted} (from : Spot) (error : SourceError)
     → (begins first (next (left_at from)) ≡ true → opened goal (next (left_at from)) depth ≡ Some (Subgoal (One first) at ∷ inner))
     → (begins first (next (left_at from)) ≡ false → opened goal (next (left_at from)) depth ≡ None)

@@ -1,4 +1,5 @@
--- Which symbols are lists with a sign between any two, which trees stand for them, and which nonterminals are such lists between parentheses.
+-- Which nonterminals are lists with a separator, which trees these have, and which nonterminals are such lists in
+-- parentheses.
 use Rattle.std.proofs.Common.{◌≡◌, false, refl}
 use Rattle.abs_lexer.specs.declared.lexeme.Punctuator.TheVariants as punctuator
 use Rattle.abs_tree.specs.Syntax.{TypeTree, TypeTrees, NoType, NextType, PatternTree, PatternTrees, NoPattern, NextPattern, Phrase, Phrases, NoPhrase, NextPhrase, Tests, NoTest, NextTest}
@@ -28,7 +29,7 @@ list_of_types = record {
   next_counts = refl;
 }
 
--- and these are its trees
+-- the trees of a list of types
 abbrev pub trees_of_types : ListTrees TypeTerm TypeTree TypeTrees
 trees_of_types = record {
   tree = type_tree;
@@ -60,7 +61,7 @@ list_of_patterns = record {
   next_counts = refl;
 }
 
--- and these are its trees
+-- the trees of a list of patterns
 abbrev pub trees_of_patterns : ListTrees code_pattern.Pattern PatternTree PatternTrees
 trees_of_patterns = record {
   tree = pattern_tree;
@@ -77,12 +78,12 @@ trees_of_patterns = record {
   others_more = λ next one after mark depth first others. refl;
 }
 
--- no pattern begins with a parenthesis that closes
+-- no pattern begins with a closing parenthesis
 pub no_pattern_closes : begins Pattern (PunctuatorKind punctuator.CloseParen) ≡ false
 unfolding begins begins_within
 no_pattern_closes = refl
 
--- the arguments of a pattern are patterns between parentheses
+-- the arguments of a pattern are patterns in parentheses
 abbrev pub pattern_arguments : InParentheses list_of_patterns
 pattern_arguments = record { nonterminal = PatternArguments; nonterminal_is = refl; nonterminal_counts = refl; none_closes = no_pattern_closes }
 
@@ -101,7 +102,7 @@ list_of_expressions = record {
   next_counts = refl;
 }
 
--- and these are its trees
+-- the trees of a list of expressions
 abbrev pub trees_of_expressions : ListTrees code_expr.Expr Phrase Phrases
 trees_of_expressions = record {
   tree = phrase;
@@ -118,18 +119,18 @@ trees_of_expressions = record {
   others_more = λ next one after mark depth first others. refl;
 }
 
--- no expression begins with a parenthesis that closes
+-- no expression begins with a closing parenthesis
 pub no_expression_closes : begins Expr (PunctuatorKind punctuator.CloseParen) ≡ false
 unfolding begins begins_within
 no_expression_closes = refl
 
--- arguments are expressions between parentheses
+-- arguments are expressions in parentheses
 abbrev pub arguments : InParentheses list_of_expressions
 arguments = record { nonterminal = Arguments; nonterminal_is = refl; nonterminal_counts = refl; none_closes = no_expression_closes }
 
 -- Guards
 
--- guards are a list
+-- a guard is a list of tests
 abbrev pub list_of_tests : SeparatedList
 list_of_tests = record {
   separator = punctuator.And;
@@ -142,12 +143,12 @@ list_of_tests = record {
   next_counts = refl;
 }
 
--- the tree of one test, before others
+-- the tree of one test, followed by others
 abbrev test_before : Tests → Tests → Tests
 test_before (NextTest place value asks _) others = NextTest place value asks others
 test_before NoTest others = others
 
--- what was read as a test stands before others as it does alone
+-- the tree of a test that is followed by others is its own tree, followed by them
 pub test_in_front : (inside : Forest) (others : Tests) → test_in inside others ≡ test_before (test_in inside NoTest) others
 test_in_front Empty others = refl
 test_in_front (Leaf mark depth after) others = refl
@@ -155,7 +156,7 @@ test_in_front (Node equal inside Empty) others = refl
 test_in_front (Node equal inside (Leaf mark depth after)) others = refl
 test_in_front (Node equal inside (Node question asks after)) others = refl
 
--- and these are its trees
+-- the trees of a list of tests
 abbrev pub trees_of_tests : ListTrees code_test.Test Tests Tests
 trees_of_tests = record {
   tree = λ names test. NextTest test.place (phrase names test.value.value) test.asks NoTest;

@@ -1,5 +1,5 @@
--- The steps of the readers of the declarations of local variables: what such a statement consists of, where a type begins it, over its type and
--- its name, and that it is found with what stands after the name; and the right side after "=", where there is one.
+-- The steps of the parsing functions of local variable declarations. A type begins such a statement, and its type and
+-- its name are read. The statement is found with what follows the name: perhaps "=" and a right side.
 use Rattle.std.proofs.Common.{◌≡◌, ◌≤◌, ℕ, ◌+◌, true, false, List, [], ◌∷◌, Option, Some, refl, sym, ap, ◌∙◌}
 use Rattle.abs_tree.specs.Names.{with_name, number_of_name}
 use Rattle.abs_tree.specs.Syntax.{Name, TypeTree, Unresolved, NoSide, SomeSide, MaybeSide, DeclareOf}
@@ -25,9 +25,9 @@ use Rattle.abs_parser.proofs.grammar.NameLemmas.{goes_on_further}
 use Rattle.abs_parser.proofs.reader.StepLemmas.{HasRead, opens, over_token, over_name, over_part, into_last, all_read, fits_next, found_goes_on, symbol_kept}
 use Rattle.abs_parser.proofs.grammar.NonterminalLemmas.{begins_with_token, part_opened, optional_opened, optional_left_out}
 
--- What stands after the name
+-- What follows the name
 
--- over "=", after which a right side is to stand
+-- "=" was read, and a right side must follow
 pub initial_begins : {equals : Lexed} {from after : Spot} (depth : ℕ) (table : List (List ℕ)) → TakesKind (lexeme.Punctuator punctuator.Assign) equals from after → depth ≤ limit
     → HasRead (Optional Initial) depth table table from (λ rest. Node (One Initial) (Leaf (Token equals) depth rest) Empty) (Subgoal (One Rhs) depth ∷ []) after
 initial_begins {from = from} depth table equals within =
@@ -41,7 +41,7 @@ pub initial_found : {equals : Lexed} {from after to : Spot} {depth : ℕ} {old n
     → FoundAs (Optional Initial) depth old new from to (λ names inside. SomeSide (side_tree names side) ≡ initial_in inside)
 initial_found {depth = depth} {old} side equals within found = all_read (over_part (initial_begins depth old equals within) found) (λ names more. ap SomeSide (found.is names more))
 
--- without "=" there is none
+-- without "=" there is no right side
 pub no_initial_found : (depth : ℕ) (table : List (List ℕ)) (from : Spot) → fits (PunctuatorKind punctuator.Assign) (next (left_at from)) ≡ false
     → FoundAs (Optional Initial) depth table table from from (λ names inside. NoSide ≡ initial_in inside)
 no_initial_found depth table from other =
@@ -49,11 +49,11 @@ no_initial_found depth table from other =
 
 -- The declaration of a variable
 
--- after the name of a variable stands this
+-- what follows the name of a variable
 abbrev after_declared : ℕ → List Wanted
 after_declared at = Subgoal (Optional Initial) at ∷ Terminal (PunctuatorKind punctuator.Semicolon) at ∷ []
 
--- where a type begins a statement, that is the declaration of a variable
+-- a statement that begins with a type is the declaration of a variable
 local_opened : (kind : TokenKind) (depth : ℕ) → fits UpperName kind ≡ true
     → opened (One Stmt) kind depth ≡ Some (Subgoal (One Type') (depth + 1) ∷ Terminal LowerName (depth + 1) ∷ after_declared (depth + 1))
 unfolding begins chosen begins_within
@@ -62,31 +62,31 @@ local_opened AbsName depth fit = refl
 local_opened StdLibName depth fit = refl
 local_opened _ depth fit = absurd cc
 
--- it begins with its type
+-- such a declaration begins with its type
 pub local_begins : (depth : ℕ) (table : List (List ℕ)) (from : Spot) → fits UpperName (next (left_at from)) ≡ true
     → HasRead (One Stmt) depth table table from (λ rest. rest) (Subgoal (One Type') (depth + 1) ∷ Terminal LowerName (depth + 1) ∷ after_declared (depth + 1)) from
 local_begins depth table from fit = opens (One Stmt) depth table from _ (local_opened _ depth fit)
 
--- over its type
+-- the type of the variable was read
 pub local_typed : {from name_at : Spot} {depth : ℕ} {old now : List (List ℕ)} {is_read : List (List ℕ) → Forest → Type 0} → fits UpperName (next (left_at from)) ≡ true
     → (type : FoundAs (One Type') (depth + 1) old now from name_at is_read)
     → HasRead (One Stmt) depth old now from (λ rest. Node (One Type') type.inside rest) (Terminal LowerName (depth + 1) ∷ after_declared (depth + 1)) name_at
 local_typed {from = from} {depth = depth} {old} fit type = over_part (local_begins depth old from fit) type
 
--- over the name of the variable, which the table has then
+-- the name of the variable was read and added to the table
 pub local_named : {name : Lexed} {from name_at after : Spot} {depth : ℕ} {old now table : List (List ℕ)} {is_read : List (List ℕ) → Forest → Type 0}
     → fits UpperName (next (left_at from)) ≡ true → (type : FoundAs (One Type') (depth + 1) old now from name_at is_read) → TakesKind lexeme.LowerName name name_at after
     → table ≡ with_name now name.bytes → depth + 1 ≤ limit
     → HasRead (One Stmt) depth old table from (λ rest. Node (One Type') type.inside (Leaf (Token name) (depth + 1) rest)) (after_declared (depth + 1)) after
 local_named fit type name is within = over_name (local_typed fit type) name refl refl within is
 
--- the tree of a declaration is made of those of its parts
+-- the trees of two declarations with equal parts are equal
 local_tree : {place held_place : Place} {type held_type : TypeTree} {name held_name : Name} {initial held_initial : MaybeSide} (index : ℕ) (name_place : Place)
     → held_place ≡ place → held_type ≡ type → held_name ≡ name → held_initial ≡ initial
     → DeclareOf index held_place held_type name_place (Unresolved held_name) held_initial ≡ DeclareOf index place type name_place (Unresolved name) initial
 local_tree index name_place place type name initial = rw (place, type, name, initial) refl
 
--- a declaration with its type, its name and what stands after it is found
+-- a declaration is found with its type, its name and what follows the name
 pub local_found : {name semicolon : Lexed} {from name_at after last_at end : Spot} {depth : ℕ} {old now table new : List (List ℕ)} {place : Place}
     (index : ℕ) (type_term : TypeTerm) (symbol : NameSymbol) (initial : Option RightSide) → fits UpperName (next (left_at from)) ≡ true → place ≡ place_of from
     → FoundAs (One Type') (depth + 1) old now from name_at (λ names inside. type_tree names type_term ≡ type_in inside)

@@ -1,5 +1,5 @@
--- The steps of the reader of a right side as a statement: what the statement consists of, where the next token begins no other statement;
--- where it is refused; and how it is the right side with the semicolon after it.
+-- The steps of the parsing function of a right side as a statement, where the next token begins no other statement. The
+-- statement is refused where the right side is. It is found as the right side with the semicolon after it.
 use Rattle.std.proofs.Common.{◌≡◌, ◌≤◌, ℕ, ◌+◌, true, false, cond, List, [], ◌∷◌, Some, None, refl, sym, ◌∙◌}
 use Rattle.std.proofs.lemmas.Bool.{cond-true, cond-false}
 use Rattle.abs_lexer.specs.declared.lexeme.Keyword.TheVariants as keyword
@@ -28,7 +28,8 @@ use Rattle.abs_parser.proofs.grammar.NonterminalLemmas.{part_begun}
 abbrev side_alone : ℕ → List Wanted
 side_alone at = Subgoal (One Rhs) at ∷ Terminal (PunctuatorKind punctuator.Semicolon) at ∷ []
 
--- unless the token begins another statement, a statement consists of these where a right side may begin, and of nothing where none may
+-- a token that begins no other statement opens a right side and a semicolon, where a right side may begin, and else
+-- nothing
 unless_another : (kind : TokenKind) (depth : ℕ)
     → cond (begins_another kind) None (opened (One Stmt) kind depth) ≡ cond (begins_another kind) None (cond (begins Rhs kind) (Some (side_alone (depth + 1))) None)
 unfolding begins chosen begins_within
@@ -36,15 +37,15 @@ unless_another (KeywordKind keyword.Skip) depth = refl
 unless_another (PunctuatorKind punctuator.OpenBrace) depth = refl
 unless_another _ depth = refl
 
--- so it is where the token does not
+-- the same, given that the token begins no other statement
 plain_told : (kind : TokenKind) (depth : ℕ) → begins_another kind ≡ false → opened (One Stmt) kind depth ≡ cond (begins Rhs kind) (Some (side_alone (depth + 1))) None
 plain_told kind depth no_other = sym (cond-false (begins_another kind) None _ no_other) ∙ (unless_another kind depth ∙ cond-false (begins_another kind) None _ no_other)
 
--- a right side opens a statement
+-- a token that begins a right side, and no other statement, opens the statement
 plain_opened : (kind : TokenKind) (depth : ℕ) → begins_another kind ≡ false → begins Rhs kind ≡ true → opened (One Stmt) kind depth ≡ Some (side_alone (depth + 1))
 plain_opened kind depth no_other may = plain_told kind depth no_other ∙ cond-true (begins Rhs kind) _ None may
 
--- nothing else does
+-- a token that begins neither opens no statement
 plain_shut : (kind : TokenKind) (depth : ℕ) → begins_another kind ≡ false → begins Rhs kind ≡ false → opened (One Stmt) kind depth ≡ None
 plain_shut kind depth no_other none = plain_told kind depth no_other ∙ cond-false (begins Rhs kind) _ None none
 
@@ -53,7 +54,7 @@ pub plain_refused : (depth : ℕ) (from : Spot) (error : SourceError) → begins
     → IsRefused (Subgoal (One Stmt) depth) from error
 plain_refused depth from error no_other refused = refused_in_front Rhs (depth + 1) (One Stmt) depth from error (plain_opened _ depth no_other) (plain_shut _ depth no_other) refused
 
--- over the right side
+-- the right side was read
 pub plain_begins : {from after : Spot} {depth : ℕ} {old now : List (List ℕ)} {is_read : List (List ℕ) → Forest → Type 0} → begins_another (next (left_at from)) ≡ false
     → (side : FoundAs (One Rhs) (depth + 1) old now from after is_read)
     → HasRead (One Stmt) depth old now from (λ rest. Node (One Rhs) side.inside rest) (Terminal (PunctuatorKind punctuator.Semicolon) (depth + 1) ∷ []) after

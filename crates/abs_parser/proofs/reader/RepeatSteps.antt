@@ -1,11 +1,10 @@
--- The step of a reader over one more of the parts that may stand any number of times, where something stands after them: what was read of
--- the part comes before what is read as the further ones. And a part that has a token after its first part leaves fewer tokens.
-use Rattle.std.proofs.Common.{◌≡◌, ◌≤◌, ◌<◌, ℕ, ◌+◌, Bool, true, false, List, [], ◌∷◌, ◌++◌, length, Option, Some, refl, sym, ap, subst, ◌∙◌, fold, arith}
-use Rattle.std.specs.Prelude.{unwrap_or}
+-- The step that reads one more of the parts that repeat, where something follows them. The forest of this part comes
+-- before that of the further ones.
+use Rattle.std.proofs.Common.{◌≡◌, ℕ, ◌+◌, Bool, true, false, List, [], ◌∷◌, ◌++◌, Some, refl, sym, ap, ◌∙◌, fold, arith}
 use Rattle.abs_tree.specs.Names.{with_name}
 use Rattle.abs_parser.specs.TokenKinds.{Mark, TokenKind, PunctuatorKind, fits, next}
 use Rattle.abs_parser.specs.Productions.{Nonterminal, begins}
-use Rattle.abs_parser.specs.Readings.{Goal, One, Repeated, Wanted, Terminal, Subgoal, opened, Forest, Empty, Leaf, Node, Reads, Nothing, Taken, Opened, depths}
+use Rattle.abs_parser.specs.Readings.{Goal, One, Repeated, Wanted, Terminal, Subgoal, opened, Forest, Empty, Leaf, Node, Reads, Nothing, Opened, depths}
 use Rattle.abs_parser.specs.ReaderAnswers.{left_at, names_before, FoundAs, IsRefused}
 use Rattle.abs_parser.specs.Refusing.{AllWithin, Open}
 use Rattle.abs_parser.specs.Tokens.{Spot}
@@ -16,21 +15,21 @@ use Rattle.abs_parser.proofs.reader.PatternSteps.{nothing_found, refused_unfit}
 use Rattle.abs_parser.proofs.grammar.NonterminalLemmas.{part_shut, repeated_opened, repeated_ends}
 use Rattle.abs_parser.proofs.stop.MoveLemmas.{refuses_after, within_first, within_second}
 use Rattle.abs_parser.proofs.grammar.NameLemmas.{goes_on_further}
-use Rattle.abs_parser.proofs.reader.StepLemmas.{HasRead, opens, over_part, refused_inside, within_both, table_of_both, found_goes_on, found_few, found_shorter, reads_shorter, left_length}
+use Rattle.abs_parser.proofs.reader.StepLemmas.{HasRead, opens, over_part, refused_inside, within_both, table_of_both, found_goes_on, found_few, found_shorter}
 
--- one part before what was read as further ones, with what stands after them
+-- the forest of one part and of the further ones, followed by what comes after them
 abbrev pub in_front : Nonterminal → Forest → Forest → Forest
 in_front nonterminal inside (Node goal others after) = Node (Repeated nonterminal) (Node (One nonterminal) inside (Node goal others Empty)) after
 in_front nonterminal inside others = Node (One nonterminal) inside others
 
--- the part is read, then the further ones, and then what stands after them
+-- the part is read, then the further ones, and then what follows them
 front_reads : {nonterminal : Nonterminal} {at : ℕ} {inner left : List Wanted} {ts middle to : List Mark} {inside rest : Forest}
     → opened (Repeated nonterminal) (next ts) at ≡ Some (Subgoal (One nonterminal) at ∷ Subgoal (Repeated nonterminal) at ∷ []) → opened (One nonterminal) (next ts) at ≡ Some inner
     → Reads inner ts inside middle → Reads (Subgoal (Repeated nonterminal) at ∷ left) middle rest to
     → Reads (Subgoal (Repeated nonterminal) at ∷ left) ts (in_front nonterminal inside rest) to
 front_reads more is reads (Opened e first after) = Opened more (Opened is reads (Opened e first Nothing)) after
 
--- no token is too deep where none is in the part and in the others
+-- no token is too deeply nested if none in the part and in the others is
 front_within : (nonterminal : Nonterminal) (inside rest : Forest) → AllWithin (depths inside) → AllWithin (depths rest) → AllWithin (depths (in_front nonterminal inside rest))
 front_within nonterminal inside Empty here after = within_both (depths inside) [] here after
 front_within nonterminal inside (Leaf mark depth others) here after = within_both (depths inside) (depth ∷ depths others) here after
@@ -39,13 +38,13 @@ front_within nonterminal inside (Node goal others last) here after =
     (within_both (depths inside) (depths others ++ []) here (within_both (depths others) [] (within_first (depths others) (depths last) after) tt))
     (within_second (depths others) (depths last) after)
 
--- the names in the part stand before those in the others
+-- the names in the part come before those in the others
 front_names : (nonterminal : Nonterminal) (inside rest : Forest) (names : List (List ℕ)) → names_before (in_front nonterminal inside rest) names ≡ names_before inside (names_before rest names)
 front_names nonterminal inside Empty names = refl
 front_names nonterminal inside (Leaf mark depth others) names = refl
 front_names nonterminal inside (Node goal others after) names = refl
 
--- over one more of the parts that repeat, before what stands after them
+-- one more of the parts that repeat was read, before what follows them
 pub over_one_more : {goal : Goal} {nonterminal : Nonterminal} {depth at : ℕ} {old now new : List (List ℕ)} {from here after : Spot} {make : Forest → Forest} {left : List Wanted}
     {is_read : List (List ℕ) → Forest → Type 0} → HasRead goal depth old now from make (Subgoal (Repeated nonterminal) at ∷ left) here
     → opened (Repeated nonterminal) (next (left_at here)) at ≡ Some (Subgoal (One nonterminal) at ∷ Subgoal (Repeated nonterminal) at ∷ [])
@@ -66,7 +65,7 @@ over_one_more {nonterminal = nonterminal} {now = now} so more found = record {
   shorter = omega (arith, so.shorter, found_shorter found);
 }
 
--- by cases of whether one more may begin
+-- the next lemma, by cases of whether one more part may begin
 up_to_by : (may : Bool) {goal : Goal} {nonterminal : Nonterminal} {depth at last_at : ℕ} {old now : List (List ℕ)} {from here : Spot} {make : Forest → Forest} {left : List Wanted} (kind : TokenKind) (error : SourceError)
     → begins nonterminal (next (left_at here)) ≡ may → HasRead goal depth old now from make (Subgoal (Repeated nonterminal) at ∷ Terminal kind last_at ∷ left) here
     → fits kind (next (left_at here)) ≡ false → IsRefused (Subgoal (One nonterminal) at) here error → IsRefused (Subgoal goal depth) from error
@@ -82,24 +81,12 @@ pub refused_up_to : {goal : Goal} {nonterminal : Nonterminal} {depth at last_at 
     → fits kind (next (left_at here)) ≡ false → IsRefused (Subgoal (One nonterminal) at) here error → IsRefused (Subgoal goal depth) from error
 refused_up_to {nonterminal = nonterminal} {here = here} kind error so other refused = up_to_by (begins nonterminal (next (left_at here))) kind error refl so other refused
 
--- no part begins with what fits a punctuator with which none begins
+-- if no part begins with a punctuator, none begins with a token kind that fits it
 pub ends_at : (nonterminal : Nonterminal) (punctuator : Punctuator) → begins nonterminal (PunctuatorKind punctuator) ≡ false → (kind : TokenKind) → fits (PunctuatorKind punctuator) kind ≡ true → begins nonterminal kind ≡ false
 ends_at nonterminal punctuator none kind fit = ap (begins nonterminal) (punctuator_fits punctuator kind fit) ∙ none
 
--- so where such a punctuator is next, there is no part
+-- so where such a punctuator is next, the repetition is empty
 pub none_before : (nonterminal : Nonterminal) (punctuator : Punctuator) (depth : ℕ) (table : List (List ℕ)) (here : Spot) → begins nonterminal (PunctuatorKind punctuator) ≡ false → fits (PunctuatorKind punctuator) (next (left_at here)) ≡ true
     → FoundAs (Repeated nonterminal) depth table table here here (λ names inside. inside ≡ Empty)
 none_before nonterminal punctuator depth table here none fit =
     nothing_found (Repeated nonterminal) depth table here (repeated_ends nonterminal _ depth (ends_at nonterminal punctuator none _ fit))
-
--- what is read as a part, a token and others has a token
-token_read : {goal : Goal} {at depth : ℕ} {kind : TokenKind} {items : List Wanted} {ts to : List Mark} {forest : Forest} → Reads (Subgoal goal at ∷ Terminal kind depth ∷ items) ts forest to → length to + 1 ≤ length ts
-token_read (Opened e first (Taken fit reads)) = omega (arith, reads_shorter first, reads_shorter reads)
-
--- a part that consists of another one, a token and others leaves fewer tokens than there were
-pub row_shorter : {goal part : Goal} {depth at token_at : ℕ} {kind : TokenKind} {items : List Wanted} {old new : List (List ℕ)} {from to : Spot} {is_read : List (List ℕ) → Forest → Type 0}
-    → opened goal (next (left_at from)) depth ≡ Some (Subgoal part at ∷ Terminal kind token_at ∷ items) → FoundAs goal depth old new from to is_read → length to.rest < length from.rest
-row_shorter {from = from} {to} is found =
-    let row = ap (λ (row : Option (List Wanted)). unwrap_or row []) (sym is ∙ found.rule_is) in
-    let less = token_read (subst (λ (row : List Wanted). Reads row (left_at from) found.inside (left_at to)) (sym row) found.reads) in
-    omega (arith, less, left_length from, left_length to)

@@ -1,6 +1,6 @@
--- The steps of the reader of what stands after the first operand of a right side: over the operators of each precedence, and over what may stand
--- after an expression, up to `;`. All before `;` may be left out. So where the next token does not open the part, no token was read,
--- and the part is refused where the next item is.
+-- The steps of the parsing function of `Rest`, which follows the first operand of a right side. It reads the operators
+-- of each precedence, and then what may follow an expression, up to `;`. All that comes before `;` may be left out. So
+-- where the next token does not open `Rest`, no token was read, and `Rest` is refused where the next item is.
 use Rattle.std.proofs.Common.{◌≡◌, ◌≤◌, ℕ, ◌+◌, Bool, true, false, List, [], ◌∷◌, ◌++◌, Some, None, refl, sym, ap, subst, ◌∙◌}
 use Rattle.std.proofs.lemmas.Bool.{or_parts}
 use Rattle.std.proofs.lemmas.Option.{same_Some}
@@ -17,7 +17,7 @@ use Rattle.abs_parser.specs.Precedences.{rest_of, operands_in}
 use Rattle.abs_parser.specs.Productions.{Rest, MulTail, SumTail, CompareTail, EqualTail, AndTail, OrTail, RhsTail, begins}
 use Rattle.abs_parser.specs.Readings.{Goal, One, Optional, Wanted, Terminal, Subgoal, opened, Forest, Leaf, Node, Reads, Nothing, Taken, Opened}
 use Rattle.abs_parser.specs.Refusing.{Refuses, Shut, Open, Cut}
-use Rattle.abs_parser.specs.ReaderAnswers.{left_at, TakesKind, FoundAs, RefusedAs, IsRefused, IsRefusedWith}
+use Rattle.abs_parser.specs.ReaderAnswers.{left_at, TakesKind, FoundAs, RefusedAs, IsRefused, AreRefused}
 use Rattle.abs_parser.specs.Stops.{limit}
 use Rattle.abs_parser.specs.Tokens.{Spot}
 use Rattle.abs_parser.specs.TreesOf.{with_operators, tail_in, rest_in}
@@ -26,23 +26,23 @@ use Rattle.abs_parser.specs.declared.operators.Precedence.TheVariants as precede
 use Rattle.abs_tree.specs.declared.source_error.SourceError.{SourceError}
 use Rattle.abs_tree.specs.declared.source_error.SourceError.TheVariants.{Refused, Memory}
 use Rattle.abs_parser.proofs.grammar.NameLemmas.{goes_on_further}
-use Rattle.abs_parser.proofs.reader.StepLemmas.{HasRead, opens, over_token, over_part, all_read, refused_inside, refused_both, refused_other, fits_next, found_goes_on}
+use Rattle.abs_parser.proofs.reader.StepLemmas.{HasRead, opens, over_token, over_part, all_read, refused_inside, refused_row, refused_other, fits_next, found_goes_on}
 use Rattle.abs_parser.proofs.grammar.NonterminalLemmas.{begins_by, part_opened, part_shut, optional_left_out}
 
 -- What was left out
 
--- where nothing is wanted no token is read
+-- a reading of no items takes no token
 reads_nothing : {items : List Wanted} {ts to : List Mark} {forest : Forest} → items ≡ [] → Reads items ts forest to → to ≡ ts
 reads_nothing none Nothing = refl
 reads_nothing none (Taken fit reads) = absurd cc
 reads_nothing none (Opened is first reads) = absurd cc
 
--- a part of nothing leaves the tokens that there were
+-- a part that is left out leaves the tokens that there were
 nothing_left_out : {goal : Goal} {depth : ℕ} {old new : List (List ℕ)} {from to : Spot} {is_read : List (List ℕ) → Forest → Type 0}
     → FoundAs goal depth old new from to is_read → opened goal (next (left_at from)) depth ≡ Some [] → left_at to ≡ left_at from
 nothing_left_out found none = reads_nothing (same_Some _ _ (sym found.rule_is ∙ none)) found.reads
 
--- tokens that refuse a part of nothing refuse what stands after it
+-- a refusal of a part that is left out, with items after it, is one of these items
 after_by : {part : Goal} {at : ℕ} {item : Wanted} {items : List Wanted} {ts rest : List Mark} {code : Code} → opened part (next ts) at ≡ Some []
     → Refuses (Subgoal part at ∷ item ∷ items) ts rest code → Refuses (item ∷ items) ts rest code
 after_by none (Shut shut is) = absurd cc
@@ -50,7 +50,7 @@ after_by {item = item} {items} {ts} {rest} {code} none (Open is refused) =
     subst (λ (inner : List Wanted). Refuses (inner ++ item ∷ items) ts rest code) (same_Some _ _ (sym is ∙ none)) refused
 after_by none (Cut is) = Cut is
 
--- what refuses a part of nothing refuses whatever stands after it
+-- what refuses a part that is left out refuses any item after it
 refused_later : (part : Goal) (at : ℕ) (item : Wanted) (spot : Spot) (error : SourceError) → opened part (next (left_at spot)) at ≡ Some []
     → IsRefused (Subgoal part at) spot error → IsRefused item spot error
 refused_later part at item spot (Refused refusal) none refused = λ items.
@@ -58,20 +58,20 @@ refused_later part at item spot (Refused refusal) none refused = λ items.
     record { mark = found.mark; after = found.after; code = found.code; refuses = after_by none found.refuses; refusal_is = found.refusal_is }
 refused_later part at item spot Memory none refused = λ items. tt
 
--- and what refuses the two refuses the second one
+-- what refuses such a part together with an item after it refuses this item
 refused_second : (part : Goal) (at : ℕ) (item : Wanted) (spot : Spot) (error : SourceError) → opened part (next (left_at spot)) at ≡ Some []
-    → IsRefusedWith (Subgoal part at) item spot error → IsRefused item spot error
+    → AreRefused (Subgoal part at ∷ item ∷ []) spot error → IsRefused item spot error
 refused_second part at item spot (Refused refusal) none refused = λ items.
     let found = refused items in
     record { mark = found.mark; after = found.after; code = found.code; refuses = after_by none found.refuses; refusal_is = found.refusal_is }
 refused_second part at item spot Memory none refused = λ items. tt
 
--- what is refused at a spot is refused at each one with the same tokens
+-- an item that is refused at a spot is refused at each spot with the same tokens
 pub refused_there : (item : Wanted) (here there : Spot) (error : SourceError) → left_at here ≡ left_at there → IsRefused item here error → IsRefused item there error
 refused_there item here there error same refused = λ items. subst (λ (ts : List Mark). RefusedAs (item ∷ items) ts error) same (refused items)
 
--- A reader of a part that not each token opens has come to rest where these items are left: if the next token may open the part, the reader
--- has read so much of it; if not, it has read no token.
+-- A part that not every token opens was read up to here, with these items left. If the next token may open the part,
+-- this was read of it. If not, no token was read.
 pub record MayHaveRead (may : Bool) (goal : Goal) (depth : ℕ) (old now : List (List ℕ)) (from : Spot) (make : Forest → Forest) (left : List Wanted) (here : Spot) : Type 0 where
   pub read : may ≡ true → HasRead goal depth old now from make left here
   pub still : may ≡ false → left_at here ≡ left_at from
@@ -84,7 +84,7 @@ may_open goal depth table from inner is = record {
   still = λ none. refl;
 }
 
--- over a part that was found, and that is left out where the whole is not opened
+-- a part inside was read, which is left out where the whole is not opened
 pub over_left_out : {may : Bool} {goal part : Goal} {depth at : ℕ} {old now new : List (List ℕ)} {from here after : Spot} {make : Forest → Forest} {left : List Wanted}
     {is_read : List (List ℕ) → Forest → Type 0}
     → MayHaveRead may goal depth old now from make (Subgoal part at ∷ left) here → (may ≡ false → opened part (next (left_at from)) at ≡ Some [])
@@ -94,34 +94,34 @@ over_left_out {part = part} {at = at} so left_out found = record {
   still = λ none. nothing_left_out found (ap (λ (ts : List Mark). opened part (next ts) at) (so.still none) ∙ left_out none) ∙ so.still none;
 }
 
--- the part is refused where the next item is, by cases of whether the next token may open the part
+-- the next lemma, by cases of whether the next token may open the part
 refused_by : (is : Bool) {may : Bool} {goal : Goal} {depth : ℕ} {old now : List (List ℕ)} {from here : Spot} {make : Forest → Forest} {item : Wanted} {left : List Wanted} → may ≡ is
     → MayHaveRead may goal depth old now from make (item ∷ left) here → (error : SourceError) → IsRefused item here error
     → (may ≡ false → left_at here ≡ left_at from → IsRefused (Subgoal goal depth) from error) → IsRefused (Subgoal goal depth) from error
 refused_by true e so error refused otherwise = refused_inside (so.read e) error refused
 refused_by false e so error refused otherwise = otherwise e (so.still e)
 
--- the part is refused where the next item is, if it is also where no token opens it
+-- what refuses the next item refuses the part, if the part is also refused where no token opens it
 pub refused_either_way : {may : Bool} {goal : Goal} {depth : ℕ} {old now : List (List ℕ)} {from here : Spot} {make : Forest → Forest} {item : Wanted} {left : List Wanted}
     → MayHaveRead may goal depth old now from make (item ∷ left) here → (error : SourceError) → IsRefused item here error
     → (may ≡ false → left_at here ≡ left_at from → IsRefused (Subgoal goal depth) from error) → IsRefused (Subgoal goal depth) from error
 refused_either_way {may} so error refused otherwise = refused_by may refl so error refused otherwise
 
--- so it is where the next two items are, by cases
+-- the next lemma, by cases of whether the next token may open the part
 both_by : (is : Bool) {may : Bool} {goal part : Goal} {depth at : ℕ} {old now : List (List ℕ)} {from here : Spot} {make : Forest → Forest} {second : Wanted} {left : List Wanted} → may ≡ is
     → MayHaveRead may goal depth old now from make (Subgoal part at ∷ second ∷ left) here → (may ≡ false → opened part (next (left_at from)) at ≡ Some []) → (error : SourceError)
-    → IsRefusedWith (Subgoal part at) second here error → (may ≡ false → IsRefused second from error → IsRefused (Subgoal goal depth) from error) → IsRefused (Subgoal goal depth) from error
-both_by true e so left_out error refused otherwise = refused_both (so.read e) error refused
+    → AreRefused (Subgoal part at ∷ second ∷ []) here error → (may ≡ false → IsRefused second from error → IsRefused (Subgoal goal depth) from error) → IsRefused (Subgoal goal depth) from error
+both_by true {part = part} {at = at} {second = second} e so left_out error refused otherwise = refused_row (Subgoal part at ∷ second ∷ []) _ (so.read e) error refused
 both_by false {part = part} {at = at} {from = from} {second = second} e so left_out error refused otherwise =
     otherwise e (refused_second part at second from error (left_out e) (λ items. subst (λ (ts : List Mark). RefusedAs (Subgoal part at ∷ second ∷ items) ts error) (so.still e) (refused items)))
 
--- and with a part that is left out where no token opens the whole
+-- what refuses the next two items refuses the part, if the first of them is left out where the part is not opened
 pub refused_both_either_way : {may : Bool} {goal part : Goal} {depth at : ℕ} {old now : List (List ℕ)} {from here : Spot} {make : Forest → Forest} {second : Wanted} {left : List Wanted}
     → MayHaveRead may goal depth old now from make (Subgoal part at ∷ second ∷ left) here → (may ≡ false → opened part (next (left_at from)) at ≡ Some []) → (error : SourceError)
-    → IsRefusedWith (Subgoal part at) second here error → (may ≡ false → IsRefused second from error → IsRefused (Subgoal goal depth) from error) → IsRefused (Subgoal goal depth) from error
+    → AreRefused (Subgoal part at ∷ second ∷ []) here error → (may ≡ false → IsRefused second from error → IsRefused (Subgoal goal depth) from error) → IsRefused (Subgoal goal depth) from error
 refused_both_either_way {may} so left_out error refused otherwise = both_by may refl so left_out error refused otherwise
 
--- so it is where the next item is a part that is left out then
+-- what refuses the next part refuses the whole, if that part is left out where the whole is not opened
 pub refused_left_out : {may : Bool} {goal part : Goal} {depth at : ℕ} {old now : List (List ℕ)} {from here : Spot} {make : Forest → Forest} {left : List Wanted}
     → MayHaveRead may goal depth old now from make (Subgoal part at ∷ left) here → (may ≡ false → opened part (next (left_at from)) at ≡ Some []) → (error : SourceError)
     → IsRefused (Subgoal part at) here error → IsRefused (Subgoal goal depth) from error
@@ -129,7 +129,7 @@ refused_left_out {goal = goal} {part} {depth} {at} {from = from} so left_out err
     refused_either_way so error refused (λ none same.
     refused_later part at (Subgoal goal depth) from error (left_out none) (refused_there (Subgoal part at) _ from error same refused))
 
--- and where it is a token that does not fit then
+-- what refuses the next item, a token, refuses the whole, if that does not fit where the whole is not opened
 pub refused_unfit_either_way : {may : Bool} {kind : TokenKind} {goal : Goal} {depth at : ℕ} {old now : List (List ℕ)} {from here : Spot} {make : Forest → Forest} {left : List Wanted}
     → MayHaveRead may goal depth old now from make (Terminal kind at ∷ left) here → (may ≡ false → fits kind (next (left_at from)) ≡ false)
     → (may ≡ false → opened goal (next (left_at from)) depth ≡ None) → (error : SourceError) → IsRefused (Terminal kind at) here error
@@ -137,20 +137,21 @@ pub refused_unfit_either_way : {may : Bool} {kind : TokenKind} {goal : Goal} {de
 refused_unfit_either_way {kind = kind} {goal} {depth} {at} {from = from} so differs shut error refused =
     refused_either_way so error refused (λ none same. refused_other kind at goal depth from error (differs none) (shut none) (refused_there (Terminal kind at) _ from error same refused))
 
--- where the next token must open the part it was read so far, by cases of whether it may
+-- the next lemma, by cases of whether the next token may open the part
 has_read_by : (is : Bool) {may : Bool} {goal : Goal} {depth : ℕ} {old now : List (List ℕ)} {from here : Spot} {make : Forest → Forest} {left : List Wanted} → may ≡ is
     → MayHaveRead may goal depth old now from make left here → (may ≡ false → left_at here ≡ left_at from → ⊥) → HasRead goal depth old now from make left here
 has_read_by true e so never = so.read e
 has_read_by false e so never = absurd (never e (so.still e))
 
--- where the next token must open the part it was read so far
+-- where the next token must open the part, the part was read up to here
 pub has_read : {may : Bool} {goal : Goal} {depth : ℕ} {old now : List (List ℕ)} {from here : Spot} {make : Forest → Forest} {left : List Wanted}
     → MayHaveRead may goal depth old now from make left here → (may ≡ false → left_at here ≡ left_at from → ⊥) → HasRead goal depth old now from make left here
 has_read {may} so never = has_read_by may refl so never
 
--- Beyond a first operand
+-- After a first operand
 
--- What begins none of what may stand after a first operand: no operator, nothing that may stand after an expression, and no `;`.
+-- This token kind begins nothing that may follow a first operand: no operator, nothing that may follow an expression,
+-- and no `;`.
 record BeginsNone (kind : TokenKind) : Type 0 where
   mul : begins MulTail kind ≡ false
   sum : begins SumTail kind ≡ false
@@ -161,7 +162,7 @@ record BeginsNone (kind : TokenKind) : Type 0 where
   tail : begins RhsTail kind ≡ false
   semicolon : fits (PunctuatorKind punctuator.Semicolon) kind ≡ false
 
--- what begins no rest begins none of it
+-- a token kind that does not begin `Rest` begins none of its items
 begins_none : (kind : TokenKind) → begins Rest kind ≡ false → BeginsNone kind
 begins_none kind none =
     let muls = or_parts _ _ (sym (begins_by Rest kind refl) ∙ none) in
@@ -173,7 +174,7 @@ begins_none kind none =
     let tail = or_parts _ _ ors.1 in
     record { mul = muls.0; sum = sums.0; compare = compared.0; equal = equal.0; and = ands.0; or = ors.0; tail = tail.0; semicolon = tail.1 }
 
--- where it is not opened, no operator of a precedence is read
+-- where `Rest` is not opened, the operators of each precedence are left out
 precedence_left_out : (precedence : Precedence) (kind : TokenKind) (depth : ℕ) → begins Rest kind ≡ false → opened (rest_of precedence) kind depth ≡ Some []
 precedence_left_out precedence.Or kind depth none = rw ((begins_none kind none).or) refl
 precedence_left_out precedence.And kind depth none = rw ((begins_none kind none).and) refl
@@ -182,7 +183,7 @@ precedence_left_out precedence.Compare kind depth none = rw ((begins_none kind n
 precedence_left_out precedence.Sum kind depth none = rw ((begins_none kind none).sum) refl
 precedence_left_out precedence.Mul kind depth none = rw ((begins_none kind none).mul) refl
 
--- The reader of what stands after a first operand, up to `;`, has come to rest where these items are left.
+-- `Rest` was read up to here, with these items left, where the next token may open it.
 abbrev pub RestRead : ℕ → List (List ℕ) → List (List ℕ) → Spot → (Forest → Forest) → List Wanted → Spot → Type 0
 RestRead depth old now from make left here = MayHaveRead (begins Rest (next (left_at from))) (One Rest) depth old now from make left here
 
@@ -190,50 +191,50 @@ RestRead depth old now from make left here = MayHaveRead (begins Rest (next (lef
 abbrev pub after_operators : ℕ → List Wanted
 after_operators depth = Subgoal (Optional RhsTail) depth ∷ Terminal (PunctuatorKind punctuator.Semicolon) depth ∷ []
 
--- it begins with the operators of each precedence
+-- `Rest` begins with the operators of each precedence
 pub rest_begins : (depth : ℕ) (table : List (List ℕ)) (from : Spot)
     → RestRead depth table table from (λ rest. rest)
     (Subgoal (rest_of precedence.Mul) (depth + 1) ∷ Subgoal (rest_of precedence.Sum) (depth + 1) ∷ Subgoal (rest_of precedence.Compare) (depth + 1)
     ∷ Subgoal (rest_of precedence.Equal) (depth + 1) ∷ Subgoal (rest_of precedence.And) (depth + 1) ∷ Subgoal (rest_of precedence.Or) (depth + 1) ∷ after_operators depth) from
 rest_begins depth table from = may_open (One Rest) depth table from _ (λ begun. part_opened Rest _ depth refl refl begun)
 
--- over the operators of a precedence
+-- the operators of a precedence were read
 pub over_precedence : {depth : ℕ} {old now new : List (List ℕ)} {from here after : Spot} {make : Forest → Forest} {left : List Wanted}
     {is_read : List (List ℕ) → Forest → Type 0} (precedence : Precedence) → RestRead depth old now from make (Subgoal (rest_of precedence) (depth + 1) ∷ left) here
     → (found : FoundAs (rest_of precedence) (depth + 1) now new here after is_read)
     → RestRead depth old new from (λ rest. make (Node (rest_of precedence) found.inside rest)) left after
 over_precedence {depth} precedence so found = over_left_out so (precedence_left_out precedence _ (depth + 1)) found
 
--- it is refused where they are
+-- `Rest` is refused where these operators are
 pub precedence_refused : {depth : ℕ} {old now : List (List ℕ)} {from here : Spot} {make : Forest → Forest} {left : List Wanted} (precedence : Precedence) (error : SourceError)
     → RestRead depth old now from make (Subgoal (rest_of precedence) (depth + 1) ∷ left) here → IsRefused (Subgoal (rest_of precedence) (depth + 1)) here error
     → IsRefused (Subgoal (One Rest) depth) from error
 precedence_refused {depth} precedence error so refused = refused_left_out so (precedence_left_out precedence _ (depth + 1)) error refused
 
--- where it is not opened, nothing is read after the operators
+-- where `Rest` is not opened, nothing is read after the operators
 tail_left_out : (kind : TokenKind) (depth : ℕ) → begins Rest kind ≡ false → opened (Optional RhsTail) kind depth ≡ Some []
 tail_left_out kind depth none = optional_left_out RhsTail kind depth (begins_none kind none).tail
 
--- over what may stand after an expression
+-- `RhsTail`, which may follow an expression, was read
 pub over_tail : {depth : ℕ} {old now new : List (List ℕ)} {from here after : Spot} {make : Forest → Forest} {is_read : List (List ℕ) → Forest → Type 0}
     → RestRead depth old now from make (after_operators depth) here → (found : FoundAs (Optional RhsTail) depth now new here after is_read)
     → RestRead depth old new from (λ rest. make (Node (Optional RhsTail) found.inside rest)) (Terminal (PunctuatorKind punctuator.Semicolon) depth ∷ []) after
 over_tail {depth} so found = over_left_out so (tail_left_out _ depth) found
 
--- it is refused where that is
+-- `Rest` is refused where `RhsTail` is
 pub tail_refused : {depth : ℕ} {old now : List (List ℕ)} {from here : Spot} {make : Forest → Forest} (error : SourceError)
     → RestRead depth old now from make (after_operators depth) here → IsRefused (Subgoal (Optional RhsTail) depth) here error
     → IsRefused (Subgoal (One Rest) depth) from error
 tail_refused {depth} error so refused = refused_left_out so (tail_left_out _ depth) error refused
 
--- and where the `;` is
+-- `Rest` is refused where `;` is
 pub semicolon_refused : {depth : ℕ} {old now : List (List ℕ)} {from here : Spot} {make : Forest → Forest} (error : SourceError)
     → RestRead depth old now from make (Terminal (PunctuatorKind punctuator.Semicolon) depth ∷ []) here → IsRefused (Terminal (PunctuatorKind punctuator.Semicolon) depth) here error
     → IsRefused (Subgoal (One Rest) depth) from error
 semicolon_refused {depth} error so refused =
     refused_unfit_either_way so (λ none. (begins_none _ none).semicolon) (part_shut Rest _ depth) error refused
 
--- over the `;`
+-- `;` was read
 semicolon_read : {token : Lexed} {depth : ℕ} {old now : List (List ℕ)} {from here end : Spot} {make : Forest → Forest}
     → RestRead depth old now from make (Terminal (PunctuatorKind punctuator.Semicolon) depth ∷ []) here → TakesKind (lexeme.Punctuator punctuator.Semicolon) token here end → depth ≤ limit
     → HasRead (One Rest) depth old now from (λ rest. make (Leaf (Token token) depth rest)) [] end
@@ -244,12 +245,12 @@ semicolon_read so semicolon within =
     let here = ap (λ (ts : List Mark). fits (PunctuatorKind punctuator.Semicolon) (next ts)) same in
     cc)) semicolon refl refl within
 
--- the operators of a precedence were found after an operand, which is this expression with them
+-- the operators of a precedence were found after an operand; together they are this expression
 abbrev pub PrecedenceFound : Precedence → ℕ → List (List ℕ) → List (List ℕ) → Spot → Spot → Place → Expr → Expr → Type 0
 PrecedenceFound precedence depth old new from to place first expr =
     FoundAs (rest_of precedence) (depth + 1) old new from to (λ names inside. phrase names expr ≡ with_operators place (phrase names first) (operands_in precedence inside))
 
--- what stands after a first operand is found with the operators of each precedence, what may stand after them, and `;`
+-- `Rest` is found with the operators of each precedence, what may follow them, and `;`
 pub rest_found : {token : Lexed} {depth : ℕ} {old a b c d e f new : List (List ℕ)} {from at_sum at_compare at_equal at_and at_or at_tail at_end end : Spot} {place : Place}
     (first product sum comparison equality conjunction disjunction : Expr) (side : RightSide)
     → PrecedenceFound precedence.Mul depth old a from at_sum place first product

@@ -1,6 +1,6 @@
--- The steps of the readers of methods of an interface, of interfaces and of functions: what they consist of, by the next token, over their
--- tokens and parts, and which trees stand for what was read of them.
-use Rattle.std.proofs.Common.{◌≡◌, ◌≤◌, ◌<◌, length, ℕ, true, false, List, [], ◌∷◌, ◌++◌, map, Some, None, refl, sym, ap, ◌∙◌}
+-- The steps of the parsing functions of interfaces, of their methods and of functions. They say what each of these
+-- consists of, given the next token. Their tokens and parts are read, with the trees of what was read.
+use Rattle.std.proofs.Common.{◌≡◌, ◌≤◌, ℕ, true, false, List, [], ◌∷◌, ◌++◌, map, Some, None, refl, sym, ap, ◌∙◌}
 use Rattle.std.specs.declared.alloc.Global.{Global}
 use Rattle.std.specs.declared.sync.Arc.{Arc}
 use Rattle.std.specs.declared.vec.Vec.{Vec}
@@ -33,7 +33,7 @@ use Rattle.abs_parser.proofs.reader.KeywordSteps.{keyword_read}
 use Rattle.abs_parser.proofs.reader.ExpressionSteps.{goes_on_name}
 use Rattle.abs_parser.proofs.reader.InFrontSteps.{refused_in_front}
 use Rattle.abs_parser.proofs.grammar.NameLemmas.{goes_on_further}
-use Rattle.abs_parser.proofs.reader.RepeatSteps.{ends_at, row_shorter}
+use Rattle.abs_parser.proofs.reader.RepeatSteps.{ends_at}
 use Rattle.abs_parser.proofs.reader.StepLemmas.{HasRead, opens, over_token, over_name, over_part, all_read, found_goes_on, symbol_kept}
 use Rattle.abs_parser.proofs.grammar.NonterminalLemmas.{begins_with_part, part_shut, part_begun, part_opened}
 
@@ -43,43 +43,38 @@ use Rattle.abs_parser.proofs.grammar.NonterminalLemmas.{begins_with_part, part_s
 abbrev pub IsSignature : CodeSignature → List (List ℕ) → Forest → Type 0
 IsSignature signature names inside = (others : List SignatureTree) → signature_tree names signature ∷ others ≡ signature_in inside others
 
--- a method begins where a type does
+-- a method begins with the same tokens as a type
 signature_begins : (kind : TokenKind) → begins Signature kind ≡ begins Type' kind
 signature_begins kind = begins_with_part Signature kind refl
 
--- after the name of a method stands this
+-- what follows the name of a method
 abbrev pub after_signature : ℕ → List Wanted
 after_signature at = Terminal (PunctuatorKind punctuator.OpenParen) at ∷ Subgoal (Optional Params) at ∷ Terminal (PunctuatorKind punctuator.CloseParen) at ∷ Terminal (PunctuatorKind punctuator.Semicolon) at ∷ []
 
--- a method is a type, a name, and this
+-- a method is a type, a name, and what follows the name
 signature_opened : (kind : TokenKind) (depth : ℕ) → begins Type' kind ≡ true → opened (One Signature) kind depth ≡ Some (Subgoal (One Type') depth ∷ Terminal LowerName depth ∷ after_signature depth)
 signature_opened kind depth may = part_opened Signature kind depth refl refl (signature_begins kind ∙ may)
 
--- where no type may begin, there is no method
+-- where no type may begin, no method opens
 signature_shut : (kind : TokenKind) (depth : ℕ) → begins Type' kind ≡ false → opened (One Signature) kind depth ≡ None
 signature_shut kind depth none = part_shut Signature kind depth (signature_begins kind ∙ none)
-
--- a method that was found leaves fewer tokens than there were
-pub signature_shorter : {from to : Spot} {depth : ℕ} {old new : List (List ℕ)} {is_read : List (List ℕ) → Forest → Type 0}
-    → FoundAs (One Signature) depth old new from to is_read → length to.rest < length from.rest
-signature_shorter {depth = depth} found = row_shorter (signature_opened _ depth (sym (signature_begins _) ∙ part_begun Signature _ depth found.rule_is)) found
 
 -- a method is refused where its type is
 pub refused_result : (depth : ℕ) (from : Spot) (error : SourceError) → IsRefused (Subgoal (One Type') depth) from error → IsRefused (Subgoal (One Signature) depth) from error
 refused_result depth from error refused = refused_in_front Type' depth (One Signature) depth from error (signature_opened _ depth) (signature_shut _ depth) refused
 
--- over the type of a method
+-- the type of a method was read
 pub result_read : {depth : ℕ} {old new : List (List ℕ)} {from to : Spot} {is_read : List (List ℕ) → Forest → Type 0} → (found : FoundAs (One Type') depth old new from to is_read)
     → HasRead (One Signature) depth old new from (λ rest. Node (One Type') found.inside rest) (Terminal LowerName depth ∷ after_signature depth) to
 result_read {depth} {old} {from = from} found = over_part (opens (One Signature) depth old from _ (signature_opened _ depth (part_begun Type' _ depth found.rule_is))) found
 
--- over its name
+-- the name of a method was read and added to the table
 pub signature_named : {name : Lexed} {from name_at open_at : Spot} {depth : ℕ} {old now table : List (List ℕ)} {is_read : List (List ℕ) → Forest → Type 0} → (result : FoundAs (One Type') depth old now from name_at is_read)
     → TakesKind lexeme.LowerName name name_at open_at → table ≡ with_name now name.bytes → depth ≤ limit
     → HasRead (One Signature) depth old table from (λ rest. Node (One Type') result.inside (Leaf (Token name) depth rest)) (after_signature depth) open_at
 signature_named result name is within = over_name (result_read result) name refl refl within is
 
--- over "(", its parameters, and ")"
+-- "(", parameters and ")" were read
 pub parameters_read : {goal : Goal} {opening closing : Lexed} {from open_at inside_at close_at after : Spot} {depth at : ℕ} {old now new : List (List ℕ)} {make : Forest → Forest} {left : List Wanted}
     {is_read : List (List ℕ) → Forest → Type 0}
     → HasRead goal depth old now from make (Terminal (PunctuatorKind punctuator.OpenParen) at ∷ Subgoal (Optional Params) at ∷ Terminal (PunctuatorKind punctuator.CloseParen) at ∷ left) open_at
@@ -107,7 +102,7 @@ pub no_signature_closes : begins Signature (PunctuatorKind punctuator.CloseBrace
 unfolding begins begins_within
 no_signature_closes = refl
 
--- the methods of an interface repeat up to it
+-- the methods of an interface repeat up to "}"
 abbrev pub signatures_of : Parts CodeSignature SignatureTree
 signatures_of = record {
   nonterminal = Signature;
@@ -120,7 +115,7 @@ signatures_of = record {
   trees_none = λ index before. refl;
 }
 
--- after the name of an interface stands this
+-- what follows the name of an interface
 abbrev pub after_interface : ℕ → List Wanted
 after_interface at = Subgoal (Optional Extends) at ∷ Terminal (PunctuatorKind punctuator.OpenBrace) at ∷ Subgoal (Repeated Signature) at ∷ Terminal (PunctuatorKind punctuator.CloseBrace) at ∷ []
 
@@ -129,11 +124,11 @@ pub interface_opened : (depth : ℕ) → opened (One Decl) (KeywordKind keyword.
 unfolding begins chosen begins_within
 interface_opened depth = refl
 
--- the tree of an interface, by those of its methods
+-- the tree of an interface, given the trees of its methods
 abbrev pub interface_of : Place → Declared → List Declared → List Name → List SignatureTree → DeclTree
 interface_of place name extended names signatures = InterfaceTree place (declared_tree names name) (map (declared_tree names) extended) signatures
 
--- the tree of an interface is made of those of its parts
+-- the trees of two interfaces with equal parts are equal
 interface_made : {name held_name : DeclaredTree} {extended held_extended : List DeclaredTree} (place : Place) (signatures : List SignatureTree) (others : List DeclTree)
     → held_name ≡ name → held_extended ≡ extended → InterfaceTree place name extended signatures ∷ others ≡ InterfaceTree place held_name held_extended signatures ∷ others
 interface_made place signatures others name extended = rw (name, extended) refl
@@ -152,7 +147,7 @@ first_signature {token} {name} {brace} {depth = depth} {old} symbol listed same 
       ∙ interface_made token.place (signatures_in inside) others (declared_kept old name symbol number is names (goes_on_further (found_goes_on extended) more)) (extended.is names more);
 })
 
--- and up to one more
+-- one more method of an interface was read
 pub next_signature : {whole : List Name → List SignatureTree → DeclTree} {from here to : Spot} {depth : ℕ} {old now new : List (List ℕ)} {signatures longer : List CodeSignature}
     (signature : CodeSignature) → longer ≡ signatures ++ signature ∷ [] → ReadsParts signatures_of AnyIndex whole depth old now from here signatures
     → FoundAs (One Signature) depth now new here to (IsSignature signature) → ReadsParts signatures_of AnyIndex whole depth old new from to longer
@@ -161,7 +156,7 @@ next_signature signature same so found =
 
 -- Functions
 
--- after the name of a function stands this
+-- what follows the name of a function
 abbrev pub after_function : ℕ → List Wanted
 after_function at =
     Subgoal (Optional TypeParameters) at ∷ Terminal (PunctuatorKind punctuator.OpenParen) at ∷ Subgoal (Optional Params) at ∷ Terminal (PunctuatorKind punctuator.CloseParen) at
@@ -172,13 +167,13 @@ pub function_opened : (depth : ℕ) → opened (One Decl) (KeywordKind keyword.D
 unfolding begins chosen begins_within
 function_opened depth = refl
 
--- over the type and the name of a function
+-- the type and the name of a function were read, and the name was added to the table
 pub function_named : {token name : Lexed} {from type_at name_at after : Spot} {depth : ℕ} {old now table : List (List ℕ)} {is_read : List (List ℕ) → Forest → Type 0} → TakesKind (lexeme.Keyword keyword.Def) token from type_at
     → (result : FoundAs (One Type') depth old now type_at name_at is_read) → TakesKind lexeme.LowerName name name_at after → table ≡ with_name now name.bytes → depth ≤ limit
     → HasRead (One Decl) depth old table from (λ rest. Leaf (Token token) depth (Node (One Type') result.inside (Leaf (Token name) depth rest))) (after_function depth) after
 function_named {depth = depth} {old} token result name is within = over_name (over_part (keyword_read depth old (function_opened depth) token within) result) name refl refl within is
 
--- over its type parameters, its parameters and "="
+-- the type parameters, the parameters and the "=" of a function were read
 pub function_assigned : {opening closing equals : Lexed} {from after open_at inside_at close_at equals_at value_at : Spot} {depth : ℕ} {old table now new : List (List ℕ)} {make : Forest → Forest}
     {is_read are_read : List (List ℕ) → Forest → Type 0} → HasRead (One Decl) depth old table from make (after_function depth) after
     → (parameters : FoundAs (Optional TypeParameters) depth table now after open_at is_read) → TakesKind (lexeme.Punctuator punctuator.OpenParen) opening open_at inside_at
@@ -189,13 +184,13 @@ pub function_assigned : {opening closing equals : Lexed} {from after open_at ins
     (Subgoal (One Expr) depth ∷ Terminal (PunctuatorKind punctuator.Semicolon) depth ∷ []) value_at
 function_assigned so parameters opening params closing equals within = over_token (parameters_read (over_part so parameters) opening params closing within) equals refl refl within
 
--- the tree of a function is made of those of its parts
+-- the trees of two functions with equal parts are equal
 function_made : {result held_result : TypeTree} {name held_name : DeclaredTree} {parameters held_parameters : List DeclaredTree} {params held_params : List ParamTree} {value held_value : Phrase} (place : Place)
     (others : List DeclTree) → held_result ≡ result → held_name ≡ name → held_parameters ≡ parameters → held_params ≡ params → held_value ≡ value
     → FunctionTree place held_result held_name held_parameters held_params held_value ∷ others ≡ FunctionTree place result name parameters params value ∷ others
 function_made place others result name parameters params value = rw (result, name, parameters, params, value) refl
 
--- a function with its types, its name, its parameters and its value is found, as they are held in memory
+-- a function is found with its types, its name, its parameters and its value, as they are stored
 pub function_found : {token name opening closing equals semicolon : Lexed} {from type_at name_at after open_at inside_at close_at equals_at value_at last_at end : Spot} {depth : ℕ} {old one table two three new : List (List ℕ)}
     {value : CodeExpr} (result : TypeTerm) (symbol : NameSymbol) (parameters : Vec Declared Global) (params : Vec Param Global) (held : Arc CodeExpr Global) → held.value ≡ value
     → TakesKind (lexeme.Keyword keyword.Def) token from type_at → FoundAs (One Type') depth old one type_at name_at (λ names inside. type_tree names result ≡ type_in inside)

@@ -1,9 +1,9 @@
--- The steps of a reader through what a part of the grammar consists of, generic in the productions. A reader that has come to rest
--- inside a part has what it read so far (`HasRead`): whatever is read as what is left there completes the part, and whatever refuses
--- what is left there refuses the part. It begins where the part is opened; it goes on over a token, over a name and over a part that
--- was found; and it ends with the part found, or refused by what refuses the next item.
-use Rattle.std.proofs.Common.{◌≡◌, ◌≤◌, ◌<◌, ℕ, suc, Bool, true, false, ◌||◌, not, cond, List, [], ◌∷◌, ◌++◌, ◌+◌, length, Option, Some, None, refl, sym, ap, subst, ◌∙◌, fold, map, arith, length-append}
-use Rattle.std.specs.Prelude.{slice_get, unwrap_or, Result, Ok, Err, IsErrAnd, IfErr}
+-- The steps of a parsing function through the items of a part, generic in the productions. `HasRead` says what was read
+-- of the part so far. Whatever is read as the items that are left completes the part, and whatever refuses them refuses
+-- the part. Reading begins where the part is opened. It continues with a token, a name, or a part that was found. In
+-- the end the part is found, or refused by what refuses the next item.
+use Rattle.std.proofs.Common.{◌≡◌, ◌≤◌, ◌<◌, ℕ, suc, Bool, true, false, ◌||◌, not, cond, List, [], ◌∷◌, ◌++◌, ◌+◌, length, Option, Some, None, refl, sym, ap, subst, ◌∙◌, fold, map, arith, append_assoc, length-append}
+use Rattle.std.specs.Prelude.{slice_get, unwrap_or}
 use Rattle.std.specs.List.{list_any}
 use Rattle.std.specs.Str.{bytes_eq}
 use Rattle.std.proofs.lemmas.List.{length-map}
@@ -29,7 +29,7 @@ use Rattle.abs_parser.specs.Refusing.{Refuses, Other, Below, Past, Shut, Open, C
 use Rattle.abs_parser.specs.Stops.{limit, wrong_code}
 use Rattle.abs_parser.specs.Tokens.{Spot, place_of, TakesToken}
 use Rattle.abs_parser.specs.TreesOf.{written}
-use Rattle.abs_parser.specs.ReaderAnswers.{left_at, name_first, names_before, asked, fixed_kind, refusal_at, wrong_at, TakesKind, TakesFixed, FoundAs, RefusedAt, IsRefused, IsRefusedWith, is_asked}
+use Rattle.abs_parser.specs.ReaderAnswers.{left_at, name_first, names_before, asked, fixed_kind, refusal_at, wrong_at, TakesKind, TakesFixed, FoundAs, RefusedAt, IsRefused, AreRefused, is_asked}
 use Rattle.abs_parser.specs.declared.cursor.FixedName.{FixedName}
 use Rattle.abs_parser.specs.declared.cursor.FixedName.TheVariants as fixed
 use Rattle.abs_tree.specs.declared.source_error.SourceError.{SourceError}
@@ -37,41 +37,41 @@ use Rattle.abs_tree.specs.declared.source_error.SourceError.TheVariants.{Refused
 use Rattle.abs_parser.proofs.grammar.NameLemmas.{goes_on_itself, goes_on_further, goes_on_all, number_stays, few_more}
 use Rattle.abs_parser.proofs.stop.MoveLemmas.{refuses_after, within_first}
 
--- two lists of tokens within the limit are so together
+-- two lists of nesting depths within the limit are within it together
 pub within_both : (first second : List ℕ) → AllWithin first → AllWithin second → AllWithin (first ++ second)
 within_both [] second here after = after
 within_both (depth ∷ first) second here after = (here.0, within_both first second here.1 after)
 
--- a token is one more of those that are left
+-- the tokens that are left are the next one and those after it
 pub left_of : {token : Lexed} {from to : Spot} → TakesToken token from to → left_at from ≡ Token token ∷ left_at to
 left_of {token} {from} {to} takes = rw (takes.rest, takes.end) refl
 
--- how many tokens are left, with the end
+-- the number of tokens that are left, with the end
 pub left_length : (spot : Spot) → length (left_at spot) ≡ length spot.rest + 1
 left_length spot = length-append (map Token spot.rest) (TextEnd spot.end ∷ []) ∙ ap (λ (n : ℕ). n + 1) (length-map spot.rest Token)
 
--- a token takes one off what is left
+-- one token fewer is left after a token
 pub token_shorter : {token : Lexed} {from to : Spot} → TakesToken token from to → length from.rest ≡ suc (length to.rest)
 token_shorter takes = ap length takes.rest
 
--- whether tokens of a kind are names
+-- whether tokens of this lexeme are names
 abbrev pub is_name : Lexeme → Bool
 is_name lexeme.LowerName = true
 is_name lexeme.UpperName = true
 is_name _ = false
 
--- a name that begins with a lower-case letter fits, whether it is `local` or not
+-- a lower-case name fits, whether it is `local` or not
 lower_fits : (is_local : Bool) → fits LowerName (cond is_local LocalName LowerName) ≡ true
 lower_fits true = refl
 lower_fits false = refl
 
--- a name that begins with an upper-case letter fits, whichever it is
+-- an upper-case name fits, whether it is `ABS`, `StdLib` or neither
 upper_fits : (is_abs is_std : Bool) → fits UpperName (cond is_abs AbsName (cond is_std StdLibName UpperName)) ≡ true
 upper_fits true is_std = refl
 upper_fits false true = refl
 upper_fits false false = refl
 
--- a token of a kind fits where one of it is asked for, however it is written
+-- a token fits where its lexeme is asked for, whatever its bytes are
 pub asked_fits : (kind : Lexeme) (bytes : List ℕ) → is_asked kind ≡ true → fits (asked kind) (token_kind_of kind bytes) ≡ true
 asked_fits lexeme.LowerName bytes is = lower_fits _
 asked_fits lexeme.UpperName bytes is = upper_fits _ _
@@ -81,30 +81,30 @@ asked_fits (lexeme.Keyword keyword) bytes is = (bytes_eq-Decides (spelling keywo
 asked_fits lexeme.Foreign bytes is = absurd cc
 asked_fits (lexeme.Punctuator punctuator) bytes is = (bytes_eq-Decides (punctuator_bytes punctuator) (punctuator_bytes punctuator)).1 refl
 
--- a name that begins with a lower-case letter stands before others
+-- a lower-case name is put before others
 lower_named : (is_local : Bool) (name : List ℕ) (others : List (List ℕ)) → name_first (cond is_local LocalName LowerName) name others ≡ name ∷ others
 lower_named true name others = refl
 lower_named false name others = refl
 
--- so does one that begins with an upper-case letter
+-- so is an upper-case name
 upper_named : (is_abs is_std : Bool) (name : List ℕ) (others : List (List ℕ)) → name_first (cond is_abs AbsName (cond is_std StdLibName UpperName)) name others ≡ name ∷ others
 upper_named true is_std name others = refl
 upper_named false true name others = refl
 upper_named false false name others = refl
 
--- a name stands before others
+-- a name is put before others
 pub named_first : (kind : Lexeme) (bytes : List ℕ) (others : List (List ℕ)) → is_name kind ≡ true → name_first (token_kind_of kind bytes) bytes others ≡ bytes ∷ others
 named_first lexeme.LowerName bytes others is = lower_named _ bytes others
 named_first lexeme.UpperName bytes others is = upper_named _ _ bytes others
 named_first _ bytes others is = absurd cc
 
--- what is no name leaves the others as they are
+-- a token that is no name leaves the others as they are
 pub unnamed_first : (kind : Lexeme) (bytes : List ℕ) (others : List (List ℕ)) → is_name kind ≡ false → name_first (token_kind_of kind bytes) bytes others ≡ others
 unnamed_first lexeme.LowerName bytes others is = absurd cc
 unnamed_first lexeme.UpperName bytes others is = absurd cc
 unnamed_first _ bytes others is = refl
 
--- names before others before more
+-- a name that is put before two lists is put before the first of them
 name_first_append : (kind : TokenKind) (name : List ℕ) (others more : List (List ℕ)) → name_first kind name (others ++ more) ≡ name_first kind name others ++ more
 name_first_append LowerName name others more = refl
 name_first_append LocalName name others more = refl
@@ -113,7 +113,7 @@ name_first_append AbsName name others more = refl
 name_first_append StdLibName name others more = refl
 name_first_append _ name others more = refl
 
--- the names in what was read stand before all others
+-- the names in what was read, put before two lists, are put before the first of them
 pub names_append : (forest : Forest) (others more : List (List ℕ)) → names_before forest (others ++ more) ≡ names_before forest others ++ more
 names_append Empty others more = refl
 names_append (Leaf mark depth after) others more =
@@ -121,13 +121,13 @@ names_append (Leaf mark depth after) others more =
 names_append (Node goal inside after) others more =
     ap (names_before inside) (names_append after others more) ∙ names_append inside (names_before after others) more
 
--- the table goes on with the names in what was read, and then with the others
+-- the names in what was read are added to the table before the others
 pub table_of_both : (table : List (List ℕ)) (forest : Forest) (others : List (List ℕ))
     → fold with_name table (names_before forest others) ≡ fold with_name (fold with_name table (names_before forest [])) others
 table_of_both table forest others =
     ap (fold with_name table) (names_append forest [] others) ∙ fold-append with_name table (names_before forest []) others
 
--- no token is more than one name
+-- a token gives at most one name
 few_first : (kind : TokenKind) (name : List ℕ) (others : List (List ℕ)) → length (name_first kind name others) ≤ length others + 1
 few_first LowerName name others = omega arith
 few_first LocalName name others = omega arith
@@ -136,7 +136,7 @@ few_first AbsName name others = omega arith
 few_first StdLibName name others = omega arith
 few_first _ name others = omega arith
 
--- there are no more names in what was read than tokens that were taken
+-- what was read has no more names than tokens
 few_names : {items : List Wanted} {ts rest : List Mark} {forest : Forest} → Reads items ts forest rest → (others : List (List ℕ))
     → length (names_before forest others) + length rest ≤ length others + length ts
 few_names Nothing others = omega arith
@@ -145,7 +145,7 @@ few_names (Taken {mark = mark} {forest = forest} e reads) others =
 few_names (Opened {inside = inside} {forest = forest} e first reads) others =
     omega (arith, few_names first (names_before forest others), few_names reads others)
 
--- what is left is no longer than what there was
+-- a reading leaves no more tokens than there were
 pub reads_shorter : {items : List Wanted} {ts rest : List Mark} {forest : Forest} → Reads items ts forest rest → length rest ≤ length ts
 reads_shorter Nothing = omega arith
 reads_shorter (Taken e reads) = omega (arith, reads_shorter reads)
@@ -156,18 +156,18 @@ pub found_shorter : {goal : Goal} {depth : ℕ} {old new : List (List ℕ)} {fro
     → FoundAs goal depth old new from to is_read → length to.rest ≤ length from.rest
 found_shorter {from = from} {to = to} found = omega (arith, reads_shorter found.reads, left_length from, left_length to)
 
--- a part that was found leaves a table and tokens that are no more together than they were
+-- a part that was found adds no more names to the table than it takes tokens
 pub found_few : {goal : Goal} {depth : ℕ} {old new : List (List ℕ)} {from to : Spot} {is_read : List (List ℕ) → Forest → Type 0}
     → FoundAs goal depth old new from to is_read → length new + length to.rest ≤ length old + length from.rest
 found_few {old = old} {from = from} {to = to} found =
     omega (arith, few_more old (names_before found.inside []), few_names found.reads [], ap length found.table, left_length from, left_length to)
 
--- a part that was found leaves a table that goes on with the one before
+-- the table after a part that was found extends the one before
 pub found_goes_on : {goal : Goal} {depth : ℕ} {old new : List (List ℕ)} {from to : Spot} {is_read : List (List ℕ) → Forest → Type 0}
     → FoundAs goal depth old new from to is_read → GoesOn old new
 found_goes_on {old = old} found = rw found.table (goes_on_all old (names_before found.inside []))
 
--- a name stands at its number before a table where it does in the table, or is the first itself
+-- a name is found by its number in `x ∷ xs`, if it is `x` or is found in `xs`
 place_by : (here after : Bool) (k : ℕ) (name x : List ℕ) (xs : List (List ℕ)) → (here ≡ true → x ≡ name) → (after ≡ true → slice_get xs k ≡ Some name)
     → (here || after) ≡ true → slice_get (x ∷ xs) (cond (not here) (1 + k) 0) ≡ Some name
 place_by true after k name x xs same further found = ap Some (same refl)
@@ -175,40 +175,41 @@ place_by false after k name x xs same further found =
     let more : 1 + k ≡ suc k = omega arith in
     rw more (further found)
 
--- a name stands at its number in a table that has it
+-- a name is found by its number in a table that has it
 name_at : (table : List (List ℕ)) (name : List ℕ) → list_any (bytes_eq name) table ≡ true → slice_get table (number_of_name table name) ≡ Some name
 name_at [] name found = absurd cc
 name_at (x ∷ xs) name found = place_by (bytes_eq name x) (list_any (bytes_eq name) xs) (number_of_name xs name) name x xs (λ e. sym ((bytes_eq-Decides name x).0 e)) (name_at xs name) found
 
--- one of two holds where the second does
+-- a disjunction holds if its second part does
 or_right : (b : Bool) → (b || true) ≡ true
 or_right true = refl
 or_right false = refl
 
--- the name that is put into a table is there, by cases of whether it was before
+-- a table has the name that was added to it, by cases of whether it had it before
 is_there_by : (is : Bool) (table : List (List ℕ)) (name : List ℕ) → list_any (bytes_eq name) table ≡ is → list_any (bytes_eq name) (cond is table (table ++ name ∷ [])) ≡ true
 is_there_by true table name e = e
 is_there_by false table name e =
     list_any-append (bytes_eq name) table (name ∷ []) ∙ (ap (λ (b : Bool). list_any (bytes_eq name) table || (b || false)) ((bytes_eq-Decides name name).1 refl) ∙ or_right _)
 
--- a table has the name that was put into it
+-- a table has the name that was added to it
 is_there : (table : List (List ℕ)) (name : List ℕ) → list_any (bytes_eq name) (with_name table name) ≡ true
 is_there table name = is_there_by (list_any (bytes_eq name) table) table name refl
 
--- so has a table that goes on with it
+-- so does each table that extends it
 is_there_still : (table : List (List ℕ)) (name : List ℕ) (names : List (List ℕ)) → GoesOn (with_name table name) names → list_any (bytes_eq name) names ≡ true
 is_there_still table name names more =
     ap (list_any (bytes_eq name)) more.is ∙ (list_any-append (bytes_eq name) (with_name table name) more.more ∙ ap (λ (b : Bool). b || list_any (bytes_eq name) more.more) (is_there table name))
 
--- the symbol of a name that was put into a table has this name in each table that goes on with that
+-- the symbol of a name that was added to a table has this name in each table that extends it
 pub symbol_named : (old : List (List ℕ)) (name : List ℕ) (symbol : Symbol) → symbol.0 ≡ number_of_name old name
     → (names : List (List ℕ)) → GoesOn (with_name old name) names → name_of names symbol ≡ name
 symbol_named old name symbol is names more =
     ap (λ (n : ℕ). unwrap_or (slice_get names n) []) (is ∙ sym (number_stays old name names more))
     ∙ ap (λ (found : Option (List ℕ)). unwrap_or found []) (name_at names name (is_there_still old name names more))
 
--- A reader of a part has come to rest where these items of what it consists of are left. What is read as them is put into the forest by
--- `make`; the table of names has come so far; and no more was put into it than there were tokens.
+-- A part was read from `from` up to `here`, and the items `left` are still to be read. `make` puts what is read as them
+-- into the forest of the part. `now` is the table of names so far, and no more names were added to it than tokens were
+-- taken.
 pub record HasRead (goal : Goal) (depth : ℕ) (old now : List (List ℕ)) (from : Spot) (make : Forest → Forest) (left : List Wanted) (here : Spot) : Type 0 where
   pub inner : List Wanted
   pub rule_is : opened goal (next (left_at from)) depth ≡ Some inner
@@ -220,7 +221,7 @@ pub record HasRead (goal : Goal) (depth : ℕ) (old now : List (List ℕ)) (from
   pub few : length now + length here.rest ≤ length old + length from.rest
   pub shorter : length here.rest ≤ length from.rest
 
--- a part is opened by the next token
+-- nothing of a part that the next token opens was read so far
 pub opens : (goal : Goal) (depth : ℕ) (table : List (List ℕ)) (from : Spot) (inner : List Wanted) → opened goal (next (left_at from)) depth ≡ Some inner
     → HasRead goal depth table table from (λ rest. rest) inner from
 opens goal depth table from inner is = record {
@@ -235,17 +236,17 @@ opens goal depth table from inner is = record {
   shorter = omega arith;
 }
 
--- what was read inside a part, where it stands alone
+-- the inside of a part that is alone in a forest
 abbrev pub inside_alone : Forest → Forest
 inside_alone (Node part inside Empty) = inside
 inside_alone forest = forest
 
--- what is read as a part alone is read as what it is opened to
+-- the inside of a part that is read alone is read as what the part opens to
 alone_reads : {goal : Goal} {depth : ℕ} {inner : List Wanted} {ts to : List Mark} {rest : Forest} → opened goal (next ts) depth ≡ Some inner
     → Reads (Subgoal goal depth ∷ []) ts rest to → Reads inner ts (inside_alone rest) to
 alone_reads is (Opened e first Nothing) = rw (same_Some _ _ (sym is ∙ e)) first
 
--- no token is too deep inside it
+-- no token inside it is too deeply nested if none in the forest is
 alone_within : (rest : Forest) → AllWithin (depths rest) → AllWithin (depths (inside_alone rest))
 alone_within (Node part inside Empty) within = within_first (depths inside) [] within
 alone_within Empty within = within
@@ -253,7 +254,7 @@ alone_within (Leaf mark depth others) within = within
 alone_within (Node part inside (Leaf mark depth others)) within = within
 alone_within (Node part inside (Node goal first others)) within = within
 
--- and it has the same names
+-- the inside has the same names as the forest
 alone_names : (rest : Forest) → names_before (inside_alone rest) [] ≡ names_before rest []
 alone_names Empty = refl
 alone_names (Leaf mark depth others) = refl
@@ -261,7 +262,7 @@ alone_names (Node part inside Empty) = refl
 alone_names (Node part inside (Leaf mark depth others)) = refl
 alone_names (Node part inside (Node goal first others)) = refl
 
--- a part that the next token opens is left whole where nothing of it was read
+-- a part that the next token opens is left as a whole where nothing of it was read
 pub left_whole : (goal : Goal) (depth : ℕ) (table : List (List ℕ)) (from : Spot) (inner : List Wanted) → opened goal (next (left_at from)) depth ≡ Some inner
     → HasRead goal depth table table from inside_alone (Subgoal goal depth ∷ []) from
 left_whole goal depth table from inner is = record {
@@ -276,15 +277,15 @@ left_whole goal depth table from inner is = record {
   shorter = omega arith;
 }
 
--- what a token of a kind is taken for
+-- a token fits where its lexeme is asked for
 kind_fits : {kind : Lexeme} {token : Lexed} {from to : Spot} → is_asked kind ≡ true → TakesKind kind token from to → fits (asked kind) (token_kind (Token token)) ≡ true
 kind_fits {kind} {token} wanted takes = rw takes.kind_is (asked_fits kind token.bytes wanted)
 
--- the kind of a token that stands at a spot is the next one
+-- the next token kind is that of the next token
 pub next_is : {token : Lexed} {from to : Spot} → TakesToken token from to → next (left_at from) ≡ token_kind (Token token)
 next_is takes = ap next (left_of takes)
 
--- the next token fits where one of its kind is asked for
+-- the next token fits where its lexeme is asked for
 pub fits_next : {kind : Lexeme} {token : Lexed} {from to : Spot} → is_asked kind ≡ true → TakesKind kind token from to → fits (asked kind) (next (left_at from)) ≡ true
 fits_next {kind} wanted takes = ap (fits (asked kind)) (next_is takes.takes) ∙ kind_fits wanted takes
 
@@ -294,11 +295,11 @@ fits_itself fixed.Local = refl
 fits_itself fixed.Abs = refl
 fits_itself fixed.StdLib = refl
 
--- and so does the token that is it
+-- so does a token that is this name
 fixed_fits : {name : FixedName} {token : Lexed} {from to : Spot} → TakesFixed name token from to → fits (fixed_kind name) (token_kind (Token token)) ≡ true
 fixed_fits {name} takes = ap (fits (fixed_kind name)) takes.kind_is ∙ fits_itself name
 
--- the next token is such a name
+-- the next token kind is that of such a name
 pub next_fixed : {name : FixedName} {token : Lexed} {from to : Spot} → TakesFixed name token from to → next (left_at from) ≡ fixed_kind name
 next_fixed takes = next_is takes.takes ∙ takes.kind_is
 
@@ -307,23 +308,23 @@ token_unnamed : {kind : Lexeme} {token : Lexed} {from to : Spot} → TakesKind k
     → name_first (token_kind (Token token)) token.bytes others ≡ others
 token_unnamed {kind} {token} takes is others = rw takes.kind_is (unnamed_first kind token.bytes others is)
 
--- a token that is a name stands before others
+-- a token that is a name is put before others
 token_named : {kind : Lexeme} {token : Lexed} {from to : Spot} → TakesKind kind token from to → is_name kind ≡ true → (others : List (List ℕ))
     → name_first (token_kind (Token token)) token.bytes others ≡ token.bytes ∷ others
 token_named {kind} {token} takes is others = rw takes.kind_is (named_first kind token.bytes others is)
 
--- a name with a spelling of its own stands before others
+-- a name with a spelling of its own is put before others
 fixed_first : (name : FixedName) (bytes : List ℕ) (others : List (List ℕ)) → name_first (fixed_kind name) bytes others ≡ bytes ∷ others
 fixed_first fixed.Local bytes others = refl
 fixed_first fixed.Abs bytes others = refl
 fixed_first fixed.StdLib bytes others = refl
 
--- and so does the token that is it
+-- so is a token that is this name
 fixed_named : {name : FixedName} {token : Lexed} {from to : Spot} → TakesFixed name token from to → (others : List (List ℕ))
     → name_first (token_kind (Token token)) token.bytes others ≡ token.bytes ∷ others
 fixed_named {name} {token} takes others = ap (λ (kind : TokenKind). name_first kind token.bytes others) takes.kind_is ∙ fixed_first name token.bytes others
 
--- over a token that fits, with what it does to the table
+-- a token that fits was read, with what it adds to the table
 over_fitting : {goal : Goal} {depth at : ℕ} {old now table : List (List ℕ)} {from here after : Spot} {make : Forest → Forest} {left : List Wanted} {kind : TokenKind} {token : Lexed}
     → HasRead goal depth old now from make (Terminal kind at ∷ left) here → TakesToken token here after → fits kind (token_kind (Token token)) ≡ true → at ≤ limit
     → ((others : List (List ℕ)) → fold with_name now (name_first (token_kind (Token token)) token.bytes others) ≡ fold with_name table others)
@@ -340,14 +341,14 @@ over_fitting {at = at} {token = token} so takes fit within is goes_on few = reco
   shorter = omega (arith, so.shorter, token_shorter takes);
 }
 
--- over a token that is no name
+-- a token that is no name was read
 pub over_token : {goal : Goal} {depth at : ℕ} {old now : List (List ℕ)} {from here after : Spot} {make : Forest → Forest} {left : List Wanted} {kind : Lexeme} {token : Lexed}
     → HasRead goal depth old now from make (Terminal (asked kind) at ∷ left) here → TakesKind kind token here after → is_asked kind ≡ true → is_name kind ≡ false → at ≤ limit
     → HasRead goal depth old now from (λ rest. make (Leaf (Token token) at rest)) left after
 over_token {now = now} so takes wanted no_name within =
     over_fitting so takes.takes (kind_fits wanted takes) within (λ others. ap (fold with_name now) (token_unnamed takes no_name others)) (goes_on_itself now) (omega arith)
 
--- over a token that fits and is a name, which the table has then
+-- a token that fits and is a name was read and added to the table
 over_named : {goal : Goal} {depth at : ℕ} {old now table : List (List ℕ)} {from here after : Spot} {make : Forest → Forest} {left : List Wanted} {kind : TokenKind} {token : Lexed}
     → HasRead goal depth old now from make (Terminal kind at ∷ left) here → TakesToken token here after → fits kind (token_kind (Token token)) ≡ true
     → ((others : List (List ℕ)) → name_first (token_kind (Token token)) token.bytes others ≡ token.bytes ∷ others) → at ≤ limit → table ≡ with_name now token.bytes
@@ -356,19 +357,19 @@ over_named {now = now} {token = token} so takes fit named within is =
     over_fitting so takes fit within (λ others. ap (fold with_name now) (named others) ∙ ap (λ (names : List (List ℕ)). fold with_name names others) (sym is))
     (rw is (goes_on_all now (token.bytes ∷ []))) (omega (arith, ap length is, few_more now (token.bytes ∷ [])))
 
--- over a name, which the table has then
+-- a name was read and added to the table
 pub over_name : {goal : Goal} {depth at : ℕ} {old now table : List (List ℕ)} {from here after : Spot} {make : Forest → Forest} {left : List Wanted} {kind : Lexeme} {token : Lexed}
     → HasRead goal depth old now from make (Terminal (asked kind) at ∷ left) here → TakesKind kind token here after → is_asked kind ≡ true → is_name kind ≡ true → at ≤ limit
     → table ≡ with_name now token.bytes → HasRead goal depth old table from (λ rest. make (Leaf (Token token) at rest)) left after
 over_name so takes wanted named within is = over_named so takes.takes (kind_fits wanted takes) (token_named takes named) within is
 
--- over a name with a spelling of its own, which the table has then, too
+-- a name with a spelling of its own was read and added to the table
 pub over_fixed : {goal : Goal} {depth at : ℕ} {old now table : List (List ℕ)} {from here after : Spot} {make : Forest → Forest} {left : List Wanted} {name : FixedName} {token : Lexed}
     → HasRead goal depth old now from make (Terminal (fixed_kind name) at ∷ left) here → TakesFixed name token here after → at ≤ limit → table ≡ with_name now token.bytes
     → HasRead goal depth old table from (λ rest. make (Leaf (Token token) at rest)) left after
 over_fixed so takes within is = over_named so takes.takes (fixed_fits takes) (fixed_named takes) within is
 
--- over a part that was found
+-- a part that was found was read
 pub over_part : {goal part : Goal} {depth at : ℕ} {old now new : List (List ℕ)} {from here after : Spot} {make : Forest → Forest} {left : List Wanted} {is_read : List (List ℕ) → Forest → Type 0}
     → HasRead goal depth old now from make (Subgoal part at ∷ left) here → (found : FoundAs part at now new here after is_read)
     → HasRead goal depth old new from (λ rest. make (Node part found.inside rest)) left after
@@ -386,7 +387,7 @@ over_part {part = part} {now = now} {left = left} so found = record {
   shorter = omega (arith, so.shorter, found_shorter found);
 }
 
--- the reader of the last part in place of what it reads
+-- what was read of the last part was read of the whole, with the same items left
 pub into_last : {goal last : Goal} {depth at : ℕ} {old now new : List (List ℕ)} {from here after : Spot} {make make_last : Forest → Forest} {left : List Wanted}
     → HasRead goal depth old now from make (Subgoal last at ∷ []) here → HasRead last at now new here make_last left after
     → HasRead goal depth old new from (λ rest. make (Node last (make_last rest) Empty)) left after
@@ -416,54 +417,80 @@ all_read {here = here} {make = make} so is = record {
   is = is;
 }
 
--- what refuses the next item, whatever follows it, refuses the part
+-- what refuses the next items together refuses the part
+pub refused_row : {goal : Goal} {depth : ℕ} {old now : List (List ℕ)} {from here : Spot} {make : Forest → Forest} (wanted left : List Wanted)
+    → HasRead goal depth old now from make (wanted ++ left) here → (error : SourceError) → AreRefused wanted here error → IsRefused (Subgoal goal depth) from error
+refused_row wanted left so (Refused refusal) refused = λ items.
+    let found = refused (left ++ items) in
+    record {
+      mark = found.mark;
+      after = found.after;
+      code = found.code;
+      refuses = so.refuses items (found.mark ∷ found.after) found.code (rw append_assoc found.refuses);
+      refusal_is = found.refusal_is;
+    }
+refused_row wanted left so Memory refused = λ items. tt
+
+-- what refuses the next item refuses the part
 pub refused_inside : {goal : Goal} {depth : ℕ} {old now : List (List ℕ)} {from here : Spot} {make : Forest → Forest} {item : Wanted} {left : List Wanted}
     → HasRead goal depth old now from make (item ∷ left) here → (error : SourceError) → IsRefused item here error → IsRefused (Subgoal goal depth) from error
-refused_inside {left = left} so (Refused refusal) refused = λ items.
-    let at = refused (left ++ items) in
-    record { mark = at.mark; after = at.after; code = at.code; refuses = so.refuses items (at.mark ∷ at.after) at.code at.refuses; refusal_is = at.refusal_is }
-refused_inside so Memory refused = λ items. tt
+refused_inside {item = item} {left} so error refused = refused_row (item ∷ []) left so error refused
 
--- where all of the part is read but what leaves nothing after, what refuses the item that is to follow the part refuses the part with it
+-- after a token, what refuses the next items refuses them with the token before them
+pub refused_past : {kind : Lexeme} {token : Lexed} {from here : Spot} {at : ℕ} (wanted : List Wanted) → TakesKind kind token from here → is_asked kind ≡ true → at ≤ limit → (error : SourceError)
+    → AreRefused wanted here error → AreRefused (Terminal (asked kind) at ∷ wanted) from error
+refused_past wanted takes asks within (Refused refusal) refused = λ items.
+    let found = refused items in
+    record {
+      mark = found.mark;
+      after = found.after;
+      code = found.code;
+      refuses = rw (left_of takes.takes) (Past (kind_fits asks takes) within found.refuses);
+      refusal_is = found.refusal_is;
+    }
+refused_past wanted takes asks within Memory refused = λ items. tt
+
+-- after a part that was found, what refuses the next items refuses them with the part before them
+pub refused_past_part : {part : Goal} {at : ℕ} {old new : List (List ℕ)} {from here : Spot} {is_read : List (List ℕ) → Forest → Type 0} (wanted : List Wanted)
+    → FoundAs part at old new from here is_read → (error : SourceError) → AreRefused wanted here error → AreRefused (Subgoal part at ∷ wanted) from error
+refused_past_part wanted found_part (Refused refusal) refused = λ items.
+    let found = refused items in
+    record {
+      mark = found.mark;
+      after = found.after;
+      code = found.code;
+      refuses = Open found_part.rule_is (refuses_after found_part.reads found_part.within found.refuses);
+      refusal_is = found.refusal_is;
+    }
+refused_past_part wanted found_part Memory refused = λ items. tt
+
+-- where the whole part is read, what refuses the item after it refuses the part together with this item
 pub refused_after : {goal part : Goal} {depth at : ℕ} {old now new : List (List ℕ)} {from here after : Spot} {make : Forest → Forest} {is_read : List (List ℕ) → Forest → Type 0} (second : Wanted)
     → HasRead goal depth old now from make (Subgoal part at ∷ []) here → FoundAs part at now new here after is_read → (error : SourceError) → IsRefused second after error
-    → IsRefusedWith (Subgoal goal depth) second from error
+    → AreRefused (Subgoal goal depth ∷ second ∷ []) from error
 refused_after second so found (Refused refusal) refused = λ items.
     let over = over_part so found in
     let at = refused items in
     record { mark = at.mark; after = at.after; code = at.code; refuses = over.refuses (second ∷ items) (at.mark ∷ at.after) at.code at.refuses; refusal_is = at.refusal_is }
 refused_after second so found Memory refused = λ items. tt
 
--- and so does what refuses the next two items
-pub refused_both : {goal : Goal} {depth : ℕ} {old now : List (List ℕ)} {from here : Spot} {make : Forest → Forest} {item second : Wanted} {left : List Wanted}
-    → HasRead goal depth old now from make (item ∷ second ∷ left) here → (error : SourceError) → IsRefusedWith item second here error → IsRefused (Subgoal goal depth) from error
-refused_both {left = left} so (Refused refusal) refused = λ items.
-    let at = refused (left ++ items) in
-    record { mark = at.mark; after = at.after; code = at.code; refuses = so.refuses items (at.mark ∷ at.after) at.code at.refuses; refusal_is = at.refusal_is }
-refused_both so Memory refused = λ items. tt
-
--- what holds of an error holds where a `?` passes it on
-pub passed_on : {X : Type 0} {error : SourceError} (P : SourceError → Type 0) (result : Result X SourceError) → IsErrAnd result (λ passed. passed ≡ error) → P error → IfErr result P
-passed_on P (Ok x) passed holds = absurd passed
-passed_on P (Err e) passed holds = subst P (sym passed) holds
-
--- the token that stands at a spot, and its place; the end of the source counts as one
+-- the next token at a spot, and its place; the end of the source counts as one
 record NextMark (spot : Spot) : Type 0 where
   mark : Mark
   after : List Mark
   is : left_at spot ≡ mark ∷ after
   place_is : place_of_mark mark ≡ place_of spot
 
--- at each spot there stands one, by cases of whether a token is left
+-- each spot has a next token, by cases of whether a token is left
 next_by : (rest : List Lexed) (end : Place) → NextMark (record { rest = rest; end = end })
 next_by [] end = record { mark = TextEnd end; after = []; is = refl; place_is = refl }
 next_by (token ∷ others) end = record { mark = Token token; after = map Token others ++ TextEnd end ∷ []; is = refl; place_is = refl }
 
--- so there stands one at each spot
+-- so each spot has a next token
 next_mark : (spot : Spot) → NextMark spot
 next_mark spot = next_by spot.rest spot.end
 
--- what is refused at the token that stands at a spot, by a code
+-- items that are refused at the next token of a spot are refused with the place of the spot
 pub refused_here : {items : List Wanted} (spot : Spot) (code : Code)
     → ((mark : Mark) (after : List Mark) → left_at spot ≡ mark ∷ after → token_kind mark ≡ next (left_at spot) → Refuses items (mark ∷ after) (mark ∷ after) code)
     → RefusedAt items (left_at spot) (refusal_at code spot)
@@ -488,7 +515,7 @@ pub deep_refused : (kind : TokenKind) (depth : ℕ) (spot : Spot) (error : Sourc
     → IsRefused (Terminal kind depth) spot error
 deep_refused kind depth spot error is fit deep = rw is (λ items. refused_here spot S2 (λ mark after is_left same. Below (ap (fits kind) same ∙ fit) deep))
 
--- a refusal of a token that does not fit is one of a part that it does not open, after which others stand
+-- a refusal of a token that does not fit is also one of a part that it does not open, with other items after it
 other_by : {kind : TokenKind} {at : ℕ} {items others : List Wanted} {goal : Goal} {depth : ℕ} {ts rest : List Mark} {code : Code} → fits kind (next ts) ≡ false
     → opened goal (next ts) depth ≡ None → Refuses (Terminal kind at ∷ items) ts rest code → Refuses (Subgoal goal depth ∷ others) ts rest code
 other_by differs shut (Other e is) = Shut shut is
@@ -504,7 +531,7 @@ refused_other kind at goal depth spot (Refused refusal) differs shut refused = �
     record { mark = found.mark; after = found.after; code = found.code; refuses = other_by differs shut found.refuses; refusal_is = found.refusal_is }
 refused_other kind at goal depth spot Memory differs shut refused = λ items. tt
 
--- by cases of whether the next token fits
+-- the next lemma, by cases of whether the next token fits
 by_fit : (fit : Bool) (kind : TokenKind) (at : ℕ) (goal : Goal) (depth : ℕ) {inner : List Wanted} (spot : Spot) (error : SourceError) → fits kind (next (left_at spot)) ≡ fit
     → (fits kind (next (left_at spot)) ≡ true → opened goal (next (left_at spot)) depth ≡ Some (Terminal kind at ∷ inner))
     → (fits kind (next (left_at spot)) ≡ false → opened goal (next (left_at spot)) depth ≡ None)
@@ -512,7 +539,7 @@ by_fit : (fit : Bool) (kind : TokenKind) (at : ℕ) (goal : Goal) (depth : ℕ) 
 by_fit true kind at goal depth spot error e is_opened is_shut refused = refused_inside (opens goal depth [] spot _ (is_opened e)) error refused
 by_fit false kind at goal depth spot error e is_opened is_shut refused = refused_other kind at goal depth spot error e (is_shut e) refused
 
--- a part that begins with a token of a kind, and with nothing else, is refused where that token is
+-- if a part begins with a token of one kind and with nothing else, what refuses this token refuses the part
 pub refused_first_token : (kind : TokenKind) (at : ℕ) (goal : Goal) (depth : ℕ) {inner : List Wanted} (spot : Spot) (error : SourceError)
     → (fits kind (next (left_at spot)) ≡ true → opened goal (next (left_at spot)) depth ≡ Some (Terminal kind at ∷ inner))
     → (fits kind (next (left_at spot)) ≡ false → opened goal (next (left_at spot)) depth ≡ None)
@@ -520,7 +547,7 @@ pub refused_first_token : (kind : TokenKind) (at : ℕ) (goal : Goal) (depth : �
 refused_first_token kind at goal depth spot error is_opened is_shut refused =
     by_fit (fits kind (next (left_at spot))) kind at goal depth spot error refl is_opened is_shut refused
 
--- a refusal of a part that is not opened is one of another that is not, after which others stand
+-- a refusal of a part that is not opened is also one of another such part, with other items after it
 shut_by : {part : Goal} {at : ℕ} {items others : List Wanted} {goal : Goal} {depth : ℕ} {ts rest : List Mark} {code : Code} → opened part (next ts) at ≡ None
     → opened goal (next ts) depth ≡ None → Refuses (Subgoal part at ∷ items) ts rest code → Refuses (Subgoal goal depth ∷ others) ts rest code
 shut_by closed shut (Shut e is) = Shut shut is
@@ -535,12 +562,12 @@ refused_alike part at goal depth spot (Refused refusal) closed shut refused = λ
     record { mark = found.mark; after = found.after; code = found.code; refuses = shut_by closed shut found.refuses; refusal_is = found.refusal_is }
 refused_alike part at goal depth spot Memory closed shut refused = λ items. tt
 
--- the same where the table is given a name of its own
+-- `symbol_named`, with a variable for the table
 pub symbol_kept : (old : List (List ℕ)) {table : List (List ℕ)} {name : List ℕ} (symbol : Symbol) → symbol.0 ≡ number_of_name old name → table ≡ with_name old name
     → (names : List (List ℕ)) → GoesOn table names → name_of names symbol ≡ name
 symbol_kept old {name = name} symbol number is names more = symbol_named old name symbol number names (subst (λ (t : List (List ℕ)). GoesOn t names) is more)
 
--- what was found is so, where it follows from how it was found
+-- a part that was found has each property that follows from how it was found
 pub found_weaker : {goal : Goal} {depth : ℕ} {old new : List (List ℕ)} {from to : Spot} {is_read is_too : List (List ℕ) → Forest → Type 0} → (found : FoundAs goal depth old new from to is_read)
     → ((names : List (List ℕ)) → GoesOn new names → is_read names found.inside → is_too names found.inside) → FoundAs goal depth old new from to is_too
 found_weaker found so = record {

@@ -1,4 +1,4 @@
--- That the trees of a reading are numbered as they are to be: from their first index, in the order in which they begin.
+-- The statements in the trees of a reading are numbered from the first index, in the order in which they begin.
 use Rattle.std.proofs.Common.{ℕ, ◌+◌, List, [], ◌∷◌, refl, subst, arith}
 use Rattle.abs_tree.specs.declared.place.Place.{Place}
 use Rattle.abs_tree.specs.Syntax.{Name, TypeTree, DeclaredTree, MemberTree, DeclTree, Statement, BlockOf}
@@ -16,19 +16,19 @@ after_variable_numbered index place name (Leaf equals _ (Node _ rhs _)) = refl
 after_variable_numbered index place name (Node _ arguments (Node _ rest _)) = refl
 after_variable_numbered index place name _ = refl
 
--- so has one that begins with a field
+-- the same for one that begins with a field
 after_field_numbered : (index : ℕ) (place name_place : Place) (name : Name) (forest : Forest) → IsNumbered index (after_field index place name_place name forest)
 after_field_numbered index place name_place name (Leaf equals _ (Node _ rhs _)) = refl
 after_field_numbered index place name_place name (Node _ arguments (Node _ rest _)) = refl
 after_field_numbered index place name_place name _ = refl
 
--- and one that begins with "this"
+-- the same for one that begins with "this"
 after_this_numbered : (index : ℕ) (place : Place) (forest : Forest) → IsNumbered index (after_this index place forest)
 after_this_numbered index place (Leaf dot _ (Leaf name _ (Node _ after _))) = after_field_numbered index place (place_of_mark name) (written name) after
 after_this_numbered index place (Node _ rest _) = refl
 after_this_numbered index place _ = refl
 
--- the statements of a branch are numbered as the statement that it is
+-- a branch is numbered if the statement that was read for it is
 branch_is_numbered : (index : ℕ) (statement : Statement) → IsNumbered index statement → AreNumbered index (branch_of statement)
 branch_is_numbered index (BlockOf place statements) is = is
 branch_is_numbered index _ is = (is, tt)
@@ -42,7 +42,7 @@ mutual
   statement_is_numbered index (Node _ rhs _) = refl
   statement_is_numbered index Empty = refl
 
-  -- whatever its first token is
+  -- the same for a statement, by its first token
   by_first_token : (index : ℕ) (kind : TokenKind) (mark : Mark) (others : Forest) → IsNumbered index (statement_by index kind mark others)
   by_first_token index (KeywordKind keyword.Skip) mark others = refl
   by_first_token index (KeywordKind keyword.Suspend) mark others = refl
@@ -59,23 +59,23 @@ mutual
   by_first_token index LocalName mark (Node _ after _) = after_variable_numbered index (place_of_mark mark) (written mark) after
   by_first_token index _ mark others = refl
 
-  -- so is a branch after "else"
+  -- the same for a branch after "else"
   else_is_numbered : (index : ℕ) (forest : Forest) → BranchIsNumbered index (else_in index forest)
   else_is_numbered index (Node _ (Leaf mark _ (Node _ other _)) _) = branch_is_numbered index (statement_in index other) (statement_is_numbered index other)
   else_is_numbered index _ = tt
 
-  -- so are the statements of a block
+  -- the same for the statements of a block
   block_is_numbered : (index : ℕ) (forest : Forest) → AreNumbered index (block_in index forest)
   block_is_numbered index (Leaf opening _ (Node _ statements _)) = are_numbered index statements
   block_is_numbered index _ = tt
 
-  -- and any statements
+  -- the same for a list of statements
   are_numbered : (index : ℕ) (forest : Forest) → AreNumbered index (statements_in index forest)
   are_numbered index (Node _ statement (Node _ others _)) =
       (statement_is_numbered index statement, are_numbered (index + count_of (statement_in index statement)) others)
   are_numbered index _ = tt
 
--- the members of a class before others that go on where they end
+-- a member and the others after it are numbered if the indices of these continue where its own end
 member_by_numbered : (index : ℕ) (type : TypeTree) (name : DeclaredTree) (forest : Forest) (others : List MemberTree)
     → MembersAreNumbered (index + member_statements (member_by index type name forest ∷ [])) others → MembersAreNumbered index (member_by index type name forest ∷ others)
 member_by_numbered index type name (Leaf opening _ (Node _ params (Leaf closing _ (Node _ block _)))) others are =
@@ -88,14 +88,14 @@ member_is_numbered : (index : ℕ) (forest : Forest) (others : List MemberTree) 
 member_is_numbered index (Node _ type (Leaf name _ (Node _ tail _))) others are = member_by_numbered index (type_in type) (declared name) tail others are
 member_is_numbered index _ others are = subst (λ (n : ℕ). MembersAreNumbered n others) (omega arith) are
 
--- the members of a class
+-- the members of a class are numbered from the first index
 members_are_numbered : (index : ℕ) (forest : Forest) → MembersAreNumbered index (members_in index forest)
 members_are_numbered index (Node _ member (Node _ others _)) =
     let after = index + member_statements (member_in index member []) in
     member_is_numbered index member (members_in after others) (members_are_numbered after others)
 members_are_numbered index _ = tt
 
--- a declaration before others that go on where it ends
+-- a declaration and the others after it are numbered if the indices of these continue where its own end
 decl_by_numbered : (index : ℕ) (kind : TokenKind) (place : Place) (forest : Forest) (others : List DeclTree) → DeclsAreNumbered (index + decl_statements (decl_by index kind place forest [])) others
     → DeclsAreNumbered index (decl_by index kind place forest others)
 decl_by_numbered index (KeywordKind keyword.Data) place (Leaf name _ (Node _ parameters (Leaf equals _ (Node _ first (Node _ more _))))) others are =
@@ -113,7 +113,7 @@ decl_is_numbered : (index : ℕ) (forest : Forest) (others : List DeclTree) → 
 decl_is_numbered index (Leaf mark _ inside) others are = decl_by_numbered index (token_kind mark) (place_of_mark mark) inside others are
 decl_is_numbered index _ others are = subst (λ (n : ℕ). DeclsAreNumbered n others) (omega arith) are
 
--- the declarations of a source
+-- the declarations of a source are numbered from the first index
 decls_are_numbered : (index : ℕ) (forest : Forest) → DeclsAreNumbered index (decls_in index forest)
 decls_are_numbered index (Node _ decl (Node _ more _)) =
     let after = index + decl_statements (decl_in index decl []) in

@@ -1,5 +1,5 @@
--- How many variables a pattern, an expression, a right side and a guard have by the tokens that were read: no more than leaves, since each
--- variable has its name as a leaf. So it is of any forest, and of operators after a first operand, with the variables of that besides.
+-- Patterns, expressions, right sides and guards have no more variables than their forest has leaves, since the name of
+-- each variable is a leaf. This holds for any forest. What follows a first operand adds no more than that.
 use Rattle.std.proofs.Common.{◌≡◌, ◌≤◌, ℕ, ◌+◌, Option, Some, None, refl, arith}
 use Rattle.abs_tree.specs.declared.place.Place.{Place}
 use Rattle.abs_tree.specs.Syntax.{Name, Phrase, Phrases, Operands, NoOperands, NextOperand, Branches, Tests}
@@ -12,12 +12,12 @@ use Rattle.abs_parser.specs.TreesOf.{written, pattern_in, pattern_by, pattern_ar
 use Rattle.abs_parser.proofs.sizes.LeafLemmas.{leaves}
 
 mutual
-  -- a pattern has no more variables than leaves
+  -- a pattern has no more variables than its forest has leaves
   pattern_few : (forest : Forest) → pattern_variables (pattern_in forest) ≤ leaves forest
   pattern_few (Leaf mark _ others) = omega (arith, pattern_by_few (token_kind mark) mark others)
   pattern_few _ = omega arith
 
-  -- neither has one by its first token
+  -- the same for a pattern, by its first token, which is one more leaf
   pattern_by_few : (kind : TokenKind) (mark : Mark) (others : Forest) → pattern_variables (pattern_by kind mark others) ≤ 1 + leaves others
   pattern_by_few (PunctuatorKind punctuator.Minus) mark (Leaf number _ _) = omega arith
   pattern_by_few UpperName mark (Node _ arguments _) = omega (arith, pattern_arguments_few arguments)
@@ -25,30 +25,30 @@ mutual
   pattern_by_few StdLibName mark (Node _ arguments _) = omega (arith, pattern_arguments_few arguments)
   pattern_by_few _ mark others = omega arith
 
-  -- nor the patterns of a constructor
+  -- the same for the patterns of a constructor
   pattern_arguments_few : (forest : Forest) → patterns_variables (pattern_arguments forest) ≤ leaves forest
   pattern_arguments_few (Node _ (Leaf opening _ (Node _ patterns _)) others) = omega (arith, patterns_maybe_few patterns)
   pattern_arguments_few _ = omega arith
 
-  -- nor patterns that may be left out
+  -- the same for patterns that may be left out
   patterns_maybe_few : (forest : Forest) → patterns_variables (patterns_maybe forest) ≤ leaves forest
   patterns_maybe_few (Node _ patterns _) = omega (arith, patterns_few patterns)
   patterns_maybe_few _ = omega arith
 
-  -- nor patterns with commas between them
+  -- the same for patterns with commas between them
   patterns_few : (forest : Forest) → patterns_variables (patterns_in forest) ≤ leaves forest
   patterns_few (Node _ first (Node _ others _)) = omega (arith, pattern_few first, more_patterns_few others)
   patterns_few _ = omega arith
 
-  -- nor those after the first of them
+  -- the same for the patterns after the first
   more_patterns_few : (forest : Forest) → patterns_variables (more_patterns forest) ≤ leaves forest
   more_patterns_few (Node _ (Leaf comma _ (Node _ pattern _)) (Node _ others _)) = omega (arith, pattern_few pattern, more_patterns_few others)
   more_patterns_few _ = omega arith
 
--- operators after a first operand have the variables of both
-chain_variables : (place : Place) (first : Phrase) (others : Operands) → phrase_variables (with_operators place first others) ≡ phrase_variables first + operand_variables others
-chain_variables place first NoOperands = omega arith
-chain_variables place first (NextOperand operator right others) = refl
+-- an operator list has the variables of its first operand and those of the others
+operator_variables : (place : Place) (first : Phrase) (others : Operands) → phrase_variables (with_operators place first others) ≡ phrase_variables first + operand_variables others
+operator_variables place first NoOperands = omega arith
+operator_variables place first (NextOperand operator right others) = refl
 
 -- the variables of arguments that may be left out
 abbrev pub optional_variables : Option Phrases → ℕ
@@ -60,18 +60,18 @@ pub named_variables : (place : Place) (name : Name) (arguments : Option Phrases)
 named_variables place name None = refl
 named_variables place name (Some arguments) = refl
 
--- so has one after "this"
+-- the same for a name after "this"
 pub member_variables_are : (place name_place : Place) (name : Name) (arguments : Option Phrases) → phrase_variables (member place name_place name arguments) ≡ optional_variables arguments
 member_variables_are place name_place name None = refl
 member_variables_are place name_place name (Some arguments) = refl
 
--- and so has a constructor
+-- the same for a constructor
 built_variables : (place : Place) (name : Name) (arguments : Option Phrases) → phrase_variables (built place name arguments) ≡ optional_variables arguments
 built_variables place name None = refl
 built_variables place name (Some arguments) = refl
 
 mutual
-  -- an expression has no more variables than leaves
+  -- an expression has no more variables than its forest has leaves
   pub expr_few : (forest : Forest) → phrase_variables (expr_in forest) ≤ leaves forest
   expr_few (Leaf mark _ (Leaf opening _ (Node _ type (Leaf name _ (Leaf closing _ (Leaf equals _ (Node _ value (Leaf in_token _ (Node _ body _))))))))) =
       omega (arith, expr_few value, expr_few body)
@@ -80,84 +80,84 @@ mutual
   expr_few (Node _ or _) = omega (arith, or_few or)
   expr_few _ = omega arith
 
-  -- neither have operands with "||" between them
+  -- the same for operands with "||" between them
   or_few : (forest : Forest) → phrase_variables (or_in forest) ≤ leaves forest
   or_few (Node _ first (Node _ others _)) =
-      omega (arith, chain_variables (place_in first) (and_in first) (or_operands others), and_few first, or_links_few others)
+      omega (arith, operator_variables (place_in first) (and_in first) (or_operands others), and_few first, or_operands_few others)
   or_few _ = omega arith
 
-  -- nor those after the first of them
-  or_links_few : (forest : Forest) → operand_variables (or_operands forest) ≤ leaves forest
-  or_links_few (Node _ (Leaf mark _ (Node _ right _)) (Node _ others _)) = omega (arith, and_few right, or_links_few others)
-  or_links_few _ = omega arith
+  -- the same for the operands after the first
+  or_operands_few : (forest : Forest) → operand_variables (or_operands forest) ≤ leaves forest
+  or_operands_few (Node _ (Leaf mark _ (Node _ right _)) (Node _ others _)) = omega (arith, and_few right, or_operands_few others)
+  or_operands_few _ = omega arith
 
-  -- neither have operands with "&&" between them
+  -- the same for operands with "&&" between them
   and_few : (forest : Forest) → phrase_variables (and_in forest) ≤ leaves forest
   and_few (Node _ first (Node _ others _)) =
-      omega (arith, chain_variables (place_in first) (equal_in first) (and_operands others), equal_few first, and_links_few others)
+      omega (arith, operator_variables (place_in first) (equal_in first) (and_operands others), equal_few first, and_operands_few others)
   and_few _ = omega arith
 
-  -- nor those after the first of them
-  and_links_few : (forest : Forest) → operand_variables (and_operands forest) ≤ leaves forest
-  and_links_few (Node _ (Leaf mark _ (Node _ right _)) (Node _ others _)) = omega (arith, equal_few right, and_links_few others)
-  and_links_few _ = omega arith
+  -- the same for the operands after the first
+  and_operands_few : (forest : Forest) → operand_variables (and_operands forest) ≤ leaves forest
+  and_operands_few (Node _ (Leaf mark _ (Node _ right _)) (Node _ others _)) = omega (arith, equal_few right, and_operands_few others)
+  and_operands_few _ = omega arith
 
-  -- neither have operands with "==" or "!=" between them
+  -- the same for operands with "==" or "!=" between them
   equal_few : (forest : Forest) → phrase_variables (equal_in forest) ≤ leaves forest
   equal_few (Node _ first (Node _ other _)) =
-      omega (arith, chain_variables (place_in first) (compare_in first) (equal_operand other), compare_few first, equal_link_few other)
+      omega (arith, operator_variables (place_in first) (compare_in first) (equal_operand other), compare_few first, equal_operand_few other)
   equal_few _ = omega arith
 
-  -- nor the one after the first of them
-  equal_link_few : (forest : Forest) → operand_variables (equal_operand forest) ≤ leaves forest
-  equal_link_few (Node _ (Leaf mark _ (Node _ right _)) _) = omega (arith, compare_few right)
-  equal_link_few _ = omega arith
+  -- the same for the operand after the first
+  equal_operand_few : (forest : Forest) → operand_variables (equal_operand forest) ≤ leaves forest
+  equal_operand_few (Node _ (Leaf mark _ (Node _ right _)) _) = omega (arith, compare_few right)
+  equal_operand_few _ = omega arith
 
-  -- neither have operands that are compared
+  -- the same for operands that are compared
   compare_few : (forest : Forest) → phrase_variables (compare_in forest) ≤ leaves forest
   compare_few (Node _ first (Node _ other _)) =
-      omega (arith, chain_variables (place_in first) (sum_in first) (compare_operand other), sum_few first, compare_link_few other)
+      omega (arith, operator_variables (place_in first) (sum_in first) (compare_operand other), sum_few first, compare_operand_few other)
   compare_few _ = omega arith
 
-  -- nor the one after the first of them
-  compare_link_few : (forest : Forest) → operand_variables (compare_operand forest) ≤ leaves forest
-  compare_link_few (Node _ (Leaf mark _ (Node _ right _)) _) = omega (arith, sum_few right)
-  compare_link_few _ = omega arith
+  -- the same for the operand after the first
+  compare_operand_few : (forest : Forest) → operand_variables (compare_operand forest) ≤ leaves forest
+  compare_operand_few (Node _ (Leaf mark _ (Node _ right _)) _) = omega (arith, sum_few right)
+  compare_operand_few _ = omega arith
 
-  -- neither have the parts of a sum
+  -- the same for the operands of a sum
   sum_few : (forest : Forest) → phrase_variables (sum_in forest) ≤ leaves forest
   sum_few (Node _ first (Node _ others _)) =
-      omega (arith, chain_variables (place_in first) (mul_in first) (sum_operands others), mul_few first, sum_links_few others)
+      omega (arith, operator_variables (place_in first) (mul_in first) (sum_operands others), mul_few first, sum_operands_few others)
   sum_few _ = omega arith
 
-  -- nor those after the first of them
-  sum_links_few : (forest : Forest) → operand_variables (sum_operands forest) ≤ leaves forest
-  sum_links_few (Node _ (Leaf mark _ (Node _ right _)) (Node _ others _)) = omega (arith, mul_few right, sum_links_few others)
-  sum_links_few _ = omega arith
+  -- the same for the operands after the first
+  sum_operands_few : (forest : Forest) → operand_variables (sum_operands forest) ≤ leaves forest
+  sum_operands_few (Node _ (Leaf mark _ (Node _ right _)) (Node _ others _)) = omega (arith, mul_few right, sum_operands_few others)
+  sum_operands_few _ = omega arith
 
-  -- neither have the parts of a product
+  -- the same for the operands of a product
   mul_few : (forest : Forest) → phrase_variables (mul_in forest) ≤ leaves forest
   mul_few (Node _ first (Node _ others _)) =
-      omega (arith, chain_variables (place_in first) (unary_in first) (mul_operands others), unary_few first, mul_links_few others)
+      omega (arith, operator_variables (place_in first) (unary_in first) (mul_operands others), unary_few first, mul_operands_few others)
   mul_few _ = omega arith
 
-  -- nor those after the first of them
-  mul_links_few : (forest : Forest) → operand_variables (mul_operands forest) ≤ leaves forest
-  mul_links_few (Node _ (Leaf mark _ (Node _ right _)) (Node _ others _)) = omega (arith, unary_few right, mul_links_few others)
-  mul_links_few _ = omega arith
+  -- the same for the operands after the first
+  mul_operands_few : (forest : Forest) → operand_variables (mul_operands forest) ≤ leaves forest
+  mul_operands_few (Node _ (Leaf mark _ (Node _ right _)) (Node _ others _)) = omega (arith, unary_few right, mul_operands_few others)
+  mul_operands_few _ = omega arith
 
-  -- neither has an operand with signs before it
+  -- the same for an operand with prefix operators before it, or without
   unary_few : (forest : Forest) → phrase_variables (unary_in forest) ≤ leaves forest
   unary_few (Leaf mark _ (Node _ operand _)) = omega (arith, unary_few operand)
   unary_few (Node _ primary _) = omega (arith, primary_few primary)
   unary_few _ = omega arith
 
-  -- nor one without signs
+  -- the same for a primary
   primary_few : (forest : Forest) → phrase_variables (primary_in forest) ≤ leaves forest
   primary_few (Leaf mark _ others) = omega (arith, primary_by_few (token_kind mark) mark others)
   primary_few _ = omega arith
 
-  -- nor one by its first token
+  -- the same for a primary, by its first token, which is one more leaf
   primary_by_few : (kind : TokenKind) (mark : Mark) (others : Forest) → phrase_variables (primary_by kind mark others) ≤ 1 + leaves others
   primary_by_few (KeywordKind keyword.This) mark (Node _ tail _) = omega (arith, this_few (place_of_mark mark) tail)
   primary_by_few LowerName mark (Node _ arguments _) =
@@ -175,66 +175,66 @@ mutual
   primary_by_few (PunctuatorKind punctuator.OpenParen) mark (Node _ inside _) = omega (arith, expr_few inside)
   primary_by_few _ mark others = omega arith
 
-  -- nor "this" with what stands after it
+  -- the same for "this" with what follows it
   this_few : (place : Place) (forest : Forest) → phrase_variables (this_in place forest) ≤ leaves forest
   this_few place (Node _ (Leaf dot _ (Leaf name _ (Node _ arguments _))) _) =
       omega (arith, member_variables_are place (place_of_mark name) (written name) (arguments_maybe arguments), arguments_maybe_few arguments)
   this_few place _ = omega arith
 
-  -- nor arguments that may be left out
+  -- the same for arguments that may be left out
   pub arguments_maybe_few : (forest : Forest) → optional_variables (arguments_maybe forest) ≤ leaves forest
   arguments_maybe_few (Node _ arguments _) = omega (arith, arguments_few arguments)
   arguments_maybe_few _ = omega arith
 
-  -- nor arguments
+  -- the same for arguments in parentheses
   arguments_few : (forest : Forest) → phrases_variables (arguments_in forest) ≤ leaves forest
   arguments_few (Leaf opening _ (Node _ args _)) = omega (arith, args_maybe_few args)
   arguments_few _ = omega arith
 
-  -- nor expressions that may be left out
+  -- the same for expressions that may be left out
   args_maybe_few : (forest : Forest) → phrases_variables (args_maybe forest) ≤ leaves forest
   args_maybe_few (Node _ args _) = omega (arith, args_few args)
   args_maybe_few _ = omega arith
 
-  -- nor expressions with commas between them
+  -- the same for expressions with commas between them
   args_few : (forest : Forest) → phrases_variables (args_in forest) ≤ leaves forest
   args_few (Node _ first (Node _ others _)) = omega (arith, expr_few first, more_args_few others)
   args_few _ = omega arith
 
-  -- nor those after the first of them
+  -- the same for the expressions after the first
   more_args_few : (forest : Forest) → phrases_variables (more_args forest) ≤ leaves forest
   more_args_few (Node _ (Leaf comma _ (Node _ expr _)) (Node _ others _)) = omega (arith, expr_few expr, more_args_few others)
   more_args_few _ = omega arith
 
-  -- nor a branch of a "case", before others
+  -- a branch of a "case", before others, adds no more variables than its forest has leaves
   branch_few : (forest : Forest) (others : Branches) → branch_variables (branch_in forest others) ≤ leaves forest + branch_variables others
   branch_few (Node _ pattern (Leaf arrow _ (Node _ expr (Leaf semicolon _ _)))) others = omega (arith, pattern_few pattern, expr_few expr)
   branch_few _ others = omega arith
 
-  -- nor branches
+  -- the branches of a "case" have no more variables than their forest has leaves
   branches_few : (forest : Forest) → branch_variables (branches_in forest) ≤ leaves forest
   branches_few (Node _ branch (Node _ others _)) = omega (arith, branch_few branch (branches_in others), branches_few others)
   branches_few _ = omega arith
 
--- an expression with what stands after "." has no more variables than itself and leaves
+-- what follows the "." after an expression adds no more variables than its forest has leaves
 selected_few : (place : Place) (first : Phrase) (forest : Forest) → side_variables (selected_in place first forest) ≤ phrase_variables first + leaves forest
 selected_few place first (Leaf name _ (Node _ arguments _)) = omega (arith, arguments_few arguments)
 selected_few place first (Leaf get _ _) = omega arith
 selected_few place first _ = omega arith
 
--- so it is of an expression with what stands after it
+-- the same for all that follows an expression in a right side
 tail_few : (place : Place) (first : Phrase) (forest : Forest) → side_variables (tail_in place first forest) ≤ phrase_variables first + leaves forest
 tail_few place first (Node _ (Leaf bang _ (Leaf name _ (Node _ arguments _))) _) = omega (arith, arguments_few arguments)
 tail_few place first (Node _ (Leaf dot _ (Node _ selected _)) _) = omega (arith, selected_few place first selected)
 tail_few place first _ = omega arith
 
--- a right side has no more variables than leaves
+-- a right side has no more variables than its forest has leaves
 pub rhs_few : (forest : Forest) → side_variables (rhs_in forest) ≤ leaves forest
 rhs_few (Leaf mark _ (Node _ where_made (Leaf name _ (Node _ arguments _)))) = omega (arith, arguments_few arguments)
 rhs_few (Node _ expr (Node _ tail _)) = omega (arith, expr_few expr, tail_few (place_in expr) (expr_in expr) tail)
 rhs_few _ = omega arith
 
--- one from its first operand has no more than this operand and leaves
+-- what follows the first operand of a right side adds no more variables than its forest has leaves
 pub rest_few : (place : Place) (first : Phrase) (forest : Forest) → side_variables (rest_in place first forest) ≤ phrase_variables first + leaves forest
 rest_few place first (Node _ muls (Node _ sums (Node _ compared (Node _ equal (Node _ ands (Node _ ors (Node _ tail _))))))) =
     let product = with_operators place first (mul_operands muls) in
@@ -244,33 +244,33 @@ rest_few place first (Node _ muls (Node _ sums (Node _ compared (Node _ equal (N
     let conjunction = with_operators place equality (and_operands ands) in
     omega (
       arith,
-      chain_variables place first (mul_operands muls),
-      mul_links_few muls,
-      chain_variables place product (sum_operands sums),
-      sum_links_few sums,
-      chain_variables place sum (compare_operand compared),
-      compare_link_few compared,
-      chain_variables place comparison (equal_operand equal),
-      equal_link_few equal,
-      chain_variables place equality (and_operands ands),
-      and_links_few ands,
-      chain_variables place conjunction (or_operands ors),
-      or_links_few ors,
+      operator_variables place first (mul_operands muls),
+      mul_operands_few muls,
+      operator_variables place product (sum_operands sums),
+      sum_operands_few sums,
+      operator_variables place sum (compare_operand compared),
+      compare_operand_few compared,
+      operator_variables place comparison (equal_operand equal),
+      equal_operand_few equal,
+      operator_variables place equality (and_operands ands),
+      and_operands_few ands,
+      operator_variables place conjunction (or_operands ors),
+      or_operands_few ors,
       tail_few place (with_operators place conjunction (or_operands ors)) tail,
     )
 rest_few place first _ = omega arith
 
--- a part of a guard has no more than leaves, before others
+-- a part of a guard, before others, adds no more variables than its forest has leaves
 test_few : (forest : Forest) (others : Tests) → test_variables (test_in forest others) ≤ leaves forest + test_variables others
 test_few (Node _ equal (Node _ question _)) others = omega (arith, equal_few equal)
 test_few _ others = omega arith
 
--- further parts of a guard have no more variables than leaves
+-- the parts of a guard after the first have no more variables than their forest has leaves
 more_tests_few : (forest : Forest) → test_variables (more_tests forest) ≤ leaves forest
 more_tests_few (Node _ (Leaf mark _ (Node _ test _)) (Node _ others _)) = omega (arith, test_few test (more_tests others), more_tests_few others)
 more_tests_few _ = omega arith
 
--- neither has a guard
+-- the same for a whole guard
 pub guard_few : (forest : Forest) → test_variables (guard_in forest) ≤ leaves forest
 guard_few (Node _ first (Node _ others _)) = omega (arith, test_few first (more_tests others), more_tests_few others)
 guard_few _ = omega arith

@@ -1,7 +1,8 @@
--- What is still to be read can be read to the end. A short list of tokens is computed from the table: the tokens of one alternative
--- of each nonterminal, without the parts that may be left out. It is read as what is wanted where that is fine: where no part goes on with
--- what completes those after it. What is wanted stays fine when parts are opened, since each alternative of the table passes a test:
--- no item of it goes on with what completes the next ones, nor, where it may be the last, with what the nonterminal does not go on with.
+-- Any wanted items can be completed. Their completion is a short token list: the tokens of one alternative of each
+-- nonterminal, without optional and repeated parts. It is read as the items if they are fine: no part may continue with
+-- what completes the items after it. Items stay fine when parts open, since each alternative of the grammar passes a
+-- test. In it no item may continue with what completes the next ones. An item that may be the last continues only with
+-- tokens with which the nonterminal may continue.
 use Rattle.std.proofs.Common.{◌≡◌, ℕ, zero, suc, ◌+◌, Bool, true, false, not, ◌&&◌, ◌||◌, List, [], ◌∷◌, ◌++◌, Option, Some, None, cond, codes, refl, sym, ap, subst, ◌∙◌}
 use Rattle.std.specs.Prelude.{option_map, if◌then◌else◌}
 use Rattle.std.specs.List.{list_any, list_all, find}
@@ -23,11 +24,11 @@ use Rattle.abs_parser.specs.Readings.{Goal, One, Optional, Repeated, Wanted, Ter
 use Rattle.abs_parser.proofs.grammar.ReadingLemmas.{a_program, WholeReading, part_closed, token_put}
 use Rattle.abs_parser.proofs.stop.MoveLemmas.{Moves, Stays, Takes, Opens}
 
--- a token at the first place
+-- a token at the start of the source
 abbrev token : Lexeme → List ℕ → Mark
 token kind bytes = Token record { kind = kind; place = start; bytes = bytes }
 
--- a token that fits where this kind is asked for
+-- a token of this token kind
 abbrev sample : TokenKind → Mark
 sample LowerName = token lexeme.LowerName (codes "x")
 sample LocalName = token lexeme.LowerName (codes "local")
@@ -41,18 +42,18 @@ sample Foreign = token lexeme.Foreign (codes "try")
 sample (PunctuatorKind punctuator) = token (lexeme.Punctuator punctuator) (punctuator_bytes punctuator)
 sample End = TextEnd start
 
--- the first of some alternatives
+-- the first of these alternatives
 abbrev first_alternative : List (List Item) → List Item
 first_alternative [] = []
 first_alternative (items ∷ others) = items
 
--- a nonterminal is read shortly by its first alternative, but where that leads back to it
+-- the simplest alternative of a nonterminal: its first one, unless that leads back to the nonterminal
 abbrev simplest : Nonterminal → List Item
 simplest Expr = Part Or ∷ []
 simplest Unary = Part Primary ∷ []
 simplest nonterminal = first_alternative (rule nonterminal)
 
--- the tokens of these items, given those of each nonterminal
+-- the tokens of an item, given those of each nonterminal; optional and repeated parts have none
 abbrev item_tokens : (Nonterminal → List Mark) → Item → List Mark
 item_tokens tokens (Of kind) = sample kind ∷ []
 item_tokens tokens (Part nonterminal) = tokens nonterminal
@@ -65,28 +66,28 @@ abbrev items_tokens : (Nonterminal → List Mark) → List Item → List Mark
 items_tokens tokens [] = []
 items_tokens tokens (item ∷ others) = item_tokens tokens item ++ items_tokens tokens others
 
--- a short list of tokens that is read as the nonterminal; 12 nonterminals in a row are enough, as for what they begin with
+-- a short token list that is read as the nonterminal, in at most this many rounds; 12 are enough, as for `begins`
 unfoldable pub short_within : ℕ → Nonterminal → List Mark
 short_within zero nonterminal = []
 short_within (suc rounds) nonterminal = items_tokens (short_within rounds) (simplest nonterminal)
 
--- a short list of tokens that is read as the nonterminal
+-- a short token list that is read as the nonterminal
 unfoldable pub short : Nonterminal → List Mark
 short nonterminal = short_within 12 nonterminal
 
--- a short list for a part: a nonterminal's, and none where it may be left out
+-- a short token list for a part: that of its nonterminal, and none if it is optional or repeated
 abbrev goal_tokens : Goal → List Mark
 goal_tokens (One nonterminal) = short nonterminal
 goal_tokens (Optional nonterminal) = []
 goal_tokens (Repeated nonterminal) = []
 
--- a short list of tokens that completes what is wanted
+-- the completion of the wanted items: a short token list that is read as them
 abbrev pub finish : List Wanted → List Mark
 finish [] = []
 finish (Terminal kind depth ∷ items) = sample kind ∷ finish items
 finish (Subgoal goal depth ∷ items) = goal_tokens goal ++ finish items
 
--- the kinds with which a nonterminal may begin
+-- the token kinds that an item may begin with, given those of each nonterminal and of the items after it
 abbrev item_starts : (Nonterminal → List TokenKind) → Item → List TokenKind → List TokenKind
 item_starts first (Of asked) after = asked ∷ []
 item_starts first (Part nonterminal) after = first nonterminal
@@ -94,26 +95,26 @@ item_starts first (Opt nonterminal) after = first nonterminal ++ after
 item_starts first (Many nonterminal) after = first nonterminal ++ after
 item_starts first (Inside more item) after = item_starts first item after
 
--- the kinds with which the items of an alternative may begin
+-- the token kinds that the items of an alternative may begin with
 abbrev items_start : (Nonterminal → List TokenKind) → List Item → List TokenKind
 items_start first [] = []
 items_start first (item ∷ others) = item_starts first item (items_start first others)
 
--- the kinds with which one of some alternatives may begin
+-- the token kinds that one of these alternatives may begin with
 abbrev alternatives_start : (Nonterminal → List TokenKind) → List (List Item) → List TokenKind
 alternatives_start first [] = []
 alternatives_start first (items ∷ others) = items_start first items ++ alternatives_start first others
 
--- the kinds with which a nonterminal may begin, looking so many nonterminals deep
+-- the token kinds that a nonterminal may begin with, in at most this many rounds
 unfoldable pub starts_within : ℕ → Nonterminal → List TokenKind
 starts_within zero nonterminal = []
 starts_within (suc rounds) nonterminal = alternatives_start (starts_within rounds) (rule nonterminal)
 
--- the kinds with which a nonterminal may begin
+-- the token kinds that a nonterminal may begin with
 unfoldable pub starts : Nonterminal → List TokenKind
 starts nonterminal = starts_within 12 nonterminal
 
--- The kinds with which the precedences of an expression may go on where they could end: after a primary
+-- The token kinds that the precedences of an expression may continue with where they could end: after a primary
 abbrev after_primary : List TokenKind
 after_primary = PunctuatorKind punctuator.Dot ∷ PunctuatorKind punctuator.OpenParen ∷ []
 
@@ -142,7 +143,7 @@ after_and = PunctuatorKind punctuator.And ∷ after_equal
 abbrev after_expr : List TokenKind
 after_expr = PunctuatorKind punctuator.Or ∷ after_and
 
--- after a part of a guard
+-- after a test of a guard
 abbrev after_test : List TokenKind
 after_test = PunctuatorKind punctuator.Question ∷ after_equal
 
@@ -150,7 +151,7 @@ after_test = PunctuatorKind punctuator.Question ∷ after_equal
 abbrev after_rhs : List TokenKind
 after_rhs = PunctuatorKind punctuator.Not ∷ after_expr
 
--- the kinds with which each nonterminal may go on where it could end
+-- the token kinds that each nonterminal may continue with where it could end
 abbrev continues : Nonterminal → List TokenKind
 continues Path = PunctuatorKind punctuator.Dot ∷ []
 continues Constructor = PunctuatorKind punctuator.OpenParen ∷ []
@@ -191,40 +192,40 @@ continues Patterns = PunctuatorKind punctuator.Comma ∷ PunctuatorKind punctuat
 continues CommaPattern = PunctuatorKind punctuator.OpenParen ∷ []
 continues nonterminal = []
 
--- whether a token of the kind may stand where one of these is asked for
+-- whether a token kind fits one of these
 abbrev meets : List TokenKind → TokenKind → Bool
 meets kinds kind = list_any (λ (asked : TokenKind). fits asked kind) kinds
 
--- whether a part goes on with a token of the kind, or begins with it where it may be left out
+-- whether a part may continue with this token kind, or begin with it if the part is optional or repeated
 abbrev goes_on : Goal → TokenKind → Bool
 goes_on (One nonterminal) kind = meets (continues nonterminal) kind
 goes_on (Optional nonterminal) kind = meets (starts nonterminal ++ continues nonterminal) kind
 goes_on (Repeated nonterminal) kind = meets (starts nonterminal ++ continues nonterminal) kind
 
--- no part goes on with what completes those after it; and the token that stands for a kind is one of that kind
+-- no part may continue with what completes the items after it, and the sample token of a token kind fits it
 abbrev pub Fine : List Wanted → Type 0
 Fine [] = Unit {0}
 Fine (Terminal kind depth ∷ items) = (fits kind (token_kind (sample kind)) ≡ true) × Fine items
 Fine (Subgoal goal depth ∷ items) = (goes_on goal (next (finish items)) ≡ false) × Fine items
 
--- What is wanted of a program is fine.
+-- The wanted program is fine.
 pub fine_start : Fine a_program
 fine_start = (refl, tt)
 
--- What is fine is fine after its first item.
+-- Fine items stay fine without the first one.
 fine_tail : (item : Wanted) (items : List Wanted) → Fine (item ∷ items) → Fine items
 fine_tail (Terminal kind depth) items fine = fine.1
 fine_tail (Subgoal goal depth) items fine = fine.1
 
--- So it is after a token.
+-- Fine items that begin with a token stay fine without it.
 pub fine_after : (kind : TokenKind) (depth : ℕ) (items : List Wanted) → Fine (Terminal kind depth ∷ items) → Fine items
 fine_after kind depth items fine = fine.1
 
--- What does not meet two lists, one after the other, meets neither.
+-- A token kind that does not meet two lists together meets neither.
 meets_neither : (front after : List TokenKind) (kind : TokenKind) → meets (front ++ after) kind ≡ false → (meets front kind ≡ false) × (meets after kind ≡ false)
 meets_neither front after kind e = or_parts _ _ (sym (list_any-append (λ (asked : TokenKind). fits asked kind) front after) ∙ e)
 
--- The listed kinds with which an item begins, before others, are those that the table tells.
+-- An item, followed by others, begins with the token kinds that are listed for it.
 item_tells : (first : Nonterminal → TokenKind → Bool) (kinds : Nonterminal → List TokenKind) (kind : TokenKind) → ((nonterminal : Nonterminal) → first nonterminal kind ≡ meets (kinds nonterminal) kind)
     → (item : Item) (others : List Item) → items_begin first others kind ≡ meets (items_start kinds others) kind
     → items_begin first (item ∷ others) kind ≡ meets (items_start kinds (item ∷ others)) kind
@@ -236,13 +237,13 @@ item_tells first kinds kind tells (Many nonterminal) others e =
     ap (λ b. b || items_begin first others kind) (tells nonterminal) ∙ (ap (λ b. meets (kinds nonterminal) kind || b) e ∙ sym (list_any-append (λ (asked : TokenKind). fits asked kind) (kinds nonterminal) (items_start kinds others)))
 item_tells first kinds kind tells (Inside more item) others e = item_tells first kinds kind tells item others e
 
--- So are those of an alternative.
+-- An alternative begins with the token kinds that are listed for it.
 items_tell : (first : Nonterminal → TokenKind → Bool) (kinds : Nonterminal → List TokenKind) (kind : TokenKind) → ((nonterminal : Nonterminal) → first nonterminal kind ≡ meets (kinds nonterminal) kind)
     → (items : List Item) → items_begin first items kind ≡ meets (items_start kinds items) kind
 items_tell first kinds kind tells [] = refl
 items_tell first kinds kind tells (item ∷ others) = item_tells first kinds kind tells item others (items_tell first kinds kind tells others)
 
--- So are those of some alternatives.
+-- Some alternatives begin with the token kinds that are listed for them.
 alternatives_tell : (first : Nonterminal → TokenKind → Bool) (kinds : Nonterminal → List TokenKind) (kind : TokenKind) → ((nonterminal : Nonterminal) → first nonterminal kind ≡ meets (kinds nonterminal) kind)
     → (alternatives : List (List Item))
     → list_any (λ (items : List Item). items_begin first items kind) alternatives ≡ meets (alternatives_start kinds alternatives) kind
@@ -252,28 +253,28 @@ alternatives_tell first kinds kind tells (items ∷ others) =
     ∙ (ap (λ b. meets (items_start kinds items) kind || b) (alternatives_tell first kinds kind tells others)
     ∙ sym (list_any-append (λ (asked : TokenKind). fits asked kind) (items_start kinds items) (alternatives_start kinds others)))
 
--- So are those of a nonterminal, in so many rounds.
+-- A nonterminal begins with the token kinds that are listed for it, in any number of rounds.
 rounds_tell : (rounds : ℕ) (nonterminal : Nonterminal) (kind : TokenKind) → begins_within rounds nonterminal kind ≡ meets (starts_within rounds nonterminal) kind
 unfolding begins_within starts_within
 rounds_tell zero nonterminal kind = refl
 rounds_tell (suc rounds) nonterminal kind = alternatives_tell (begins_within rounds) (starts_within rounds) kind (λ nonterminal. rounds_tell rounds nonterminal kind) (rule nonterminal)
 
--- So they are in as many as the table takes.
+-- A nonterminal begins with the token kinds that are listed for it.
 starts_tell : (nonterminal : Nonterminal) (kind : TokenKind) → begins nonterminal kind ≡ meets (starts nonterminal) kind
 unfolding begins starts
 starts_tell nonterminal kind = rounds_tell 12 nonterminal kind
 
--- A part that may be left out begins with no token with which it does not go on.
+-- A nonterminal does not begin with a token kind that neither starts nor continues it.
 begins_not : (nonterminal : Nonterminal) (kind : TokenKind) → meets (starts nonterminal ++ continues nonterminal) kind ≡ false → begins nonterminal kind ≡ false
 begins_not nonterminal kind e = starts_tell nonterminal kind ∙ (meets_neither (starts nonterminal) (continues nonterminal) kind e).0
 
--- whether two kinds are one word or one sign
+-- whether two token kinds are the same keyword or the same punctuator
 abbrev is_same : TokenKind → TokenKind → Bool
 is_same (KeywordKind one) (KeywordKind other) = bytes_eq (spelling one) (spelling other)
 is_same (PunctuatorKind one) (PunctuatorKind other) = bytes_eq (punctuator_bytes one) (punctuator_bytes other)
 is_same one other = false
 
--- A token that is not of the one is not of the other.
+-- A token kind that does not fit one of two equal token kinds does not fit the other.
 same_fits : (one other kind : TokenKind) → is_same one other ≡ true → fits other kind ≡ false → fits one kind ≡ false
 same_fits (KeywordKind one) (KeywordKind other) (KeywordKind keyword) same e =
     ap (λ bytes. bytes_eq bytes (spelling keyword)) ((bytes_eq-Decides (spelling one) (spelling other)).0 same) ∙ e
@@ -283,7 +284,7 @@ same_fits (KeywordKind one) (KeywordKind other) kind same e = refl
 same_fits (PunctuatorKind one) (PunctuatorKind other) kind same e = refl
 same_fits one other kind same e = absurd cc
 
--- whether none of these kinds is met by what an item, and others after it, are completed with
+-- whether the completion of an item, followed by others, begins with none of these token kinds
 abbrev item_clears : Item → List TokenKind → Bool → Bool
 item_clears (Of kind) kinds after = not (meets kinds (token_kind (sample kind)))
 item_clears (Part nonterminal) kinds after = not (meets kinds (next (short nonterminal)))
@@ -291,12 +292,12 @@ item_clears (Opt nonterminal) kinds after = after
 item_clears (Many nonterminal) kinds after = after
 item_clears (Inside more item) kinds after = item_clears item kinds after
 
--- and by what some items of an alternative are, where what stands after the alternative meets none of the last kinds
+-- whether the completion of these items begins with none of `kinds`, if what follows them begins with none of `last`
 abbrev clears : List TokenKind → List Item → List TokenKind → Bool
 clears last [] kinds = list_all (λ (one : TokenKind). list_any (λ (other : TokenKind). is_same one other) last) kinds
 clears last (item ∷ others) kinds = item_clears item kinds (clears last others kinds)
 
--- whether each item of an alternative is fine before the others
+-- whether an item of an alternative is fine before the others
 abbrev item_is_fine : Item → (List TokenKind → Bool) → Bool
 item_is_fine (Of kind) after = fits kind (token_kind (sample kind))
 item_is_fine (Part nonterminal) after = after (continues nonterminal)
@@ -304,41 +305,41 @@ item_is_fine (Opt nonterminal) after = after (starts nonterminal ++ continues no
 item_is_fine (Many nonterminal) after = after (starts nonterminal ++ continues nonterminal)
 item_is_fine (Inside more item) after = item_is_fine item after
 
--- whether all items of an alternative are, given what its nonterminal does not go on with
+-- whether all items of an alternative are fine, if what follows them begins with none of `last`
 abbrev items_are_fine : List TokenKind → List Item → Bool
 items_are_fine last [] = true
 items_are_fine last (item ∷ others) = item_is_fine item (clears last others) && items_are_fine last others
 
--- Each alternative of the table passes the test.
+-- Each alternative of the grammar passes the test.
 table_is_fine : (nonterminal : Nonterminal) → list_all (λ (items : List Item). items_are_fine (continues nonterminal) items) (rule nonterminal) ≡ true
 unfolding short short_within starts starts_within
 table_is_fine Program = refl
 table_is_fine _ = refl
 
--- The alternative by which a nonterminal is read shortly is chosen by the first of its tokens.
+-- The first token of a nonterminal's short list chooses the simplest alternative.
 chosen_shortly : (nonterminal : Nonterminal) (ts : List Mark) → chosen nonterminal (next (short nonterminal ++ ts)) ≡ Some (simplest nonterminal)
 unfolding short short_within chosen begins begins_within
 chosen_shortly Program ts = refl
 chosen_shortly _ ts = refl
 
--- That token does not depend on what stands after.
+-- The first token of a nonterminal's short list does not depend on what follows the list.
 next_shortly : (nonterminal : Nonterminal) (ts : List Mark) → next (short nonterminal ++ ts) ≡ next (short nonterminal)
 unfolding short short_within
 next_shortly Program ts = refl
 next_shortly _ ts = refl
 
--- The tokens of that alternative are the nonterminal's.
+-- The tokens of the simplest alternative are the nonterminal's short list.
 tokens_shortly : (nonterminal : Nonterminal) → items_tokens short (simplest nonterminal) ≡ short nonterminal
 unfolding short short_within
 tokens_shortly Program = refl
 tokens_shortly _ = refl
 
--- The same token is met where the tokens after it are others.
+-- Token kinds that the short list does not begin with are not met if more tokens follow it.
 meets_shortly : (nonterminal : Nonterminal) (kinds : List TokenKind) (ts : List Mark) → meets kinds (next (short nonterminal)) ≡ false
     → meets kinds (next (short nonterminal ++ ts)) ≡ false
 meets_shortly nonterminal kinds ts e = ap (meets kinds) (next_shortly nonterminal ts) ∙ e
 
--- An item, and others after it, are completed as the test says.
+-- The completion of an item that passes the test, followed by others, begins with none of the token kinds.
 item_clear : (item : Item) (kinds : List TokenKind) (after : Bool) (depth : ℕ) (items : List Wanted) → item_clears item kinds after ≡ true
     → (after ≡ true → meets kinds (next (finish items)) ≡ false) → meets kinds (next (finish (place_item depth item ∷ items))) ≡ false
 item_clear (Of kind) kinds after depth items e others = not-true _ e
@@ -347,7 +348,7 @@ item_clear (Opt nonterminal) kinds after depth items e others = others e
 item_clear (Many nonterminal) kinds after depth items e others = others e
 item_clear (Inside more item) kinds after depth items e others = item_clear item kinds after (depth + more) items e others
 
--- A kind that is one of the last is not met where they are not.
+-- A token kind that is the same as one of `last` is not met where none of `last` is met.
 one_clear : (last : List TokenKind) (one kind : TokenKind) → list_any (λ (other : TokenKind). is_same one other) last ≡ true → meets last kind ≡ false → fits one kind ≡ false
 one_clear [] one kind e none = absurd cc
 one_clear (other ∷ last) one kind e none =
@@ -360,7 +361,7 @@ one_clear (other ∷ last) one kind e none =
     go true is none further e = same_fits one other kind is none
     go false is none further e = further e
 
--- So none is met if each is one of the last.
+-- No token kind of a list is met if each is the same as one of `last`, of which none is met.
 all_clear : (last kinds : List TokenKind) (kind : TokenKind) → list_all (λ (one : TokenKind). list_any (λ (other : TokenKind). is_same one other) last) kinds ≡ true
     → meets last kind ≡ false → meets kinds kind ≡ false
 all_clear last [] kind e none = refl
@@ -368,7 +369,7 @@ all_clear last (one ∷ kinds) kind e none =
     let parts = and_parts _ _ e in
     ap (λ b. b || meets kinds kind) (one_clear last one kind parts.0 none) ∙ all_clear last kinds kind parts.1 none
 
--- Some items of an alternative are completed as the test says.
+-- The completion of items that pass the test begins with none of the token kinds.
 items_clear : (last : List TokenKind) (others : List Item) (kinds : List TokenKind) (depth : ℕ) (items : List Wanted) → clears last others kinds ≡ true
     → meets last (next (finish items)) ≡ false → meets kinds (next (finish (place depth others ++ items))) ≡ false
 items_clear last [] kinds depth items e none = all_clear last kinds (next (finish items)) e none
@@ -384,7 +385,7 @@ item_fine (Opt nonterminal) after depth items e others fine = (others _ e, fine)
 item_fine (Many nonterminal) after depth items e others fine = (others _ e, fine)
 item_fine (Inside more item) after depth items e others fine = item_fine item after (depth + more) items e others fine
 
--- So is an alternative that does.
+-- An alternative that passes the test is fine before others.
 items_fine : (last : List TokenKind) (others : List Item) (depth : ℕ) (items : List Wanted) → items_are_fine last others ≡ true
     → meets last (next (finish items)) ≡ false → Fine items → Fine (place depth others ++ items)
 items_fine last [] depth items e none fine = fine
@@ -393,7 +394,7 @@ items_fine last (item ∷ others) depth items e none fine =
     item_fine item (clears last others) depth (place depth others ++ items) parts.0 (λ kinds e. items_clear last others kinds depth items e none)
     (items_fine last others depth items parts.1 none fine)
 
--- What is found in a list passes a test that each element does.
+-- An element found in a list passes a test that each element passes.
 found_passes : {A : Type 0} (wanted test : A → Bool) (xs : List A) (found : A) → find wanted xs ≡ Some found → list_all test xs ≡ true → test found ≡ true
 found_passes wanted test [] found is e = absurd cc
 found_passes wanted test (x ∷ xs) found is e =
@@ -406,12 +407,12 @@ found_passes wanted test (x ∷ xs) found is e =
         ap test (sym same) ∙ passes
     go false is passes further = further is
 
--- An alternative that is chosen passes the test.
+-- The chosen alternative passes the test.
 chosen_is_fine : (nonterminal : Nonterminal) (kind : TokenKind) (items : List Item) → chosen nonterminal kind ≡ Some items → items_are_fine (continues nonterminal) items ≡ true
 unfolding chosen
 chosen_is_fine nonterminal kind items e = found_passes _ (λ (items : List Item). items_are_fine (continues nonterminal) items) (rule nonterminal) items e (table_is_fine nonterminal)
 
--- What a nonterminal consists of is fine where the nonterminal was.
+-- What a nonterminal opens to is fine where the nonterminal was.
 chosen_fine : (nonterminal : Nonterminal) (kind : TokenKind) (depth : ℕ) (alternative : Option (List Item)) (inner items : List Wanted) → chosen nonterminal kind ≡ alternative
     → option_map (place (inner_depth nonterminal depth)) alternative ≡ Some inner → Fine (Subgoal (One nonterminal) depth ∷ items) → Fine (inner ++ items)
 chosen_fine nonterminal kind depth None inner items is e fine = absurd cc
@@ -420,7 +421,7 @@ chosen_fine nonterminal kind depth (Some alternative) inner items is e fine =
     subst (λ (l : List Wanted). Fine (l ++ items)) same
     (items_fine (continues nonterminal) alternative (inner_depth nonterminal depth) items (chosen_is_fine nonterminal kind alternative is) fine.0 fine.1)
 
--- So is what a part consists of that may be left out.
+-- What an optional part opens to is fine where the part was.
 optional_fine : (nonterminal : Nonterminal) (depth : ℕ) (begin : Bool) (inner items : List Wanted)
     → (if begin then Some (Subgoal (One nonterminal) depth ∷ []) else Some []) ≡ Some inner
     → Fine (Subgoal (Optional nonterminal) depth ∷ items) → Fine (inner ++ items)
@@ -431,7 +432,7 @@ optional_fine nonterminal depth false inner items e fine =
     let same : [] ≡ inner = cc in
     subst (λ (l : List Wanted). Fine (l ++ items)) same fine.1
 
--- So is what a part consists of that may stand any number of times.
+-- What a repeated part opens to is fine where the part was.
 repeated_fine : (nonterminal : Nonterminal) (depth : ℕ) (begin : Bool) (inner items : List Wanted)
     → (if begin then Some (Subgoal (One nonterminal) depth ∷ Subgoal (Repeated nonterminal) depth ∷ []) else Some []) ≡ Some inner
     → Fine (Subgoal (Repeated nonterminal) depth ∷ items) → Fine (inner ++ items)
@@ -442,33 +443,33 @@ repeated_fine nonterminal depth false inner items e fine =
     let same : [] ≡ inner = cc in
     subst (λ (l : List Wanted). Fine (l ++ items)) same fine.1
 
--- So is what any part consists of.
+-- What any part opens to is fine where the part was.
 opened_fine : (goal : Goal) (kind : TokenKind) (depth : ℕ) (inner items : List Wanted) → opened goal kind depth ≡ Some inner
     → Fine (Subgoal goal depth ∷ items) → Fine (inner ++ items)
 opened_fine (One nonterminal) kind depth inner items e fine = chosen_fine nonterminal kind depth (chosen nonterminal kind) inner items refl e fine
 opened_fine (Optional nonterminal) kind depth inner items e fine = optional_fine nonterminal depth (begins nonterminal kind) inner items e fine
 opened_fine (Repeated nonterminal) kind depth inner items e fine = repeated_fine nonterminal depth (begins nonterminal kind) inner items e fine
 
--- What is wanted stays fine as it moves over the tokens.
+-- Fine items stay fine as they move over the tokens.
 pub fine_moves : {items others : List Wanted} {ts rest : List Mark} → Moves items ts others rest → Fine items → Fine others
 fine_moves Stays fine = fine
 fine_moves (Takes e within moves) fine = fine_moves moves fine.1
 fine_moves (Opens {goal = goal} {depth = depth} {inner = inner} {items = items} {ts = ts} e moves) fine =
     fine_moves moves (opened_fine goal (next ts) depth inner items e fine)
 
--- what is wanted is read from the short list of tokens, to its end
+-- the items are read from their completion, to its end
 pub record Finishes (items : List Wanted) : Type 0 where
   pub depths : List ℕ
   pub whole : WholeReading items (finish items) depths
 
--- A token of a kind is read.
+-- A token is read, followed by items that are read to the end.
 token_finishes : (kind : TokenKind) (depth : ℕ) (items : List Wanted) → Fine (Terminal kind depth ∷ items) → Finishes items → Finishes (Terminal kind depth ∷ items)
 token_finishes kind depth items fine rest = record {
   depths = depth ∷ rest.depths;
   whole = token_put fine.0 rest.whole;
 }
 
--- A part that does not begin with the next token is left out.
+-- A part that opens to nothing is left out, followed by items that are read to the end.
 left_out : (goal : Goal) (depth : ℕ) (items : List Wanted) → goal_tokens goal ≡ [] → opened goal (next (finish items)) depth ≡ Some [] → Finishes items
     → Finishes (Subgoal goal depth ∷ items)
 left_out goal depth items none e rest = record {
@@ -477,27 +478,27 @@ left_out goal depth items none e rest = record {
       (part_closed e rest.whole);
 }
 
--- So is one that may stand once.
+-- A fine optional part is left out.
 optional_finishes : (nonterminal : Nonterminal) (depth : ℕ) (items : List Wanted) → Fine (Subgoal (Optional nonterminal) depth ∷ items) → Finishes items
     → Finishes (Subgoal (Optional nonterminal) depth ∷ items)
 optional_finishes nonterminal depth items fine rest =
     left_out (Optional nonterminal) depth items refl
     (ap (λ b. if b then Some (Subgoal (One nonterminal) depth ∷ []) else Some []) (begins_not nonterminal _ fine.0)) rest
 
--- So is one that may stand any number of times.
+-- A fine repeated part is left out.
 repeated_finishes : (nonterminal : Nonterminal) (depth : ℕ) (items : List Wanted) → Fine (Subgoal (Repeated nonterminal) depth ∷ items) → Finishes items
     → Finishes (Subgoal (Repeated nonterminal) depth ∷ items)
 repeated_finishes nonterminal depth items fine rest =
     left_out (Repeated nonterminal) depth items refl
     (ap (λ b. if b then Some (Subgoal (One nonterminal) depth ∷ Subgoal (Repeated nonterminal) depth ∷ []) else Some []) (begins_not nonterminal _ fine.0)) rest
 
--- whether the nonterminal of an item, where it is one, passes a test
+-- whether an item that is a nonterminal passes a test; other items pass
 abbrev item_passes : (Nonterminal → Bool) → Item → Bool
 item_passes test (Part nonterminal) = test nonterminal
 item_passes test (Inside more item) = item_passes test item
 item_passes test item = true
 
--- whether so many rounds are enough for the short list of a nonterminal
+-- whether this many rounds are enough for the short list of a nonterminal
 unfoldable enough : ℕ → Nonterminal → Bool
 enough zero nonterminal = false
 enough (suc rounds) nonterminal = list_all (λ (item : Item). item_passes (enough rounds) item) (simplest nonterminal)
@@ -508,11 +509,11 @@ unfolding enough
 twelve_are_enough Program = refl
 twelve_are_enough _ = refl
 
--- a nonterminal is read to its end, before what is
+-- a nonterminal is read to the end, followed by items that are
 abbrev Completes : Nonterminal → Type 0
 Completes nonterminal = (depth : ℕ) (items : List Wanted) → Fine (Subgoal (One nonterminal) depth ∷ items) → Finishes items → Finishes (Subgoal (One nonterminal) depth ∷ items)
 
--- An item is read to its end if its nonterminal is.
+-- An item is read to the end if its nonterminal is.
 item_finishes : (test : Nonterminal → Bool) → ((nonterminal : Nonterminal) → test nonterminal ≡ true → Completes nonterminal) → (item : Item) → item_passes test item ≡ true
     → (depth : ℕ) (items : List Wanted) → Fine (place_item depth item ∷ items) → Finishes items → Finishes (place_item depth item ∷ items)
 item_finishes test complete (Of kind) e depth items fine rest = token_finishes kind depth items fine rest
@@ -521,7 +522,7 @@ item_finishes test complete (Opt nonterminal) e depth items fine rest = optional
 item_finishes test complete (Many nonterminal) e depth items fine rest = repeated_finishes nonterminal depth items fine rest
 item_finishes test complete (Inside more item) e depth items fine rest = item_finishes test complete item e (depth + more) items fine rest
 
--- So is an alternative.
+-- An alternative is read to the end if its nonterminals are.
 items_finish : (test : Nonterminal → Bool) → ((nonterminal : Nonterminal) → test nonterminal ≡ true → Completes nonterminal)
     → (others : List Item) → list_all (λ (item : Item). item_passes test item) others ≡ true
     → (depth : ℕ) (items : List Wanted) → Fine (place depth others ++ items) → Finishes items → Finishes (place depth others ++ items)
@@ -531,12 +532,12 @@ items_finish test complete (item ∷ others) e depth items fine rest =
     item_finishes test complete item parts.0 depth (place depth others ++ items) fine
     (items_finish test complete others parts.1 depth items (fine_tail _ _ fine) rest)
 
--- What completes an item, before others, is what completes them after its tokens.
+-- The completion of an item, followed by others, is the item's tokens followed by the completion of the others.
 item_completed : (item : Item) (depth : ℕ) (items : List Wanted) → finish (place_item depth item ∷ items) ≡ item_tokens short item ++ finish items
 item_completed (Inside more item) depth items = item_completed item (depth + more) items
 item_completed _ depth items = refl
 
--- So it is for an alternative.
+-- The completion of an alternative, followed by others, is its tokens followed by the completion of the others.
 items_completed : (others : List Item) (depth : ℕ) (items : List Wanted) → finish (place depth others ++ items) ≡ items_tokens short others ++ finish items
 items_completed [] depth items = refl
 items_completed (item ∷ others) depth items =
@@ -544,7 +545,7 @@ items_completed (item ∷ others) depth items =
     ∙ (ap (λ (l : List Mark). item_tokens short item ++ l) (items_completed others depth items)
     ∙ sym (append_assoc (item_tokens short item) (items_tokens short others) (finish items)))
 
--- A nonterminal is read to its end if its alternative is.
+-- A nonterminal is read to the end if its simplest alternative is.
 symbol_finishes : (nonterminal : Nonterminal) (depth : ℕ) (items : List Wanted) → Finishes (place (inner_depth nonterminal depth) (simplest nonterminal) ++ items)
     → Finishes (Subgoal (One nonterminal) depth ∷ items)
 symbol_finishes nonterminal depth items inside =
@@ -557,7 +558,7 @@ symbol_finishes nonterminal depth items inside =
           (subst (λ (ts : List Mark). WholeReading (place (inner_depth nonterminal depth) (simplest nonterminal) ++ items) ts inside.depths) same inside.whole);
     }
 
--- So each nonterminal is read to its end for which so many rounds are enough.
+-- Each nonterminal for which this many rounds are enough is read to the end.
 completes : (rounds : ℕ) (nonterminal : Nonterminal) → enough rounds nonterminal ≡ true → Completes nonterminal
 unfolding enough
 completes zero nonterminal e depth items fine rest = absurd cc
@@ -568,7 +569,7 @@ completes (suc rounds) nonterminal e depth items fine rest =
     symbol_finishes nonterminal depth items
     (items_finish (enough rounds) (λ inner e. completes rounds inner e) (simplest nonterminal) e (inner_depth nonterminal depth) items inside rest)
 
--- Whatever is wanted, and fine, is read to its end from the short list of tokens.
+-- Fine items are read from their completion, to its end.
 pub finishes : (items : List Wanted) → Fine items → Finishes items
 finishes [] fine = record { depths = []; whole = record { forest = Empty; reads = Nothing; are = refl } }
 finishes (Terminal kind depth ∷ items) fine = token_finishes kind depth items fine (finishes items fine.1)

@@ -1,6 +1,7 @@
--- Each list of tokens is read as what is wanted, within the limit, or refused somewhere. This goes by recursion on the list and, for a
--- token in front, by opening parts until a token is wanted. That ends, since no nonterminal begins with itself: each alternative comes to a
--- token within a few rounds, and what stands after that token is decided at the shorter list.
+-- Each token list is read as the wanted items, within the limit, or refused somewhere. The proof is by recursion on the
+-- list and, at its first token, by opening parts until a token is wanted. That ends, since no nonterminal begins with
+-- itself. Each alternative reaches a token within a few rounds, and what follows that token is decided for the shorter
+-- list.
 use Rattle.std.proofs.Common.{◌≡◌, ◌≤◌, ◌<◌, ℕ, zero, suc, Bool, true, false, ◌&&◌, List, [], ◌∷◌, ◌++◌, ◌+◌, Option, Some, None, option_map, refl, sym, ap, subst, ◌∙◌}
 use mathlib.Core.Logic.{◌⊎◌, inl, inr}
 use Rattle.std.specs.List.{list_all, find}
@@ -14,7 +15,7 @@ use Rattle.abs_parser.specs.Stops.{limit}
 use Rattle.abs_parser.specs.Refusing.{Refuses, Beyond, Other, Below, Past, Shut, Open, Cut, AllWithin}
 use Rattle.abs_parser.proofs.grammar.ReadingLemmas.{WholeReading, part_closed, token_put}
 
--- What is found is one of the elements, so it passes each test that all of them pass.
+-- An element found in a list passes each test that all elements pass.
 pub found_passes : {X : Type 0} (test passes : X → Bool) (list : List X) (one : X) → list_all passes list ≡ true → find test list ≡ Some one → passes one ≡ true
 found_passes test passes [] one all e = cc
 found_passes test passes (x ∷ others) one all e =
@@ -28,7 +29,7 @@ found_passes test passes (x ∷ others) one all e =
         subst (λ y. passes y ≡ true) same each.0
     at (inr is_not) each after = after each.1 (sym (cond-false (test x) (Some x) (find test others) is_not) ∙ e)
 
--- whether an item comes to a token, given which nonterminals do, and whether what stands after the item does
+-- whether an item reaches a token, given which nonterminals do, and whether the items after it do
 abbrev item_leads : (Nonterminal → Bool) → Item → Bool → Bool
 item_leads leads (Of kind) after = true
 item_leads leads (Part nonterminal) after = leads nonterminal
@@ -36,29 +37,29 @@ item_leads leads (Opt nonterminal) after = leads nonterminal && after
 item_leads leads (Many nonterminal) after = leads nonterminal && after
 item_leads leads (Inside more item) after = item_leads leads item after
 
--- whether the items of an alternative do
+-- whether the items of an alternative reach a token
 abbrev items_lead : (Nonterminal → Bool) → List Item → Bool
 items_lead leads [] = false
 items_lead leads (item ∷ others) = item_leads leads item (items_lead leads others)
 
--- whether each alternative of a nonterminal comes to a token within so many rounds of opening what stands in front
+-- whether each alternative of a nonterminal reaches a token within this many rounds of opening the first part
 leads_within : ℕ → Nonterminal → Bool
 leads_within zero nonterminal = false
 leads_within (suc rounds) nonterminal = list_all (items_lead (leads_within rounds)) (rule nonterminal)
 
--- Each nonterminal comes to a token within 12 rounds.
+-- Each nonterminal reaches a token within 12 rounds.
 all_lead : (nonterminal : Nonterminal) → leads_within 12 nonterminal ≡ true
 unfolding leads_within
 all_lead Program = refl
 all_lead _ = refl
 
--- A list of tokens is read as what is wanted, within the limit, or refused somewhere.
+-- A token list is read as the wanted items, within the limit, or refused somewhere.
 pub data Decided (items : List Wanted) (ts : List Mark) : Type 0 where
   read : (depths : List ℕ) → WholeReading items ts depths → AllWithin depths → Decided items ts
   refused : (rest : List Mark) (code : Code) → Refuses items ts rest code → Decided items ts
 
 module _ (mark : Mark) (ts : List Mark) (after : (items : List Wanted) → Decided items ts) where
-  -- A wanted token is decided, since everything is after it.
+  -- A wanted token is decided, since any items are decided after it.
   at_token : (kind : TokenKind) (depth : ℕ) (items : List Wanted) → Decided (Terminal kind depth ∷ items) (mark ∷ ts)
   at_token kind depth items = go (cases_Bool (fits kind (token_kind mark))) (cases_lt limit depth) (after items)
     where
@@ -69,13 +70,13 @@ module _ (mark : Mark) (ts : List Mark) (after : (items : List Wanted) → Decid
       go (inl fit) (inr within) (read depths whole all) = read (depth ∷ depths) (token_put fit whole) (within, all)
       go (inl fit) (inr within) (refused rest code no_reading) = refused rest code (Past fit within no_reading)
 
-  -- A part is decided where what it opens to is.
+  -- A part is decided if what it opens to is.
   at_opened : (goal : Goal) (depth : ℕ) (inner items : List Wanted) → opened goal (token_kind mark) depth ≡ Some inner → Decided (inner ++ items) (mark ∷ ts)
       → Decided (Subgoal goal depth ∷ items) (mark ∷ ts)
   at_opened goal depth inner items e (read depths whole all) = read depths (part_closed e whole) all
   at_opened goal depth inner items e (refused rest code no_reading) = refused rest code (Open e no_reading)
 
-  -- A part that may be left out is decided where the part is, and what stands after it.
+  -- An optional part is decided if the items with it and the items without it are.
   at_optional : (nonterminal : Nonterminal) (depth : ℕ) (items : List Wanted) → Decided (Subgoal (One nonterminal) depth ∷ items) (mark ∷ ts) → Decided items (mark ∷ ts)
       → Decided (Subgoal (Optional nonterminal) depth ∷ items) (mark ∷ ts)
   at_optional nonterminal depth items with_it without = go (cases_Bool (begins nonterminal (token_kind mark)))
@@ -84,7 +85,7 @@ module _ (mark : Mark) (ts : List Mark) (after : (items : List Wanted) → Decid
       go (inl stands) = at_opened (Optional nonterminal) depth (Subgoal (One nonterminal) depth ∷ []) items (cond-true _ _ _ stands) with_it
       go (inr missing) = at_opened (Optional nonterminal) depth [] items (cond-false _ _ _ missing) without
 
-  -- So is one that may stand any number of times: what stands after the first of them is decided with it.
+  -- A repeated part is decided if the items with one more of it and the items without it are.
   at_repeated : (nonterminal : Nonterminal) (depth : ℕ) (items : List Wanted)
       → Decided (Subgoal (One nonterminal) depth ∷ Subgoal (Repeated nonterminal) depth ∷ items) (mark ∷ ts) → Decided items (mark ∷ ts)
       → Decided (Subgoal (Repeated nonterminal) depth ∷ items) (mark ∷ ts)
@@ -95,11 +96,11 @@ module _ (mark : Mark) (ts : List Mark) (after : (items : List Wanted) → Decid
           at_opened (Repeated nonterminal) depth (Subgoal (One nonterminal) depth ∷ Subgoal (Repeated nonterminal) depth ∷ []) items (cond-true _ _ _ stands) with_one
       go (inr missing) = at_opened (Repeated nonterminal) depth [] items (cond-false _ _ _ missing) without
 
-  -- these nonterminals are decided, whatever stands after them
+  -- these nonterminals are decided, whatever follows them
   abbrev Decides : (Nonterminal → Bool) → Type 0
   Decides leads = (nonterminal : Nonterminal) → leads nonterminal ≡ true → (depth : ℕ) (items : List Wanted) → Decided (Subgoal (One nonterminal) depth ∷ items) (mark ∷ ts)
 
-  -- An item that comes to a token is decided.
+  -- An item that reaches a token is decided.
   at_item : (leads : Nonterminal → Bool) → Decides leads → (item : Item) (others_lead : Bool) → item_leads leads item others_lead ≡ true → (depth : ℕ) (items : List Wanted)
       → (others_lead ≡ true → Decided items (mark ∷ ts)) → Decided (place_item depth item ∷ items) (mark ∷ ts)
   at_item leads each (Of kind) others_lead e depth items others = at_token kind depth items
@@ -112,14 +113,14 @@ module _ (mark : Mark) (ts : List Mark) (after : (items : List Wanted) → Decid
       at_repeated nonterminal depth items (each nonterminal both.0 depth (Subgoal (Repeated nonterminal) depth ∷ items)) (others both.1)
   at_item leads each (Inside more item) others_lead e depth items others = at_item leads each item others_lead e (depth + more) items others
 
-  -- An alternative that comes to a token is decided, whatever stands after it.
+  -- An alternative that reaches a token is decided, whatever follows it.
   at_alternative : (leads : Nonterminal → Bool) → Decides leads → (alternative : List Item) → items_lead leads alternative ≡ true → (depth : ℕ) (items : List Wanted)
       → Decided (place depth alternative ++ items) (mark ∷ ts)
   at_alternative leads each [] e depth items = cc
   at_alternative leads each (item ∷ alternative) e depth items =
       at_item leads each item (items_lead leads alternative) e depth (place depth alternative ++ items) (λ others_lead. at_alternative leads each alternative others_lead depth items)
 
-  -- And so is a nonterminal all of whose alternatives come to a token.
+  -- A nonterminal whose alternatives all reach a token is decided.
   at_symbol : (rounds : ℕ) → Decides (leads_within rounds)
   unfolding leads_within chosen
   at_symbol zero nonterminal e depth items = cc
@@ -133,7 +134,7 @@ module _ (mark : Mark) (ts : List Mark) (after : (items : List Wanted) → Decid
           let inside = at_alternative (leads_within rounds) each alternative leads deeper items in
           at_opened (One nonterminal) depth (place deeper alternative) items (ap (option_map (place deeper)) is) inside
 
-  -- Whatever is wanted is decided.
+  -- Any wanted items are decided.
   at_stack : (items : List Wanted) → Decided items (mark ∷ ts)
   at_stack [] = refused _ _ (Beyond refl)
   at_stack (Terminal kind depth ∷ items) = at_token kind depth items
@@ -142,7 +143,7 @@ module _ (mark : Mark) (ts : List Mark) (after : (items : List Wanted) → Decid
   at_stack (Subgoal (Repeated nonterminal) depth ∷ items) =
       at_repeated nonterminal depth items (at_symbol 12 nonterminal (all_lead nonterminal) depth (Subgoal (Repeated nonterminal) depth ∷ items)) (at_stack items)
 
--- Each list of tokens is read as what is wanted, or refused.
+-- Each token list is read as the wanted items, or refused.
 pub decided : (ts : List Mark) (items : List Wanted) → Decided items ts
 decided [] [] = read [] record { forest = Empty; reads = Nothing; are = refl } tt
 decided [] (item ∷ items) = refused [] S1 (Cut refl)

@@ -1,5 +1,5 @@
--- The end of a source is read last: what asks for the end stands after everything else that is wanted. So a source is never refused
--- because it was cut off, but always at a token, which may be its end.
+-- The end of a source is read last: the item that asks for the end comes after all other wanted items. So a source is
+-- always refused at a token, which may be its end, and never because it was cut off.
 use Rattle.std.proofs.Common.{◌≡◌, ℕ, Bool, true, false, ◌&&◌, List, [], ◌∷◌, ◌++◌, map, Option, Some, None, option_map, if◌then◌else◌, refl, subst}
 use Rattle.std.specs.List.{list_all}
 use Rattle.std.proofs.lemmas.Bool.{and_parts, and_from}
@@ -19,7 +19,7 @@ abbrev is_inner : Nonterminal → Bool
 is_inner Program = false
 is_inner nonterminal = true
 
--- whether what is wanted has no end in it: it is neither the end nor a program
+-- whether a wanted item has no end in it: it is neither the end nor a program
 abbrev endless : Wanted → Bool
 endless (Terminal End depth) = false
 endless (Terminal kind depth) = true
@@ -27,7 +27,7 @@ endless (Subgoal (One nonterminal) depth) = is_inner nonterminal
 endless (Subgoal (Optional nonterminal) depth) = is_inner nonterminal
 endless (Subgoal (Repeated nonterminal) depth) = is_inner nonterminal
 
--- what is wanted has an end as its last item at most
+-- at most the last of the wanted items has an end in it
 data Closed : List Wanted → Type 0 where
   NoMore : Closed []
   Endless : {item : Wanted} {items : List Wanted} → endless item ≡ true → Closed items → Closed (item ∷ items)
@@ -39,24 +39,24 @@ inner_endless : (nonterminal : Nonterminal) (depth : ℕ) → is_inner nontermin
 inner_endless Program depth e = cc
 inner_endless _ depth e = refl
 
--- Items without an end may stand before any that are closed.
+-- Items without an end, followed by closed items, are closed.
 endless_first : (items others : List Wanted) → list_all endless items ≡ true → Closed others → Closed (items ++ others)
 endless_first [] others e closed = closed
 endless_first (item ∷ items) others e closed =
     let both = and_parts (endless item) (list_all endless items) e in
     Endless both.0 (endless_first items others both.1 closed)
 
--- What an option holds is closed before these items.
+-- The items that an option holds, followed by these items, are closed.
 abbrev ClosedInside : Option (List Wanted) → List Wanted → Type 0
 ClosedInside None items = Unit {0}
 ClosedInside (Some inner) items = Closed (inner ++ items)
 
--- Where a test decides between such items and none, either is closed before closed ones.
+-- Where a test decides between such items and none, both are closed before closed items.
 either_closed : (stands : Bool) (inner items : List Wanted) → list_all endless inner ≡ true → Closed items → ClosedInside (if stands then Some inner else Some []) items
 either_closed true inner items e closed = endless_first inner items e closed
 either_closed false inner items e closed = closed
 
--- An inner nonterminal opens to items without an end.
+-- What an inner nonterminal opens to is closed before closed items.
 inner_closed : (nonterminal : Nonterminal) (kind : TokenKind) (depth : ℕ) (items : List Wanted) → is_inner nonterminal ≡ true → Closed items → ClosedInside (opened (One nonterminal) kind depth) items
 unfolding chosen
 inner_closed nonterminal kind depth items is closed = go (chosen nonterminal kind) refl
@@ -68,18 +68,18 @@ inner_closed nonterminal kind depth items is closed = go (chosen nonterminal kin
         let without_end = found_passes _ (λ (row : List Item). list_all endless (place deeper row)) (rule nonterminal) alternative (inner_endless nonterminal deeper is) e in
         endless_first (place deeper alternative) items without_end closed
 
--- Where a test decides between an alternative and none, what is chosen is closed if the alternative is.
+-- Where a test decides between an alternative and none, the choice is closed if the alternative is.
 only_closed : (stands : Bool) (alternative : List Item) (depth : ℕ) → Closed (place depth alternative ++ [])
     → ClosedInside (option_map (place depth) (if stands then Some alternative else None)) []
 only_closed true alternative depth closed = closed
 only_closed false alternative depth closed = tt
 
--- A program opens to items of which the last alone is the end.
+-- A program opens to items of which only the last is the end.
 program_closed : (kind : TokenKind) (depth : ℕ) → ClosedInside (opened (One Program) kind depth) []
 unfolding chosen
 program_closed kind depth = only_closed _ _ depth (Endless refl (Endless refl (Endless refl (Endless refl LastEnd))))
 
--- A part that is closed opens to items that are.
+-- Closed items stay closed when the first part opens.
 opened_closed : (goal : Goal) (kind : TokenKind) (depth : ℕ) (items : List Wanted) → Closed (Subgoal goal depth ∷ items) → ClosedInside (opened goal kind depth) items
 opened_closed (One nonterminal) kind depth items (Endless e closed) = inner_closed nonterminal kind depth items e closed
 opened_closed (One Program) kind depth [] LastProgram = program_closed kind depth
@@ -89,28 +89,28 @@ opened_closed (Repeated nonterminal) kind depth items (Endless e closed) =
     let both = and_from (is_inner nonterminal) (is_inner nonterminal && true) e (and_from (is_inner nonterminal) true e refl) in
     either_closed (begins nonterminal kind) (Subgoal (One nonterminal) depth ∷ Subgoal (Repeated nonterminal) depth ∷ []) items both closed
 
--- Beyond a token there are closed items.
+-- Closed items that begin with a token stay closed without it.
 after_token : {kind : TokenKind} {depth : ℕ} {items : List Wanted} → Closed (Terminal kind depth ∷ items) → Closed items
 after_token (Endless e closed) = closed
 after_token LastEnd = NoMore
 
--- Only where the end is asked for does it fit.
+-- The end fits only where it is asked for.
 end_fits : (kind : TokenKind) → fits kind End ≡ true → kind ≡ End
 end_fits End e = refl
 end_fits _ e = cc
 
--- Beyond the end there are none.
+-- In closed items nothing follows the end.
 after_end : {kind : TokenKind} {depth : ℕ} {items : List Wanted} → kind ≡ End → Closed (Terminal kind depth ∷ items) → items ≡ []
 after_end {depth = depth} is (Endless e closed) =
     let not_endless : endless (Terminal End depth) ≡ true = subst (λ kind. endless (Terminal kind depth) ≡ true) is e in
     cc
 after_end is LastEnd = refl
 
--- Where nothing is wanted, nothing moves.
+-- Where no items are wanted, none are wanted after a move.
 nothing_moves : {others : List Wanted} {ts rest : List Mark} → Moves [] ts others rest → others ≡ []
 nothing_moves Stays = refl
 
--- Closed items that move over a source up to its end have all moved.
+-- When closed items have moved over a whole source, none is left.
 all_moved : {items others : List Wanted} {ts : List Mark} → Moves items ts others [] → (tokens : List Lexed) (end : Place) → ts ≡ map Token tokens ++ TextEnd end ∷ []
     → Closed items → others ≡ []
 all_moved Stays [] end are closed = cc
@@ -125,7 +125,7 @@ all_moved (Takes {ts = ts} fit within moves) (token ∷ tokens) end are closed =
 all_moved (Opens {goal = goal} {depth = depth} {items = items} {ts = ts} is moves) tokens end are closed =
     all_moved moves tokens end are (subst (λ (choice : Option (List Wanted)). ClosedInside choice items) is (opened_closed goal (next ts) depth items closed))
 
--- A text is refused at a token, and never because it was cut off.
+-- A source is refused at a token, and never because it was cut off.
 pub text_refused : (list : TokenList) (rest : List Mark) (code : Code) → Refuses a_program (marks list) rest code → Blocked a_program (marks list) rest code
 text_refused list rest code refused = go (refusal refused)
   where

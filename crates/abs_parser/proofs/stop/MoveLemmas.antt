@@ -1,7 +1,8 @@
--- What is wanted moves over the tokens, within the limit: it takes a token that fits, or opens a part by the next token, until the others
--- are wanted at the rest. What a reader refuses has moved up to a token that blocks it, or to where the list was cut off. A whole reading
--- goes along with the moves: it has the tokens that were moved over, and after them it is one of what is wanted at the rest; and back. A
--- move up to a token depends on that token, but on none after it, and a move over a token depends on none after it, either.
+-- The wanted items move over the tokens, within the limit. They take a token that fits or open a part by the next
+-- token, until other items are wanted at the rest. Items that a reader refuses have moved up to a token that blocks
+-- them, or to where the list was cut off. A whole reading follows the moves: it has the tokens that were moved over,
+-- and then reads the items wanted at the rest. The converse holds, too. Moves up to a token depend on that token, but
+-- on none after it, and moves over a token depend on none after it, either.
 use Rattle.std.proofs.Common.{◌≡◌, ◌≤◌, ◌<◌, ℕ, true, List, [], ◌∷◌, ◌++◌, ◌+◌, length, Some, refl, sym, ap, ◌∙◌, arith}
 use Rattle.std.proofs.lemmas.List.{length-append}
 use Rattle.abs_tree.specs.declared.refusal.Code.{Code}
@@ -12,7 +13,7 @@ use Rattle.abs_parser.specs.Refusing.{Refuses, Beyond, Other, Below, Past, Shut,
 use Rattle.abs_parser.specs.Stops.{limit, wrong_code}
 use Rattle.abs_parser.proofs.grammar.ReadingLemmas.{WholeReading, part_closed, part_opened, token_taken, token_put, unfit_unread, shut_unread, unwanted_unread}
 
--- These items, wanted at these tokens, come to be others, wanted at the rest.
+-- These items, wanted at these tokens, become other items, wanted at the rest.
 pub data Moves : List Wanted → List Mark → List Wanted → List Mark → Type 0 where
   Stays : {items : List Wanted} {ts : List Mark} → Moves items ts items ts
   Takes : {kind : TokenKind} {depth : ℕ} {items others : List Wanted} {mark : Mark} {ts rest : List Mark}
@@ -20,13 +21,13 @@ pub data Moves : List Wanted → List Mark → List Wanted → List Mark → Typ
   Opens : {goal : Goal} {depth : ℕ} {inner items others : List Wanted} {ts rest : List Mark}
       → opened goal (next ts) depth ≡ Some inner → Moves (inner ++ items) ts others rest → Moves (Subgoal goal depth ∷ items) ts others rest
 
--- A token blocks what is wanted: no list that begins with it is read as that, or it fits but stands too deep.
+-- A token blocks the wanted items: no list that begins with it is read as them, or it fits but is too deeply nested.
 pub data Blocks : List Wanted → Mark → Code → Type 0 where
   Unread : {items : List Wanted} {mark : Mark} {code : Code} → ((after : List Mark) (levels : List ℕ) → WholeReading items (mark ∷ after) levels → ⊥)
       → code ≡ wrong_code (token_kind mark) → Blocks items mark code
   TooDeep : {kind : TokenKind} {depth : ℕ} {items : List Wanted} {mark : Mark} → fits kind (token_kind mark) ≡ true → limit < depth → Blocks (Terminal kind depth ∷ items) mark S2
 
--- What is wanted has moved up to a token that blocks it.
+-- The wanted items have moved up to a token that blocks them.
 pub record Blocked (items : List Wanted) (ts rest : List Mark) (code : Code) : Type 0 where
   pub others : List Wanted
   pub mark : Mark
@@ -35,18 +36,18 @@ pub record Blocked (items : List Wanted) (ts rest : List Mark) (code : Code) : T
   pub moves : Moves items ts others (mark ∷ after)
   pub blocks : Blocks others mark code
 
--- What is wanted has moved over all tokens, and something is wanted still.
+-- The wanted items have moved over all tokens, and some items are left.
 pub record CutOff (items : List Wanted) (ts : List Mark) : Type 0 where
   pub item : Wanted
   pub others : List Wanted
   pub moves : Moves items ts (item ∷ others) []
 
--- What is wanted is refused at a token that blocks it, or where the list was cut off.
+-- The wanted items are refused at a token that blocks them, or where the list was cut off.
 pub data Refusal (items : List Wanted) (ts rest : List Mark) (code : Code) : Type 0 where
   AtToken : Blocked items ts rest code → Refusal items ts rest code
   AtEnd : CutOff items ts → Refusal items ts rest code
 
--- What is refused after a first move is refused.
+-- Items are refused where what a first move makes of them is refused.
 refused_later : {items inner : List Wanted} {ts within rest : List Mark} {code : Code}
     → ((others : List Wanted) (after : List Mark) → Moves inner within others after → Moves items ts others after)
     → Refusal inner within rest code → Refusal items ts rest code
@@ -60,11 +61,11 @@ refused_later first (AtToken blocked) = AtToken record {
 }
 refused_later first (AtEnd cut) = AtEnd record { item = cut.item; others = cut.others; moves = first _ _ cut.moves }
 
--- What is blocked by the next token is refused there.
+-- Items that the next token blocks are refused at it.
 refused_here : {items : List Wanted} {mark : Mark} {ts : List Mark} {code : Code} → Blocks items mark code → Refusal items (mark ∷ ts) (mark ∷ ts) code
 refused_here blocks = AtToken record { others = _; mark = _; after = _; is = refl; moves = Stays; blocks = blocks }
 
--- What a reader refuses has moved up to a token that blocks it, or to the end of the list.
+-- Items that a reader refuses have moved up to a token that blocks them, or to the end of the list.
 pub refusal : {items : List Wanted} {ts rest : List Mark} {code : Code} → Refuses items ts rest code → Refusal items ts rest code
 refusal (Beyond is) = refused_here (Unread (λ after levels. unwanted_unread) is)
 refusal (Other unfit is) = refused_here (Unread (λ after levels. unfit_unread unfit) is)
@@ -74,23 +75,23 @@ refusal (Shut shut is) = refused_here (Unread (λ after levels. shut_unread shut
 refusal (Open opens refused) = refused_later (λ others after. Opens opens) (refusal refused)
 refusal (Cut is) = AtEnd record { item = _; others = _; moves = Stays }
 
--- What a reader refuses at the end of some moves, it refuses from their beginning on.
+-- Where items are refused after some moves, the items before the moves are refused, too.
 refuses_moved : {items others : List Wanted} {ts rest to : List Mark} {code : Code} → Moves items ts others rest → Refuses others rest to code → Refuses items ts to code
 refuses_moved Stays refused = refused
 refuses_moved (Takes fit within moves) refused = Past fit within (refuses_moved moves refused)
 refuses_moved (Opens opens moves) refused = Open opens (refuses_moved moves refused)
 
--- Where all tokens are within the limit, the first ones are.
+-- Where all depths of two lists are within the limit, those of the first list are.
 pub within_first : (first second : List ℕ) → AllWithin (first ++ second) → AllWithin first
 within_first [] second within = tt
 within_first (depth ∷ first) second within = (within.0, within_first first second within.1)
 
--- And so are those after them.
+-- Where all depths of two lists are within the limit, those of the second list are.
 pub within_second : (first second : List ℕ) → AllWithin (first ++ second) → AllWithin second
 within_second [] second within = within
 within_second (depth ∷ first) second within = within_second first second within.1
 
--- Items that are read within the limit are moved over, before others that move.
+-- Items that are read within the limit are moved over, and then the items after them move.
 pub passes : {first items others : List Wanted} {ts middle rest : List Mark} {forest : Forest} → Reads first ts forest middle → AllWithin (depths forest)
     → Moves items middle others rest → Moves (first ++ items) ts others rest
 passes Nothing within moves = moves
@@ -98,12 +99,12 @@ passes (Taken fit reads) within moves = Takes fit within.0 (passes reads within.
 passes (Opened {inside = inside} {forest = forest} opens reads_inside reads) within moves =
     Opens opens (passes reads_inside (within_first (depths inside) (depths forest) within) (passes reads (within_second (depths inside) (depths forest) within) moves))
 
--- What a reader refuses after items that are read within the limit, it refuses with them in front.
+-- Items refused after a prefix that is read within the limit are refused with that prefix before them.
 pub refuses_after : {first items : List Wanted} {ts middle rest : List Mark} {forest : Forest} {code : Code} → Reads first ts forest middle → AllWithin (depths forest)
     → Refuses items middle rest code → Refuses (first ++ items) ts rest code
 refuses_after reads within refused = refuses_moved (passes reads within Stays) refused
 
--- These depths are those of the tokens that were moved over, each within the limit, and those of a whole reading of the rest.
+-- These are the depths of the tokens that were moved over, each within the limit, and of a whole reading of the rest.
 pub record ReadAhead (others : List Wanted) (ts rest : List Mark) (levels : List ℕ) : Type 0 where
   pub passed : List ℕ
   pub ahead : List ℕ
@@ -112,7 +113,7 @@ pub record ReadAhead (others : List Wanted) (ts rest : List Mark) (levels : List
   pub count : length passed + length rest ≡ length ts
   pub reading : WholeReading others rest ahead
 
--- A whole reading goes along with the moves, up to the rest.
+-- A whole reading follows the moves, up to the rest.
 pub read_ahead : {items others : List Wanted} {ts rest : List Mark} {levels : List ℕ} → Moves items ts others rest → WholeReading items ts levels
     → ReadAhead others ts rest levels
 read_ahead Stays reading = record { passed = []; ahead = _; are = refl; within = tt; count = omega arith; reading = reading }
@@ -129,13 +130,13 @@ read_ahead (Takes {depth = depth} fit within moves) reading =
     }
 read_ahead (Opens opens moves) reading = read_ahead moves (part_opened opens reading)
 
--- The whole list is read as these items, with as many tokens as were moved over before those of the rest.
+-- The whole list is read as these items: first the tokens that were moved over, then those of the rest.
 pub record ReadBack (items : List Wanted) (ts rest : List Mark) (levels : List ℕ) : Type 0 where
   pub passed : List ℕ
   pub count : length passed + length rest ≡ length ts
   pub reading : WholeReading items ts (passed ++ levels)
 
--- A whole reading of the rest is one of what was moved over, too.
+-- A whole reading of the rest extends to one of the whole list, by the tokens that were moved over.
 pub read_back : {items others : List Wanted} {ts rest : List Mark} {levels : List ℕ} → Moves items ts others rest → WholeReading others rest levels → ReadBack items ts rest levels
 read_back Stays reading = record { passed = []; count = omega arith; reading = reading }
 read_back (Takes {depth = depth} fit within moves) reading =
@@ -145,18 +146,18 @@ read_back (Opens opens moves) reading =
     let further = read_back moves reading in
     record { passed = further.passed; count = further.count; reading = part_closed opens further.reading }
 
--- What is wanted moves over the tokens of the list up to this one, whatever stands after it.
+-- The wanted items move over the tokens of the list up to this one, whatever follows it.
 pub record MovesUpTo (items others : List Wanted) (mark : Mark) (ts after : List Mark) : Type 0 where
   pub before : List Mark
   pub is : ts ≡ before ++ mark ∷ after
   pub moves : (more : List Mark) → Moves items (before ++ mark ∷ more) others (mark ∷ more)
 
--- The next token of a list stays the same where others stand after one of its tokens.
+-- The next token of a list stays the same where other tokens follow one of its tokens.
 next_same : {ts : List Mark} (before : List Mark) (mark : Mark) (after more : List Mark) → ts ≡ before ++ mark ∷ after → next (before ++ mark ∷ more) ≡ next ts
 next_same [] mark after more is = sym (ap next is)
 next_same (first ∷ before) mark after more is = sym (ap next is)
 
--- What has moved up to a token has done so whatever stands after it.
+-- Moves up to a token do not depend on what follows it.
 pub moves_up_to : {items others : List Wanted} {mark : Mark} {ts after : List Mark} → Moves items ts others (mark ∷ after) → MovesUpTo items others mark ts after
 moves_up_to Stays = record { before = []; is = refl; moves = λ more. Stays }
 moves_up_to (Takes {mark = taken} fit within moves) =
@@ -170,12 +171,12 @@ moves_up_to {mark = mark} {after = after} (Opens {goal = goal} {depth = depth} o
       moves = λ more. Opens (ap (λ (kind : TokenKind). opened goal kind depth) (next_same further.before mark after more further.is) ∙ opens) (further.moves more);
     }
 
--- What is wanted moves over these tokens and this one, whatever stands after it.
+-- The wanted items move over these tokens and this one, whatever follows it.
 pub record MovesOver (items : List Wanted) (before : List Mark) (mark : Mark) : Type 0 where
   pub others : List Wanted
   pub moves : (after : List Mark) → Moves items (before ++ mark ∷ after) others after
 
--- What has moved over a token has done so whatever stands after it.
+-- Moves over a token do not depend on what follows it.
 pub moves_over : {items others : List Wanted} {ts rest : List Mark} → Moves items ts others rest → (before : List Mark) (mark : Mark) (after : List Mark)
     → ts ≡ before ++ mark ∷ after → length rest ≤ length after → MovesOver items before mark
 moves_over Stays before mark after is fewer = absurd (omega (arith, fewer, ap length is, length-append before (mark ∷ after)))

@@ -1,9 +1,8 @@
 //! Types.
 use crate::{Place, Symbol};
-use std::sync::Arc;
 
 /// A type: as a source writes it, as it is once its name is resolved, or as checking finds it. A written one has the
-/// place of its name. Copies share the arguments, so a copy costs the same whatever its size.
+/// place of its name. It is never larger than the source that writes it.
 #[derive(Drop)]
 #[cycle(types)]
 pub enum TypeTerm {
@@ -11,19 +10,19 @@ pub enum TypeTerm {
     Unresolved {
         place: Place,
         name: Symbol,
-        arguments: Arc<Vec<TypeTerm>>,
+        arguments: Vec<TypeTerm>,
     },
     /// `Int`
     Int(Place),
     /// `String`
     String(Place),
     /// `Fut<T>`
-    Fut(Place, Arc<TypeTerm>),
+    Fut(Place, Box<TypeTerm>),
     /// Data with its arguments.
     Data {
         place: Place,
         name: Symbol,
-        arguments: Arc<Vec<TypeTerm>>,
+        arguments: Vec<TypeTerm>,
     },
     /// An interface.
     Interface(Place, Symbol),

@@ -5,7 +5,7 @@ use Rattle.abs_lexer.specs.Views.{lexed}
 use Rattle.abs_lexer.proofs.LeadLemmas.{Leads}
 use Rattle.abs_lexer.proofs.lexer.tokens.Given as goal
 
--- the text was cut so far, each token takes a byte at least, and each is well formed
+-- the source was split so far, each token takes at least one byte, and each is well formed
 abbrev pub invariant-loop-count : goal.invariant-loop-count
 invariant-loop-count l = record {
   leads : Leads l.source (map lexed l.list.items) l.here.place l.here.rest.now;

@@ -6,7 +6,7 @@ use Rattle.abs_names.specs.Resolution.{resolved_exprs, resolved_operands}
 use Rattle.abs_names.proofs.TreeLemmas.{in_front, operands_in_front}
 use Rattle.abs_names.proofs.resolver.+expressions.Given as goal
 
--- what was found so far comes before what the rest gives, and the offences of the rest are still to be noted
+-- the part resolved so far and the rest resolved are the whole resolved; the offences of the rest are still to be noted
 abbrev pub invariant-expressions-loop-expr : goal.invariant-expressions-loop-expr
 invariant-expressions-loop-expr l = record {
   found : in_front l.found.items (resolved_exprs l.scope (trees_of (drop l.expr-index l.exprs))) ≡ resolved_exprs l.scope (trees_of l.exprs);

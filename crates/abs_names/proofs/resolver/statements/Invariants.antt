@@ -6,7 +6,8 @@ use Rattle.abs_names.specs.Resolution.{resolved_from}
 use Rattle.abs_names.specs.Scopes.{scope_after}
 use Rattle.abs_names.proofs.resolver.statements.Given as goal
 
--- what was found so far comes before what the rest gives; the names of the rest are still to be declared, and its offences noted
+-- the part resolved so far and the rest resolved are the whole resolved; the names of the rest are still to be
+-- declared, and its offences noted
 abbrev pub invariant-loop-stmt : goal.invariant-loop-stmt
 invariant-loop-stmt l =
     let rest = map stmt_tree (drop l.stmt-index l.stmts) in

@@ -7,7 +7,7 @@ use Rattle.abs_parser.proofs.reader.ClassSteps.{members_of, class_of}
 use Rattle.abs_parser.proofs.reader.DeclarationSteps.{ReadsParts}
 use Rattle.abs_parser.proofs.classes.class.Given as goal
 
--- what was read so far, which index is free, and that no more of them are than tokens were read
+-- what was read so far, the free index, and that no more indices were taken than tokens
 abbrev pub invariant-loop-alloc : goal.invariant-loop-alloc
 invariant-loop-alloc l = record {
   read : ReadsParts members_of (λ at. at ≡ l.index) (class_of l.token.place l.declared l.params.items l.implemented.items) 0 l.fn.symbols l.symbols (spot l.from) (spot l.here) l.members.items;

@@ -3,17 +3,18 @@ use Rattle.abs_parser.specs.Views.{spot}
 use Rattle.abs_parser.proofs.reader.GuardSteps.{one_test}
 use Rattle.abs_parser.proofs.reader.ListLemmas.{list_of_tests, trees_of_tests}
 use Rattle.abs_parser.proofs.reader.ListSteps.{first_so_far, next_so_far, all_so_far, refused_first, refused_next}
-use Rattle.abs_parser.proofs.reader.StepLemmas.{token_shorter, found_shorter, passed_on}
+use Rattle.abs_parser.proofs.reader.ResultLemmas.{passed_on}
+use Rattle.abs_parser.proofs.reader.StepLemmas.{token_shorter, found_shorter}
 use Rattle.abs_parser.proofs.guards.guard.Goals as goal
 
-pub returns-in_err-first-clause-refused : goal.returns-in_err-first-clause-refused
-returns-in_err-first-clause-refused c =
-    passed_on _ c.from_residual.result c.from_residual.ensures.1 (refused_first list_of_tests c.args.depth (spot c.args.from) _ c.in_err-first.ensures.refused)
+pub returns-in_err-first : goal.returns-in_err-first
+returns-in_err-first c =
+    passed_on _ _ c.from_residual.result c.from_residual.ensures.1 (refused_first list_of_tests c.args.depth (spot c.args.from) _ c.in_err-first.ensures)
 
 pub loop-after-init : goal.loop-after-init
 loop-after-init c = record {
   read = first_so_far list_of_tests trees_of_tests c.in_ok-tests.ensures.items
-      (one_test c.in_ok-first.first c.in_ok-first.ensures.found);
+      (one_test c.in_ok-first.first c.in_ok-first.ensures);
 }
 
 pub test-requires-in-Some-clause-names : goal.test-requires-in-Some-clause-names
@@ -22,20 +23,20 @@ test-requires-in-Some-clause-names c =
     let punctuator = token_shorter c.in-Some.ensures.found.takes in
     omega arith
 
-pub returns-in_err-next-clause-refused : goal.returns-in_err-next-clause-refused
-returns-in_err-next-clause-refused c =
-    passed_on _ c.from_residual-in_err-next.result c.from_residual-in_err-next.ensures.1 (refused_next c.loop-after.invariant.read c.in-Some.ensures.found c.requires.depth _ c.in_err-next.ensures.refused)
+pub returns-in_err-next : goal.returns-in_err-next
+returns-in_err-next c =
+    passed_on _ _ c.from_residual-in_err-next.result c.from_residual-in_err-next.ensures.1 (refused_next c.loop-after.invariant.read c.in-Some.ensures.found c.requires.depth _ c.in_err-next.ensures)
 
 pub loop-after-smaller : goal.loop-after-smaller
 loop-after-smaller c =
     let punctuator = token_shorter c.in-Some.ensures.found.takes in
-    let test = found_shorter c.in_ok-next.ensures.found in
+    let test = found_shorter c.in_ok-next.ensures in
     omega arith
 
 pub loop-after-preserved : goal.loop-after-preserved
 loop-after-preserved c = record {
-  read = next_so_far c.loop-after.invariant.read c.in_ok-push.ensures.items c.in-Some.ensures.found c.requires.depth (one_test c.in_ok-next.next c.in_ok-next.ensures.found);
+  read = next_so_far c.loop-after.invariant.read c.in_ok-push.ensures.items c.in-Some.ensures.found c.requires.depth (one_test c.in_ok-next.next c.in_ok-next.ensures);
 }
 
-pub returns-clause-found : goal.returns-clause-found
-returns-clause-found c = all_so_far c.loop-after.invariant.read c.in_default.ensures.other
+pub returns : goal.returns
+returns c = all_so_far c.loop-after.invariant.read c.in_default.ensures.other

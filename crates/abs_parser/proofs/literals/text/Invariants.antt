@@ -2,7 +2,7 @@ use Rattle.std.proofs.Common.{◌≡◌, ◌++◌, drop, length}
 use Rattle.abs_parser.specs.TreesOf.{unescaped}
 use Rattle.abs_parser.proofs.literals.text.Given as goal
 
--- what was read so far, and what is to be read, is what the literal stands for
+-- the bytes that were read so far, followed by the value of the rest, are the value of the literal
 abbrev pub invariant-loop-byte : goal.invariant-loop-byte
 invariant-loop-byte l = l.bytes.items ++ unescaped l.rest ≡ unescaped (drop 1 l.literal)
 

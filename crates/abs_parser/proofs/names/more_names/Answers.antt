@@ -1,15 +1,16 @@
 use Rattle.std.proofs.Common.{arith}
 use Rattle.abs_parser.specs.Views.{spot}
 use Rattle.abs_parser.proofs.reader.NameListSteps.{first_name_so_far, next_name_so_far, refused_next_name, all_names_found}
-use Rattle.abs_parser.proofs.reader.StepLemmas.{token_shorter, passed_on}
+use Rattle.abs_parser.proofs.reader.ResultLemmas.{passed_on}
+use Rattle.abs_parser.proofs.reader.StepLemmas.{token_shorter}
 use Rattle.abs_parser.proofs.names.more_names.Goals as goal
 
 pub loop-name_at-init : goal.loop-name_at-init
 loop-name_at-init c = record { read = first_name_so_far c.args.symbols.now (spot c.args.from) c.args.first c.in_ok-listed.ensures.items }
 
-pub returns-in_err-name-clause-refused : goal.returns-in_err-name-clause-refused
-returns-in_err-name-clause-refused c =
-    passed_on _ c.from_residual-in_err-name.result c.from_residual-in_err-name.ensures.1 (refused_next_name 0 _ c.loop-name_at.invariant.read c.in-Some.ensures.found (omega arith) c.in_err-name.ensures.refused)
+pub returns-in_err-name : goal.returns-in_err-name
+returns-in_err-name c =
+    passed_on _ _ c.from_residual-in_err-name.result c.from_residual-in_err-name.ensures.1 (refused_next_name 0 _ c.loop-name_at.invariant.read c.in-Some.ensures.found (omega arith) c.in_err-name.ensures.refused)
 
 pub intern-requires : goal.intern-requires
 intern-requires c = let few = c.loop-name_at.invariant.read.few in omega arith
@@ -26,5 +27,5 @@ loop-name_at-preserved c = record {
       c.in_ok-name-2.ensures.names;
 }
 
-pub returns-clause-found : goal.returns-clause-found
-returns-clause-found c = all_names_found 0 c.loop-name_at.invariant.read c.in_default.ensures.other (omega arith)
+pub returns : goal.returns
+returns c = all_names_found 0 c.loop-name_at.invariant.read c.in_default.ensures.other (omega arith)

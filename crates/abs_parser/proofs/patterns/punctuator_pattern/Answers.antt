@@ -7,12 +7,13 @@ use Rattle.abs_parser.specs.Views.{spot}
 use Rattle.abs_parser.proofs.grammar.DigitLemmas.{number_digits, number_fits}
 use Rattle.abs_parser.proofs.grammar.PatternLemmas.{minus_tree, any_tree}
 use Rattle.abs_parser.proofs.reader.PatternSteps.{pattern_begins, refused_underscore, refused_minus, narrowed_minus}
-use Rattle.abs_parser.proofs.reader.StepLemmas.{over_token, all_read, refused_inside, passed_on}
+use Rattle.abs_parser.proofs.reader.ResultLemmas.{error_passed_on}
+use Rattle.abs_parser.proofs.reader.StepLemmas.{over_token, all_read, refused_inside}
 use Rattle.abs_parser.proofs.patterns.punctuator_pattern.Goals as goal
 
 pub returns-in_err-any-clause-refused : goal.returns-in_err-any-clause-refused
 returns-in_err-any-clause-refused c =
-    passed_on _ c.from_residual.result c.from_residual.ensures.1 (refused_underscore c.args.depth (spot c.args.from) _ c.args.punctuator c.requires.begins c.eq.ensures c.if-eq.true c.in_err-any.ensures.refused)
+    error_passed_on _ c.from_residual.result c.from_residual.ensures.1 (refused_underscore c.args.depth (spot c.args.from) _ c.args.punctuator c.requires.begins c.eq.ensures c.if-eq.true c.in_err-any.ensures.refused)
 
 pub returns-then-eq-clause-found : goal.returns-then-eq-clause-found
 returns-then-eq-clause-found c table =
@@ -22,12 +23,12 @@ returns-then-eq-clause-found c table =
 
 pub returns-in_err-minus-clause-refused : goal.returns-in_err-minus-clause-refused
 returns-in_err-minus-clause-refused c =
-    passed_on _ c.from_residual-in_err-minus.result c.from_residual-in_err-minus.ensures.1 (refused_minus c.args.depth (spot c.args.from) _ c.args.punctuator c.requires.begins c.eq.ensures c.if-eq.false c.in_err-minus.ensures.refused)
+    error_passed_on _ c.from_residual-in_err-minus.result c.from_residual-in_err-minus.ensures.1 (refused_minus c.args.depth (spot c.args.from) _ c.args.punctuator c.requires.begins c.eq.ensures c.if-eq.false c.in_err-minus.ensures.refused)
 
 pub returns-in_err-digits-clause-refused : goal.returns-in_err-digits-clause-refused
 returns-in_err-digits-clause-refused c =
     let minus = c.in_ok-minus.ensures.found in
-    passed_on _ c.from_residual-in_err-digits.result c.from_residual-in_err-digits.ensures.1 (refused_inside (over_token {kind = lexeme.Punctuator punctuator.Minus} (pattern_begins c.args.depth [] minus refl) minus refl refl c.in_ok-minus.ensures.within) _ c.in_err-digits.ensures.refused)
+    error_passed_on _ c.from_residual-in_err-digits.result c.from_residual-in_err-digits.ensures.1 (refused_inside (over_token {kind = lexeme.Punctuator punctuator.Minus} (pattern_begins c.args.depth [] minus refl) minus refl refl c.in_ok-minus.ensures.within) _ c.in_err-digits.ensures.refused)
 
 pub numeral-requires-clause-number : goal.numeral-requires-clause-number
 numeral-requires-clause-number c = number_digits c.in_ok-digits.ensures.found.kind_is c.in_ok-digits.ensures.well_formed

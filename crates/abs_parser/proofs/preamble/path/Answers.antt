@@ -1,19 +1,20 @@
 use Rattle.std.proofs.Common.{arith}
 use Rattle.abs_parser.specs.Views.{spot}
 use Rattle.abs_parser.proofs.reader.PreambleSteps.{refused_path, path_begins, refused_dot_name, path_goes_on, path_found}
-use Rattle.abs_parser.proofs.reader.StepLemmas.{token_shorter, passed_on}
+use Rattle.abs_parser.proofs.reader.ResultLemmas.{passed_on}
+use Rattle.abs_parser.proofs.reader.StepLemmas.{token_shorter}
 use Rattle.abs_parser.proofs.preamble.path.Goals as goal
 
-pub returns-in_err-first-clause-refused : goal.returns-in_err-first-clause-refused
-returns-in_err-first-clause-refused c =
-    passed_on _ c.from_residual.result c.from_residual.ensures.1 (refused_path (spot c.args.from) _ c.in_err-first.ensures.refused)
+pub returns-in_err-first : goal.returns-in_err-first
+returns-in_err-first c =
+    passed_on _ _ c.from_residual.result c.from_residual.ensures.1 (refused_path (spot c.args.from) _ c.in_err-first.ensures.refused)
 
 pub loop-name_at-init : goal.loop-name_at-init
 loop-name_at-init c = record { read = path_begins c.in_ok-first.ensures.found c.in_ok-intern.ensures.names }
 
-pub returns-in_err-name-clause-refused : goal.returns-in_err-name-clause-refused
-returns-in_err-name-clause-refused c =
-    passed_on _ c.from_residual-in_err-name.result c.from_residual-in_err-name.ensures.1 (refused_dot_name _ c.loop-name_at.invariant.read c.in-Some.ensures.found c.in_err-name.ensures.refused)
+pub returns-in_err-name : goal.returns-in_err-name
+returns-in_err-name c =
+    passed_on _ _ c.from_residual-in_err-name.result c.from_residual-in_err-name.ensures.1 (refused_dot_name _ c.loop-name_at.invariant.read c.in-Some.ensures.found c.in_err-name.ensures.refused)
 
 pub intern-requires-in-Some : goal.intern-requires-in-Some
 intern-requires-in-Some c = let few = c.loop-name_at.invariant.read.read.few in omega arith
@@ -27,5 +28,5 @@ loop-name_at-smaller c =
 pub loop-name_at-preserved : goal.loop-name_at-preserved
 loop-name_at-preserved c = record { read = path_goes_on c.loop-name_at.invariant.read c.in-Some.ensures.found c.in_ok-name.ensures.found c.in_ok-intern-2.ensures.names }
 
-pub returns-clause-found : goal.returns-clause-found
-returns-clause-found c = path_found c.loop-name_at.invariant.read c.in_default.ensures.other
+pub returns : goal.returns
+returns c = path_found c.loop-name_at.invariant.read c.in_default.ensures.other

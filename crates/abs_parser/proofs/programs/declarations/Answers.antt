@@ -1,7 +1,8 @@
 use Rattle.std.proofs.Common.{arith, sym, ◌∙◌}
 use Rattle.abs_parser.specs.Views.{spot}
-use Rattle.abs_parser.proofs.reader.StepLemmas.{passed_on}
-use Rattle.abs_parser.proofs.reader.DeclarationListSteps.{declaration_shorter, no_declaration_yet, next_declaration, refused_declaration, declarations_found}
+use Rattle.abs_parser.proofs.grammar.FirstPlaceLemmas.{found_fewer}
+use Rattle.abs_parser.proofs.reader.ResultLemmas.{error_passed_on}
+use Rattle.abs_parser.proofs.reader.DeclarationListSteps.{no_declaration_yet, next_declaration, refused_declaration, declarations_found}
 use Rattle.abs_parser.proofs.programs.declarations.Goals as goal
 
 pub loop-alloc-init : goal.loop-alloc-init
@@ -15,15 +16,15 @@ declaration-requires-clause-few c = let few = c.loop-alloc.invariant.read.few in
 
 pub returns-in_err-next-clause-refused : goal.returns-in_err-next-clause-refused
 returns-in_err-next-clause-refused c =
-    passed_on _ c.from_residual.result c.from_residual.ensures.1 (refused_declaration _ c.loop-alloc.invariant.read (sym c.is.ensures ∙ c.loop-alloc-test.true) c.in_err-next.ensures.refused)
+    error_passed_on _ c.from_residual.result c.from_residual.ensures.1 (refused_declaration _ c.loop-alloc.invariant.read (sym c.is.ensures ∙ c.loop-alloc-test.true) c.in_err-next.ensures.parses)
 
 pub loop-alloc-smaller : goal.loop-alloc-smaller
-loop-alloc-smaller c = let shorter = declaration_shorter c.loop-alloc.free c.in_ok-next.next c.in_ok-next.ensures.found in omega arith
+loop-alloc-smaller c = let shorter = found_fewer c.in_ok-next.ensures.parses in omega arith
 
 pub loop-alloc-preserved : goal.loop-alloc-preserved
 loop-alloc-preserved c =
     let next = c.in_ok-next.ensures in
-    record { read = next_declaration c.in_ok-next.next c.in_ok-push.ensures.items c.loop-alloc.invariant.read next.found next.free next.few }
+    record { read = next_declaration c.in_ok-next.next c.in_ok-push.ensures.items c.loop-alloc.invariant.read next.parses next.free next.few }
 
 pub returns-clause-found : goal.returns-clause-found
 returns-clause-found c = declarations_found c.loop-alloc.invariant.read (sym c.is.ensures ∙ c.loop-alloc-test.false)

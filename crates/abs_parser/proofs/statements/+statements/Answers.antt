@@ -13,15 +13,17 @@ use Rattle.abs_parser.proofs.grammar.FirstPlaceLemmas.{found_fewer}
 use Rattle.abs_parser.proofs.grammar.KindLemmas.{punctuator_is}
 use Rattle.abs_parser.proofs.reader.PatternSteps.{next_taken}
 use Rattle.abs_parser.proofs.reader.PrimarySteps.{stands}
-use Rattle.abs_parser.proofs.reader.KeywordSteps.{keyword_read, keyword_refused}
-use Rattle.abs_parser.proofs.reader.StatementSteps.{block_shut, block_opened, nested_begins, nested_found, test_begins, test_read, while_opened, while_found, if_opened, if_chosen, if_found, else_read, else_found, else_left_out, statement_refused_at_end}
-use Rattle.abs_parser.proofs.reader.StepLemmas.{over_part, refused_inside, refused_first_token, token_shorter, found_few, found_shorter, fits_next, passed_on}
-use Rattle.abs_parser.proofs.statements.+statements.Goals.{statement-in-UpperName+in_ok-variable_declaration-in-UpperName, statement-in-LowerName+in_ok-variable_statement-in-LowerName, statement-in-Punctuator+else-eq+in_ok-right_side_statement-in-Punctuator, statement-in-Number+in_ok-stmt-in-Number, keyword_statement-in-Skip+in_ok-skip_statement-in-Skip, keyword_statement-in-Suspend+in_ok-suspend_statement-in-Suspend, keyword_statement-in-Await+in_ok-await_statement-in-Await, keyword_statement-in-Return+in_ok-return_statement-in-Return, keyword_statement-in-Println+in_ok-println_statement-in-Println, keyword_statement-in-This+in_ok-this_statement-in-This, keyword_statement-in_default+in_ok-stmt-in_default}
+use Rattle.abs_parser.proofs.reader.KeywordSteps.{keyword_refused}
+use Rattle.abs_parser.proofs.reader.StatementSteps.{block_shut, block_opened, nested_begins, nested_found, test_read, refused_test, while_opened, while_found, if_opened, if_chosen, if_found, else_read, else_found, else_left_out, statement_refused_at_end}
+use Rattle.abs_parser.proofs.reader.ParenthesisSteps.{parentheses_few, parentheses_shorter}
+use Rattle.abs_parser.proofs.reader.ResultLemmas.{passed_on}
+use Rattle.abs_parser.proofs.reader.StepLemmas.{refused_inside, refused_first_token, token_shorter, found_few, found_shorter, fits_next}
+use Rattle.abs_parser.proofs.statements.+statements.Goals.{statement-in-UpperName+in_ok-variable_declaration-in-UpperName, statement-in-LowerName+in_ok-variable_statement-in-LowerName, statement-in-Punctuator+else-eq+in_ok-right_side_statement-in-Punctuator, statement-in-Number+in_ok-stmt-in-Number, keyword_statement-in-This+in_ok-this_statement-in-This, keyword_statement-in-Skip+in_ok-simple_statement-in-Skip, keyword_statement-in_default+in_ok-stmt-in_default}
 use Rattle.abs_parser.proofs.statements.+statements.Goals as goal
 
-pub block-returns-in_err-here-clause-refused : goal.block-returns-in_err-here-clause-refused
-block-returns-in_err-here-clause-refused t c =
-    passed_on _ c.from_residual.result c.from_residual.ensures.1 (refused_first_token (PunctuatorKind punctuator.OpenBrace) c.args.depth (One Block) c.args.depth (spot c.args.from) _ (block_opened _ c.args.depth) (block_shut _ c.args.depth) c.in_err-here.ensures.refused)
+pub block-returns-in_err-here-clause-parses : goal.block-returns-in_err-here-clause-parses
+block-returns-in_err-here-clause-parses t c =
+    passed_on _ _ c.from_residual.result c.from_residual.ensures.1 (refused_first_token (PunctuatorKind punctuator.OpenBrace) c.args.depth (One Block) c.args.depth (spot c.args.from) _ (block_opened _ c.args.depth) (block_shut _ c.args.depth) c.in_err-here.ensures.refused)
 
 pub block-loop-alloc-init : goal.block-loop-alloc-init
 block-loop-alloc-init t c = record {
@@ -37,28 +39,28 @@ block-statement-requires t c =
     let shorter = c.loop-alloc.invariant.read.shorter in
     (search rules, (omega arith, (omega arith, c.in_ok-here.ensures.within)))
 
-pub block-returns-in_err-next-clause-refused : goal.block-returns-in_err-next-clause-refused
-block-returns-in_err-next-clause-refused t c =
-    passed_on _ c.from_residual-in_err-next.result c.from_residual-in_err-next.ensures.1 (refused_statement _ c.loop-alloc.invariant.read (sym c.is.ensures ∙ c.loop-alloc-test.true) c.in_err-next.ensures.refused)
+pub block-returns-in_err-next-clause-parses : goal.block-returns-in_err-next-clause-parses
+block-returns-in_err-next-clause-parses t c =
+    passed_on _ _ c.from_residual-in_err-next.result c.from_residual-in_err-next.ensures.1 (refused_statement _ c.loop-alloc.invariant.read (sym c.is.ensures ∙ c.loop-alloc-test.true) c.in_err-next.ensures.parses)
 
 pub block-loop-alloc-smaller : goal.block-loop-alloc-smaller
 block-loop-alloc-smaller t c =
-    let fewer = found_fewer c.in_ok-next.ensures.found in
+    let fewer = found_fewer c.in_ok-next.ensures.parses in
     omega arith
 
 pub block-loop-alloc-preserved : goal.block-loop-alloc-preserved
 block-loop-alloc-preserved t c = record {
-  read = next_statement c.in_ok-next.next c.in_ok-push.ensures.items c.loop-alloc.invariant.read c.loop-alloc.invariant.free c.in_ok-next.ensures.found;
+  read = next_statement c.in_ok-next.next c.in_ok-push.ensures.items c.loop-alloc.invariant.read c.loop-alloc.invariant.free c.in_ok-next.ensures.parses;
   free = next_free c.args.index c.loop-alloc.statements.items c.in_ok-next.next c.in_ok-push.ensures.items c.loop-alloc.invariant.free c.in_ok-next.ensures.free;
   few = omega (arith, c.loop-alloc.invariant.few, c.in_ok-next.ensures.few);
 }
 
-pub block-returns-in_err-close-clause-refused : goal.block-returns-in_err-close-clause-refused
-block-returns-in_err-close-clause-refused t c =
-    passed_on _ c.from_residual-in_err-close.result c.from_residual-in_err-close.ensures.1 (refused_brace _ c.loop-alloc.invariant.read (sym c.is.ensures ∙ c.loop-alloc-test.false) c.in_err-close.ensures.refused)
+pub block-returns-in_err-close-clause-parses : goal.block-returns-in_err-close-clause-parses
+block-returns-in_err-close-clause-parses t c =
+    passed_on _ _ c.from_residual-in_err-close.result c.from_residual-in_err-close.ensures.1 (refused_brace _ c.loop-alloc.invariant.read (sym c.is.ensures ∙ c.loop-alloc-test.false) c.in_err-close.ensures.refused)
 
-pub block-returns-clause-found : goal.block-returns-clause-found
-block-returns-clause-found t c =
+pub block-returns-clause-parses : goal.block-returns-clause-parses
+block-returns-clause-parses t c =
     let body : Body = record { statements = c.loop-alloc.statements; end = c.in_ok-close.close.place } in
     block_found body refl c.loop-alloc.invariant.read c.in_ok-close.ensures.found c.in_ok-close.ensures.within
 
@@ -71,60 +73,47 @@ block-returns-clause-few t c =
     let brace = token_shorter c.in_ok-close.ensures.found.takes in
     omega arith
 
-pub if_statement-returns-in_err-token-clause-refused : goal.if_statement-returns-in_err-token-clause-refused
-if_statement-returns-in_err-token-clause-refused t c =
-    passed_on _ c.from_residual.result c.from_residual.ensures.1 (keyword_refused _ _ _ _ (if_opened c.args.depth) c.requires.begins c.in_err-token.ensures.refused)
+pub if_statement-returns-in_err-token-clause-parses : goal.if_statement-returns-in_err-token-clause-parses
+if_statement-returns-in_err-token-clause-parses t c =
+    passed_on _ _ c.from_residual.result c.from_residual.ensures.1 (keyword_refused _ _ _ _ (if_opened c.args.depth) c.requires.begins c.in_err-token.ensures.refused)
 
-pub if_statement-returns-in_err-test_at-clause-refused : goal.if_statement-returns-in_err-test_at-clause-refused
-if_statement-returns-in_err-test_at-clause-refused t c =
-    passed_on _ c.from_residual-in_err-test_at.result c.from_residual-in_err-test_at.ensures.1 (refused_inside (keyword_read _ c.args.symbols.now (if_opened c.args.depth) c.in_ok-token.ensures.found c.in_ok-token.ensures.within) _ c.in_err-test_at.ensures.refused)
-
-pub if_statement-returns-in_err-test-clause-refused : goal.if_statement-returns-in_err-test-clause-refused
-if_statement-returns-in_err-test-clause-refused t c =
-    let begun = test_begins c.args.symbols.now (if_opened c.args.depth) c.in_ok-token.ensures.found c.in_ok-test_at.ensures.found c.in_ok-token.ensures.within in
-    passed_on _ c.from_residual-in_err-test.result c.from_residual-in_err-test.ensures.1 (refused_inside begun _ c.in_err-test.ensures.refused)
-
-pub if_statement-returns-in_err-first_at-clause-refused : goal.if_statement-returns-in_err-first_at-clause-refused
-if_statement-returns-in_err-first_at-clause-refused t c =
-    let begun = test_begins c.args.symbols.now (if_opened c.args.depth) c.in_ok-token.ensures.found c.in_ok-test_at.ensures.found c.in_ok-token.ensures.within in
-    passed_on _ c.from_residual-in_err-first_at.result c.from_residual-in_err-first_at.ensures.1 (refused_inside (over_part begun c.in_ok-test.ensures.found) _ c.in_err-first_at.ensures.refused)
+pub if_statement-returns-in_err-test-clause-parses : goal.if_statement-returns-in_err-test-clause-parses
+if_statement-returns-in_err-test-clause-parses t c =
+    passed_on _ _ c.from_residual-in_err-test.result c.from_residual-in_err-test.ensures.1
+    (refused_test c.args.depth _ (if_opened c.args.depth) c.in_ok-token.ensures.found c.in_ok-token.ensures.within c.in_err-test.ensures.refused)
 
 pub if_statement-statement-requires : goal.if_statement-statement-requires
 if_statement-statement-requires t c =
-    let few = found_few c.in_ok-test.ensures.found in
-    let shorter = found_shorter c.in_ok-test.ensures.found in
+    let few = parentheses_few c.in_ok-test.ensures.found in
+    let shorter = parentheses_shorter c.in_ok-test.ensures.found in
     let token = token_shorter c.in_ok-token.ensures.found.takes in
-    let opening = token_shorter c.in_ok-test_at.ensures.found.takes in
-    let closing = token_shorter c.in_ok-first_at.ensures.found.takes in
     (search rules, (omega arith, (omega arith, c.in_ok-token.ensures.within)))
 
-pub if_statement-returns-in_err-first-clause-refused : goal.if_statement-returns-in_err-first-clause-refused
-if_statement-returns-in_err-first-clause-refused t c =
-    let tested = test_read (if_opened c.args.depth) c.in_ok-token.ensures.found c.in_ok-test_at.ensures.found c.in_ok-test.ensures.found c.in_ok-first_at.ensures.found c.in_ok-token.ensures.within in
-    passed_on _ c.from_residual-in_err-first.result c.from_residual-in_err-first.ensures.1 (refused_inside tested _ c.in_err-first.ensures.refused)
+pub if_statement-returns-in_err-first-clause-parses : goal.if_statement-returns-in_err-first-clause-parses
+if_statement-returns-in_err-first-clause-parses t c =
+    passed_on _ _ c.from_residual-in_err-first.result c.from_residual-in_err-first.ensures.1
+    (refused_inside (test_read (if_opened c.args.depth) c.in_ok-token.ensures.found c.in_ok-test.ensures.found c.in_ok-token.ensures.within) _ c.in_err-first.ensures.parses)
 
 pub if_statement-else_branch-requires : goal.if_statement-else_branch-requires
 if_statement-else_branch-requires t c =
-    let few_test = found_few c.in_ok-test.ensures.found in
-    let shorter_test = found_shorter c.in_ok-test.ensures.found in
-    let few = found_few c.in_ok-first.ensures.found in
-    let shorter = found_shorter c.in_ok-first.ensures.found in
+    let few_test = parentheses_few c.in_ok-test.ensures.found in
+    let shorter_test = parentheses_shorter c.in_ok-test.ensures.found in
+    let few = found_few c.in_ok-first.ensures.parses in
+    let shorter = found_shorter c.in_ok-first.ensures.parses in
     let numbers = c.in_ok-first.ensures.few in
     let token = token_shorter c.in_ok-token.ensures.found.takes in
-    let opening = token_shorter c.in_ok-test_at.ensures.found.takes in
-    let closing = token_shorter c.in_ok-first_at.ensures.found.takes in
     (search rules, (omega arith, (omega arith, c.in_ok-token.ensures.within)))
 
-pub if_statement-returns-in_err-second-clause-refused : goal.if_statement-returns-in_err-second-clause-refused
-if_statement-returns-in_err-second-clause-refused t c =
-    let chosen = if_chosen c.in_ok-token.ensures.found c.in_ok-test_at.ensures.found c.in_ok-test.ensures.found c.in_ok-first_at.ensures.found c.in_ok-first.ensures.found c.in_ok-token.ensures.within in
-    passed_on _ c.from_residual-in_err-second.result c.from_residual-in_err-second.ensures.1 (refused_inside chosen _ c.in_err-second.ensures.refused)
+pub if_statement-returns-in_err-second-clause-parses : goal.if_statement-returns-in_err-second-clause-parses
+if_statement-returns-in_err-second-clause-parses t c =
+    passed_on _ _ c.from_residual-in_err-second.result c.from_residual-in_err-second.ensures.1
+    (refused_inside (if_chosen c.in_ok-token.ensures.found c.in_ok-test.ensures.found c.in_ok-first.ensures.parses c.in_ok-token.ensures.within) _ c.in_err-second.ensures.parses)
 
-pub if_statement-returns-clause-found : goal.if_statement-returns-clause-found
-if_statement-returns-clause-found t c =
+pub if_statement-returns-clause-parses : goal.if_statement-returns-clause-parses
+if_statement-returns-clause-parses t c =
     if_found c.args.index c.in_ok-first.middle c.in_ok-condition.condition c.in_ok-first.first c.in_ok-first-2.first c.in_ok-second.second c.in_ok-condition.ensures.ok c.in_ok-first-2.ensures.found
     (λ names. omega (arith, c.in_ok-first.ensures.free names, c.in_ok-first-2.ensures.count names))
-    c.in_ok-token.ensures.found c.in_ok-test_at.ensures.found c.in_ok-test.ensures.found c.in_ok-first_at.ensures.found c.in_ok-first.ensures.found c.in_ok-second.ensures.found c.in_ok-token.ensures.within
+    c.in_ok-token.ensures.found c.in_ok-test.ensures.found c.in_ok-first.ensures.parses c.in_ok-second.ensures.parses c.in_ok-token.ensures.within
 
 pub if_statement-returns-clause-free : goal.if_statement-returns-clause-free
 if_statement-returns-clause-free t c names =
@@ -133,50 +122,37 @@ if_statement-returns-clause-free t c names =
 
 pub if_statement-returns-clause-few : goal.if_statement-returns-clause-few
 if_statement-returns-clause-few t c =
-    let shorter_test = found_shorter c.in_ok-test.ensures.found in
+    let shorter_test = parentheses_shorter c.in_ok-test.ensures.found in
     let numbers = c.in_ok-first.ensures.few in
     let numbers_after = c.in_ok-second.ensures.few in
     let token = token_shorter c.in_ok-token.ensures.found.takes in
-    let opening = token_shorter c.in_ok-test_at.ensures.found.takes in
-    let closing = token_shorter c.in_ok-first_at.ensures.found.takes in
     omega arith
 
-pub while_statement-returns-in_err-token-clause-refused : goal.while_statement-returns-in_err-token-clause-refused
-while_statement-returns-in_err-token-clause-refused t c =
-    passed_on _ c.from_residual.result c.from_residual.ensures.1 (keyword_refused _ _ _ _ (while_opened c.args.depth) c.requires.begins c.in_err-token.ensures.refused)
+pub while_statement-returns-in_err-token-clause-parses : goal.while_statement-returns-in_err-token-clause-parses
+while_statement-returns-in_err-token-clause-parses t c =
+    passed_on _ _ c.from_residual.result c.from_residual.ensures.1 (keyword_refused _ _ _ _ (while_opened c.args.depth) c.requires.begins c.in_err-token.ensures.refused)
 
-pub while_statement-returns-in_err-test_at-clause-refused : goal.while_statement-returns-in_err-test_at-clause-refused
-while_statement-returns-in_err-test_at-clause-refused t c =
-    passed_on _ c.from_residual-in_err-test_at.result c.from_residual-in_err-test_at.ensures.1 (refused_inside (keyword_read _ c.args.symbols.now (while_opened c.args.depth) c.in_ok-token.ensures.found c.in_ok-token.ensures.within) _ c.in_err-test_at.ensures.refused)
-
-pub while_statement-returns-in_err-test-clause-refused : goal.while_statement-returns-in_err-test-clause-refused
-while_statement-returns-in_err-test-clause-refused t c =
-    let begun = test_begins c.args.symbols.now (while_opened c.args.depth) c.in_ok-token.ensures.found c.in_ok-test_at.ensures.found c.in_ok-token.ensures.within in
-    passed_on _ c.from_residual-in_err-test.result c.from_residual-in_err-test.ensures.1 (refused_inside begun _ c.in_err-test.ensures.refused)
-
-pub while_statement-returns-in_err-body_at-clause-refused : goal.while_statement-returns-in_err-body_at-clause-refused
-while_statement-returns-in_err-body_at-clause-refused t c =
-    let begun = test_begins c.args.symbols.now (while_opened c.args.depth) c.in_ok-token.ensures.found c.in_ok-test_at.ensures.found c.in_ok-token.ensures.within in
-    passed_on _ c.from_residual-in_err-body_at.result c.from_residual-in_err-body_at.ensures.1 (refused_inside (over_part begun c.in_ok-test.ensures.found) _ c.in_err-body_at.ensures.refused)
+pub while_statement-returns-in_err-test-clause-parses : goal.while_statement-returns-in_err-test-clause-parses
+while_statement-returns-in_err-test-clause-parses t c =
+    passed_on _ _ c.from_residual-in_err-test.result c.from_residual-in_err-test.ensures.1
+    (refused_test c.args.depth _ (while_opened c.args.depth) c.in_ok-token.ensures.found c.in_ok-token.ensures.within c.in_err-test.ensures.refused)
 
 pub while_statement-statement-requires : goal.while_statement-statement-requires
 while_statement-statement-requires t c =
-    let few = found_few c.in_ok-test.ensures.found in
-    let shorter = found_shorter c.in_ok-test.ensures.found in
+    let few = parentheses_few c.in_ok-test.ensures.found in
+    let shorter = parentheses_shorter c.in_ok-test.ensures.found in
     let token = token_shorter c.in_ok-token.ensures.found.takes in
-    let opening = token_shorter c.in_ok-test_at.ensures.found.takes in
-    let closing = token_shorter c.in_ok-body_at.ensures.found.takes in
     (search rules, (omega arith, (omega arith, c.in_ok-token.ensures.within)))
 
-pub while_statement-returns-in_err-body-clause-refused : goal.while_statement-returns-in_err-body-clause-refused
-while_statement-returns-in_err-body-clause-refused t c =
-    let tested = test_read (while_opened c.args.depth) c.in_ok-token.ensures.found c.in_ok-test_at.ensures.found c.in_ok-test.ensures.found c.in_ok-body_at.ensures.found c.in_ok-token.ensures.within in
-    passed_on _ c.from_residual-in_err-body.result c.from_residual-in_err-body.ensures.1 (refused_inside tested _ c.in_err-body.ensures.refused)
+pub while_statement-returns-in_err-body-clause-parses : goal.while_statement-returns-in_err-body-clause-parses
+while_statement-returns-in_err-body-clause-parses t c =
+    passed_on _ _ c.from_residual-in_err-body.result c.from_residual-in_err-body.ensures.1
+    (refused_inside (test_read (while_opened c.args.depth) c.in_ok-token.ensures.found c.in_ok-test.ensures.found c.in_ok-token.ensures.within) _ c.in_err-body.ensures.parses)
 
-pub while_statement-returns-clause-found : goal.while_statement-returns-clause-found
-while_statement-returns-clause-found t c =
-    while_found c.args.index c.in_ok-condition.condition c.in_ok-body.body c.in_ok-body-2.body c.in_ok-condition.ensures.ok c.in_ok-body-2.ensures.found c.in_ok-token.ensures.found
-    c.in_ok-test_at.ensures.found c.in_ok-test.ensures.found c.in_ok-body_at.ensures.found c.in_ok-body.ensures.found c.in_ok-token.ensures.within
+pub while_statement-returns-clause-parses : goal.while_statement-returns-clause-parses
+while_statement-returns-clause-parses t c =
+    while_found c.args.index c.in_ok-condition.condition c.in_ok-body.body c.in_ok-body-2.body c.in_ok-condition.ensures.ok c.in_ok-body-2.ensures.found
+    c.in_ok-token.ensures.found c.in_ok-test.ensures.found c.in_ok-body.ensures.parses c.in_ok-token.ensures.within
 
 pub while_statement-returns-clause-free : goal.while_statement-returns-clause-free
 while_statement-returns-clause-free t c names =
@@ -185,43 +161,41 @@ while_statement-returns-clause-free t c names =
 
 pub while_statement-returns-clause-few : goal.while_statement-returns-clause-few
 while_statement-returns-clause-few t c =
-    let shorter_test = found_shorter c.in_ok-test.ensures.found in
+    let shorter_test = parentheses_shorter c.in_ok-test.ensures.found in
     let numbers = c.in_ok-body.ensures.few in
     let token = token_shorter c.in_ok-token.ensures.found.takes in
-    let opening = token_shorter c.in_ok-test_at.ensures.found.takes in
-    let closing = token_shorter c.in_ok-body_at.ensures.found.takes in
     omega arith
 
 pub block_statement-block-requires : goal.block_statement-block-requires
 block_statement-block-requires t c = (search rules, (c.requires.names, (c.requires.few, omega arith)))
 
-pub block_statement-returns-in_err-body-clause-refused : goal.block_statement-returns-in_err-body-clause-refused
-block_statement-returns-in_err-body-clause-refused t c =
-    passed_on _ c.from_residual.result c.from_residual.ensures.1 (refused_inside (nested_begins c.args.depth c.args.symbols.now (spot c.args.from) c.requires.begins) _ c.in_err-body.ensures.refused)
+pub block_statement-returns-in_err-body-clause-parses : goal.block_statement-returns-in_err-body-clause-parses
+block_statement-returns-in_err-body-clause-parses t c =
+    passed_on _ _ c.from_residual.result c.from_residual.ensures.1 (refused_inside (nested_begins c.args.depth c.args.symbols.now (spot c.args.from) c.requires.begins) _ c.in_err-body.ensures.parses)
 
-pub block_statement-returns-clause-found : goal.block_statement-returns-clause-found
-block_statement-returns-clause-found t c = nested_found c.args.index c.in_ok-body.body c.place-place.ensures c.requires.begins c.in_ok-body.ensures.found
+pub block_statement-returns-clause-parses : goal.block_statement-returns-clause-parses
+block_statement-returns-clause-parses t c = nested_found c.args.index c.in_ok-body.body c.place-place.ensures c.requires.begins c.in_ok-body.ensures.parses
 
 pub block_statement-returns-clause-free : goal.block_statement-returns-clause-free
 block_statement-returns-clause-free t c names = rw (ap count_of (statement-block names c.place-place.result c.in_ok-body.body.statements)) (c.in_ok-body.ensures.free names)
 
-pub else_branch-returns-in_default-clause-found : goal.else_branch-returns-in_default-clause-found
-else_branch-returns-in_default-clause-found t c = else_left_out c.args.index c.args.depth c.args.symbols.now (spot c.args.from) c.in_default.ensures.other
+pub else_branch-returns-in_default-clause-parses : goal.else_branch-returns-in_default-clause-parses
+else_branch-returns-in_default-clause-parses t c = else_left_out c.args.index c.args.depth c.args.symbols.now (spot c.args.from) c.in_default.ensures.other
 
 pub else_branch-statement-requires : goal.else_branch-statement-requires
 else_branch-statement-requires t c =
     let token = token_shorter c.in-Some.ensures.found.takes in
     (search rules, (omega arith, (omega arith, c.requires.depth)))
 
-pub else_branch-returns-in_err-other-clause-refused : goal.else_branch-returns-in_err-other-clause-refused
-else_branch-returns-in_err-other-clause-refused t c =
-    passed_on _ c.from_residual.result c.from_residual.ensures.1 (refused_inside (else_read c.args.depth c.args.symbols.now c.in-Some.ensures.found c.requires.depth) _ c.in_err-other.ensures.refused)
+pub else_branch-returns-in_err-other-clause-parses : goal.else_branch-returns-in_err-other-clause-parses
+else_branch-returns-in_err-other-clause-parses t c =
+    passed_on _ _ c.from_residual.result c.from_residual.ensures.1 (refused_inside (else_read c.args.depth c.args.symbols.now c.in-Some.ensures.found c.requires.depth) _ c.in_err-other.ensures.parses)
 
-pub else_branch-returns-clause-found : goal.else_branch-returns-clause-found
-else_branch-returns-clause-found t c = else_found c.args.index c.in_ok-other.other c.in_ok-branch.field-0 c.in_ok-branch.ensures.found c.in-Some.ensures.found c.in_ok-other.ensures.found c.requires.depth
+pub else_branch-returns-clause-parses : goal.else_branch-returns-clause-parses
+else_branch-returns-clause-parses t c = else_found c.args.index c.in_ok-other.other c.in_ok-branch.field-0 c.in_ok-branch.ensures.found c.in-Some.ensures.found c.in_ok-other.ensures.parses c.requires.depth
 
-pub statement-returns-in_default-clause-refused : goal.statement-returns-in_default-clause-refused
-statement-returns-in_default-clause-refused t c = statement_refused_at_end c.args.depth (spot c.args.from) _ c.wrong.ensures c.in_default.ensures.none
+pub statement-returns-in_default-clause-parses : goal.statement-returns-in_default-clause-parses
+statement-returns-in_default-clause-parses t c = statement_refused_at_end c.args.depth (spot c.args.from) _ c.wrong.ensures c.in_default.ensures.none
 
 pub statement-keyword_statement-requires : goal.statement-keyword_statement-requires
 statement-keyword_statement-requires t c = (search rules, (next_taken (stands c.in-Some.ensures.some c.in-Keyword.is), (c.requires.names, (c.requires.few, c.requires.depth))))
@@ -241,23 +215,60 @@ keyword_statement-while_statement-requires t c =
     let stands_while = c.requires.begins ∙ ap KeywordKind c.in-While.is in
     (search rules, (ap (fits (KeywordKind keyword.While)) stands_while, (c.requires.names, (c.requires.few, c.requires.depth))))
 
-pub statement-returns-clause-found : goal.statement-returns-clause-found
-statement-returns-clause-found t c =
+pub keyword_statement-returns-in_err-this_statement-in-This-clause-parses : goal.keyword_statement-returns-in_err-this_statement-in-This-clause-parses
+keyword_statement-returns-in_err-this_statement-in-This-clause-parses t c = passed_on _ _ c.from_residual.result c.from_residual.ensures.1 c.in_err-this_statement-in-This.ensures.parses
+
+pub keyword_statement-returns-in_err-simple_statement-in-Skip-clause-parses : goal.keyword_statement-returns-in_err-simple_statement-in-Skip-clause-parses
+keyword_statement-returns-in_err-simple_statement-in-Skip-clause-parses t c = passed_on _ _ c.from_residual-in_err-simple_statement-in-Skip.result c.from_residual-in_err-simple_statement-in-Skip.ensures.1 c.in_err-simple_statement-in-Skip.ensures.parses
+
+pub keyword_statement-returns-in_err-stmt-in_default-clause-parses : goal.keyword_statement-returns-in_err-stmt-in_default-clause-parses
+keyword_statement-returns-in_err-stmt-in_default-clause-parses t c = passed_on _ _ c.from_residual-in_err-stmt-in_default.result c.from_residual-in_err-stmt-in_default.ensures.1 c.in_err-stmt-in_default.ensures.parses
+
+pub statement-returns-in_err-variable_declaration-in-UpperName-clause-parses : goal.statement-returns-in_err-variable_declaration-in-UpperName-clause-parses
+statement-returns-in_err-variable_declaration-in-UpperName-clause-parses t c = passed_on _ _ c.from_residual.result c.from_residual.ensures.1 c.in_err-variable_declaration-in-UpperName.ensures.parses
+
+pub statement-returns-in_err-variable_statement-in-LowerName-clause-parses : goal.statement-returns-in_err-variable_statement-in-LowerName-clause-parses
+statement-returns-in_err-variable_statement-in-LowerName-clause-parses t c = passed_on _ _ c.from_residual-in_err-variable_statement-in-LowerName.result c.from_residual-in_err-variable_statement-in-LowerName.ensures.1 c.in_err-variable_statement-in-LowerName.ensures.parses
+
+pub statement-returns-in_err-right_side_statement-in-Punctuator-clause-parses : goal.statement-returns-in_err-right_side_statement-in-Punctuator-clause-parses
+statement-returns-in_err-right_side_statement-in-Punctuator-clause-parses t c = passed_on _ _ c.from_residual-in_err-right_side_statement-in-Punctuator.result c.from_residual-in_err-right_side_statement-in-Punctuator.ensures.1 c.in_err-right_side_statement-in-Punctuator.ensures.parses
+
+pub statement-returns-in_err-stmt-in-Number-clause-parses : goal.statement-returns-in_err-stmt-in-Number-clause-parses
+statement-returns-in_err-stmt-in-Number-clause-parses t c = passed_on _ _ c.from_residual-in_err-stmt-in-Number.result c.from_residual-in_err-stmt-in-Number.ensures.1 c.in_err-stmt-in-Number.ensures.parses
+
+pub statement-returns-clause-parses : goal.statement-returns-clause-parses
+statement-returns-clause-parses t c =
     elim c.match-token.branch [
-      | statement-in-UpperName+in_ok-variable_declaration-in-UpperName w ↦ rw (w.symbols-is, w.stmt-is) w.in_ok-variable_declaration-in-UpperName.ensures.found
-      | statement-in-LowerName+in_ok-variable_statement-in-LowerName w ↦ rw (w.symbols-is, w.stmt-is) w.in_ok-variable_statement-in-LowerName.ensures.found
-      | statement-in-Punctuator+else-eq+in_ok-right_side_statement-in-Punctuator w ↦ rw (w.symbols-is, w.stmt-is) w.in_ok-right_side_statement-in-Punctuator.ensures.found
-      | statement-in-Number+in_ok-stmt-in-Number w ↦ rw (w.symbols-is, w.stmt-is) w.in_ok-stmt-in-Number.ensures.found
+      | statement-in-UpperName+in_ok-variable_declaration-in-UpperName w ↦ rw (w.symbols-is, w.stmt-is) w.in_ok-variable_declaration-in-UpperName.ensures.parses
+      | statement-in-LowerName+in_ok-variable_statement-in-LowerName w ↦ rw (w.symbols-is, w.stmt-is) w.in_ok-variable_statement-in-LowerName.ensures.parses
+      | statement-in-Punctuator+else-eq+in_ok-right_side_statement-in-Punctuator w ↦ rw (w.symbols-is, w.stmt-is) w.in_ok-right_side_statement-in-Punctuator.ensures.parses
+      | statement-in-Number+in_ok-stmt-in-Number w ↦ rw (w.symbols-is, w.stmt-is) w.in_ok-stmt-in-Number.ensures.parses
     ]
 
-pub keyword_statement-returns-clause-found : goal.keyword_statement-returns-clause-found
-keyword_statement-returns-clause-found t c =
+pub keyword_statement-simple_statement-requires-clause-begins : goal.keyword_statement-simple_statement-requires-clause-begins
+keyword_statement-simple_statement-requires-clause-begins t c = c.requires.begins
+
+pub keyword_statement-returns-clause-parses : goal.keyword_statement-returns-clause-parses
+keyword_statement-returns-clause-parses t c =
     elim c.match-keyword.branch [
-      | keyword_statement-in-Skip+in_ok-skip_statement-in-Skip w ↦ rw (w.symbols-is, w.stmt-is) w.in_ok-skip_statement-in-Skip.ensures.found
-      | keyword_statement-in-Suspend+in_ok-suspend_statement-in-Suspend w ↦ rw (w.symbols-is, w.stmt-is) w.in_ok-suspend_statement-in-Suspend.ensures.found
-      | keyword_statement-in-Await+in_ok-await_statement-in-Await w ↦ rw (w.symbols-is, w.stmt-is) w.in_ok-await_statement-in-Await.ensures.found
-      | keyword_statement-in-Return+in_ok-return_statement-in-Return w ↦ rw (w.symbols-is, w.stmt-is) w.in_ok-return_statement-in-Return.ensures.found
-      | keyword_statement-in-Println+in_ok-println_statement-in-Println w ↦ rw (w.symbols-is, w.stmt-is) w.in_ok-println_statement-in-Println.ensures.found
-      | keyword_statement-in-This+in_ok-this_statement-in-This w ↦ rw (w.symbols-is, w.stmt-is) w.in_ok-this_statement-in-This.ensures.found
-      | keyword_statement-in_default+in_ok-stmt-in_default w ↦ rw (w.symbols-is, w.stmt-is) w.in_ok-stmt-in_default.ensures.found
+      | keyword_statement-in-This+in_ok-this_statement-in-This w ↦ rw (w.symbols-is, w.stmt-is) w.in_ok-this_statement-in-This.ensures.parses
+      | keyword_statement-in-Skip+in_ok-simple_statement-in-Skip w ↦ rw (w.symbols-is, w.stmt-is) w.in_ok-simple_statement-in-Skip.ensures.parses
+      | keyword_statement-in_default+in_ok-stmt-in_default w ↦ rw (w.symbols-is, w.stmt-is) w.in_ok-stmt-in_default.ensures.parses
+    ]
+
+pub statement-returns-clause-few : goal.statement-returns-clause-few
+statement-returns-clause-few t c =
+    elim c.match-token.branch [
+      | statement-in-UpperName+in_ok-variable_declaration-in-UpperName w ↦ rw w.stmt-is (let fewer = found_fewer w.in_ok-variable_declaration-in-UpperName.ensures.parses in omega arith)
+      | statement-in-LowerName+in_ok-variable_statement-in-LowerName w ↦ rw w.stmt-is (let fewer = found_fewer w.in_ok-variable_statement-in-LowerName.ensures.parses in omega arith)
+      | statement-in-Punctuator+else-eq+in_ok-right_side_statement-in-Punctuator w ↦ rw w.stmt-is (let fewer = found_fewer w.in_ok-right_side_statement-in-Punctuator.ensures.parses in omega arith)
+      | statement-in-Number+in_ok-stmt-in-Number w ↦ rw w.stmt-is (let fewer = found_fewer w.in_ok-stmt-in-Number.ensures.parses in omega arith)
+    ]
+
+pub keyword_statement-returns-clause-few : goal.keyword_statement-returns-clause-few
+keyword_statement-returns-clause-few t c =
+    elim c.match-keyword.branch [
+      | keyword_statement-in-This+in_ok-this_statement-in-This w ↦ rw w.stmt-is (let fewer = found_fewer w.in_ok-this_statement-in-This.ensures.parses in omega arith)
+      | keyword_statement-in-Skip+in_ok-simple_statement-in-Skip w ↦ rw w.stmt-is (let fewer = found_fewer w.in_ok-simple_statement-in-Skip.ensures.parses in omega arith)
+      | keyword_statement-in_default+in_ok-stmt-in_default w ↦ rw w.stmt-is (let fewer = found_fewer w.in_ok-stmt-in_default.ensures.parses in omega arith)
     ]

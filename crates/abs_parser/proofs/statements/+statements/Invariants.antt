@@ -6,7 +6,7 @@ use Rattle.abs_parser.specs.Views.{spot}
 use Rattle.abs_parser.proofs.reader.BlockSteps.{ReadsBlock}
 use Rattle.abs_parser.proofs.statements.+statements.Given as goal
 
--- each call reads fewer tokens than its caller, or as many and less of the grammar
+-- each call has fewer tokens left than its caller, or as many and a smaller part of the grammar
 abbrev pub decreases-statement : goal.decreases-statement
 decreases-statement l = 4 * length (spot l.from).rest + 3
 

@@ -1,4 +1,4 @@
--- What was written is the text before the rest, and each turn leaves less of it.
+-- The bytes that were written are the output before the rest, and each turn leaves a shorter rest.
 use Rattle.std.proofs.Common.{◌≡◌, ◌≤◌, List, ℕ, ◌++◌, length}
 use Rattle.std.specs.Io.KnownBytes.{Appends}
 use Rattle.abs_command.proofs.edge.write.write_all.Given as goal
