@@ -29,14 +29,30 @@ abbrev pub as_status : Ended → Status → Ended
 as_status ended other = record ended { status = other }
 
 -- The way that a call went does not depend on the status that it returns.
-holds_as : (ended : Ended) (other : Status) {refusal : Option Refusal} → HoldsOnly ended refusal → HoldsOnly (as_status ended other) refusal
-holds_as ended other h = record { refusal_is = h.refusal_is; facts = h.facts; pairs = h.pairs; report = h.report; history = h.history; end = h.end }
+holds_as : (ended : Ended) (other : Status) {refusal : Option Refusal} → HoldsOnly ended refusal
+    → HoldsOnly (as_status ended other) refusal
+holds_as ended other h = record {
+  refusal_is = h.refusal_is;
+  facts = h.facts;
+  pairs = h.pairs;
+  report =
+      h.report;
+  history = h.history;
+  end = h.end;
+}
 
 misused_as : (ended : Ended) (other : Status) {words : List (List ℕ)} {due : Option Status} {output : List ℕ}
     → IsMisused words ended due output → IsMisused words (as_status ended other) due output
-misused_as ended other h = record { cause = h.cause; fields = holds_as ended other h.fields; status = h.status; printed = h.printed }
+misused_as ended other h = record {
+  cause = h.cause;
+  fields = holds_as ended other h.fields;
+  status =
+      h.status;
+  printed = h.printed;
+}
 
-unread_as : (ended : Ended) (other : Status) {words : List (List ℕ)} {source source' : SourceView} {due : Option Status} {output : List ℕ}
+unread_as : (ended : Ended) (other : Status) {words : List (List ℕ)} {source source' : SourceView} {due : Option Status}
+    {output : List ℕ}
     → IsUnread words source source' ended due output → IsUnread words source source' (as_status ended other) due output
 unread_as ended other h = record {
   file = h.file;
@@ -47,11 +63,20 @@ unread_as ended other h = record {
   printed = h.printed;
 }
 
-oversized_as : (ended : Ended) (other : Status) {words : List (List ℕ)} {bytes : List ℕ} {due : Option Status} {output : List ℕ}
+oversized_as : (ended : Ended) (other : Status) {words : List (List ℕ)} {bytes : List ℕ} {due : Option Status}
+    {output : List ℕ}
     → IsOversized words bytes ended due output → IsOversized words bytes (as_status ended other) due output
-oversized_as ended other h = record { named = h.named; cause = h.cause; fields = holds_as ended other h.fields; status = h.status; printed = h.printed }
+oversized_as ended other h = record {
+  named = h.named;
+  cause = h.cause;
+  fields = holds_as ended other h.fields;
+  status =
+      h.status;
+  printed = h.printed;
+}
 
-refused_as : (ended : Ended) (other : Status) {words : List (List ℕ)} {bytes : List ℕ} {due : Option Status} {output : List ℕ}
+refused_as : (ended : Ended) (other : Status) {words : List (List ℕ)} {bytes : List ℕ} {due : Option Status}
+    {output : List ℕ}
     → IsRefused words bytes ended due output → IsRefused words bytes (as_status ended other) due output
 refused_as ended other h = record {
   named = h.named;
@@ -63,7 +88,8 @@ refused_as ended other h = record {
   printed = h.printed;
 }
 
-analysed_as : (ended : Ended) (other : Status) {bytes : List ℕ} {program : NamedTree} → IsAnalysed bytes ended program → IsAnalysed bytes (as_status ended other) program
+analysed_as : (ended : Ended) (other : Status) {bytes : List ℕ} {program : NamedTree} → IsAnalysed bytes ended program
+    → IsAnalysed bytes (as_status ended other) program
 analysed_as ended other h = record {
   accepted = h.accepted;
   refusal = h.refusal;
@@ -73,7 +99,8 @@ analysed_as ended other h = record {
   headline = h.headline;
 }
 
-reported_as : (ended : Ended) (other : Status) {words : List (List ℕ)} {bytes : List ℕ} {due : Option Status} {output : List ℕ}
+reported_as : (ended : Ended) (other : Status) {words : List (List ℕ)} {bytes : List ℕ} {due : Option Status}
+    {output : List ℕ}
     → IsReported words bytes ended due output → IsReported words bytes (as_status ended other) due output
 reported_as ended other h = record {
   named = h.named;
@@ -85,7 +112,8 @@ reported_as ended other h = record {
   printed = h.printed;
 }
 
-run_as : (ended : Ended) (other : Status) {words : List (List ℕ)} {bytes : List ℕ} {due : Option Status} {output : List ℕ}
+run_as : (ended : Ended) (other : Status) {words : List (List ℕ)} {bytes : List ℕ} {due : Option Status}
+    {output : List ℕ}
     → HasRun words bytes ended due output → HasRun words bytes (as_status ended other) due output
 run_as ended other h = record {
   named = h.named;
@@ -101,8 +129,10 @@ run_as ended other h = record {
   printed = h.printed;
 }
 
-came_as : (ended : Ended) (other : Status) {words : List (List ℕ)} {bytes : List ℕ} {source source' : SourceView} {due : Option Status} {output : List ℕ}
-    → CameTo words bytes source source' ended due output → CameTo words bytes source source' (as_status ended other) due output
+came_as : (ended : Ended) (other : Status) {words : List (List ℕ)} {bytes : List ℕ} {source source' : SourceView}
+    {due : Option Status} {output : List ℕ}
+    → CameTo words bytes source source' ended due output
+    → CameTo words bytes source source' (as_status ended other) due output
 came_as ended other (misused h) = misused (misused_as ended other h)
 came_as ended other (unread h) = unread (unread_as ended other h)
 came_as ended other (oversized h) = oversized (oversized_as ended other h)
@@ -111,7 +141,8 @@ came_as ended other (reported h) = reported (reported_as ended other h)
 came_as ended other (ran h) = ran (run_as ended other h)
 
 -- If a part was written, and then a prefix of the rest, a prefix of the whole was written.
-prefix_after : (before old new : Option (List ℕ)) (first second : List ℕ) → Appends before old first → WritesPrefix old new second → WritesPrefix before new (first ++ second)
+prefix_after : (before old new : Option (List ℕ)) (first second : List ℕ) → Appends before old first
+    → WritesPrefix old new second → WritesPrefix before new (first ++ second)
 prefix_after before old new first second written h = record {
   prefix = first ++ h.prefix;
   rest = h.rest;
@@ -122,19 +153,28 @@ prefix_after before old new first second written h = record {
 
 -- The rest of an output was offered after a part that was written. Either the whole was written, or the sink failed and
 -- a prefix was.
-pub delivered : (words : List (List ℕ)) (bytes : List ℕ) (source source' : SourceView) (ended result : Ended) (before old new : Option (List ℕ)) (first second : List ℕ)
-    (faults faults' faults'' : ℕ) → CameTo words bytes source source' ended (Some ended.status) (first ++ second) → Appends before old first
+pub delivered : (words : List (List ℕ)) (bytes : List ℕ) (source source' : SourceView) (ended result : Ended)
+    (before old new : Option (List ℕ)) (first second : List ℕ)
+    (faults faults' faults'' : ℕ) → CameTo words bytes source source' ended (Some ended.status) (first ++ second)
+    → Appends before old first
     → Delivers second ended old new faults' faults'' result → (Rose faults' faults'' → Rose faults faults'')
-    → Answer words bytes source source' (record { written = before; faults = faults }) (record { written = new; faults = faults'' }) result
-delivered words bytes source source' ended result before old new first second faults faults' faults'' came written (inl all) rises =
-    subst (λ (e : Ended). Answer words bytes source source' (record { written = before; faults = faults }) (record { written = new; faults = faults'' }) e) (sym all.0)
+    → Answer words bytes source source' (record { written = before; faults = faults })
+    (record { written = new; faults = faults'' }) result
+delivered words bytes source source' ended result before old new first second faults faults' faults'' came written
+    (inl all) rises =
+    subst (λ (e : Ended). Answer words bytes source source' (record { written = before; faults = faults })
+    (record { written = new; faults = faults'' }) e) (sym all.0)
     (whole (first ++ second) came (Appends-then before old new first second written all.1))
-delivered words bytes source source' ended result before old new first second faults faults' faults'' came written (inr failed) rises =
-    subst (λ (e : Ended). Answer words bytes source source' (record { written = before; faults = faults }) (record { written = new; faults = faults'' }) e) (sym failed.0)
-    (prefix (Some ended.status) (first ++ second) (came_as ended status.WriteFault came) refl (prefix_after before old new first second written failed.1) (rises failed.2))
+delivered words bytes source source' ended result before old new first second faults faults' faults'' came written
+    (inr failed) rises =
+    subst (λ (e : Ended). Answer words bytes source source' (record { written = before; faults = faults })
+    (record { written = new; faults = faults'' }) e) (sym failed.0)
+    (prefix (Some ended.status) (first ++ second) (came_as ended status.WriteFault came) refl
+    (prefix_after before old new first second written failed.1) (rises failed.2))
 
 -- The analysis found this of the program, and no legal history leads to a configuration in which it is stuck.
-pub analysed_by : (bytes : List ℕ) (ended : Ended) (program : NamedTree) → IsAccepted bytes program → ended.refusal ≡ None → ended.facts ≡ facts_of program
+pub analysed_by : (bytes : List ℕ) (ended : Ended) (program : NamedTree) → IsAccepted bytes program
+    → ended.refusal ≡ None → ended.facts ≡ facts_of program
     → ended.pairs ≡ pairs_of program → ended.report ≡ report_of program → IsAnalysed bytes ended program
 analysed_by bytes ended program accepted refusal facts pairs report = record {
   accepted = accepted;

@@ -19,8 +19,10 @@ Appends-then (Some xs) (Some ys) None a b x y = y
 Appends-then (Some xs) (Some ys) (Some zs) a b x y = y ∙ ap (λ (t : List ℕ). t ++ b) x ∙ append_assoc xs a b
 
 -- a prefix of the rest moves to the part before it
-pub front-moves : (all front rest : List ℕ) (n : ℕ) → all ≡ front ++ rest → all ≡ (front ++ take n rest) ++ between n (length rest) rest
+pub front-moves : (all front rest : List ℕ) (n : ℕ) → all ≡ front ++ rest
+    → all ≡ (front ++ take n rest) ++ between n (length rest) rest
 front-moves all front rest n e =
     let apart : front ++ rest ≡ (front ++ take n rest) ++ drop n rest =
-    ap (λ (t : List ℕ). front ++ t) (sym (take-append-drop n rest)) ∙ sym (append_assoc front (take n rest) (drop n rest)) in
+    ap (λ (t : List ℕ). front ++ t) (sym (take-append-drop n rest))
+    ∙ sym (append_assoc front (take n rest) (drop n rest)) in
     e ∙ apart ∙ ap (λ (t : List ℕ). (front ++ take n rest) ++ t) (sym (take_rest rest n))

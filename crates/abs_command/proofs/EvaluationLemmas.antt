@@ -18,35 +18,44 @@ use Rattle.abs_tree.specs.Evaluation.{Outcome, Outcomes, evaluate, local_result,
 use Rattle.abs_tree.proofs.TreeLemmas.{expr_tree-apply, expr_tree-operators}
 
 -- the outcome of an application is that of its function for the results of its arguments
-pub evaluate_apply : (names : List (List ℕ)) (slots : List Value) (left k : ℕ) (expr : Expr) (place : Place) (function : Symbol) (arguments : Vec Expr Global) (name : List ℕ) (made now : ℕ) (output : Output)
+pub evaluate_apply : (names : List (List ℕ)) (slots : List Value) (left k : ℕ) (expr : Expr) (place : Place)
+    (function : Symbol) (arguments : Vec Expr Global) (name : List ℕ) (made now : ℕ) (output : Output)
     → left ≡ suc k → expr ≡ code.Apply place function arguments → name ≡ name_of names function
-    → outcomes_of (evaluate names slots k) (trees_of arguments.items) made ≡ record { output = output; applications = now }
+    → outcomes_of (evaluate names slots k) (trees_of arguments.items) made
+    ≡ record { output = output; applications = now }
     → evaluate names slots left (expr_tree expr) made ≡ application_outcome name output now
 unfolding evaluate
 evaluate_apply names slots left k expr place function arguments name made now output left_is expr_is name_is found =
     ap (λ (l : ℕ). evaluate names slots l (expr_tree expr) made) left_is
-    ∙ (ap (λ (t : ExprTree). evaluate names slots (suc k) t made) (ap expr_tree expr_is ∙ expr_tree-apply place function arguments)
+    ∙ (ap (λ (t : ExprTree). evaluate names slots (suc k) t made)
+    (ap expr_tree expr_is ∙ expr_tree-apply place function arguments)
     ∙ (ap (λ (o : Outcomes). application_outcome (name_of names function) o.output o.applications) found
     ∙ ap (λ (n : List ℕ). application_outcome n output now) (sym name_is)))
 
 -- a local gives the value of its slot
-pub evaluate_local : (names : List (List ℕ)) (slots : List Value) (left k : ℕ) (expr : Expr) (place : Place) (variable : Variable) (made : ℕ)
+pub evaluate_local : (names : List (List ℕ)) (slots : List Value) (left k : ℕ) (expr : Expr) (place : Place)
+    (variable : Variable) (made : ℕ)
     → left ≡ suc k → expr ≡ code.Local place variable
-    → evaluate names slots left (expr_tree expr) made ≡ record { result = local_result slots variable; applications = made }
+    → evaluate names slots left (expr_tree expr) made
+    ≡ record { result = local_result slots variable; applications = made }
 unfolding evaluate
 evaluate_local names slots left k expr place variable made left_is expr_is =
     ap (λ (l : ℕ). evaluate names slots l (expr_tree expr) made) left_is
     ∙ ap (λ (e : Expr). evaluate names slots (suc k) (expr_tree e) made) expr_is
 
 -- the outcome of an operator list is that of its operators from the left, after the outcome of its first operand
-pub evaluate_operators : (names : List (List ℕ)) (slots : List Value) (left k : ℕ) (expr : Expr) (place : Place) (first : Box Expr Global) (operands : Vec Operand Global) (made now : ℕ) (found : Evaluated)
+pub evaluate_operators : (names : List (List ℕ)) (slots : List Value) (left k : ℕ) (expr : Expr) (place : Place)
+    (first : Box Expr Global) (operands : Vec Operand Global) (made now : ℕ) (found : Evaluated)
     → left ≡ suc k → expr ≡ code.Operators place first operands
     → evaluate names slots k (expr_tree first.value) made ≡ record { result = found; applications = now }
-    → evaluate names slots left (expr_tree expr) made ≡ operators_outcome (evaluate names slots k) (record { result = found; applications = now }) (operands_of operands.items)
+    → evaluate names slots left (expr_tree expr) made
+    ≡ operators_outcome (evaluate names slots k) (record { result = found; applications = now })
+    (operands_of operands.items)
 unfolding evaluate
 evaluate_operators names slots left k expr place first operands made now found left_is expr_is first_is =
     ap (λ (l : ℕ). evaluate names slots l (expr_tree expr) made) left_is
-    ∙ (ap (λ (t : ExprTree). evaluate names slots (suc k) t made) (ap expr_tree expr_is ∙ expr_tree-operators place first operands)
+    ∙ (ap (λ (t : ExprTree). evaluate names slots (suc k) t made)
+    (ap expr_tree expr_is ∙ expr_tree-operators place first operands)
     ∙ ap (λ (o : Outcome). operators_outcome (evaluate names slots k) o (operands_of operands.items)) first_is)
 
 -- values before the output of the rest

@@ -31,18 +31,21 @@ data Shape (program : NamedTree) : Config → Type 0 where
   })
   works : (next : Option ℕ) (slots : List Value) → IsThere program next → Shape program (record {
     cogs = record { holder = Some 0 } ∷ [];
-    tasks = record { cog = 0; frames = record { next = next; slots = slots } ∷ []; state = Running; outcome = None } ∷ [];
+    tasks = record { cog = 0; frames = record { next = next; slots = slots } ∷ []; state = Running; outcome = None }
+        ∷ [];
   })
   ended : (outcome : Evaluated) → Shape program (record {
     cogs = record { holder = None } ∷ [];
     tasks = record { cog = 0; frames = []; state = Ready; outcome = Some outcome } ∷ [];
   })
 
-first_there : (program : NamedTree) (statements : List StmtTree) → statements ≡ program.main → IsThere program (first_statement statements)
+first_there : (program : NamedTree) (statements : List StmtTree) → statements ≡ program.main
+    → IsThere program (first_statement statements)
 first_there program [] e = tt
 first_there program (s ∷ ss) e = omega (arith, ap length e)
 
-following_by : (program : NamedTree) (statement : ℕ) (b : Bool) → nat_lt (statement + 1) (length program.main) ≡ b → IsThere program (cond b (Some (statement + 1)) None)
+following_by : (program : NamedTree) (statement : ℕ) (b : Bool) → nat_lt (statement + 1) (length program.main) ≡ b
+    → IsThere program (cond b (Some (statement + 1)) None)
 following_by program statement true e = grind (arith, nat_tests)
 following_by program statement false e = tt
 
@@ -50,42 +53,58 @@ following_there : (program : NamedTree) (statement : ℕ) → IsThere program (s
 following_there program statement = following_by program statement (nat_lt (statement + 1) (length program.main)) refl
 
 shape_first : (program : NamedTree) → Shape program (first program)
-shape_first program = waits (first_statement program.main) (replicate program.slots Null) (first_there program program.main refl)
+shape_first program = waits (first_statement program.main) (replicate program.slots Null)
+    (first_there program program.main refl)
 
 -- the task at work on a body
 abbrev working : Option ℕ → List Value → TaskCell
-working next slots = record { cog = 0; frames = record { next = next; slots = slots } ∷ []; state = Running; outcome = None }
+working next slots = record {
+  cog = 0;
+  frames = record { next = next; slots = slots } ∷ [];
+  state = Running;
+  outcome =
+      None;
+}
 
 abbrev at_work : Option ℕ → List Value → Config
 at_work next slots = record { cogs = record { holder = Some 0 } ∷ []; tasks = working next slots ∷ [] }
 
 -- a step that equals another leads to a configuration of the same shape
-same_shape : (program : NamedTree) (found step : Step) → Some found ≡ Some step → Shape program found.config → Shape program step.config
+same_shape : (program : NamedTree) (found step : Step) → Some found ≡ Some step → Shape program found.config
+    → Shape program step.config
 same_shape program found step e h = let same : found ≡ step = cc in subst (λ (s : Step). Shape program s.config) same h
 
 shape_prints : (program : NamedTree) (statement : ℕ) (slots : List Value) (found : Evaluated)
-    → Shape program (configuration_after (at_work (Some statement) slots) 0 (print_change program 0 (working (Some statement) slots) statement slots found))
+    → Shape program (configuration_after (at_work (Some statement) slots) 0
+    (print_change program 0 (working (Some statement) slots) statement slots found))
 shape_prints program statement slots (Good (Int number)) = ended (Bad fault.Mistyped)
-shape_prints program statement slots (Good (Text text)) = works (statement_after program statement) slots (following_there program statement)
+shape_prints program statement slots (Good (Text text)) =
+    works (statement_after program statement) slots (following_there program statement)
 shape_prints program statement slots (Good Null) = ended (Bad fault.Mistyped)
 shape_prints program statement slots (Bad cause) = ended (Bad cause)
 
 -- a choice between two changes has a shape that both have
-shape_either : (program : NamedTree) (config : Config) (one other : Change) (b : Bool) → Shape program (configuration_after config 0 one) → Shape program (configuration_after config 0 other) → Shape program (configuration_after config 0 (cond b one other))
+shape_either : (program : NamedTree) (config : Config) (one other : Change) (b : Bool)
+    → Shape program (configuration_after config 0 one) → Shape program (configuration_after config 0 other)
+    → Shape program (configuration_after config 0 (cond b one other))
 shape_either program config one other true h k = h
 shape_either program config one other false h k = k
 
 shape_assigns : (program : NamedTree) (statement : ℕ) (slots : List Value) (target : Variable) (found : Evaluated)
-    → Shape program (configuration_after (at_work (Some statement) slots) 0 (assign_change program 0 (working (Some statement) slots) statement slots target found))
+    → Shape program (configuration_after (at_work (Some statement) slots) 0
+    (assign_change program 0 (working (Some statement) slots) statement slots target found))
 shape_assigns program statement slots (Slot slot) (Good value) =
-    shape_either program (at_work (Some statement) slots) (continued_change program 0 (working (Some statement) slots) statement (set slots slot value) [])
+    shape_either program (at_work (Some statement) slots)
+    (continued_change program 0 (working (Some statement) slots) statement (set slots slot value) [])
     (ended_change (working (Some statement) slots) (Bad fault.Mistyped)) (nat_lt slot (length slots))
-    (works (statement_after program statement) (set slots slot value) (following_there program statement)) (ended (Bad fault.Mistyped))
+    (works (statement_after program statement) (set slots slot value) (following_there program statement))
+    (ended (Bad fault.Mistyped))
 shape_assigns program statement slots (Named symbol) (Good value) = ended (Bad fault.Mistyped)
 shape_assigns program statement slots target (Bad cause) = ended (Bad cause)
 
 shape_executes : (program : NamedTree) (statement : ℕ) (slots : List Value) (found : Option StmtTree) (step : Step)
-    → option_map (step_of (at_work (Some statement) slots) 0) (statement_change program 0 (working (Some statement) slots) statement slots found) ≡ Some step
+    → option_map (step_of (at_work (Some statement) slots) 0)
+    (statement_change program 0 (working (Some statement) slots) statement slots found) ≡ Some step
     → Shape program step.config
 shape_executes program statement slots None step e = absurd (cc)
 shape_executes program statement slots (Some (Declare place name target value)) step e =
@@ -96,11 +115,13 @@ shape_executes program statement slots (Some (Print place text)) step e =
     same_shape program _ step e (shape_prints program statement slots (result_of program.names slots text))
 
 -- each event keeps the shape
-shape_step : (program : NamedTree) (config : Config) (task : ℕ) (step : Step) → Shape program config → event_of program config task ≡ Some step → Shape program step.config
+shape_step : (program : NamedTree) (config : Config) (task : ℕ) (step : Step) → Shape program config
+    → event_of program config task ≡ Some step → Shape program step.config
 shape_step program _ zero step (waits next slots there) event = same_shape program _ step event (works next slots there)
 shape_step program _ (suc task) step (waits next slots there) event = absurd (cc)
 shape_step program _ zero step (works None slots there) event = same_shape program _ step event (ended (Good Null))
-shape_step program _ zero step (works (Some statement) slots there) event = shape_executes program statement slots (slice_get program.main statement) step event
+shape_step program _ zero step (works (Some statement) slots there) event =
+    shape_executes program statement slots (slice_get program.main statement) step event
 shape_step program _ (suc task) step (works next slots there) event = absurd (cc)
 shape_step program _ zero step (ended outcome) event = absurd (cc)
 shape_step program _ (suc task) step (ended outcome) event = absurd (cc)
@@ -111,7 +132,8 @@ is_there (x ∷ xs) zero h = refl
 is_there (x ∷ xs) (suc i) h = is_there xs i (omega arith)
 
 executes_some : (program : NamedTree) (statement : ℕ) (slots : List Value) (found : Option StmtTree) → IsSome found
-    → IsSome (option_map (step_of (at_work (Some statement) slots) 0) (statement_change program 0 (working (Some statement) slots) statement slots found))
+    → IsSome (option_map (step_of (at_work (Some statement) slots) 0)
+    (statement_change program 0 (working (Some statement) slots) statement slots found))
 executes_some program statement slots None h = h
 executes_some program statement slots (Some (Declare place name target value)) h = h
 executes_some program statement slots (Some (Assign place target value)) h = h
@@ -121,18 +143,27 @@ executes_some program statement slots (Some (Print place text)) h = h
 progress : (program : NamedTree) (config : Config) → Shape program config → IsOpen config → HasStep program config
 progress program _ (waits next slots there) unfinished = (0, refl)
 progress program _ (works None slots there) unfinished = (0, refl)
-progress program _ (works (Some statement) slots there) unfinished = (0, executes_some program statement slots (slice_get program.main statement) (is_there program.main statement there))
-progress program _ (ended outcome) (zero, unfinished) = let there = unfinished.there in let still = unfinished.open_still in absurd (cc)
+progress program _ (works (Some statement) slots there) unfinished = (
+  0,
+  executes_some program statement slots (slice_get program.main statement)
+      (is_there program.main statement there),
+)
+progress program _ (ended outcome) (zero, unfinished) = let there = unfinished.there in let still =
+    unfinished.open_still in absurd (cc)
 progress program _ (ended outcome) (suc number, unfinished) = let there = unfinished.there in absurd (cc)
 
 -- an event after others
-shape_goes : (program : NamedTree) (ran : Ran) (task : ℕ) (found : Option Step) → event_of program ran.config task ≡ found → Shape program ran.config → (end : Ran) → run_with_step ran found ≡ Some end → Shape program end.config
+shape_goes : (program : NamedTree) (ran : Ran) (task : ℕ) (found : Option Step)
+    → event_of program ran.config task ≡ found → Shape program ran.config → (end : Ran)
+    → run_with_step ran found ≡ Some end → Shape program end.config
 shape_goes program ran task None e shape end went = absurd (cc)
 shape_goes program ran task (Some step) e shape end went =
     let same : record { config = step.config; lines = ran.lines ++ step.lines } ≡ end = cc in
     subst (λ (r : Ran). Shape program r.config) same (shape_step program ran.config task step shape e)
 
-shape_run : (program : NamedTree) (history : List ℕ) (from : Option Ran) (end : Ran) → ((ran : Ran) → from ≡ Some ran → Shape program ran.config) → fold (run_after_event program) from history ≡ Some end → Shape program end.config
+shape_run : (program : NamedTree) (history : List ℕ) (from : Option Ran) (end : Ran)
+    → ((ran : Ran) → from ≡ Some ran → Shape program ran.config)
+    → fold (run_after_event program) from history ≡ Some end → Shape program end.config
 shape_run program [] from end shape e = shape end e
 shape_run program (task ∷ history) None end shape e = shape_run program history None end (λ ran h. absurd (cc)) e
 shape_run program (task ∷ history) (Some ran) end shape e =
@@ -142,4 +173,5 @@ shape_run program (task ∷ history) (Some ran) end shape e =
 pub never_stuck : (program : NamedTree) → NeverStuck program
 never_stuck program history ran e unfinished =
     progress program ran.config (shape_run program history (Some (record { config = first program; lines = [] })) ran
-    (λ start same. let is : record { config = first program; lines = [] } ≡ start = cc in subst (λ (r : Ran). Shape program r.config) is (shape_first program)) e) unfinished
+    (λ start same. let is : record { config = first program; lines = [] } ≡ start =
+    cc in subst (λ (r : Ran). Shape program r.config) is (shape_first program)) e) unfinished

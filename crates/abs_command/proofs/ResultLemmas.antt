@@ -11,7 +11,8 @@ on_error (Ok a) h = tt
 on_error (Err e) h = h
 
 -- What follows for a value follows for the value of a result.
-pub ok_follows : {A E : Type 0} (result : Result A E) {P Q : A → Type 0} → IfOk result P → ((a : A) → P a → Q a) → IfOk result Q
+pub ok_follows : {A E : Type 0} (result : Result A E) {P Q : A → Type 0} → IfOk result P → ((a : A) → P a → Q a)
+    → IfOk result Q
 ok_follows (Ok a) h follows = follows a h
 ok_follows (Err e) h follows = tt
 
@@ -21,16 +22,19 @@ error_follows (Ok a) h follows = tt
 error_follows (Err e) h follows = follows h
 
 -- What follows for a value from two clauses follows for the value of a result.
-pub ok_both : {A E : Type 0} (result : Result A E) {P R : A → Type 0} {Q : Type 0} → IfOk result P → OnOk result Q → ((a : A) → P a → Q → R a) → IfOk result R
+pub ok_both : {A E : Type 0} (result : Result A E) {P R : A → Type 0} {Q : Type 0} → IfOk result P → OnOk result Q
+    → ((a : A) → P a → Q → R a) → IfOk result R
 ok_both (Ok a) h k follows = follows a h k
 ok_both (Err e) h k follows = tt
 
 -- What follows for an error follows for the error of a result.
-pub if_error_follows : {A E : Type 0} (result : Result A E) {P Q : E → Type 0} → IfErr result P → ((e : E) → P e → Q e) → IfErr result Q
+pub if_error_follows : {A E : Type 0} (result : Result A E) {P Q : E → Type 0} → IfErr result P → ((e : E) → P e → Q e)
+    → IfErr result Q
 if_error_follows (Ok a) h follows = tt
 if_error_follows (Err e) h follows = follows e h
 
 -- What follows from the cause of a refusal is a cause of it too.
-pub cause_follows : (error : SourceError) {P Q : Refusal → Type 0} → HasCause P error → ((refusal : Refusal) → P refusal → Q refusal) → HasCause Q error
+pub cause_follows : (error : SourceError) {P Q : Refusal → Type 0} → HasCause P error
+    → ((refusal : Refusal) → P refusal → Q refusal) → HasCause Q error
 cause_follows (Refused refusal) h follows = follows refusal h
 cause_follows Memory h follows = tt

@@ -39,27 +39,33 @@ record OneTree (names others : List Name) (tree next : SourceTree) : Type 0 wher
   tree_is : tree ≡ next
 
 -- two trees of one list of tokens are equal
-list_tree : {list : TokenList} {names others : List Name} {tree next : SourceTree} → IsTextOf list names tree → IsTextOf list others next → OneTree names others tree next
+list_tree : {list : TokenList} {names others : List Name} {tree next : SourceTree} → IsTextOf list names tree
+    → IsTextOf list others next → OneTree names others tree next
 list_tree x y =
     let same_forest = (one_reading x.accepted.reads.reads y.accepted.reads.reads).0 in
     record {
-      names_are = x.names_are ∙ (ap (λ (forest : Forest). by_first_appearance (names_before forest [])) same_forest ∙ sym y.names_are);
+      names_are = x.names_are ∙ (ap (λ (forest : Forest). by_first_appearance (names_before forest [])) same_forest
+          ∙ sym y.names_are);
       tree_is = x.is ∙ (ap tree_of same_forest ∙ sym y.is);
     }
 
 -- two trees of a source are equal
-one_tree : {text : List ℕ} {names others : List Name} {tree next : SourceTree} → IsTree text names tree → IsTree text others next → OneTree names others tree next
-one_tree {others = others} {next = next} x y = list_tree x.is (subst (λ (list : TokenList). IsTextOf list others next) (list_once y.tokens x.tokens) y.is)
+one_tree : {text : List ℕ} {names others : List Name} {tree next : SourceTree} → IsTree text names tree
+    → IsTree text others next → OneTree names others tree next
+one_tree {others = others} {next = next} x y =
+    list_tree x.is (subst (λ (list : TokenList). IsTextOf list others next) (list_once y.tokens x.tokens) y.is)
 
 -- the programs of two supported trees of a source are equal
-one_part : {text : List ℕ} {names others : List Name} {tree next : SourceTree} {part other : ProgramTree} → IsTree text names tree → IsTree text others next
+one_part : {text : List ℕ} {names others : List Name} {tree next : SourceTree} {part other : ProgramTree}
+    → IsTree text names tree → IsTree text others next
     → runnable names tree ≡ Ok part → runnable others next ≡ Ok other → part ≡ other
 one_part x y runs goes =
     let one = one_tree x y in
     same_made _ runs (rw (one.names_are, one.tree_is) goes)
 
 -- a source is not both supported and unsupported
-not_both : {text : List ℕ} {names others : List Name} {tree next : SourceTree} {part : ProgramTree} {place : Place} → IsTree text names tree → IsTree text others next
+not_both : {text : List ℕ} {names others : List Name} {tree next : SourceTree} {part : ProgramTree} {place : Place}
+    → IsTree text names tree → IsTree text others next
     → runnable names tree ≡ Ok part → runnable others next ≡ Err place → ⊥
 not_both {names = names} {tree = tree} {place = place} x y runs waits =
     let one = one_tree x y in
@@ -67,7 +73,8 @@ not_both {names = names} {tree = tree} {place = place} x y runs waits =
     cc (sym runs ∙ none)
 
 -- the first unsupported part of a source begins at one place
-one_place : {text : List ℕ} {names others : List Name} {tree next : SourceTree} {place at : Place} → IsTree text names tree → IsTree text others next
+one_place : {text : List ℕ} {names others : List Name} {tree next : SourceTree} {place at : Place}
+    → IsTree text names tree → IsTree text others next
     → runnable names tree ≡ Err place → runnable others next ≡ Err at → place ≡ at
 one_place x y waits also =
     let one = one_tree x y in
@@ -82,18 +89,21 @@ none_of : (offences : List Offence) (offence : Offence) → offences ≡ [] → 
 none_of offences offence e h = let few : length offences ≡ 0 = ap length e in omega (arith, h.1)
 
 -- the parser does not fail on an accepted source
-no_stop : {text : List ℕ} {names : List Name} {tree : SourceTree} {list : TokenList} {refusal : Refusal} → IsTree text names tree → TokensOf text list → StopsWith list refusal → ⊥
+no_stop : {text : List ℕ} {names : List Name} {tree : SourceTree} {list : TokenList} {refusal : Refusal}
+    → IsTree text names tree → TokensOf text list → StopsWith list refusal → ⊥
 no_stop {refusal = refusal} x tokens stops =
     let stop = subst (λ (l : TokenList). StopsWith l refusal) (list_once tokens x.tokens) stops in
     x.is.accepted.no_stop stop.before stop.mark stop.code stop.stops
 
 -- A source with a program has no offence.
-pub no_offence : {text : List ℕ} {program : NamedTree} {refusal : Refusal} → IsProgramOf text program → FirstOffence text refusal → ⊥
+pub no_offence : {text : List ℕ} {program : NamedTree} {refusal : Refusal} → IsProgramOf text program
+    → FirstOffence text refusal → ⊥
 no_offence accepted (unlexed lexing) = list_or_first accepted.read.tokens lexing.is_first
 no_offence accepted (unread list tokens stops) = no_stop accepted.read tokens stops
 no_offence accepted (not_yet names tree place read waits is) = not_both accepted.read read accepted.runs waits
 no_offence accepted (misnamed names tree part read runs first) =
-    none_of (name_offences part) first.first (ap name_offences (one_part read accepted.read runs accepted.runs) ∙ accepted.no_offence) first.is_first.among
+    none_of (name_offences part) first.first
+    (ap name_offences (one_part read accepted.read runs accepted.runs) ∙ accepted.no_offence) first.is_first.among
 
 -- Two refusals for the first lexical offence are equal.
 one_lexical : {text : List ℕ} {one other : Refusal} → RefusesLexing text one → RefusesLexing text other → one ≡ other
@@ -107,41 +117,63 @@ one_stopped x y =
     x.refusal_is ∙ (sym (ap (λ (code : Code). at code y.mark) once.2 ∙ ap (at x.code) once.1) ∙ sym y.refusal_is)
 
 -- and two for the first name offence of a source
-one_misnamed : {text : List ℕ} {names others : List Name} {tree next : SourceTree} {part other_part : ProgramTree} (one other : Refusal)
-    → IsTree text names tree → IsTree text others next → runnable names tree ≡ Ok part → runnable others next ≡ Ok other_part
+one_misnamed : {text : List ℕ} {names others : List Name} {tree next : SourceTree} {part other_part : ProgramTree}
+    (one other : Refusal)
+    → IsTree text names tree → IsTree text others next → runnable names tree ≡ Ok part
+    → runnable others next ≡ Ok other_part
     → RefusesFirst (name_offences part) one → RefusesFirst (name_offences other_part) other → one ≡ other
 one_misnamed {names = names} {tree = tree} {part = part} one other read reads runs goes first second =
-    let later = subst (λ (p : ProgramTree). RefusesFirst (name_offences p) other) (one_part reads read goes runs) second in
+    let later = subst (λ (p : ProgramTree). RefusesFirst (name_offences p) other) (one_part reads read goes runs) second
+    in
     first.refusal_is
-    ∙ (ap refusal_of (one_first read.list names tree part (rising read.tokens) read.is runs first.first later.first first.is_first later.is_first) ∙ sym later.refusal_is)
+    ∙ (ap refusal_of (one_first read.list names tree part (rising read.tokens) read.is runs first.first later.first
+    first.is_first later.is_first) ∙ sym later.refusal_is)
 
 -- A source is refused for at most one offence.
 pub one_first_offence : (text : List ℕ) → HasOneFirstOffence text
 one_first_offence text one other (unlexed x) (unlexed y) = one_lexical x y
 one_first_offence text one other (unlexed x) (unread list tokens stops) = absurd (list_or_first tokens x.is_first)
-one_first_offence text one other (unlexed x) (not_yet names tree place read waits is) = absurd (list_or_first read.tokens x.is_first)
-one_first_offence text one other (unlexed x) (misnamed names tree part read runs first) = absurd (list_or_first read.tokens x.is_first)
+one_first_offence text one other (unlexed x) (not_yet names tree place read waits is) =
+    absurd (list_or_first read.tokens x.is_first)
+one_first_offence text one other (unlexed x) (misnamed names tree part read runs first) =
+    absurd (list_or_first read.tokens x.is_first)
 one_first_offence text one other (unread list tokens stops) (unlexed y) = absurd (list_or_first tokens y.is_first)
 one_first_offence text one other (unread list tokens stops) (unread others other_tokens other_stops) =
     one_stopped stops (subst (λ (l : TokenList). StopsWith l other) (list_once other_tokens tokens) other_stops)
-one_first_offence text one other (unread list tokens stops) (not_yet names tree place read waits is) = absurd (no_stop read tokens stops)
-one_first_offence text one other (unread list tokens stops) (misnamed names tree part read runs first) = absurd (no_stop read tokens stops)
-one_first_offence text one other (not_yet names tree place read waits is) (unlexed y) = absurd (list_or_first read.tokens y.is_first)
-one_first_offence text one other (not_yet names tree place read waits is) (unread list tokens stops) = absurd (no_stop read tokens stops)
+one_first_offence text one other (unread list tokens stops) (not_yet names tree place read waits is) =
+    absurd (no_stop read tokens stops)
+one_first_offence text one other (unread list tokens stops) (misnamed names tree part read runs first) =
+    absurd (no_stop read tokens stops)
+one_first_offence text one other (not_yet names tree place read waits is) (unlexed y) =
+    absurd (list_or_first read.tokens y.is_first)
+one_first_offence text one other (not_yet names tree place read waits is) (unread list tokens stops) =
+    absurd (no_stop read tokens stops)
 one_first_offence text one other (not_yet names tree place read waits is) (not_yet others next at reads also other_is) =
-    is ∙ (ap (λ (begin : Place). refusal_of (record { code = S1; place = begin })) (one_place read reads waits also) ∙ sym other_is)
-one_first_offence text one other (not_yet names tree place read waits is) (misnamed others next part reads runs first) = absurd (not_both reads read runs waits)
-one_first_offence text one other (misnamed names tree part read runs first) (unlexed y) = absurd (list_or_first read.tokens y.is_first)
-one_first_offence text one other (misnamed names tree part read runs first) (unread list tokens stops) = absurd (no_stop read tokens stops)
-one_first_offence text one other (misnamed names tree part read runs first) (not_yet others next place reads waits is) = absurd (not_both read reads runs waits)
-one_first_offence text one other (misnamed names tree part read runs first) (misnamed others next other_part reads goes second) =
+    is ∙ (ap (λ (begin : Place). refusal_of (record { code = S1; place = begin })) (one_place read reads waits also)
+    ∙ sym other_is)
+one_first_offence text one other (not_yet names tree place read waits is) (misnamed others next part reads runs first) =
+    absurd (not_both reads read runs waits)
+one_first_offence text one other (misnamed names tree part read runs first) (unlexed y) =
+    absurd (list_or_first read.tokens y.is_first)
+one_first_offence text one other (misnamed names tree part read runs first) (unread list tokens stops) =
+    absurd (no_stop read tokens stops)
+one_first_offence text one other (misnamed names tree part read runs first) (not_yet others next place reads waits is) =
+    absurd (not_both read reads runs waits)
+one_first_offence text one other (misnamed names tree part read runs first)
+    (misnamed others next other_part reads goes second) =
     one_misnamed one other read reads runs goes first second
 
 -- if tokens are pieces of a source, the names that they write are pieces of it too
-pub names_are_pieces : {text : List ℕ} (tokens : List Lexed) (names : List (List ℕ)) → All (IsPieceAt text) tokens → All (IsWritten tokens) names → All (IsPiece text) names
+pub names_are_pieces : {text : List ℕ} (tokens : List Lexed) (names : List (List ℕ)) → All (IsPieceAt text) tokens
+    → All (IsWritten tokens) names → All (IsPiece text) names
 names_are_pieces {text} tokens names pieces written = All-weaker (IsWritten tokens) (IsPiece text) piece names written
   where
     piece : (name : List ℕ) → IsWritten tokens name → IsPiece text name
     piece name x =
         let at = All-contains (IsPieceAt text) tokens x.token pieces x.among in
-        record { front = at.front; after = at.after; is = at.is ∙ ap (λ (bytes : List ℕ). at.front ++ (bytes ++ at.after)) (sym x.is) }
+        record {
+          front = at.front;
+          after = at.after;
+          is =
+              at.is ∙ ap (λ (bytes : List ℕ). at.front ++ (bytes ++ at.after)) (sym x.is);
+        }

@@ -23,37 +23,50 @@ few_or_many n h = by (nat_le n source_limit) refl
     by false e = inr (grind (arith, nat_tests))
 
 -- All bytes were taken, or one more than a source may have.
-taken_by : (content bytes rest : List ℕ) → content ≡ bytes ++ rest → (length bytes ≤ source_limit → rest ≡ []) → (length bytes ≤ source_limit) ⊎ (length bytes ≡ source_limit + 1)
+taken_by : (content bytes rest : List ℕ) → content ≡ bytes ++ rest → (length bytes ≤ source_limit → rest ≡ [])
+    → (length bytes ≤ source_limit) ⊎ (length bytes ≡ source_limit + 1)
     → bytes ≡ take (source_limit + 1) content
 taken_by content bytes rest e whole (inl few) =
     let all : content ≡ bytes = e ∙ (ap (λ (more : List ℕ). bytes ++ more) (whole few) ∙ append-nil bytes) in
     let short : length bytes ≤ source_limit + 1 = omega arith in
     sym (take_all (source_limit + 1) bytes short) ∙ ap (take (source_limit + 1)) (sym all)
 taken_by content bytes rest e whole (inr many) =
-    sym (take-append_seam bytes rest) ∙ (ap (λ (n : ℕ). take n (bytes ++ rest)) many ∙ ap (take (source_limit + 1)) (sym e))
+    sym (take-append_seam bytes rest)
+    ∙ (ap (λ (n : ℕ). take n (bytes ++ rest)) many ∙ ap (take (source_limit + 1)) (sym e))
 
-taken_whole : (content : List ℕ) (left : Option (List ℕ)) (bytes : List ℕ) → TakesWhole (Some content) left bytes → bytes ≡ take (source_limit + 1) content
+taken_whole : (content : List ℕ) (left : Option (List ℕ)) (bytes : List ℕ) → TakesWhole (Some content) left bytes
+    → bytes ≡ take (source_limit + 1) content
 taken_whole content None bytes h = absurd h.taken
-taken_whole content (Some rest) bytes h = taken_by content bytes rest h.taken h.all_of_it (few_or_many (length bytes) h.at_most)
+taken_whole content (Some rest) bytes h =
+    taken_by content bytes rest h.taken h.all_of_it (few_or_many (length bytes) h.at_most)
 
-most_taken : (under : Under) (left : Option (List ℕ)) (bytes : List ℕ) → TookWhole under left bytes → length bytes ≤ source_limit + 1
+most_taken : (under : Under) (left : Option (List ℕ)) (bytes : List ℕ) → TookWhole under left bytes
+    → length bytes ≤ source_limit + 1
 most_taken Untold left bytes h = h
 most_taken Absent left bytes h = absurd h
 most_taken (Holding content) left bytes h = h.at_most
 
 -- the content that the source tells is that of the file that was read
-told : (words : List (List ℕ)) (source : SourceView) (file content : List ℕ) → Names words file → IsGiven words source content → source.under file ≡ Holding content
-told words source file content named given = ap source.under (named_once words file given.file named given.named) ∙ given.held
+told : (words : List (List ℕ)) (source : SourceView) (file content : List ℕ) → Names words file
+    → IsGiven words source content → source.under file ≡ Holding content
+told words source file content named given =
+    ap source.under (named_once words file given.file named given.named) ∙ given.held
 
 -- The file was read to its end, or past the limit.
-pub read_whole : (words : List (List ℕ)) (source source' : SourceView) (file bytes : List ℕ) (came : Status) → Names words file
-    → TookWhole (source.under file) source'.left bytes → source'.missing ≡ source.missing → ((name : List ℕ) → source'.under name ≡ source.under name)
+pub read_whole : (words : List (List ℕ)) (source source' : SourceView) (file bytes : List ℕ) (came : Status)
+    → Names words file
+    → TookWhole (source.under file) source'.left bytes → source'.missing ≡ source.missing
+    → ((name : List ℕ) → source'.under name ≡ source.under name)
     → BytesIn words source source' bytes came
 read_whole words source source' file bytes came named took missing same = record {
   at_most = most_taken (source.under file) source'.left bytes took;
-  taken = λ content given. (subst (λ (u : Under). TookWhole u source'.left bytes) (told words source file content named given) took).taken;
-  whole = λ content given read. taken_whole content source'.left bytes (subst (λ (u : Under). TookWhole u source'.left bytes) (told words source file content named given) took);
-  absent = λ other names gone read. subst (λ (u : Under). TookWhole u source'.left bytes) (ap source.under (named_once words file other named names) ∙ gone) took;
+  taken = λ content given. (subst (λ (u : Under). TookWhole u source'.left bytes)
+      (told words source file content named given) took).taken;
+  whole = λ content given read. taken_whole content source'.left bytes
+      (subst (λ (u : Under). TookWhole u source'.left bytes) (told words source file content named given) took);
+  absent = λ other names gone read.
+      subst (λ (u : Under). TookWhole u source'.left bytes)
+      (ap source.under (named_once words file other named names) ∙ gone) took;
   missing = λ read. missing;
   same_names = same;
 }
@@ -70,11 +83,13 @@ some_taken Absent old new h = record { bytes = []; at_most = omega arith; taken 
 some_taken (Holding held) old new h = record {
   bytes = h.bytes;
   at_most = h.at_most;
-  taken = λ content e. let same : held ≡ content = cc in subst (λ (c : List ℕ). Consumes (Some c) new h.bytes) same h.taken;
+  taken = λ content e. let same : held ≡ content =
+      cc in subst (λ (c : List ℕ). Consumes (Some c) new h.bytes) same h.taken;
 }
 
 -- The file was not read to its end.
-pub read_in_part : (words : List (List ℕ)) (source source' : SourceView) (file : List ℕ) (came : Status) → Names words file → (WasRead came → ⊥)
+pub read_in_part : (words : List (List ℕ)) (source source' : SourceView) (file : List ℕ) (came : Status)
+    → Names words file → (WasRead came → ⊥)
     → (part : SomeTaken (source.under file) source'.left) → ((name : List ℕ) → source'.under name ≡ source.under name)
     → BytesIn words source source' part.bytes came
 read_in_part words source source' file came named failed part same = record {
@@ -87,7 +102,8 @@ read_in_part words source source' file came named failed part same = record {
 }
 
 -- The words name no file, and nothing was read.
-pub nothing_read : (words : List (List ℕ)) (source : SourceView) (came : Status) → (AreCommandWords words → ⊥) → BytesIn words source source [] came
+pub nothing_read : (words : List (List ℕ)) (source : SourceView) (came : Status) → (AreCommandWords words → ⊥)
+    → BytesIn words source source [] came
 nothing_read words source came none = record {
   at_most = omega arith;
   taken = λ content given. absurd (none (given.file, given.named));

@@ -36,7 +36,12 @@ statement_after program number = if nat_lt (number + 1) (length program.main) th
 
 -- the task ends with this result, and its cog is free
 abbrev pub ended_change : TaskCell → Evaluated → Change
-ended_change task outcome = record { task = record { cog = task.cog; frames = []; state = Ready; outcome = Some outcome }; holder = None; lines = [] }
+ended_change task outcome = record {
+  task =
+      record { cog = task.cog; frames = []; state = Ready; outcome = Some outcome };
+  holder = None;
+  lines = [];
+}
 
 -- the task continues with the next statement, with these values in the slots of its body; it holds its cog
 abbrev pub continued_change : NamedTree → ℕ → TaskCell → ℕ → List Value → List (List ℕ) → Change
@@ -76,7 +81,8 @@ assign_change program number task statement slots target (Bad cause) = ended_cha
 
 -- print: a string is one line; any other value and a fault end the task
 abbrev pub print_change : NamedTree → ℕ → TaskCell → ℕ → List Value → Evaluated → Change
-print_change program number task statement slots (Good (Text text)) = continued_change program number task statement slots (text ∷ [])
+print_change program number task statement slots (Good (Text text)) =
+    continued_change program number task statement slots (text ∷ [])
 print_change program number task statement slots (Good (Int value)) = ended_change task (Bad fault.Mistyped)
 print_change program number task statement slots (Good Null) = ended_change task (Bad fault.Mistyped)
 print_change program number task statement slots (Bad cause) = ended_change task (Bad cause)
@@ -95,7 +101,8 @@ statement_change program number task statement slots (Some (Print place text)) =
 -- value of a block is null
 abbrev pub body_change : NamedTree → ℕ → TaskCell → List Value → Option ℕ → Option Change
 body_change program number task slots None = Some (ended_change task (Good Null))
-body_change program number task slots (Some statement) = statement_change program number task statement slots (slice_get program.main statement)
+body_change program number task slots (Some statement) =
+    statement_change program number task statement slots (slice_get program.main statement)
 
 -- a task that holds its cog works on its one body; with another number of bodies it has no event
 abbrev pub running_change : NamedTree → ℕ → TaskCell → List Frame → Option Change
@@ -150,16 +157,18 @@ abbrev pub event_of : NamedTree → Config → ℕ → Option Step
 event_of program config number = option_map (step_of config number) (change_of program config number)
 
 -- The event of a task leads from this configuration and these lines to those. It serves proofs only.
-pub record Steps (program : NamedTree) (before : Config) (task : ℕ) (now : Config) (lines new : List (List ℕ)) : Type 0 where
-  pub step : Step
-  pub event : event_of program before task ≡ Some step
-  pub config : now ≡ step.config
-  pub printed : new ≡ lines ++ step.lines
+pub record Steps (program : NamedTree) (before : Config) (task : ℕ) (now : Config) (lines new : List (List ℕ)) : Type 0
+  where
+    pub step : Step
+    pub event : event_of program before task ≡ Some step
+    pub config : now ≡ step.config
+    pub printed : new ≡ lines ++ step.lines
 
 -- The change leaves this task and this holder of its cog, and adds its lines. It serves proofs only.
-pub record Makes (change : Option Change) (task : TaskCell) (holder : Option ℕ) (lines new : List (List ℕ)) : Type 0 where
-  pub made : Change
-  pub is : change ≡ Some made
-  pub task_is : task ≡ made.task
-  pub holder_is : holder ≡ made.holder
-  pub printed : new ≡ lines ++ made.lines
+pub record Makes (change : Option Change) (task : TaskCell) (holder : Option ℕ) (lines new : List (List ℕ)) : Type 0
+  where
+    pub made : Change
+    pub is : change ≡ Some made
+    pub task_is : task ≡ made.task
+    pub holder_is : holder ≡ made.holder
+    pub printed : new ≡ lines ++ made.lines

@@ -65,7 +65,8 @@ pub record IsMisused (words : List (List ℕ)) (ended : Ended) (due : Option Sta
 
 -- The source failed: its count of faults rose, or its count of missing names rose and it does not tell that it holds
 -- the file of the words.
-pub record IsUnread (words : List (List ℕ)) (source source' : SourceView) (ended : Ended) (due : Option Status) (output : List ℕ) : Type 0 where
+pub record IsUnread (words : List (List ℕ)) (source source' : SourceView) (ended : Ended) (due : Option Status)
+    (output : List ℕ) : Type 0 where
   pub file : List ℕ
   pub named : Names words file
   pub cause : Rose source.faults source'.faults ⊎ (Rose source.missing source'.missing × IsNotHeld (source.under file))
@@ -74,7 +75,8 @@ pub record IsUnread (words : List (List ℕ)) (source source' : SourceView) (end
   pub printed : output ≡ []
 
 -- The source has too many bytes.
-pub record IsOversized (words : List (List ℕ)) (bytes : List ℕ) (ended : Ended) (due : Option Status) (output : List ℕ) : Type 0 where
+pub record IsOversized (words : List (List ℕ)) (bytes : List ℕ) (ended : Ended) (due : Option Status) (output : List ℕ)
+    : Type 0 where
   pub named : AreCommandWords words
   pub cause : source_limit < length bytes
   pub fields : HoldsOnly ended None
@@ -82,7 +84,8 @@ pub record IsOversized (words : List (List ℕ)) (bytes : List ℕ) (ended : End
   pub printed : output ≡ too_large_line
 
 -- The source is refused, for its first offence.
-pub record IsRefused (words : List (List ℕ)) (bytes : List ℕ) (ended : Ended) (due : Option Status) (output : List ℕ) : Type 0 where
+pub record IsRefused (words : List (List ℕ)) (bytes : List ℕ) (ended : Ended) (due : Option Status) (output : List ℕ)
+    : Type 0 where
   pub named : AreCommandWords words
   pub small : length bytes ≤ source_limit
   pub first : Refusal
@@ -107,7 +110,8 @@ pub record IsAnalysed (bytes : List ℕ) (ended : Ended) (program : NamedTree) :
   pub headline : ended.report ≡ [] → NeverStuck program
 
 -- The program was analysed and nothing was run. No status is due yet: a fault of the sink leaves a call like this.
-pub record IsReported (words : List (List ℕ)) (bytes : List ℕ) (ended : Ended) (due : Option Status) (output : List ℕ) : Type 0 where
+pub record IsReported (words : List (List ℕ)) (bytes : List ℕ) (ended : Ended) (due : Option Status) (output : List ℕ)
+    : Type 0 where
   pub named : AreCommandWords words
   pub program : NamedTree
   pub analysed : IsAnalysed bytes ended program
@@ -118,7 +122,8 @@ pub record IsReported (words : List (List ℕ)) (bytes : List ℕ) (ended : Ende
 
 -- The program was analysed and run. Its recorded history is legal and has at most the permitted events. The run ended
 -- in this way, and printed this.
-pub record HasRun (words : List (List ℕ)) (bytes : List ℕ) (ended : Ended) (due : Option Status) (output : List ℕ) : Type 0 where
+pub record HasRun (words : List (List ℕ)) (bytes : List ℕ) (ended : Ended) (due : Option Status) (output : List ℕ)
+    : Type 0 where
   pub named : AreCommandWords words
   pub program : NamedTree
   pub analysed : IsAnalysed bytes ended program
@@ -129,10 +134,12 @@ pub record HasRun (words : List (List ℕ)) (bytes : List ℕ) (ended : Ended) (
   pub end_is : ended.end ≡ Some end
   pub ends : EndsAs program event_limit ended.history.tasks ran.config end
   pub status : due ≡ Some (status_of end ran.config)
-  pub printed : output ≡ report_lines ended.report ++ end_text ran.lines end (length ended.history.tasks) ran.config.tasks
+  pub printed : output ≡ report_lines ended.report
+      ++ end_text ran.lines end (length ended.history.tasks) ran.config.tasks
 
 -- A call went one of these ways; this status is due for it, and this is its whole output.
-pub data CameTo (words : List (List ℕ)) (bytes : List ℕ) (source source' : SourceView) (ended : Ended) (due : Option Status) (output : List ℕ) : Type 0 where
+pub data CameTo (words : List (List ℕ)) (bytes : List ℕ) (source source' : SourceView) (ended : Ended)
+    (due : Option Status) (output : List ℕ) : Type 0 where
   misused : IsMisused words ended due output → CameTo words bytes source source' ended due output
   unread : IsUnread words source source' ended due output → CameTo words bytes source source' ended due output
   oversized : IsOversized words bytes ended due output → CameTo words bytes source source' ended due output
@@ -143,17 +150,23 @@ pub data CameTo (words : List (List ℕ)) (bytes : List ℕ) (source source' : S
 -- Before memory ran out, nothing was written, or the whole report of the source's own program.
 pub data WrittenBefore (words : List (List ℕ)) (bytes : List ℕ) (old new : Option (List ℕ)) : Type 0 where
   nothing : Appends old new [] → WrittenBefore words bytes old new
-  report : AreCommandWords words → (program : NamedTree) → IsAccepted bytes program → Appends old new (report_lines (report_of program))
+  report : AreCommandWords words → (program : NamedTree) → IsAccepted bytes program
+      → Appends old new (report_lines (report_of program))
       → WrittenBefore words bytes old new
 
 -- The whole output was written, and the status is the one that is due; or the sink failed, and a prefix was written; or
 -- memory ran out.
-pub data Answer (words : List (List ℕ)) (bytes : List ℕ) (source source' : SourceView) (sink sink' : SinkView) (ended : Ended) : Type 0 where
-  whole : (output : List ℕ) → CameTo words bytes source source' ended (Some ended.status) output → Appends sink.written sink'.written output
+pub data Answer (words : List (List ℕ)) (bytes : List ℕ) (source source' : SourceView) (sink sink' : SinkView)
+    (ended : Ended) : Type 0 where
+  whole : (output : List ℕ) → CameTo words bytes source source' ended (Some ended.status) output
+      → Appends sink.written sink'.written output
       → Answer words bytes source source' sink sink' ended
-  prefix : (due : Option Status) (output : List ℕ) → CameTo words bytes source source' ended due output → ended.status ≡ status.WriteFault
-      → WritesPrefix sink.written sink'.written output → Rose sink.faults sink'.faults → Answer words bytes source source' sink sink' ended
-  exhausted : ended.status ≡ status.Memory → WrittenBefore words bytes sink.written sink'.written → Answer words bytes source source' sink sink' ended
+  prefix : (due : Option Status) (output : List ℕ) → CameTo words bytes source source' ended due output
+      → ended.status ≡ status.WriteFault
+      → WritesPrefix sink.written sink'.written output → Rose sink.faults sink'.faults
+      → Answer words bytes source source' sink sink' ended
+  exhausted : ended.status ≡ status.Memory → WrittenBefore words bytes sink.written sink'.written
+      → Answer words bytes source source' sink sink' ended
 
 -- The words name a file, and the source tells that it holds this content.
 pub record IsGiven (words : List (List ℕ)) (source : SourceView) (content : List ℕ) : Type 0 where
@@ -185,11 +198,14 @@ pub record NoneRose (source source' : SourceView) (sink sink' : SinkView) : Type
 
 -- Each status is returned when its cause holds, unless the call gave up. By the ways above it is returned only then;
 -- out of memory alone needs no cause.
-pub record Causes (words : List (List ℕ)) (bytes : List ℕ) (source source' : SourceView) (sink sink' : SinkView) (ended : Ended) : Type 0 where
+pub record Causes (words : List (List ℕ)) (bytes : List ℕ) (source source' : SourceView) (sink sink' : SinkView)
+    (ended : Ended) : Type 0 where
   pub usage : (AreCommandWords words → ⊥) → ComesTo ended.status status.Usage
   pub too_large : AreCommandWords words → source_limit < length bytes → ComesTo ended.status status.TooLarge
-  pub refused : AreCommandWords words → length bytes ≤ source_limit → HasOffence bytes → ComesTo ended.status status.Refused
-  pub accepted : AreCommandWords words → (program : NamedTree) → IsAccepted bytes program → IsOfRun ended.status ⊎ GivesUp ended.status
+  pub refused : AreCommandWords words → length bytes ≤ source_limit → HasOffence bytes
+      → ComesTo ended.status status.Refused
+  pub accepted : AreCommandWords words → (program : NamedTree) → IsAccepted bytes program
+      → IsOfRun ended.status ⊎ GivesUp ended.status
   pub ran : (due : Status) (output : List ℕ) → HasRun words bytes ended (Some due) output → ComesTo ended.status due
   pub stalled : ended.status ≡ status.Stalled → ended.report ≢ []
   pub chains : ended.status ≢ status.Chains
@@ -197,7 +213,8 @@ pub record Causes (words : List (List ℕ)) (bytes : List ℕ) (source source' :
 
 -- All that a call promises about these words, this source and this sink, each before and after it, and about what it
 -- returns.
-pub record Promises (words : List (List ℕ)) (source source' : SourceView) (sink sink' : SinkView) (ended : Ended) : Type 0 where
+pub record Promises (words : List (List ℕ)) (source source' : SourceView) (sink sink' : SinkView) (ended : Ended) : Type
+    0 where
   pub bytes : List ℕ
   pub bytes_in : BytesIn words source source' bytes ended.status
   pub answer : Answer words bytes source source' sink sink' ended

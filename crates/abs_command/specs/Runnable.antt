@@ -52,17 +52,21 @@ abbrev mutual
   -- numbers, locals, minus, and operator lists
   pub runnable_expr : List Name → Phrase → Result ExprTree Place
   runnable_expr names (NumberOf place number) = Ok (Number place number)
-  runnable_expr names (VariableOf place variable) = made_of (Local place) (ok_or (runnable_variable names variable) place)
+  runnable_expr names (VariableOf place variable) =
+      made_of (Local place) (ok_or (runnable_variable names variable) place)
   runnable_expr names (Prefixed place prefix.Minus operand) = made_of (Negate place) (runnable_expr names operand)
-  runnable_expr names (OperatorsOf place first others) = made_of_both (Operators place) (runnable_expr names first) (runnable_operands names place others)
+  runnable_expr names (OperatorsOf place first others) =
+      made_of_both (Operators place) (runnable_expr names first) (runnable_operands names place others)
   runnable_expr names other = Err (phrase_place other)
 
   -- an operator list from the left; an unsupported operator has the place where the list begins
   pub runnable_operands : List Name → Place → Operands → Result OperandTrees Place
   runnable_operands names place NoOperands = Ok NoOperand
   runnable_operands names place (NextOperand operation right others) =
-      made_of_both (λ operator (after : Operator → OperandTrees). after operator) (ok_or (runnable_operator operation) place)
-      (made_of_both (λ first rest operator. Then operator first rest) (runnable_expr names right) (runnable_operands names place others))
+      made_of_both (λ operator (after : Operator → OperandTrees). after operator)
+      (ok_or (runnable_operator operation) place)
+      (made_of_both (λ first rest operator. Then operator first rest) (runnable_expr names right)
+      (runnable_operands names place others))
 
 -- a right side that is an expression
 abbrev pub runnable_side : List Name → SideTree → Result ExprTree Place
@@ -73,7 +77,8 @@ runnable_side names other = Err (side_place other)
 abbrev pub runnable_text : List Name → Phrase → Result ExprTree Place
 runnable_text names (ApplyOf place function (NextPhrase value NoPhrase)) =
     if bytes_eq function (codes "toString")
-    then made_of_both (λ symbol number. Apply place symbol (More number NoMore)) (ok_or (symbol_in names function) place) (runnable_expr names value)
+    then made_of_both (λ symbol number. Apply place symbol (More number NoMore))
+    (ok_or (symbol_in names function) place) (runnable_expr names value)
     else Err place
 runnable_text names other = Err (phrase_place other)
 
@@ -85,7 +90,8 @@ is_int _ = false
 -- a declaration, an assignment, a print
 abbrev pub runnable_statement : List Name → Statement → Result StmtTree Place
 runnable_statement names (DeclareOf index place type at variable (SomeSide side)) =
-    if is_int type then made_of_both (Declare place at) (ok_or (runnable_variable names variable) at) (runnable_side names side) else Err place
+    if is_int type then made_of_both (Declare place at) (ok_or (runnable_variable names variable) at)
+    (runnable_side names side) else Err place
 runnable_statement names (AssignOf index place (ToVariable at variable) side) =
     made_of_both (Assign place) (ok_or (runnable_variable names variable) at) (runnable_side names side)
 runnable_statement names (PrintOf index place text) = made_of (Print place) (runnable_text names text)

@@ -25,7 +25,14 @@ first_statement (statement ∷ statements) = Some 0
 abbrev pub first : NamedTree → Config
 first program = record {
   cogs = record { holder = None } ∷ [];
-  tasks = record { cog = 0; frames = record { next = first_statement program.main; slots = replicate program.slots Null } ∷ []; state = Ready; outcome = None } ∷ [];
+  tasks = record {
+    cog = 0;
+    frames =
+        record { next = first_statement program.main; slots = replicate program.slots Null } ∷ [];
+    state =
+        Ready;
+    outcome = None;
+  } ∷ [];
 }
 
 -- the state after some events: the configuration, and all lines that were printed
@@ -77,4 +84,5 @@ EndsAs program steps history config Stalled = (length history ≢ steps) × IsOp
 -- Every configuration that a legal history reaches has a step while a task in it is unfinished. No task can wait yet,
 -- so this holds of every program.
 abbrev pub NeverStuck : NamedTree → Type 0
-NeverStuck program = (history : List ℕ) (ran : Ran) → run_of program history ≡ Some ran → IsOpen ran.config → HasStep program ran.config
+NeverStuck program = (history : List ℕ) (ran : Ran) → run_of program history ≡ Some ran → IsOpen ran.config
+    → HasStep program ran.config

@@ -43,9 +43,11 @@ pub record IsProgramOf (text : List ℕ) (program : NamedTree) : Type 0 where
 pub data FirstOffence (text : List ℕ) (refusal : Refusal) : Type 0 where
   unlexed : RefusesLexing text refusal → FirstOffence text refusal
   unread : (list : TokenList) → TokensOf text list → StopsWith list refusal → FirstOffence text refusal
-  not_yet : (names : List Name) (tree : SourceTree) (place : Place) → IsTree text names tree → runnable names tree ≡ Err place
+  not_yet : (names : List Name) (tree : SourceTree) (place : Place) → IsTree text names tree
+      → runnable names tree ≡ Err place
       → refusal ≡ refusal_of (record { code = S1; place = place }) → FirstOffence text refusal
-  misnamed : (names : List Name) (tree : SourceTree) (part : ProgramTree) → IsTree text names tree → runnable names tree ≡ Ok part
+  misnamed : (names : List Name) (tree : SourceTree) (part : ProgramTree) → IsTree text names tree
+      → runnable names tree ≡ Ok part
       → RefusesFirst (name_offences part) refusal → FirstOffence text refusal
 
 -- the source has an offence

@@ -18,7 +18,8 @@ use Rattle.abs_command.specs.declared.runtime.machine.End.TheVariants.{Done, Sta
 
 -- the line for words that are not a valid command line
 abbrev pub usage_line : List ℕ
-usage_line = codes "usage: abs [--check] [--trace] [--workers N] [--depth N] [--steps N] [--facts N] (FILE | --make N)\n"
+usage_line =
+    codes "usage: abs [--check] [--trace] [--workers N] [--depth N] [--steps N] [--facts N] (FILE | --make N)\n"
 
 -- the line for a source that is too large
 abbrev pub too_large_line : List ℕ
@@ -27,7 +28,9 @@ too_large_line = codes "too large: source\n"
 -- `refused: CODE at LINE:COLUMN: WORDS`
 abbrev pub refusal_line : Refusal → List ℕ
 refusal_line refusal =
-    codes "refused: " ++ (code_name refusal.code ++ (codes " at " ++ (decimal refusal.line ++ (codes ":" ++ (decimal refusal.column ++ (codes ": " ++ (code_words refusal.code ++ codes "\n")))))))
+    codes "refused: " ++ (code_name refusal.code
+    ++ (codes " at " ++ (decimal refusal.line
+    ++ (codes ":" ++ (decimal refusal.column ++ (codes ": " ++ (code_words refusal.code ++ codes "\n")))))))
 
 -- the lines of a report; a chain has no value yet, so each report is the one that names no chain
 abbrev pub report_lines : List Chain → List ℕ
@@ -46,15 +49,20 @@ unfinished_of tasks = count_by (λ task. is_none task.outcome) tasks
 -- spent, how many events it had
 abbrev pub end_line : End → ℕ → List TaskCell → List ℕ
 end_line Done events tasks = codes "done: " ++ (decimal (length tasks) ++ codes " tasks\n")
-end_line Stalled events tasks = codes "stalled: " ++ (decimal (length tasks) ++ (codes " tasks, " ++ (decimal (unfinished_of tasks) ++ codes " unfinished\n")))
+end_line Stalled events tasks =
+    codes "stalled: " ++ (decimal (length tasks)
+    ++ (codes " tasks, " ++ (decimal (unfinished_of tasks) ++ codes " unfinished\n")))
 end_line Spent events tasks =
-    codes "spent: " ++ (decimal events ++ (codes " events, " ++ (decimal (length tasks) ++ (codes " tasks, " ++ (decimal (unfinished_of tasks) ++ codes " unfinished\n")))))
+    codes "spent: " ++ (decimal events
+    ++ (codes " events, " ++ (decimal (length tasks)
+    ++ (codes " tasks, " ++ (decimal (unfinished_of tasks) ++ codes " unfinished\n")))))
 
 -- the line of the task of this index, if it ended by a fault
 abbrev pub fault_line : ℕ → Option Evaluated → List ℕ
 fault_line number None = []
 fault_line number (Some (Good value)) = []
-fault_line number (Some (Bad cause)) = codes "fault: task " ++ (decimal number ++ (codes ": " ++ (fault_name cause ++ codes "\n")))
+fault_line number (Some (Bad cause)) =
+    codes "fault: task " ++ (decimal number ++ (codes ": " ++ (fault_name cause ++ codes "\n")))
 
 -- those lines in the order of the tasks, the first of which has this index
 abbrev pub fault_lines : ℕ → List TaskCell → List ℕ

@@ -34,11 +34,13 @@ class_by false false false false true = Upper
 class_by false false false false false = Mark
 
 abbrev pub class_of : ℕ → Class
-class_of byte = class_by (is_white byte) (byte == 34) (is_ascii_digit byte) (is_ascii_lowercase byte) (is_ascii_uppercase byte)
+class_of byte = class_by (is_white byte) (byte == 34) (is_ascii_digit byte) (is_ascii_lowercase byte)
+    (is_ascii_uppercase byte)
 
 -- the piece at bytes of each class
 abbrev pub mark_at : List ℕ → Piece
-mark_at bytes = cond (opens_line bytes) (line_at bytes) (cond (opens_block bytes) (block_at bytes) (punctuator_at bytes))
+mark_at bytes = cond (opens_line bytes) (line_at bytes)
+    (cond (opens_block bytes) (block_at bytes) (punctuator_at bytes))
 
 abbrev pub piece_by : Class → List ℕ → Piece
 piece_by White bytes = Blank 1
@@ -49,7 +51,8 @@ piece_by Upper bytes = upper_at bytes
 piece_by Mark bytes = mark_at bytes
 
 nest : (w q d l u : Bool) (bytes : List ℕ)
-    → cond w (Blank 1) (cond q (string_at bytes) (cond d (number_at bytes) (cond l (word_at bytes) (cond u (upper_at bytes) (mark_at bytes)))))
+    → cond w (Blank 1) (cond q (string_at bytes)
+    (cond d (number_at bytes) (cond l (word_at bytes) (cond u (upper_at bytes) (mark_at bytes)))))
     ≡ piece_by (class_by w q d l u) bytes
 nest true q d l u bytes = refl
 nest false true d l u bytes = refl
@@ -63,9 +66,11 @@ pub piece_class : (bytes : List ℕ) → piece_at bytes ≡ piece_by (class_of (
 unfolding piece_at
 piece_class bytes =
     let first = slice_index bytes 0 in
-    nest (is_white first) (first == 34) (is_ascii_digit first) (is_ascii_lowercase first) (is_ascii_uppercase first) bytes
+    nest (is_white first) (first == 34) (is_ascii_digit first) (is_ascii_lowercase first) (is_ascii_uppercase first)
+    bytes
 
-pub piece_of_class : (class : Class) (bytes : List ℕ) → class_of (slice_index bytes 0) ≡ class → piece_at bytes ≡ piece_by class bytes
+pub piece_of_class : (class : Class) (bytes : List ℕ) → class_of (slice_index bytes 0) ≡ class
+    → piece_at bytes ≡ piece_by class bytes
 piece_of_class class bytes h = piece_class bytes ∙ ap (λ (c : Class). piece_by c bytes) h
 
 -- The class of the byte that each form begins with.
@@ -106,7 +111,8 @@ pub class_lower : (byte : ℕ) → is_ascii_lowercase byte ≡ true → class_of
 class_lower byte h = rw (no_white_lower byte h, no_quote_lower byte h, no_digit_lower byte h, h) refl
 
 pub class_upper : (byte : ℕ) → is_ascii_uppercase byte ≡ true → class_of byte ≡ Upper
-class_upper byte h = rw (no_white_upper byte h, no_quote_upper byte h, no_digit_upper byte h, no_lower_upper byte h, h) refl
+class_upper byte h = rw (no_white_upper byte h, no_quote_upper byte h, no_digit_upper byte h, no_lower_upper byte h, h)
+    refl
 
 -- what is known of a byte by its class
 abbrev pub TestOf : Class → Bool → Bool → Bool → Bool → Bool → Type 0
@@ -126,9 +132,11 @@ tested false false false false true = refl
 tested false false false false false = (refl, refl)
 
 pub test_of_class : (class : Class) (byte : ℕ) → class_of byte ≡ class
-    → TestOf class (is_white byte) (byte == 34) (is_ascii_digit byte) (is_ascii_lowercase byte) (is_ascii_uppercase byte)
+    → TestOf class (is_white byte) (byte == 34) (is_ascii_digit byte) (is_ascii_lowercase byte)
+    (is_ascii_uppercase byte)
 test_of_class class byte h =
-    subst (λ (c : Class). TestOf c (is_white byte) (byte == 34) (is_ascii_digit byte) (is_ascii_lowercase byte) (is_ascii_uppercase byte)) h
+    subst (λ (c : Class). TestOf c (is_white byte) (byte == 34) (is_ascii_digit byte) (is_ascii_lowercase byte)
+    (is_ascii_uppercase byte)) h
     (tested (is_white byte) (byte == 34) (is_ascii_digit byte) (is_ascii_lowercase byte) (is_ascii_uppercase byte))
 
 -- every punctuator begins with a mark
@@ -170,37 +178,47 @@ pub data FormOf (kind : Lexeme) (piece : List ℕ) : Class → Type 0 where
   sign : (p : Punctuator) → piece ≡ punctuator_bytes p → kind ≡ PunctuatorLexeme p → FormOf kind piece Mark
 
 -- the first byte of a name, of a number and of a string
-pub first_of_name : {is_first : ℕ → Bool} {piece : List ℕ} (x : IsName is_first piece) (after : List ℕ) → slice_index (piece ++ after) 0 ≡ x.first
+pub first_of_name : {is_first : ℕ → Bool} {piece : List ℕ} (x : IsName is_first piece) (after : List ℕ)
+    → slice_index (piece ++ after) 0 ≡ x.first
 first_of_name x after = ap (λ (bytes : List ℕ). slice_index (bytes ++ after) 0) x.is
 
 pub first_of_number : (piece after : List ℕ) → IsNumber piece → is_ascii_digit (slice_index (piece ++ after) 0) ≡ true
 first_of_number [] after x = absurd (omega (arith, x.some))
 first_of_number (byte ∷ others) after x = x.digits 0 0 (omega arith)
 
-pub first_of_text : {passes : ℕ → Bool} {piece : List ℕ} (x : IsQuoted passes piece) (after : List ℕ) → slice_index (piece ++ after) 0 ≡ 34
+pub first_of_text : {passes : ℕ → Bool} {piece : List ℕ} (x : IsQuoted passes piece) (after : List ℕ)
+    → slice_index (piece ++ after) 0 ≡ 34
 first_of_text x after = ap (λ (bytes : List ℕ). slice_index (bytes ++ after) 0) x.is
 
 -- a first piece with a form has the form for the class of its first byte
-pub formed : {kind : Lexeme} {piece : List ℕ} (after : List ℕ) → IsForm kind piece → FormOf kind piece (class_of (slice_index (piece ++ after) 0))
+pub formed : {kind : Lexeme} {piece : List ℕ} (after : List ℕ) → IsForm kind piece
+    → FormOf kind piece (class_of (slice_index (piece ++ after) 0))
 formed {kind} {piece} after (form_word x e) =
-    subst (λ (c : Class). FormOf kind piece c) (sym (ap class_of (first_of_name x after) ∙ class_lower x.first x.letter)) (word x e)
+    subst (λ (c : Class). FormOf kind piece c)
+    (sym (ap class_of (first_of_name x after) ∙ class_lower x.first x.letter)) (word x e)
 formed {kind} {piece} after (form_upper x e) =
-    subst (λ (c : Class). FormOf kind piece c) (sym (ap class_of (first_of_name x after) ∙ class_upper x.first x.letter)) (upper x e)
+    subst (λ (c : Class). FormOf kind piece c)
+    (sym (ap class_of (first_of_name x after) ∙ class_upper x.first x.letter)) (upper x e)
 formed {kind} {piece} after (form_number x e) =
-    subst (λ (c : Class). FormOf kind piece c) (sym (class_digit (slice_index (piece ++ after) 0) (first_of_number piece after x))) (number x e)
+    subst (λ (c : Class). FormOf kind piece c)
+    (sym (class_digit (slice_index (piece ++ after) 0) (first_of_number piece after x))) (number x e)
 formed {kind} {piece} after (form_text x e) =
     subst (λ (c : Class). FormOf kind piece c) (sym (ap class_of (first_of_text x after))) (text x e)
 formed {kind} {piece} after (form_sign p is e) =
-    subst (λ (c : Class). FormOf kind piece c) (sym (ap (λ (bytes : List ℕ). class_of (slice_index (bytes ++ after) 0)) is ∙ class_sign p after)) (sign p is e)
+    subst (λ (c : Class). FormOf kind piece c)
+    (sym (ap (λ (bytes : List ℕ). class_of (slice_index (bytes ++ after) 0)) is ∙ class_sign p after)) (sign p is e)
 
 -- the same for bytes that begin with the piece
-pub formed_in : {kind : Lexeme} {bytes : List ℕ} (piece after : List ℕ) {class : Class} → bytes ≡ piece ++ after → class_of (slice_index bytes 0) ≡ class → IsForm kind piece
+pub formed_in : {kind : Lexeme} {bytes : List ℕ} (piece after : List ℕ) {class : Class} → bytes ≡ piece ++ after
+    → class_of (slice_index bytes 0) ≡ class → IsForm kind piece
     → FormOf kind piece class
 formed_in {kind} {bytes} piece after {class} is c x =
-    subst (λ (c : Class). FormOf kind piece c) (sym (ap (λ (bs : List ℕ). class_of (slice_index bs 0)) is) ∙ c) (formed after x)
+    subst (λ (c : Class). FormOf kind piece c) (sym (ap (λ (bs : List ℕ). class_of (slice_index bs 0)) is) ∙ c)
+    (formed after x)
 
 -- a comment opens with "/", which is a mark
-opened : (first second : Bool) (bytes : List ℕ) → (first ≡ true → slice_index bytes 0 ≡ 47) → (second ≡ true → slice_index bytes 0 ≡ 47) → (first || second) ≡ true
+opened : (first second : Bool) (bytes : List ℕ) → (first ≡ true → slice_index bytes 0 ≡ 47)
+    → (second ≡ true → slice_index bytes 0 ≡ 47) → (first || second) ≡ true
     → slice_index bytes 0 ≡ 47
 opened true second bytes f g h = f refl
 opened false true bytes f g h = g refl
@@ -208,7 +226,8 @@ opened false false bytes f g h = cc
 
 pub first_of_comment : (bytes : List ℕ) → opens_comment bytes ≡ true → slice_index bytes 0 ≡ 47
 first_of_comment bytes h =
-    opened (opens_line bytes) (opens_block bytes) bytes (λ e. ap (λ (bs : List ℕ). slice_index bs 0) (two_in_front 47 47 bytes e))
+    opened (opens_line bytes) (opens_block bytes) bytes
+    (λ e. ap (λ (bs : List ℕ). slice_index bs 0) (two_in_front 47 47 bytes e))
     (λ e. ap (λ (bs : List ℕ). slice_index bs 0) (two_in_front 47 42 bytes e)) h
 
 -- so bytes that do not begin with a mark open no comment

@@ -12,16 +12,19 @@ use Rattle.abs_lexer.specs.Scans.{block_end}
 use Rattle.abs_lexer.proofs.TextLemmas.{further_some}
 
 -- the prefix that the search for the longest one finds is UTF-8
-front_by : (b : Bool) (bytes : List ℕ) (n m : ℕ) → is_utf8 (take n bytes) ≡ b → IsUtf8 (take m bytes) → IsUtf8 (take (cond b n m) bytes)
+front_by : (b : Bool) (bytes : List ℕ) (n m : ℕ) → is_utf8 (take n bytes) ≡ b → IsUtf8 (take m bytes)
+    → IsUtf8 (take (cond b n m) bytes)
 front_by true bytes n m h rest = IsUtf8-from_is_utf8 (take n bytes) h
 front_by false bytes n m h rest = rest
 
 front_valid : (bytes : List ℕ) (n : ℕ) → IsUtf8 (take (valid_len_up_to bytes n) bytes)
 front_valid bytes zero = IsUtf8-nil
-front_valid bytes (suc n) = front_by (is_utf8 (take (suc n) bytes)) bytes (suc n) (valid_len_up_to bytes n) refl (front_valid bytes n)
+front_valid bytes (suc n) = front_by (is_utf8 (take (suc n) bytes)) bytes (suc n) (valid_len_up_to bytes n) refl
+    (front_valid bytes n)
 
 -- and a longer prefix is not
-longer_by : (b : Bool) (bytes : List ℕ) (n k : ℕ) → is_utf8 (take (suc n) bytes) ≡ b → cond b (suc n) (valid_len_up_to bytes n) < k → k ≤ suc n
+longer_by : (b : Bool) (bytes : List ℕ) (n k : ℕ) → is_utf8 (take (suc n) bytes) ≡ b
+    → cond b (suc n) (valid_len_up_to bytes n) < k → k ≤ suc n
     → (valid_len_up_to bytes n < k → k ≤ n → IsUtf8 (take k bytes) → ⊥) → IsUtf8 (take k bytes) → ⊥
 longer_by true bytes n k h above below rest valid = absurd (omega arith)
 longer_by false bytes n k h above below rest valid = last (cases_lt n k)
@@ -30,7 +33,8 @@ longer_by false bytes n k h above below rest valid = last (cases_lt n k)
     last (inr within) = rest above within valid
     last (inl past) =
         let same : k ≡ suc n = omega arith in
-        false≢true (sym h ∙ is_utf8-from_IsUtf8 (take (suc n) bytes) (subst (λ (m : ℕ). IsUtf8 (take m bytes)) same valid))
+        false≢true (sym h ∙ is_utf8-from_IsUtf8 (take (suc n) bytes)
+        (subst (λ (m : ℕ). IsUtf8 (take m bytes)) same valid))
 
 longer_broken : (bytes : List ℕ) (n k : ℕ) → valid_len_up_to bytes n < k → k ≤ n → IsUtf8 (take k bytes) → ⊥
 longer_broken bytes zero k above below valid = absurd (omega arith)
@@ -40,29 +44,41 @@ longer_broken bytes (suc n) k above below valid =
 -- bytes that are not UTF-8 are valid up to their longest prefix that is
 pub broken : (bytes : List ℕ) → utf8_valid_len bytes < length bytes → IsValidUpTo bytes (utf8_valid_len bytes)
 unfolding utf8_valid_len
-broken bytes h = record { short = h; front = front_valid bytes (length bytes); longest = λ k above. last k above (cases_lt (length bytes) k) }
+broken bytes h = record {
+  short = h;
+  front = front_valid bytes (length bytes);
+  longest =
+      λ k above. last k above (cases_lt (length bytes) k);
+}
   where
-    last : (k : ℕ) → valid_len_up_to bytes (length bytes) < k → (length bytes < k) ⊎ (k ≤ length bytes) → IsUtf8 (take k bytes) → ⊥
+    last : (k : ℕ) → valid_len_up_to bytes (length bytes) < k → (length bytes < k) ⊎ (k ≤ length bytes)
+        → IsUtf8 (take k bytes) → ⊥
     last k above (inr within) valid = longer_broken bytes (length bytes) k above within valid
     last k above (inl past) valid =
         longer_broken bytes (length bytes) (length bytes) h (omega arith)
-        (subst (λ (xs : List ℕ). IsUtf8 xs) (take_all k bytes (omega arith) ∙ sym (take_all (length bytes) bytes (omega arith))) valid)
+        (subst (λ (xs : List ℕ). IsUtf8 xs)
+        (take_all k bytes (omega arith) ∙ sym (take_all (length bytes) bytes (omega arith))) valid)
 
 -- and bytes that are valid up to their end are UTF-8
 pub unbroken : (bytes : List ℕ) → length bytes ≤ utf8_valid_len bytes → IsUtf8 bytes
 unfolding utf8_valid_len
 unbroken bytes h =
     let all : valid_len_up_to bytes (length bytes) ≡ length bytes = omega (arith, utf8_valid_len_le bytes) in
-    subst (λ (xs : List ℕ). IsUtf8 xs) (ap (λ (n : ℕ). take n bytes) all ∙ take_all (length bytes) bytes (omega arith)) (front_valid bytes (length bytes))
+    subst (λ (xs : List ℕ). IsUtf8 xs) (ap (λ (n : ℕ). take n bytes) all ∙ take_all (length bytes) bytes (omega arith))
+    (front_valid bytes (length bytes))
 
 -- if the test for two first bytes passes, the bytes begin with them
-pub two_in_front : (first second : ℕ) (bytes : List ℕ) → bytes_eq (take 2 bytes) (first ∷ second ∷ []) ≡ true → bytes ≡ first ∷ second ∷ drop 2 bytes
+pub two_in_front : (first second : ℕ) (bytes : List ℕ) → bytes_eq (take 2 bytes) (first ∷ second ∷ []) ≡ true
+    → bytes ≡ first ∷ second ∷ drop 2 bytes
 two_in_front first second bytes h =
-    sym (take-append-drop 2 bytes) ∙ ap (λ (front : List ℕ). front ++ drop 2 bytes) ((bytes_eq-Decides (take 2 bytes) (first ∷ second ∷ [])).0 h)
+    sym (take-append-drop 2 bytes) ∙ ap (λ (front : List ℕ). front ++ drop 2 bytes)
+    ((bytes_eq-Decides (take 2 bytes) (first ∷ second ∷ [])).0 h)
 
 -- no "*/" begins inside a comment, so it ends at the first one
-ends_here : (byte : ℕ) (others after : List ℕ) → NowhereIn (byte ∷ others) (codes "*/") → bytes_eq (take 2 (byte ∷ (others ++ (codes "*/" ++ after)))) (codes "*/") ≡ true → ⊥
-ends_here byte [] after none h = let same = two_in_front 42 47 (byte ∷ 42 ∷ 47 ∷ after) h in let second : ◌≡◌ {A = ℕ} 42 47 = cc in omega (arith, second)
+ends_here : (byte : ℕ) (others after : List ℕ) → NowhereIn (byte ∷ others) (codes "*/")
+    → bytes_eq (take 2 (byte ∷ (others ++ (codes "*/" ++ after)))) (codes "*/") ≡ true → ⊥
+ends_here byte [] after none h = let same =
+    two_in_front 42 47 (byte ∷ 42 ∷ 47 ∷ after) h in let second : ◌≡◌ {A = ℕ} 42 47 = cc in omega (arith, second)
 ends_here byte (next ∷ others) after none h =
     let same = two_in_front 42 47 (byte ∷ next ∷ (others ++ (codes "*/" ++ after))) h in
     let first : byte ≡ 42 = cc in
@@ -71,18 +87,21 @@ ends_here byte (next ∷ others) after none h =
 
 -- a piece that occurs nowhere in bytes occurs nowhere in their rest after the first one
 pub nowhere_rest : (byte : ℕ) (others piece : List ℕ) → NowhereIn (byte ∷ others) piece → NowhereIn others piece
-nowhere_rest byte others piece none front after is = none (byte ∷ front) after (ap (λ (bytes : List ℕ). byte ∷ bytes) is)
+nowhere_rest byte others piece none front after is =
+    none (byte ∷ front) after (ap (λ (bytes : List ℕ). byte ∷ bytes) is)
 
 -- a Boolean that is not true is false
 pub true_or_false : (b : Bool) → (b ≡ true → ⊥) → b ≡ false
 true_or_false true h = absurd (h refl)
 true_or_false false h = refl
 
-pub block_ends : (inside after : List ℕ) → NowhereIn inside (codes "*/") → block_end (inside ++ (codes "*/" ++ after)) ≡ Some (length inside)
+pub block_ends : (inside after : List ℕ) → NowhereIn inside (codes "*/")
+    → block_end (inside ++ (codes "*/" ++ after)) ≡ Some (length inside)
 unfolding block_end
 block_ends [] after none = refl
 block_ends (byte ∷ others) after none =
-    let here = true_or_false (bytes_eq (take 2 (byte ∷ (others ++ (codes "*/" ++ after)))) (codes "*/")) (ends_here byte others after none) in
+    let here = true_or_false (bytes_eq (take 2 (byte ∷ (others ++ (codes "*/" ++ after)))) (codes "*/"))
+    (ends_here byte others after none) in
     let rest = block_ends others after (nowhere_rest byte others (codes "*/") none) in
     rw (here, rest) (ap (λ (n : ℕ). Some n) (omega arith))
 
@@ -104,7 +123,8 @@ ends_first bytes n h e = record {
 }
 
 -- if bytes do not begin with "*/", no prefix of them does
-not_in_front : (byte : ℕ) (inside after : List ℕ) (rest : List ℕ) → bytes_eq (take 2 (byte ∷ (inside ++ rest))) (codes "*/") ≡ false → byte ∷ inside ≡ codes "*/" ++ after → ⊥
+not_in_front : (byte : ℕ) (inside after : List ℕ) (rest : List ℕ)
+    → bytes_eq (take 2 (byte ∷ (inside ++ rest))) (codes "*/") ≡ false → byte ∷ inside ≡ codes "*/" ++ after → ⊥
 not_in_front byte [] after rest h is = let long = ap length is in omega (arith, long)
 not_in_front byte (next ∷ inside) after rest h is =
     let first : byte ≡ 42 = cc in
@@ -112,7 +132,8 @@ not_in_front byte (next ∷ inside) after rest h is =
     let test : bytes_eq (byte ∷ next ∷ []) (codes "*/") ≡ true = rw (first, second) refl in
     false≢true (sym h ∙ test)
 
-ends_later : (byte : ℕ) (others : List ℕ) (m n : ℕ) → bytes_eq (take 2 (byte ∷ others)) (codes "*/") ≡ false → Ends others m → n ≡ 1 + m → Ends (byte ∷ others) n
+ends_later : (byte : ℕ) (others : List ℕ) (m n : ℕ) → bytes_eq (take 2 (byte ∷ others)) (codes "*/") ≡ false
+    → Ends others m → n ≡ 1 + m → Ends (byte ∷ others) n
 ends_later byte others m n h x e = record {
   inside = byte ∷ x.inside;
   after = x.after;
@@ -123,16 +144,20 @@ ends_later byte others m n h x e = record {
   where
     nowhere : NowhereIn (byte ∷ x.inside) (codes "*/")
     nowhere [] after is =
-        not_in_front byte x.inside after (codes "*/" ++ x.after) (subst (λ (bytes : List ℕ). bytes_eq (take 2 (byte ∷ bytes)) (codes "*/") ≡ false) x.is h) is
+        not_in_front byte x.inside after (codes "*/" ++ x.after)
+        (subst (λ (bytes : List ℕ). bytes_eq (take 2 (byte ∷ bytes)) (codes "*/") ≡ false) x.is h) is
     nowhere (first ∷ front) after is = x.nowhere front after cc
 
-ends_by : (b : Bool) (byte : ℕ) (others : List ℕ) (n : ℕ) → bytes_eq (take 2 (byte ∷ others)) (codes "*/") ≡ b → block_end (byte ∷ others) ≡ Some n
+ends_by : (b : Bool) (byte : ℕ) (others : List ℕ) (n : ℕ) → bytes_eq (take 2 (byte ∷ others)) (codes "*/") ≡ b
+    → block_end (byte ∷ others) ≡ Some n
     → ((m : ℕ) → block_end others ≡ Some m → Ends others m) → Ends (byte ∷ others) n
 unfolding block_end
 ends_by true byte others n h e reads = ends_first (byte ∷ others) n h (rw h at e)
-ends_by false byte others n h e reads = let more = further_some 1 (block_end others) n (rw h at e) in ends_later byte others more.0 n h (reads more.0 more.1) more.2
+ends_by false byte others n h e reads = let more =
+    further_some 1 (block_end others) n (rw h at e) in ends_later byte others more.0 n h (reads more.0 more.1) more.2
 
 pub block_reads : (bytes : List ℕ) (n : ℕ) → block_end bytes ≡ Some n → Ends bytes n
 unfolding block_end
 block_reads [] n e = cc
-block_reads (byte ∷ others) n e = ends_by (bytes_eq (take 2 (byte ∷ others)) (codes "*/")) byte others n refl e (λ m x. block_reads others m x)
+block_reads (byte ∷ others) n e =
+    ends_by (bytes_eq (take 2 (byte ∷ others)) (codes "*/")) byte others n refl e (λ m x. block_reads others m x)

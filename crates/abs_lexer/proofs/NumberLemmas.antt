@@ -28,19 +28,24 @@ pub IsUtf8-digits : (digits : List ℕ) → AllPass is_ascii_digit digits → Is
 IsUtf8-digits digits h = IsUtf8-from_ascii digits (IsAscii-digits digits h)
 
 -- if parsing succeeds exactly for a value below 2 ^ 127, then its success is the test for that
-parsed_by : {E : Type 0} (parsed : Result ℤ E) (count value : ℕ) → 0 < count → OkIff parsed ((0 < count) × (value < 2 ^ 127)) (pos value) → is_ok parsed ≡ nat_lt value (2 ^ 127)
+parsed_by : {E : Type 0} (parsed : Result ℤ E) (count value : ℕ) → 0 < count
+    → OkIff parsed ((0 < count) × (value < 2 ^ 127)) (pos value) → is_ok parsed ≡ nat_lt value (2 ^ 127)
 parsed_by (Ok number) count value some ok = grind (arith, nat_tests)
 parsed_by (Err error) count value some ok = grind (arith, nat_tests)
 
 -- parsing digits succeeds exactly if their number has at most 127 bits
-pub parses_small : {E : Type 0} (digits : List ℕ) (parsed : Result ℤ E) → AllPass is_ascii_digit digits → 0 < length digits → ParsesSigned w128 10 digits parsed
+pub parses_small : {E : Type 0} (digits : List ℕ) (parsed : Result ℤ E) → AllPass is_ascii_digit digits
+    → 0 < length digits → ParsesSigned w128 10 digits parsed
     → is_ok parsed ≡ nat_lt (digits_value 10 digits) (2 ^ 127)
 parses_small digits parsed passes some parses =
     parsed_by parsed (length digits) (digits_value 10 digits) some
-    (parse_signed_digits (numerals_by_value _ tells_by_index) w128 digits parsed parses (λ i few. digit_range _ (passes i 0 few)))
+    (parse_signed_digits (numerals_by_value _ tells_by_index) w128 digits parsed parses
+    (λ i few. digit_range _ (passes i 0 few)))
 
 -- the number of at most 38 digits is always below 2 ^ 127
-pub few_are_small : (digits : List ℕ) → AllPass is_ascii_digit digits → length digits ≤ 38 → true ≡ nat_lt (digits_value 10 digits) (2 ^ 127)
+pub few_are_small : (digits : List ℕ) → AllPass is_ascii_digit digits → length digits ≤ 38
+    → true ≡ nat_lt (digits_value 10 digits) (2 ^ 127)
 few_are_small digits passes few =
-    let below = digits_value_short (numerals_by_value _ tells_by_index) digits 38 (λ i within. digit_range _ (passes i 0 within)) few in
+    let below = digits_value_short (numerals_by_value _ tells_by_index) digits 38
+    (λ i within. digit_range _ (passes i 0 within)) few in
     grind (arith, nat_tests)

@@ -42,12 +42,16 @@ pub record IsStopped (place : Place) (bytes : List ℕ) (offence : Offence) : Ty
   pub within : front ≤ length bytes
 
 -- an offence at the first byte
-stopped_here : (place : Place) (bytes : List ℕ) (code : Code) → piece_at bytes ≡ Stop code 0 → IsStopped place bytes (record { code = code; place = place })
-stopped_here place bytes code found = record { count = 0; front = 0; found = found; place_is = refl; least = omega arith; within = omega arith }
+stopped_here : (place : Place) (bytes : List ℕ) (code : Code) → piece_at bytes ≡ Stop code 0
+    → IsStopped place bytes (record { code = code; place = place })
+stopped_here place bytes code found =
+    record { count = 0; front = 0; found = found; place_is = refl; least = omega arith; within = omega arith }
 
 -- an offence after a prefix of the first piece
-stopped_after : (place : Place) {bytes : List ℕ} (piece after front more : List ℕ) (code : Code) (count : ℕ) → bytes ≡ piece ++ after → piece ≡ front ++ more
-    → piece_at bytes ≡ Stop code count → count ≤ length front → IsStopped place bytes (record { code = code; place = place_after place front })
+stopped_after : (place : Place) {bytes : List ℕ} (piece after front more : List ℕ) (code : Code) (count : ℕ)
+    → bytes ≡ piece ++ after → piece ≡ front ++ more
+    → piece_at bytes ≡ Stop code count → count ≤ length front
+    → IsStopped place bytes (record { code = code; place = place_after place front })
 stopped_after place {bytes} piece after front more code count is e found least = record {
   count = count;
   front = length front;
@@ -78,10 +82,12 @@ stray_found bytes x = by (class_of x.byte) refl
     by Quote e = absurd (x.no_quote ((Decides-eqb x.byte 34).0 (test_of_class Quote x.byte e)))
     by Digit e =
         let form = form_number (number_in_front x.byte x.others (test_of_class Digit x.byte e)) refl in
-        absurd (x.no_token Number (take digits (x.byte ∷ x.others)) (drop digits (x.byte ∷ x.others)) (in_front digits) form)
+        absurd (x.no_token Number (take digits (x.byte ∷ x.others)) (drop digits (x.byte ∷ x.others)) (in_front digits)
+        form)
     by Lower e =
         let letter = test_of_class Lower x.byte e in
-        absurd (x.no_token (word_kind (take words (x.byte ∷ x.others))) (take words (x.byte ∷ x.others)) (drop words (x.byte ∷ x.others)) (in_front words)
+        absurd (x.no_token (word_kind (take words (x.byte ∷ x.others))) (take words (x.byte ∷ x.others))
+        (drop words (x.byte ∷ x.others)) (in_front words)
         (form_word (name_in_front is_ascii_lowercase x.byte x.others letter (lower_is_word x.byte letter)) refl))
     by Upper e =
         let letter = test_of_class Upper x.byte e in
@@ -90,7 +96,9 @@ stray_found bytes x = by (class_of x.byte) refl
     by Mark e =
         let opens = neither (opens_line bytes) (opens_block bytes) x.no_comment in
         let marks : mark_at bytes ≡ punctuator_at bytes = rw (opens.0, opens.1) refl in
-        piece_of_class Mark bytes (first Mark e) ∙ (marks ∙ no_sign_found bytes (λ p after is. x.no_token (PunctuatorLexeme p) (punctuator_bytes p) after is (form_sign p refl refl)))
+        piece_of_class Mark bytes (first Mark e)
+        ∙ (marks ∙ no_sign_found bytes (λ p after is.
+        x.no_token (PunctuatorLexeme p) (punctuator_bytes p) after is (form_sign p refl refl)))
 
 -- the scanner finds a comment that does not end
 open_comment_found : (bytes : List ℕ) → IsOpenComment bytes → piece_at bytes ≡ Stop L2 0
@@ -115,12 +123,14 @@ open_comment_found bytes x = piece_of_class Mark bytes class ∙ (marks ∙ by (
         let y = block_reads (drop 2 bytes) n e in
         let rest : x.inside ≡ y.inside ++ (codes "*/" ++ y.after) = ap (λ (bs : List ℕ). drop 2 bs) (sym x.is) ∙ y.is in
         absurd (x.endless (codes "/*" ++ (y.inside ++ codes "*/")) y.after
-        (x.is ∙ ap (λ (bs : List ℕ). 47 ∷ 42 ∷ bs) (rest ∙ sym (append_assoc y.inside (codes "*/") y.after))) (block y.inside refl y.nowhere))
+        (x.is ∙ ap (λ (bs : List ℕ). 47 ∷ 42 ∷ bs) (rest ∙ sym (append_assoc y.inside (codes "*/") y.after)))
+        (block y.inside refl y.nowhere))
 
 -- the scanner finds a string that does not end on its line
 open_text_found : (bytes : List ℕ) → IsOpenString bytes → piece_at bytes ≡ Stop L3 0
 unfolding string_at
-open_text_found bytes x = piece_of_class Quote bytes (ap (λ (bs : List ℕ). class_of (slice_index bs 0)) x.is) ∙ by (closing_quote (drop 1 bytes)) refl
+open_text_found bytes x = piece_of_class Quote bytes (ap (λ (bs : List ℕ). class_of (slice_index bs 0)) x.is)
+    ∙ by (closing_quote (drop 1 bytes)) refl
   where
     by : (closed : Option ℕ) → closing_quote (drop 1 bytes) ≡ closed → string_at bytes ≡ Stop L3 0
     by None e = rw e refl
@@ -132,11 +142,14 @@ open_text_found bytes x = piece_of_class Quote bytes (ap (λ (bs : List ℕ). cl
         (record { inside = y.inside; is = refl; reads = y.reads }))
 
 -- the scanner finds a number above 127 bits
-large_found : {bytes : List ℕ} (piece after : List ℕ) → bytes ≡ piece ++ after → IsLongest Number piece after → 2 ^ 127 ≤ digits_value 10 piece → piece_at bytes ≡ Stop L4 0
+large_found : {bytes : List ℕ} (piece after : List ℕ) → bytes ≡ piece ++ after → IsLongest Number piece after
+    → 2 ^ 127 ≤ digits_value 10 piece → piece_at bytes ≡ Stop L4 0
 unfolding number_at
-large_found {bytes} piece after is x large = by (class_of (slice_index bytes 0)) refl (formed_in piece after is refl x.form)
+large_found {bytes} piece after is x large =
+    by (class_of (slice_index bytes 0)) refl (formed_in piece after is refl x.form)
   where
-    by : (class : Class) → class_of (slice_index bytes 0) ≡ class → FormOf Number piece class → piece_at bytes ≡ Stop L4 0
+    by : (class : Class) → class_of (slice_index bytes 0) ≡ class → FormOf Number piece class
+        → piece_at bytes ≡ Stop L4 0
     by White e y = elim y [ ]
     by Quote e (text y k) = cc
     by Lower e (word y k) = absurd (word_is_no_number piece k)
@@ -146,32 +159,43 @@ large_found {bytes} piece after is x large = by (class_of (slice_index bytes 0))
         let count = digits_found piece after is y x in
         let test : nat_lt (digits_value 10 piece) (2 ^ 127) ≡ false = grind (arith, nat_tests) in
         piece_of_class Digit bytes e
-        ∙ (ap (λ (p : List ℕ). cond (nat_lt (digits_value 10 p) (2 ^ 127)) (Token Number (prefix_len is_ascii_digit bytes)) (Stop L4 0)) (run_takes_piece is_ascii_digit piece after is count)
+        ∙ (ap (λ (p : List ℕ). cond (nat_lt (digits_value 10 p) (2 ^ 127))
+        (Token Number (prefix_len is_ascii_digit bytes)) (Stop L4 0))
+        (run_takes_piece is_ascii_digit piece after is count)
         ∙ rw test refl)
 
 -- the scanner stops in a string with an offence
-text_stops : {bytes : List ℕ} (piece after : List ℕ) → bytes ≡ piece ++ after → IsQuoted is_on_line piece → min (bad_escape piece) (utf8_valid_len piece) < length piece
+text_stops : {bytes : List ℕ} (piece after : List ℕ) → bytes ≡ piece ++ after → IsQuoted is_on_line piece
+    → min (bad_escape piece) (utf8_valid_len piece) < length piece
     → piece_at bytes ≡ Stop L1 (min (bad_escape piece) (utf8_valid_len piece))
 unfolding string_checked
 text_stops {bytes} piece after is x short =
-    let class : class_of (slice_index bytes 0) ≡ Quote = ap (λ (bs : List ℕ). class_of (slice_index bs 0)) (is ∙ ap (λ (p : List ℕ). p ++ after) x.is) in
-    piece_of_class Quote bytes class ∙ (text_found after is x ∙ checked_offence (Token Text (length piece)) (min (bad_escape piece) (utf8_valid_len piece)) piece short)
+    let class : class_of (slice_index bytes 0) ≡ Quote =
+    ap (λ (bs : List ℕ). class_of (slice_index bs 0)) (is ∙ ap (λ (p : List ℕ). p ++ after) x.is) in
+    piece_of_class Quote bytes class
+    ∙ (text_found after is x ∙ checked_offence (Token Text (length piece))
+    (min (bad_escape piece) (utf8_valid_len piece)) piece short)
 
 -- the scanner stops in a comment with an offence
-comment_stops : {bytes : List ℕ} (piece after : List ℕ) → bytes ≡ piece ++ after → IsComment piece after → utf8_valid_len piece < length piece
+comment_stops : {bytes : List ℕ} (piece after : List ℕ) → bytes ≡ piece ++ after → IsComment piece after
+    → utf8_valid_len piece < length piece
     → piece_at bytes ≡ Stop L1 (utf8_valid_len piece)
 unfolding comment_checked
-comment_stops piece after is x short = comment_found piece after is x ∙ checked_offence (Blank (length piece)) (utf8_valid_len piece) piece short
+comment_stops piece after is x short =
+    comment_found piece after is x ∙ checked_offence (Blank (length piece)) (utf8_valid_len piece) piece short
 
 -- for each offence of the first piece, the scanner finds it or one before it
-pub offends_found : {place : Place} {bytes : List ℕ} {offence : Offence} → OffendsAt place bytes offence → IsStopped place bytes offence
+pub offends_found : {place : Place} {bytes : List ℕ} {offence : Offence} → OffendsAt place bytes offence
+    → IsStopped place bytes offence
 offends_found {place} {bytes} (stray_byte x) = stopped_here place bytes L1 (stray_found bytes x)
 offends_found {place} {bytes} (open_comment x) = stopped_here place bytes L2 (open_comment_found bytes x)
 offends_found {place} {bytes} (open_string x) = stopped_here place bytes L3 (open_text_found bytes x)
-offends_found {place} {bytes} (large_number piece after is x large) = stopped_here place bytes L4 (large_found piece after is x large)
+offends_found {place} {bytes} (large_number piece after is x large) =
+    stopped_here place bytes L4 (large_found piece after is x large)
 offends_found {place} {bytes} (offends_bad_escape piece after front is x y) =
     let least = bad_found y in
-    stopped_after place piece after front (92 ∷ y.byte ∷ y.others) L1 (min (bad_escape piece) (utf8_valid_len piece)) is y.is
+    stopped_after place piece after front (92 ∷ y.byte ∷ y.others) L1 (min (bad_escape piece) (utf8_valid_len piece)) is
+    y.is
     (text_stops piece after is x (omega (arith, least.0, least.1))) (omega (arith, least.0))
 offends_found {place} {bytes} (broken_string piece after front is x y) =
     let least = broken_found y in

@@ -8,9 +8,11 @@ suc_is : (n : ℕ) → 1 + n ≡ suc n
 suc_is n = omega arith
 
 -- each byte of the run passes
-passes_by : (p : ℕ → Bool) (b : Bool) (x : ℕ) (xs : List ℕ) → p x ≡ b → AllPass p (take (prefix_len p xs) xs) → AllPass p (take (cond b (1 + prefix_len p xs) 0) (x ∷ xs))
+passes_by : (p : ℕ → Bool) (b : Bool) (x : ℕ) (xs : List ℕ) → p x ≡ b → AllPass p (take (prefix_len p xs) xs)
+    → AllPass p (take (cond b (1 + prefix_len p xs) 0) (x ∷ xs))
 passes_by p true x xs e rest =
-    subst (λ (n : ℕ). AllPass p (take n (x ∷ xs))) (sym (suc_is (prefix_len p xs))) (All-cons (λ y. p y ≡ true) x (take (prefix_len p xs) xs) e rest)
+    subst (λ (n : ℕ). AllPass p (take n (x ∷ xs))) (sym (suc_is (prefix_len p xs)))
+    (All-cons (λ y. p y ≡ true) x (take (prefix_len p xs) xs) e rest)
 passes_by p false x xs e rest = All-nil (λ y. p y ≡ true)
 
 pub run_passes : (p : ℕ → Bool) (xs : List ℕ) → AllPass p (take (prefix_len p xs) xs)
@@ -18,7 +20,8 @@ run_passes p [] = All-nil (λ x. p x ≡ true)
 run_passes p (x ∷ xs) = passes_by p (p x) x xs refl (run_passes p xs)
 
 -- no byte that passes follows the run
-ends_by : (p : ℕ → Bool) (b : Bool) (x : ℕ) (xs : List ℕ) → p x ≡ b → prefix_len p (drop (prefix_len p xs) xs) ≡ 0 → prefix_len p (drop (cond b (1 + prefix_len p xs) 0) (x ∷ xs)) ≡ 0
+ends_by : (p : ℕ → Bool) (b : Bool) (x : ℕ) (xs : List ℕ) → p x ≡ b → prefix_len p (drop (prefix_len p xs) xs) ≡ 0
+    → prefix_len p (drop (cond b (1 + prefix_len p xs) 0) (x ∷ xs)) ≡ 0
 ends_by p true x xs e rest = subst (λ (n : ℕ). prefix_len p (drop n (x ∷ xs)) ≡ 0) (sym (suc_is (prefix_len p xs))) rest
 ends_by p false x xs e rest = rw e refl
 

@@ -39,13 +39,16 @@ stands_nearer byte others at stands = record {
 
 -- its first index, by the test at the first byte and its first index after that
 found_by : (test : Bool) (byte : ℕ) (others : List ℕ) (found : Option ℕ) → bytes_eq (take 2 (byte ∷ others)) mark ≡ test
-    → FindsNeedle (byte ∷ others) mark 0 found → ((after : Option ℕ) → FindsNeedle others mark 0 after → after ≡ block_end others)
+    → FindsNeedle (byte ∷ others) mark 0 found
+    → ((after : Option ℕ) → FindsNeedle others mark 0 after → after ≡ block_end others)
     → found ≡ cond test (Some 0) (increased_by 1 (block_end others))
 found_by true byte others None e finds more = absurd (finds 0 (omega arith) (omega arith) (stands_by (byte ∷ others) e))
 found_by true byte others (Some zero) e finds more = refl
-found_by true byte others (Some (suc at)) e finds more = absurd (finds.0.before 0 (omega arith) (omega arith) (stands_by (byte ∷ others) e))
+found_by true byte others (Some (suc at)) e finds more =
+    absurd (finds.0.before 0 (omega arith) (omega arith) (stands_by (byte ∷ others) e))
 found_by false byte others None e finds more =
-    rw (← more None (λ at low high stands. finds (suc at) (omega arith) (omega arith) (stands_later byte others at stands))) refl
+    rw (← more None (λ at low high stands.
+    finds (suc at) (omega arith) (omega arith) (stands_later byte others at stands))) refl
 found_by false byte others (Some zero) e finds more = absurd (false≢true (sym e ∙ passes_test (byte ∷ others) finds.1))
 found_by false byte others (Some (suc at)) e finds more =
     let first = finds.0 in
@@ -53,7 +56,8 @@ found_by false byte others (Some (suc at)) e finds more =
       record {
         low = omega arith;
         high = omega (arith, first.high);
-        before = λ place low high stands. first.before (suc place) (omega arith) (omega arith) (stands_later byte others place stands);
+        before = λ place low high stands.
+            first.before (suc place) (omega arith) (omega arith) (stands_later byte others place stands);
       },
       stands_nearer byte others at finds.1,
     ) in

@@ -19,7 +19,8 @@ none_of false false true h = cc
 none_of false false false h = (refl, refl, refl)
 
 is_other : (byte : ℕ) → is_plain byte ≡ true → IsOther byte
-is_other byte h = let parts = none_of (byte == 34) (byte == 92) (byte == 10) h in record { quote = parts.0; escape = parts.1; feed = parts.2 }
+is_other byte h = let parts = none_of (byte == 34) (byte == 92) (byte == 10) h in
+    record { quote = parts.0; escape = parts.1; feed = parts.2 }
 
 -- a byte that is none of them denotes itself
 other_is : (byte : ℕ) → (byte == 34) ≡ false → (byte == 92) ≡ false → (byte == 10) ≡ false → is_plain byte ≡ true
@@ -37,7 +38,8 @@ byte_is : (byte other : ℕ) → (byte == other) ≡ true → byte ≡ other
 byte_is byte other h = (Decides-eqb byte other).0 h
 
 -- the scan finds the closing quote of a string after the bytes inside it
-pub closing_inside : {inside : List ℕ} (after : List ℕ) → IsInside is_on_line inside → closing_quote (inside ++ 34 ∷ after) ≡ Some (length inside)
+pub closing_inside : {inside : List ℕ} (after : List ℕ) → IsInside is_on_line inside
+    → closing_quote (inside ++ 34 ∷ after) ≡ Some (length inside)
 unfolding closing_quote
 closing_inside after nothing = refl
 closing_inside after (plain byte others p h) =
@@ -50,7 +52,8 @@ closing_inside after (escaped byte others p h) =
     rw (feed, rest) (ap (λ (n : ℕ). Some n) (omega arith))
 
 -- if an index increased by a count is n, then the index is some m with n = count + m
-pub further_some : (count : ℕ) (index : Option ℕ) (n : ℕ) → increased_by count index ≡ Some n → (m : ℕ) × (index ≡ Some m) × (n ≡ count + m)
+pub further_some : (count : ℕ) (index : Option ℕ) (n : ℕ) → increased_by count index ≡ Some n
+    → (m : ℕ) × (index ≡ Some m) × (n ≡ count + m)
 further_some count None n h = cc
 further_some count (Some m) n h = (m, refl, cc)
 
@@ -73,9 +76,18 @@ record ClosesAfter (bytes : List ℕ) (count : ℕ) : Type 0 where
   count_is : count ≡ 2 + rest
 
 closes_quote : (byte : ℕ) (others : List ℕ) (n : ℕ) → (byte == 34) ≡ true → Some 0 ≡ Some n → Closes (byte ∷ others) n
-closes_quote byte others n q h = record { inside = []; after = others; is = ap (λ (b : ℕ). b ∷ others) (byte_is byte 34 q); reads = nothing; count_is = cc }
+closes_quote byte others n q h =
+    record {
+      inside = [];
+      after = others;
+      is = ap (λ (b : ℕ). b ∷ others) (byte_is byte 34 q);
+      reads =
+          nothing;
+      count_is = cc;
+    }
 
-closes_plain : (byte : ℕ) (others : List ℕ) (m n : ℕ) → is_plain byte ≡ true → Closes others m → n ≡ 1 + m → Closes (byte ∷ others) n
+closes_plain : (byte : ℕ) (others : List ℕ) (m n : ℕ) → is_plain byte ≡ true → Closes others m → n ≡ 1 + m
+    → Closes (byte ∷ others) n
 closes_plain byte others m n p x e = record {
   inside = byte ∷ x.inside;
   after = x.after;
@@ -84,33 +96,48 @@ closes_plain byte others m n p x e = record {
   count_is = omega (arith, x.count_is, e);
 }
 
-closes_escaped : (byte : ℕ) (others : List ℕ) (n : ℕ) → (byte == 92) ≡ true → ClosesAfter others n → Closes (byte ∷ others) n
+closes_escaped : (byte : ℕ) (others : List ℕ) (n : ℕ) → (byte == 92) ≡ true → ClosesAfter others n
+    → Closes (byte ∷ others) n
 closes_escaped byte others n e x = record {
   inside = 92 ∷ x.byte ∷ x.closes.inside;
   after = x.closes.after;
-  is = ap (λ (b : ℕ). b ∷ others) (byte_is byte 92 e) ∙ ap (λ (bytes : List ℕ). 92 ∷ bytes) (x.is ∙ ap (λ (bytes : List ℕ). x.byte ∷ bytes) x.closes.is);
+  is = ap (λ (b : ℕ). b ∷ others) (byte_is byte 92 e)
+      ∙ ap (λ (bytes : List ℕ). 92 ∷ bytes) (x.is ∙ ap (λ (bytes : List ℕ). x.byte ∷ bytes) x.closes.is);
   reads = escaped x.byte x.closes.inside x.line x.closes.reads;
   count_is = omega (arith, x.closes.count_is, x.count_is);
 }
 
 -- by the first byte: a quote closes, a line feed ends the line, a `\` goes with the next byte, any other is passed
-closes_by : (q f e : Bool) (byte : ℕ) (others : List ℕ) (n : ℕ) → (byte == 34) ≡ q → (byte == 10) ≡ f → (byte == 92) ≡ e → closing_quote (byte ∷ others) ≡ Some n
-    → ((m : ℕ) → closing_quote others ≡ Some m → Closes others m) → ((m : ℕ) → closing_after_escape others ≡ Some m → ClosesAfter others m) → Closes (byte ∷ others) n
+closes_by : (q f e : Bool) (byte : ℕ) (others : List ℕ) (n : ℕ) → (byte == 34) ≡ q → (byte == 10) ≡ f → (byte == 92) ≡ e
+    → closing_quote (byte ∷ others) ≡ Some n
+    → ((m : ℕ) → closing_quote others ≡ Some m → Closes others m)
+    → ((m : ℕ) → closing_after_escape others ≡ Some m → ClosesAfter others m) → Closes (byte ∷ others) n
 unfolding closing_quote
 closes_by true f e byte others n a b c h reads after = closes_quote byte others n a (rw a at h)
 closes_by false true e byte others n a b c h reads after = let h : None ≡ Some n = rw (a, b) at h in cc
-closes_by false false true byte others n a b c h reads after = closes_escaped byte others n c (after n (rw (a, b, c) at h))
+closes_by false false true byte others n a b c h reads after =
+    closes_escaped byte others n c (after n (rw (a, b, c) at h))
 closes_by false false false byte others n a b c h reads after =
     let more = further_some 1 (closing_quote others) n (rw (a, b, c) at h) in
     closes_plain byte others more.0 n (other_is byte a c b) (reads more.0 more.1) more.2
 
-after_by : (f : Bool) (byte : ℕ) (others : List ℕ) (n : ℕ) → (byte == 10) ≡ f → closing_after_escape (byte ∷ others) ≡ Some n
+after_by : (f : Bool) (byte : ℕ) (others : List ℕ) (n : ℕ) → (byte == 10) ≡ f
+    → closing_after_escape (byte ∷ others) ≡ Some n
     → ((m : ℕ) → closing_quote others ≡ Some m → Closes others m) → ClosesAfter (byte ∷ others) n
 unfolding closing_quote
 after_by true byte others n a h reads = let h : None ≡ Some n = rw a at h in cc
 after_by false byte others n a h reads =
     let more = further_some 2 (closing_quote others) n (rw a at h) in
-    record { byte = byte; others = others; is = refl; line = not_false (byte == 10) a; rest = more.0; closes = reads more.0 more.1; count_is = more.2 }
+    record {
+      byte = byte;
+      others = others;
+      is = refl;
+      line = not_false (byte == 10) a;
+      rest = more.0;
+      closes =
+          reads more.0 more.1;
+      count_is = more.2;
+    }
 
 mutual
   unfolding closing_quote
@@ -119,7 +146,8 @@ mutual
   pub closing_reads : (bytes : List ℕ) (n : ℕ) → closing_quote bytes ≡ Some n → Closes bytes n
   closing_reads [] n h = cc
   closing_reads (byte ∷ others) n h =
-      closes_by (byte == 34) (byte == 10) (byte == 92) byte others n refl refl refl h (λ m x. closing_reads others m x) (λ m x. after_reads others m x)
+      closes_by (byte == 34) (byte == 10) (byte == 92) byte others n refl refl refl h (λ m x. closing_reads others m x)
+      (λ m x. after_reads others m x)
 
   after_reads : (bytes : List ℕ) (n : ℕ) → closing_after_escape bytes ≡ Some n → ClosesAfter bytes n
   after_reads [] n h = cc
@@ -132,12 +160,14 @@ bad_step byte [] h = refl
 bad_step byte (next ∷ others) h = rw h refl
 
 -- the scan for escapes stops at a `\` that begins no escape, or before it
-pub bad_least : {front : List ℕ} (byte : ℕ) (others : List ℕ) → is_escape byte ≡ false → IsInside is_on_line front → bad_escape (front ++ 92 ∷ byte ∷ others) ≤ length front
+pub bad_least : {front : List ℕ} (byte : ℕ) (others : List ℕ) → is_escape byte ≡ false → IsInside is_on_line front
+    → bad_escape (front ++ 92 ∷ byte ∷ others) ≤ length front
 unfolding bad_escape
 bad_least byte others bad nothing = rw bad (omega arith)
 bad_least byte others bad (plain first rest p h) =
     omega (arith, bad_step first (rest ++ 92 ∷ byte ∷ others) (is_other first p).escape, bad_least byte others bad h)
-bad_least byte others bad (escaped next rest p h) = bad_after (is_escape next) (bad_escape (rest ++ 92 ∷ byte ∷ others)) (length rest) (bad_least byte others bad h)
+bad_least byte others bad (escaped next rest p h) =
+    bad_after (is_escape next) (bad_escape (rest ++ 92 ∷ byte ∷ others)) (length rest) (bad_least byte others bad h)
   where
     bad_after : (b : Bool) (m n : ℕ) → m ≤ n → cond b (2 + m) 0 ≤ suc (suc n)
     bad_after true m n h = omega arith
@@ -148,14 +178,16 @@ pub bad_nowhere : {inside : List ℕ} → IsInside is_escape inside → bad_esca
 unfolding bad_escape
 bad_nowhere nothing = refl
 bad_nowhere (plain byte others p h) =
-    let step : bad_escape (byte ∷ (others ++ 34 ∷ [])) ≡ 1 + bad_escape (others ++ 34 ∷ []) = bad_step byte (others ++ 34 ∷ []) (is_other byte p).escape in
+    let step : bad_escape (byte ∷ (others ++ 34 ∷ [])) ≡ 1 + bad_escape (others ++ 34 ∷ []) =
+    bad_step byte (others ++ 34 ∷ []) (is_other byte p).escape in
     omega (arith, step, bad_nowhere h)
 bad_nowhere (escaped byte others p h) = rw (p, bad_nowhere h) (omega arith)
 
 -- What the scan for escapes finds inside a string: each `\` begins an escape, or the one after this prefix does not.
 pub data Judged (inside : List ℕ) : Type 0 where
   good : IsInside is_escape inside → Judged inside
-  bad : (front : List ℕ) (byte : ℕ) (others : List ℕ) → inside ≡ front ++ 92 ∷ byte ∷ others → IsInside is_on_line front → is_escape byte ≡ false
+  bad : (front : List ℕ) (byte : ℕ) (others : List ℕ) → inside ≡ front ++ 92 ∷ byte ∷ others → IsInside is_on_line front
+      → is_escape byte ≡ false
       → bad_escape (inside ++ 34 ∷ []) ≡ length front → Judged inside
 
 pub judged : {inside : List ℕ} → IsInside is_on_line inside → Judged inside
@@ -174,5 +206,6 @@ judged (escaped byte others p h) = judged_by (is_escape byte) refl (judged h)
     judged_by false e x = bad [] byte others refl nothing e (rw e refl)
     judged_by true e (good x) = good (escaped byte others e x)
     judged_by true e (bad front other rest is reads wrong at) =
-        bad (92 ∷ byte ∷ front) other rest (ap (λ (bytes : List ℕ). 92 ∷ byte ∷ bytes) is) (escaped byte front p reads) wrong
+        bad (92 ∷ byte ∷ front) other rest (ap (λ (bytes : List ℕ). 92 ∷ byte ∷ bytes) is) (escaped byte front p reads)
+        wrong
         (rw (e, at) (omega arith))

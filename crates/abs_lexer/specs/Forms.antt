@@ -55,7 +55,8 @@ pub record IsNumber (piece : List ℕ) : Type 0 where
 pub data IsInside (passes : ℕ → Bool) : List ℕ → Type 0 where
   nothing : IsInside passes []
   plain : (byte : ℕ) (others : List ℕ) → is_plain byte ≡ true → IsInside passes others → IsInside passes (byte ∷ others)
-  escaped : (byte : ℕ) (others : List ℕ) → passes byte ≡ true → IsInside passes others → IsInside passes (92 ∷ byte ∷ others)
+  escaped : (byte : ℕ) (others : List ℕ) → passes byte ≡ true → IsInside passes others
+      → IsInside passes (92 ∷ byte ∷ others)
 
 -- a string with its quotes
 pub record IsQuoted (passes : ℕ → Bool) (piece : List ℕ) : Type 0 where
@@ -69,7 +70,8 @@ pub data IsForm (kind : Lexeme) (piece : List ℕ) : Type 0 where
   upper : IsName is_ascii_uppercase piece → kind ≡ UpperName → IsForm kind piece
   number : IsNumber piece → kind ≡ Number → IsForm kind piece
   text : IsQuoted is_on_line piece → kind ≡ Text → IsForm kind piece
-  sign : (punctuator : Punctuator) → piece ≡ punctuator_bytes punctuator → kind ≡ PunctuatorLexeme punctuator → IsForm kind piece
+  sign : (punctuator : Punctuator) → piece ≡ punctuator_bytes punctuator → kind ≡ PunctuatorLexeme punctuator
+      → IsForm kind piece
 
 -- whether the bytes begin with "//" or "/*"
 abbrev pub opens_comment : List ℕ → Bool
@@ -86,5 +88,7 @@ NowhereIn bytes piece = (front after : List ℕ) → bytes ≡ front ++ (piece +
 
 -- the piece is a comment, followed by these bytes
 pub data IsComment (piece after : List ℕ) : Type 0 where
-  line : (inside : List ℕ) → piece ≡ codes "//" ++ inside → AllPass is_on_line inside → EndsLine after → IsComment piece after
-  block : (inside : List ℕ) → piece ≡ codes "/*" ++ (inside ++ codes "*/") → NowhereIn inside (codes "*/") → IsComment piece after
+  line : (inside : List ℕ) → piece ≡ codes "//" ++ inside → AllPass is_on_line inside → EndsLine after
+      → IsComment piece after
+  block : (inside : List ℕ) → piece ≡ codes "/*" ++ (inside ++ codes "*/") → NowhereIn inside (codes "*/")
+      → IsComment piece after

@@ -64,19 +64,24 @@ pub data OffendsAt (place : Place) (bytes : List ℕ) : Offence → Type 0 where
   stray_byte : IsStray bytes → OffendsAt place bytes (record { code = L1; place = place })
   open_comment : IsOpenComment bytes → OffendsAt place bytes (record { code = L2; place = place })
   open_string : IsOpenString bytes → OffendsAt place bytes (record { code = L3; place = place })
-  large_number : (piece after : List ℕ) → bytes ≡ piece ++ after → IsLongest Number piece after → 2 ^ 127 ≤ digits_value 10 piece
+  large_number : (piece after : List ℕ) → bytes ≡ piece ++ after → IsLongest Number piece after
+      → 2 ^ 127 ≤ digits_value 10 piece
       → OffendsAt place bytes (record { code = L4; place = place })
-  bad_escape : (piece after front : List ℕ) → bytes ≡ piece ++ after → IsQuoted is_on_line piece → IsBadEscape piece front
+  bad_escape : (piece after front : List ℕ) → bytes ≡ piece ++ after → IsQuoted is_on_line piece
+      → IsBadEscape piece front
       → OffendsAt place bytes (record { code = L1; place = place_after place front })
-  broken_string : (piece after front : List ℕ) → bytes ≡ piece ++ after → IsQuoted is_on_line piece → IsBroken piece front
+  broken_string : (piece after front : List ℕ) → bytes ≡ piece ++ after → IsQuoted is_on_line piece
+      → IsBroken piece front
       → OffendsAt place bytes (record { code = L1; place = place_after place front })
   broken_comment : (piece after front : List ℕ) → bytes ≡ piece ++ after → IsComment piece after → IsBroken piece front
       → OffendsAt place bytes (record { code = L1; place = place_after place front })
 
 -- the offences of bytes that begin at this place: those of the first piece, or those of the rest if that piece has none
 pub data Offends : Place → List ℕ → Offence → Type 0 where
-  here : (place : Place) (bytes : List ℕ) (offence : Offence) → OffendsAt place bytes offence → Offends place bytes offence
-  later : (place : Place) (bytes piece after : List ℕ) (front : List Lexed) (offence : Offence) → bytes ≡ piece ++ after → Begins place piece after front
+  here : (place : Place) (bytes : List ℕ) (offence : Offence) → OffendsAt place bytes offence
+      → Offends place bytes offence
+  later : (place : Place) (bytes piece after : List ℕ) (front : List Lexed) (offence : Offence) → bytes ≡ piece ++ after
+      → Begins place piece after front
       → Offends (place_after place piece) after offence → Offends place bytes offence
 
 -- an offence of a source, and none comes before it

@@ -25,7 +25,9 @@ unfoldable mutual
   -- after the quote that opens a string, the number of bytes before the one that closes it on the same line
   pub closing_quote : List ℕ → Option ℕ
   closing_quote [] = None
-  closing_quote (byte ∷ others) = if byte == 34 then Some 0 else (if byte == 10 then None else (if byte == 92 then closing_after_escape others else increased_by 1 (closing_quote others)))
+  closing_quote (byte ∷ others) =
+      if byte == 34 then Some 0 else (if byte == 10 then None else
+      (if byte == 92 then closing_after_escape others else increased_by 1 (closing_quote others)))
 
   -- the same after a `\`, which the count includes
   pub closing_after_escape : List ℕ → Option ℕ
@@ -36,12 +38,14 @@ unfoldable mutual
 unfoldable pub bad_escape : List ℕ → ℕ
 bad_escape [] = 0
 bad_escape (byte ∷ []) = 1
-bad_escape (byte ∷ next ∷ others) = if byte == 92 then (if is_escape next then 2 + bad_escape others else 0) else 1 + bad_escape (next ∷ others)
+bad_escape (byte ∷ next ∷ others) =
+    if byte == 92 then (if is_escape next then 2 + bad_escape others else 0) else 1 + bad_escape (next ∷ others)
 
 -- the number of bytes before the first "*/"
 unfoldable pub block_end : List ℕ → Option ℕ
 block_end [] = None
-block_end (byte ∷ others) = if bytes_eq (take 2 (byte ∷ others)) (codes "*/") then Some 0 else increased_by 1 (block_end others)
+block_end (byte ∷ others) = if bytes_eq (take 2 (byte ∷ others)) (codes "*/") then Some 0 else increased_by 1
+    (block_end others)
 
 -- the offence L1 after this many bytes of a piece, or this result if the piece is no longer than that
 abbrev pub checked_piece : Piece → ℕ → List ℕ → Piece
@@ -90,16 +94,19 @@ upper_at bytes = Token UpperName (prefix_len is_word bytes)
 -- the first of these punctuators that has these bytes
 abbrev pub punctuator_among : List Punctuator → List ℕ → Option Punctuator
 punctuator_among [] bytes = None
-punctuator_among (punctuator ∷ others) bytes = if bytes_eq (punctuator_bytes punctuator) bytes then Some punctuator else punctuator_among others bytes
+punctuator_among (punctuator ∷ others) bytes =
+    if bytes_eq (punctuator_bytes punctuator) bytes then Some punctuator else punctuator_among others bytes
 
 -- the punctuators of two bytes, and those of one
 abbrev pub long_punctuators : List Punctuator
-long_punctuators = sign.Equal ∷ sign.NotEqual ∷ sign.LessEqual ∷ sign.GreaterEqual ∷ sign.Or ∷ sign.And ∷ sign.Arrow ∷ []
+long_punctuators = sign.Equal ∷ sign.NotEqual ∷ sign.LessEqual ∷ sign.GreaterEqual ∷ sign.Or ∷ sign.And ∷ sign.Arrow
+    ∷ []
 
 abbrev pub short_punctuators : List Punctuator
 short_punctuators =
     sign.OpenParen ∷ sign.CloseParen ∷ sign.OpenBrace ∷ sign.CloseBrace ∷ sign.Less ∷ sign.Greater ∷ sign.Comma
-    ∷ sign.Semicolon ∷ sign.Dot ∷ sign.Assign ∷ sign.Plus ∷ sign.Minus ∷ sign.Star ∷ sign.Slash ∷ sign.Percent ∷ sign.Not
+    ∷ sign.Semicolon ∷ sign.Dot ∷ sign.Assign ∷ sign.Plus ∷ sign.Minus ∷ sign.Star ∷ sign.Slash ∷ sign.Percent
+    ∷ sign.Not
     ∷ sign.Tilde ∷ sign.Question ∷ sign.Bar ∷ sign.Underscore ∷ []
 
 unfoldable pub long_punctuator : List ℕ → Option Punctuator

@@ -28,7 +28,8 @@ pub record TokenList : Type 0 where
 -- The piece has the form of a token of this kind. No other prefix of the bytes with the form of a token is longer.
 pub record IsLongest (kind : Lexeme) (piece after : List ℕ) : Type 0 where
   pub form : IsForm kind piece
-  pub longest : (other : Lexeme) (longer more : List ℕ) → piece ++ after ≡ longer ++ more → IsForm other longer → length longer ≤ length piece
+  pub longest : (other : Lexeme) (longer more : List ℕ) → piece ++ after ≡ longer ++ more → IsForm other longer
+      → length longer ≤ length piece
 
 -- A number has at most 127 bits. A string is UTF-8, and each `\` in it begins an escape.
 abbrev pub IsSound : Lexeme → List ℕ → Type 0
@@ -51,7 +52,8 @@ pub data Begins (place : Place) (piece after : List ℕ) : List Lexed → Type 0
 -- the tokens of bytes that begin at this place
 pub data Lexes : Place → List ℕ → List Lexed → Type 0 where
   end : (place : Place) (bytes : List ℕ) → bytes ≡ [] → Lexes place bytes []
-  more : (place : Place) (bytes piece after : List ℕ) (front others tokens : List Lexed) → bytes ≡ piece ++ after → Begins place piece after front
+  more : (place : Place) (bytes piece after : List ℕ) (front others tokens : List Lexed) → bytes ≡ piece ++ after
+      → Begins place piece after front
       → Lexes (place_after place piece) after others → tokens ≡ front ++ others → Lexes place bytes tokens
 
 -- the list of a source's tokens
@@ -69,7 +71,8 @@ pub record IsPieceAt (source : List ℕ) (token : Lexed) : Type 0 where
 -- Tokens that are not empty, between these offsets. Each begins where the one before it ends, or later.
 abbrev pub Rise : ℕ → List Lexed → ℕ → Type 0
 Rise low [] high = low ≤ high
-Rise low (token ∷ others) high = (low ≤ token.place.offset) × (0 < length token.bytes) × Rise (token.place.offset + length token.bytes) others high
+Rise low (token ∷ others) high =
+    (low ≤ token.place.offset) × (0 < length token.bytes) × Rise (token.place.offset + length token.bytes) others high
 
 -- a token has the form of its kind, and is sound
 pub record IsWellFormed (token : Lexed) : Type 0 where

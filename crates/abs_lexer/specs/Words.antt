@@ -53,7 +53,8 @@ spelling word.Println = codes "println"
 -- the keywords: those of declarations, of expressions, and of statements
 abbrev pub declaration_keywords : List Keyword
 declaration_keywords =
-    word.Module ∷ word.Import ∷ word.From ∷ word.Data ∷ word.Def ∷ word.Interface ∷ word.Extends ∷ word.Class ∷ word.Implements ∷ []
+    word.Module ∷ word.Import ∷ word.From ∷ word.Data ∷ word.Def ∷ word.Interface ∷ word.Extends ∷ word.Class
+    ∷ word.Implements ∷ []
 
 abbrev pub expression_keywords : List Keyword
 expression_keywords =
@@ -61,7 +62,8 @@ expression_keywords =
 
 abbrev pub statement_keywords : List Keyword
 statement_keywords =
-    word.Skip ∷ word.While ∷ word.Await ∷ word.Suspend ∷ word.Return ∷ word.New ∷ word.Cog ∷ word.Get ∷ word.Println ∷ []
+    word.Skip ∷ word.While ∷ word.Await ∷ word.Suspend ∷ word.Return ∷ word.New ∷ word.Cog ∷ word.Get ∷ word.Println
+    ∷ []
 
 abbrev pub keywords : List Keyword
 keywords = declaration_keywords ++ (expression_keywords ++ statement_keywords)
@@ -76,7 +78,8 @@ foreign_words =
 -- the first of these keywords that is written like the word
 abbrev pub keyword_among : List Keyword → List ℕ → Option Keyword
 keyword_among [] word = None
-keyword_among (keyword ∷ others) word = if bytes_eq (spelling keyword) word then Some keyword else keyword_among others word
+keyword_among (keyword ∷ others) word =
+    if bytes_eq (spelling keyword) word then Some keyword else keyword_among others word
 
 -- whether a word is outside the profile
 abbrev pub is_foreign : List ℕ → Bool

@@ -23,7 +23,8 @@ nothing_right [] ys e = e
 nothing_right (x ∷ xs) ys e = absurd (cc)
 
 -- the index of the first element that passes, after elements that do not pass
-after_by : (here after : Bool) (k m : ℕ) → (after ≡ false → k ≡ m) → (here || after) ≡ false → cond (not here) (1 + k) 0 ≡ 1 + m
+after_by : (here after : Bool) (k m : ℕ) → (after ≡ false → k ≡ m) → (here || after) ≡ false
+    → cond (not here) (1 + k) 0 ≡ 1 + m
 after_by true after k m same none = cc
 after_by false after k m same none = ap (λ (n : ℕ). 1 + n) (same none)
 
@@ -31,7 +32,8 @@ first_by : (here : Bool) (k : ℕ) → here ≡ true → cond (not here) (1 + k)
 first_by true k passes = refl
 first_by false k passes = cc
 
-place_at_end : (p : ℕ → Bool) (xs : List ℕ) (y : ℕ) → list_any p xs ≡ false → p y ≡ true → position_or_len p (xs ++ y ∷ []) ≡ length xs
+place_at_end : (p : ℕ → Bool) (xs : List ℕ) (y : ℕ) → list_any p xs ≡ false → p y ≡ true
+    → position_or_len p (xs ++ y ∷ []) ≡ length xs
 place_at_end p [] y none passes = first_by (p y) 0 passes
 place_at_end p (x ∷ xs) y none passes =
     after_by (p x) (list_any p xs) _ (length xs) (λ rest. place_at_end p xs y rest passes) none ∙ omega arith
@@ -60,18 +62,23 @@ record Make (scope : List ℕ) (stmts : List StmtTree) : Type 0 where
   slots : declared_slots (resolved_from scope stmts) ≡ range_with_len (length scope) count
   longer : length (scope_after scope stmts) ≡ length scope + count
 
-made : (scope : List ℕ) (stmts : List StmtTree) → declared_slots stmts ≡ [] → offences_from scope stmts ≡ [] → Make scope stmts
+made : (scope : List ℕ) (stmts : List StmtTree) → declared_slots stmts ≡ [] → offences_from scope stmts ≡ []
+    → Make scope stmts
 made scope [] written none = record { count = 0; slots = refl; longer = omega arith }
 made scope (Declare place name (Slot slot) value ∷ stmts) written none = absurd (cc)
 made scope (Declare place name (Named symbol) value ∷ stmts) written none =
-    let here = nothing_left (repeated_declaration scope name (Named symbol) ++ unknown_in scope value) (offences_from (with_symbol scope symbol) stmts) none in
-    let next = next_by scope symbol name (is_declared scope symbol) refl (nothing_left (repeated_declaration scope name (Named symbol)) (unknown_in scope value) here) in
+    let here = nothing_left (repeated_declaration scope name (Named symbol) ++ unknown_in scope value)
+    (offences_from (with_symbol scope symbol) stmts) none in
+    let next = next_by scope symbol name (is_declared scope symbol) refl
+    (nothing_left (repeated_declaration scope name (Named symbol)) (unknown_in scope value) here) in
     let rest = made (with_symbol scope symbol) stmts written
-    (nothing_right (repeated_declaration scope name (Named symbol) ++ unknown_in scope value) (offences_from (with_symbol scope symbol) stmts) none) in
+    (nothing_right (repeated_declaration scope name (Named symbol) ++ unknown_in scope value)
+    (offences_from (with_symbol scope symbol) stmts) none) in
     record {
       count = suc rest.count;
       slots = ap (λ (n : ℕ). n ∷ declared_slots (resolved_from (with_symbol scope symbol) stmts)) next.slot
-          ∙ ap (λ (ns : List ℕ). length scope ∷ ns) (rest.slots ∙ ap (λ (n : ℕ). range_with_len n rest.count) next.longer);
+          ∙ ap (λ (ns : List ℕ). length scope ∷ ns)
+          (rest.slots ∙ ap (λ (n : ℕ). range_with_len n rest.count) next.longer);
       longer = omega (arith, rest.longer, next.longer);
     }
 made scope (Assign place variable value ∷ stmts) written none =

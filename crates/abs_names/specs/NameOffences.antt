@@ -16,12 +16,14 @@ use Rattle.abs_names.specs.Scopes.{is_declared, scope_after_statement}
 
 -- the offence of the use of a name, if the name is not declared
 abbrev pub unknown_name : List ℕ → Place → Variable → List Offence
-unknown_name scope place (Named symbol) = if is_declared scope symbol then [] else record { code = N2; place = place } ∷ []
+unknown_name scope place (Named symbol) =
+    if is_declared scope symbol then [] else record { code = N2; place = place } ∷ []
 unknown_name scope place (Slot slot) = []
 
 -- the offence of the declaration of a name, if the name is declared already
 abbrev pub repeated_declaration : List ℕ → Place → Variable → List Offence
-repeated_declaration scope place (Named symbol) = if is_declared scope symbol then record { code = N1; place = place } ∷ [] else []
+repeated_declaration scope place (Named symbol) =
+    if is_declared scope symbol then record { code = N1; place = place } ∷ [] else []
 repeated_declaration scope place (Slot slot) = []
 
 abbrev mutual
@@ -43,7 +45,8 @@ abbrev mutual
 
 -- the offences of a statement; the scope has the names that the statements before it declare
 abbrev pub offences_of : List ℕ → StmtTree → List Offence
-offences_of scope (Declare place name variable value) = repeated_declaration scope name variable ++ unknown_in scope value
+offences_of scope (Declare place name variable value) =
+    repeated_declaration scope name variable ++ unknown_in scope value
 offences_of scope (Assign place variable value) = unknown_name scope place variable ++ unknown_in scope value
 offences_of scope (Print place text) = unknown_in scope text
 

@@ -22,7 +22,8 @@ abbrev mutual
   resolved_expr scope (Local place variable) = Local place (resolved_variable scope variable)
   resolved_expr scope (Apply place function arguments) = Apply place function (resolved_exprs scope arguments)
   resolved_expr scope (Negate place expr) = Negate place (resolved_expr scope expr)
-  resolved_expr scope (Operators place first operands) = Operators place (resolved_expr scope first) (resolved_operands scope operands)
+  resolved_expr scope (Operators place first operands) =
+      Operators place (resolved_expr scope first) (resolved_operands scope operands)
 
   pub resolved_exprs : List ℕ → ExprTrees → ExprTrees
   resolved_exprs scope NoMore = NoMore
@@ -30,13 +31,16 @@ abbrev mutual
 
   pub resolved_operands : List ℕ → OperandTrees → OperandTrees
   resolved_operands scope NoOperand = NoOperand
-  resolved_operands scope (Then operator right rest) = Then operator (resolved_expr scope right) (resolved_operands scope rest)
+  resolved_operands scope (Then operator right rest) =
+      Then operator (resolved_expr scope right) (resolved_operands scope rest)
 
 -- a resolved statement; the scope has the names that the statements before it declare. The value of a declaration does
 -- not see the name that is declared
 abbrev pub resolved_stmt : List ℕ → StmtTree → StmtTree
-resolved_stmt scope (Declare place name variable value) = Declare place name (resolved_variable (with_variable scope variable) variable) (resolved_expr scope value)
-resolved_stmt scope (Assign place variable value) = Assign place (resolved_variable scope variable) (resolved_expr scope value)
+resolved_stmt scope (Declare place name variable value) =
+    Declare place name (resolved_variable (with_variable scope variable) variable) (resolved_expr scope value)
+resolved_stmt scope (Assign place variable value) =
+    Assign place (resolved_variable scope variable) (resolved_expr scope value)
 resolved_stmt scope (Print place text) = Print place (resolved_expr scope text)
 
 -- resolved statements, in order

@@ -8,11 +8,13 @@ use Rattle.abs_outside.specs.Files.{has_name, found, content, first_named}
 use Rattle.abs_outside.specs.declared.memory_source.NamedBytes.{NamedBytes}
 
 -- the first index that passes is an index of the list
-pub position-within : {X : Type 0} (p : X → Bool) (xs : List X) (index : ℕ) → position p xs ≡ Some index → index < length xs
+pub position-within : {X : Type 0} (p : X → Bool) (xs : List X) (index : ℕ) → position p xs ≡ Some index
+    → index < length xs
 position-within p xs index at = grind (arith, common_steps)
 
 -- the first element that passes stands at the first index that passes
-pub find-at_position : {X : Type 0} (p : X → Bool) (xs : List X) (index : ℕ) → position p xs ≡ Some index → find p xs ≡ slice_get xs index
+pub find-at_position : {X : Type 0} (p : X → Bool) (xs : List X) (index : ℕ) → position p xs ≡ Some index
+    → find p xs ≡ slice_get xs index
 find-at_position p xs index at = grind (arith, common_steps, find_at p xs)
 
 -- where no index passes, no element does
@@ -20,17 +22,21 @@ pub find-no_position : {X : Type 0} (p : X → Bool) (xs : List X) → position 
 find-no_position p xs none = grind (arith, common_steps, find_at p xs, slice_get_past xs)
 
 -- what the file at an index holds is what its name selects
-pub Selects-at : (files : List NamedBytes) (index : ℕ) → index < length files → Selects (found (slice_get files index)) (Some (content (slice_get files index)))
+pub Selects-at : (files : List NamedBytes) (index : ℕ) → index < length files
+    → Selects (found (slice_get files index)) (Some (content (slice_get files index)))
 Selects-at [] index within = absurd (omega arith)
 Selects-at (file ∷ files) zero within = refl
 Selects-at (file ∷ files) (suc index) within = Selects-at files index (omega arith)
 
 -- the content of the file at the first index of a name is what that name selects
-pub Selects-first_named : (files : List NamedBytes) (name : List ℕ) (index : ℕ) → position (has_name name) files ≡ Some index → Selects (first_named files name) (Some (content (slice_get files index)))
+pub Selects-first_named : (files : List NamedBytes) (name : List ℕ) (index : ℕ)
+    → position (has_name name) files ≡ Some index
+    → Selects (first_named files name) (Some (content (slice_get files index)))
 Selects-first_named files name index at =
     rw (find-at_position (has_name name) files index at)
     (Selects-at files index (position-within (has_name name) files index at))
 
 -- a name that no file has is not held
-pub IsNotHeld-first_named : (files : List NamedBytes) (name : List ℕ) → position (has_name name) files ≡ None → IsNotHeld (first_named files name)
+pub IsNotHeld-first_named : (files : List NamedBytes) (name : List ℕ) → position (has_name name) files ≡ None
+    → IsNotHeld (first_named files name)
 IsNotHeld-first_named files name none = rw (find-no_position (has_name name) files none) tt

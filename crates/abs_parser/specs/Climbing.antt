@@ -15,15 +15,19 @@ use Rattle.abs_parser.specs.ReaderAnswers.{FoundAs, IsRefused}
 use Rattle.abs_parser.specs.Tokens.{Spot, place_of}
 
 -- wherever an operand `first` begins that is found up to `from`, `expr` begins there and is found up to `end`
-abbrev pub Climbs : Precedence → Precedence → ℕ → List (List ℕ) → List (List ℕ) → Place → Expr → Expr → Spot → Spot → Type 0
+abbrev pub Climbs : Precedence → Precedence → ℕ → List (List ℕ) → List (List ℕ) → Place → Expr → Expr → Spot → Spot
+    → Type 0
 Climbs at to depth old new place first expr from end =
     (older : List (List ℕ)) (begin : Spot) → place ≡ place_of begin
-    → FoundAs (One (operand_nonterminal at)) depth older old begin from (λ names inside. phrase names first ≡ operand_in at inside)
-    → FoundAs (One (nonterminal_of to)) depth older new begin end (λ names inside. phrase names expr ≡ precedence_in to inside)
+    → FoundAs (One (operand_nonterminal at)) depth older old begin from
+    (λ names inside. phrase names first ≡ operand_in at inside)
+    → FoundAs (One (nonterminal_of to)) depth older new begin end
+    (λ names inside. phrase names expr ≡ precedence_in to inside)
 
 -- wherever an operand `first` begins that is found up to `from`, what begins there is refused as the second precedence
 abbrev pub FailsToClimb : Precedence → Precedence → ℕ → List (List ℕ) → Place → Expr → Spot → SourceError → Type 0
 FailsToClimb at to depth old place first from error =
     (older : List (List ℕ)) (begin : Spot) → place ≡ place_of begin
-    → FoundAs (One (operand_nonterminal at)) depth older old begin from (λ names inside. phrase names first ≡ operand_in at inside)
+    → FoundAs (One (operand_nonterminal at)) depth older old begin from
+    (λ names inside. phrase names first ≡ operand_in at inside)
     → IsRefused (Subgoal (One (nonterminal_of to)) depth) begin error

@@ -31,11 +31,13 @@ target_of names (first.Field place name_place symbol) = ToField place name_place
 
 abbrev pub phrase_of : List Name → First → Option Phrases → Phrase
 phrase_of names (first.Variable place symbol) arguments = named place (name_of names symbol) arguments
-phrase_of names (first.Field place name_place symbol) arguments = member place name_place (name_of names symbol) arguments
+phrase_of names (first.Field place name_place symbol) arguments =
+    member place name_place (name_of names symbol) arguments
 
 abbrev pub after_first : ℕ → List Name → First → Forest → Statement
 after_first index names (first.Variable place symbol) inside = after_variable index place (name_of names symbol) inside
-after_first index names (first.Field place name_place symbol) inside = after_field index place name_place (name_of names symbol) inside
+after_first index names (first.Field place name_place symbol) inside =
+    after_field index place name_place (name_of names symbol) inside
 
 -- whether a token of this kind begins an alternative of Stmt other than the last, which is a right side alone
 abbrev pub begins_another : TokenKind → Bool

@@ -134,7 +134,8 @@ rule Program = (Opt Module ∷ Opt Import ∷ Many Decl ∷ Part Block ∷ Of En
 rule Module = (reserved keyword.Module ∷ Part Path ∷ semicolon ∷ []) ∷ []
 -- Import = "import" "*" "from" "ABS" "." "StdLib" ";"
 rule Import =
-    (reserved keyword.Import ∷ punctuation punctuator.Star ∷ reserved keyword.From ∷ Of AbsName ∷ dot ∷ Of StdLibName ∷ semicolon ∷ []) ∷ []
+    (reserved keyword.Import ∷ punctuation punctuator.Star ∷ reserved keyword.From ∷ Of AbsName ∷ dot ∷ Of StdLibName
+    ∷ semicolon ∷ []) ∷ []
 -- Path = UName {"." UName}
 rule Path = (upper ∷ Many DotName ∷ []) ∷ []
 rule DotName = (dot ∷ upper ∷ []) ∷ []
@@ -143,10 +144,13 @@ rule DotName = (dot ∷ upper ∷ []) ∷ []
 --      | "interface" UName ["extends" UName {"," UName}] "{" {Signature} "}"
 --      | "class" UName ["(" [Params] ")"] ["implements" UName {"," UName}] "{" {Member} "}"
 rule Decl =
-    (reserved keyword.Data ∷ upper ∷ Opt TypeParameters ∷ equals ∷ Part Constructor ∷ Many NextConstructor ∷ semicolon ∷ [])
-    ∷ (reserved keyword.Def ∷ Part Type' ∷ lower ∷ Opt TypeParameters ∷ open_paren ∷ Opt Params ∷ close_paren ∷ equals ∷ Part Expr ∷ semicolon ∷ [])
+    (reserved keyword.Data ∷ upper ∷ Opt TypeParameters ∷ equals ∷ Part Constructor ∷ Many NextConstructor ∷ semicolon
+    ∷ [])
+    ∷ (reserved keyword.Def ∷ Part Type' ∷ lower ∷ Opt TypeParameters ∷ open_paren ∷ Opt Params ∷ close_paren ∷ equals
+    ∷ Part Expr ∷ semicolon ∷ [])
     ∷ (reserved keyword.Interface ∷ upper ∷ Opt Extends ∷ open_brace ∷ Many Signature ∷ close_brace ∷ [])
-    ∷ (reserved keyword.Class ∷ upper ∷ Opt ClassParameters ∷ Opt Implements ∷ open_brace ∷ Many Member ∷ close_brace ∷ [])
+    ∷ (reserved keyword.Class ∷ upper ∷ Opt ClassParameters ∷ Opt Implements ∷ open_brace ∷ Many Member ∷ close_brace
+    ∷ [])
     ∷ []
 -- Constructor = UName ["(" [Type {"," Type}] ")"]
 rule Constructor = (upper ∷ Opt ConstructorTypes ∷ []) ∷ []
@@ -212,7 +216,8 @@ rule AfterThis =
     ∷ []
 -- what may follow the first operand of a Rhs, and ";"
 rule Rest =
-    (Inside 1 (Many MulTail) ∷ Inside 1 (Many SumTail) ∷ Inside 1 (Opt CompareTail) ∷ Inside 1 (Opt EqualTail) ∷ Inside 1 (Many AndTail)
+    (Inside 1 (Many MulTail) ∷ Inside 1 (Many SumTail) ∷ Inside 1 (Opt CompareTail) ∷ Inside 1 (Opt EqualTail)
+    ∷ Inside 1 (Many AndTail)
     ∷ Inside 1 (Many OrTail) ∷ Opt RhsTail ∷ semicolon ∷ [])
     ∷ []
 -- Guard = Test {"&&" Test}
@@ -239,7 +244,8 @@ rule Args = (Part Expr ∷ Many CommaExpr ∷ []) ∷ []
 rule CommaExpr = (comma ∷ Part Expr ∷ []) ∷ []
 -- Expr = "let" "(" Type LName ")" "=" Expr "in" Expr | "if" Expr "then" Expr "else" Expr | Or
 rule Expr =
-    (reserved keyword.Let ∷ open_paren ∷ Part Type' ∷ lower ∷ close_paren ∷ equals ∷ Part Expr ∷ reserved keyword.In ∷ Part Expr ∷ [])
+    (reserved keyword.Let ∷ open_paren ∷ Part Type' ∷ lower ∷ close_paren ∷ equals ∷ Part Expr ∷ reserved keyword.In
+    ∷ Part Expr ∷ [])
     ∷ (reserved keyword.If ∷ Part Expr ∷ reserved keyword.Then ∷ Part Expr ∷ reserved keyword.Else ∷ Part Expr ∷ [])
     ∷ (Part Or ∷ [])
     ∷ []
@@ -251,7 +257,8 @@ rule And = (Part Equal ∷ Many AndTail ∷ []) ∷ []
 rule AndTail = (punctuation punctuator.And ∷ Part Equal ∷ []) ∷ []
 -- Equal = Compare [("==" | "!=") Compare]
 rule Equal = (Part Compare ∷ Opt EqualTail ∷ []) ∷ []
-rule EqualTail = (punctuation punctuator.Equal ∷ Part Compare ∷ []) ∷ (punctuation punctuator.NotEqual ∷ Part Compare ∷ []) ∷ []
+rule EqualTail = (punctuation punctuator.Equal ∷ Part Compare ∷ [])
+    ∷ (punctuation punctuator.NotEqual ∷ Part Compare ∷ []) ∷ []
 -- Compare = Sum [("<" | "<=" | ">" | ">=") Sum]
 rule Compare = (Part Sum ∷ Opt CompareTail ∷ []) ∷ []
 rule CompareTail =
@@ -332,7 +339,8 @@ items_begin first (item ∷ others) kind = item_begins first item kind (items_be
 -- nonterminal may begin with the next has at most 11, from Stmt to Primary, so 12 rounds are enough.
 unfoldable pub begins_within : ℕ → Nonterminal → TokenKind → Bool
 begins_within zero nonterminal kind = false
-begins_within (suc rounds) nonterminal kind = list_any (λ (items : List Item). items_begin (begins_within rounds) items kind) (rule nonterminal)
+begins_within (suc rounds) nonterminal kind =
+    list_any (λ (items : List Item). items_begin (begins_within rounds) items kind) (rule nonterminal)
 
 unfoldable pub begins : Nonterminal → TokenKind → Bool
 begins nonterminal kind = begins_within 12 nonterminal kind

@@ -106,7 +106,8 @@ maybe_phrases names (Some arguments) = Some (phrases names arguments.items)
 
 -- A part nested in `depth` counted nonterminals was read and no token in it is too deeply nested. The table of names is
 -- extended by its names, and what was read is so, whatever names extend the table later.
-pub record FoundAs (goal : Goal) (depth : ℕ) (old new : List (List ℕ)) (from to : Spot) (is_read : List (List ℕ) → Forest → Type 0) : Type 0 where
+pub record FoundAs (goal : Goal) (depth : ℕ) (old new : List (List ℕ)) (from to : Spot)
+    (is_read : List (List ℕ) → Forest → Type 0) : Type 0 where
   pub inside : Forest
   pub inner : List Wanted
   pub rule_is : opened goal (next (left_at from)) depth ≡ Some inner
@@ -118,10 +119,12 @@ pub record FoundAs (goal : Goal) (depth : ℕ) (old new : List (List ℕ)) (from
 -- an expression in parentheses, which is nested in `depth` counted nonterminals
 abbrev pub in_parentheses_at : ℕ → List Wanted
 in_parentheses_at depth =
-    Terminal (PunctuatorKind punctuator.OpenParen) depth ∷ Subgoal (One Expr) depth ∷ Terminal (PunctuatorKind punctuator.CloseParen) depth ∷ []
+    Terminal (PunctuatorKind punctuator.OpenParen) depth ∷ Subgoal (One Expr) depth
+    ∷ Terminal (PunctuatorKind punctuator.CloseParen) depth ∷ []
 
 -- It was read: the parenthesis that opens, the expression, which is so, and the parenthesis that closes.
-pub record FoundInParentheses (depth : ℕ) (old new : List (List ℕ)) (from to : Spot) (is_read : List (List ℕ) → Forest → Type 0) : Type 0 where
+pub record FoundInParentheses (depth : ℕ) (old new : List (List ℕ)) (from to : Spot)
+    (is_read : List (List ℕ) → Forest → Type 0) : Type 0 where
   pub opening : Lexed
   pub expr_at : Spot
   pub closing_at : Spot
@@ -153,11 +156,13 @@ IsRefused item from error = AreRefused (item ∷ []) from error
 -- What a parsing function has to say of a part: its goal, nested so deeply, with the table of names before and after it, from a spot up to
 -- another one, and what was read as what it found.
 pub data Parse (Found : Type 0) : Type 1 where
-  parse_of : Goal → ℕ → List (List ℕ) → List (List ℕ) → Spot → (Found → Spot) → (Found → List (List ℕ) → Forest → Type 0) → Parse Found
+  parse_of : Goal → ℕ → List (List ℕ) → List (List ℕ) → Spot → (Found → Spot)
+      → (Found → List (List ℕ) → Forest → Type 0) → Parse Found
 
 -- It found the part, and so; or the part is refused.
 abbrev pub Parses : {Found : Type 0} → Result Found SourceError → Parse Found → Type 0
-Parses (Ok found) (parse_of goal depth old new from to is_read) = FoundAs goal depth old new from (to found) (is_read found)
+Parses (Ok found) (parse_of goal depth old new from to is_read) =
+    FoundAs goal depth old new from (to found) (is_read found)
 Parses (Err error) (parse_of goal depth old new from to is_read) = IsRefused (Subgoal goal depth) from error
 
 -- a symbol is left for each token that is left

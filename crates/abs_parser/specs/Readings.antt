@@ -39,9 +39,11 @@ inner_depth nonterminal depth = if counts nonterminal then depth + 1 else depth
 -- what is to be read for a part with this nesting depth, by the next token; None where no alternative may begin with it
 abbrev pub opened : Goal → TokenKind → ℕ → Option (List Wanted)
 opened (One nonterminal) kind depth = option_map (place (inner_depth nonterminal depth)) (chosen nonterminal kind)
-opened (Optional nonterminal) kind depth = if begins nonterminal kind then Some (Subgoal (One nonterminal) depth ∷ []) else Some []
+opened (Optional nonterminal) kind depth =
+    if begins nonterminal kind then Some (Subgoal (One nonterminal) depth ∷ []) else Some []
 opened (Repeated nonterminal) kind depth =
-    if begins nonterminal kind then Some (Subgoal (One nonterminal) depth ∷ Subgoal (Repeated nonterminal) depth ∷ []) else Some []
+    if begins nonterminal kind then Some (Subgoal (One nonterminal) depth ∷ Subgoal (Repeated nonterminal) depth ∷ [])
+    else Some []
 
 -- A list of trees: empty; a token with its nesting depth, and others; or a part with what is inside it, and others.
 pub data Forest : Type 0 where
@@ -52,7 +54,8 @@ pub data Forest : Type 0 where
 pub data Reads : List Wanted → List Mark → Forest → List Mark → Type 0 where
   Nothing : {ts : List Mark} → Reads [] ts Empty ts
   Taken : {kind : TokenKind} {depth : ℕ} {items : List Wanted} {mark : Mark} {ts rest : List Mark} {forest : Forest}
-      → fits kind (token_kind mark) ≡ true → Reads items ts forest rest → Reads (Terminal kind depth ∷ items) (mark ∷ ts) (Leaf mark depth forest) rest
+      → fits kind (token_kind mark) ≡ true → Reads items ts forest rest
+      → Reads (Terminal kind depth ∷ items) (mark ∷ ts) (Leaf mark depth forest) rest
   Opened : {goal : Goal} {depth : ℕ} {inner items : List Wanted} {ts middle rest : List Mark} {inside forest : Forest}
       → opened goal (next ts) depth ≡ Some inner → Reads inner ts inside middle → Reads items middle forest rest
       → Reads (Subgoal goal depth ∷ items) ts (Node goal inside forest) rest

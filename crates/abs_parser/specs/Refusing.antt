@@ -12,17 +12,23 @@ use Rattle.abs_parser.specs.Stops.{limit, wrong_code}
 -- The wanted items are refused in the first list of tokens where the second one begins. That one is empty if the tokens
 -- end too early.
 pub data Refuses : List Wanted → List Mark → List Mark → Code → Type 0 where
-  Beyond : {mark : Mark} {ts : List Mark} {code : Code} → code ≡ wrong_code (token_kind mark) → Refuses [] (mark ∷ ts) (mark ∷ ts) code
+  Beyond : {mark : Mark} {ts : List Mark} {code : Code} → code ≡ wrong_code (token_kind mark)
+      → Refuses [] (mark ∷ ts) (mark ∷ ts) code
   Other : {kind : TokenKind} {depth : ℕ} {items : List Wanted} {mark : Mark} {ts : List Mark} {code : Code}
-      → fits kind (token_kind mark) ≡ false → code ≡ wrong_code (token_kind mark) → Refuses (Terminal kind depth ∷ items) (mark ∷ ts) (mark ∷ ts) code
+      → fits kind (token_kind mark) ≡ false → code ≡ wrong_code (token_kind mark)
+      → Refuses (Terminal kind depth ∷ items) (mark ∷ ts) (mark ∷ ts) code
   Below : {kind : TokenKind} {depth : ℕ} {items : List Wanted} {mark : Mark} {ts : List Mark}
-      → fits kind (token_kind mark) ≡ true → limit < depth → Refuses (Terminal kind depth ∷ items) (mark ∷ ts) (mark ∷ ts) S2
+      → fits kind (token_kind mark) ≡ true → limit < depth
+      → Refuses (Terminal kind depth ∷ items) (mark ∷ ts) (mark ∷ ts) S2
   Past : {kind : TokenKind} {depth : ℕ} {items : List Wanted} {mark : Mark} {ts rest : List Mark} {code : Code}
-      → fits kind (token_kind mark) ≡ true → depth ≤ limit → Refuses items ts rest code → Refuses (Terminal kind depth ∷ items) (mark ∷ ts) rest code
+      → fits kind (token_kind mark) ≡ true → depth ≤ limit → Refuses items ts rest code
+      → Refuses (Terminal kind depth ∷ items) (mark ∷ ts) rest code
   Shut : {goal : Goal} {depth : ℕ} {items : List Wanted} {mark : Mark} {ts : List Mark} {code : Code}
-      → opened goal (token_kind mark) depth ≡ None → code ≡ wrong_code (token_kind mark) → Refuses (Subgoal goal depth ∷ items) (mark ∷ ts) (mark ∷ ts) code
+      → opened goal (token_kind mark) depth ≡ None → code ≡ wrong_code (token_kind mark)
+      → Refuses (Subgoal goal depth ∷ items) (mark ∷ ts) (mark ∷ ts) code
   Open : {goal : Goal} {depth : ℕ} {inner items : List Wanted} {ts rest : List Mark} {code : Code}
-      → opened goal (next ts) depth ≡ Some inner → Refuses (inner ++ items) ts rest code → Refuses (Subgoal goal depth ∷ items) ts rest code
+      → opened goal (next ts) depth ≡ Some inner → Refuses (inner ++ items) ts rest code
+      → Refuses (Subgoal goal depth ∷ items) ts rest code
   Cut : {item : Wanted} {items : List Wanted} {code : Code} → code ≡ S1 → Refuses (item ∷ items) [] [] code
 
 -- each of these nesting depths is at most the nesting limit

@@ -23,7 +23,8 @@ pub data Outcome (ts : List Mark) : Type 0 where
   accepts : (forest : Forest) → IsAccepted ts forest → ((other : Forest) → IsProgram ts other → other ≡ forest)
       → ((tree : SourceTree) → IsTreeOf ts tree → tree ≡ tree_of forest) → Outcome ts
   stops : (before : List Mark) (mark : Mark) (code : Code) → StopsAt ts before mark code
-      → ((front : List Mark) (other : Mark) (by : Code) → StopsAt ts front other by → (front ≡ before) × (other ≡ mark) × (by ≡ code))
+      → ((front : List Mark) (other : Mark) (by : Code) → StopsAt ts front other by
+      → (front ≡ before) × (other ≡ mark) × (by ≡ code))
       → ((forest : Forest) → IsAccepted ts forest → ⊥) → Outcome ts
 
 abbrev pub EachTextStopsOrIsAccepted : Type 0

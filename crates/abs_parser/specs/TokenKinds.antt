@@ -47,7 +47,9 @@ pub data TokenKind : Type 0 where
 
 abbrev pub token_kind_of : Lexeme → List ℕ → TokenKind
 token_kind_of lexeme.LowerName bytes = if bytes_eq bytes (codes "local") then LocalName else LowerName
-token_kind_of lexeme.UpperName bytes = if bytes_eq bytes (codes "ABS") then AbsName else (if bytes_eq bytes (codes "StdLib") then StdLibName else UpperName)
+token_kind_of lexeme.UpperName bytes =
+    if bytes_eq bytes (codes "ABS") then AbsName else
+    (if bytes_eq bytes (codes "StdLib") then StdLibName else UpperName)
 token_kind_of lexeme.Number bytes = Number
 token_kind_of lexeme.Text bytes = Text
 token_kind_of (lexeme.Keyword keyword) bytes = KeywordKind keyword
@@ -71,7 +73,8 @@ fits StdLibName StdLibName = true
 fits Number Number = true
 fits Text Text = true
 fits (KeywordKind asked) (KeywordKind keyword) = bytes_eq (spelling asked) (spelling keyword)
-fits (PunctuatorKind asked) (PunctuatorKind punctuator) = bytes_eq (punctuator_bytes asked) (punctuator_bytes punctuator)
+fits (PunctuatorKind asked) (PunctuatorKind punctuator) =
+    bytes_eq (punctuator_bytes asked) (punctuator_bytes punctuator)
 fits End End = true
 fits _ _ = false
 

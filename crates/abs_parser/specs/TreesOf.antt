@@ -40,7 +40,9 @@ escaped_byte byte = if byte == 110 then 10 else (if byte == 116 then 9 else (if 
 abbrev pub unescaped : List ℕ → List ℕ
 unescaped [] = []
 unescaped (byte ∷ []) = if byte == 34 then [] else byte ∷ []
-unescaped (byte ∷ next ∷ others) = if byte == 92 then escaped_byte next ∷ unescaped others else (if byte == 34 then [] else byte ∷ unescaped (next ∷ others))
+unescaped (byte ∷ next ∷ others) =
+    if byte == 92 then escaped_byte next ∷ unescaped others
+    else (if byte == 34 then [] else byte ∷ unescaped (next ∷ others))
 
 abbrev pub text_of : Mark → List ℕ
 text_of mark = unescaped (drop 1 (written mark))
@@ -61,7 +63,8 @@ place_in forest = first_place forest start
 abbrev mutual
   -- Type: a name, and perhaps arguments
   pub type_in : Forest → TypeTree
-  type_in (Leaf name _ (Node _ arguments _)) = UnresolvedType (place_of_mark name) (written name) (type_arguments arguments)
+  type_in (Leaf name _ (Node _ arguments _)) =
+      UnresolvedType (place_of_mark name) (written name) (type_arguments arguments)
   type_in _ = UnresolvedType start [] NoType
 
   -- perhaps "<", types, ">"
@@ -89,11 +92,14 @@ abbrev mutual
   pattern_by LowerName mark others = Binds (place_of_mark mark) (Unresolved (written mark))
   pattern_by LocalName mark others = Binds (place_of_mark mark) (Unresolved (written mark))
   pattern_by Number mark others = SameNumber (place_of_mark mark) (pos (number_of mark))
-  pattern_by (PunctuatorKind punctuator.Minus) mark (Leaf number _ _) = SameNumber (place_of_mark mark) (neg_ℤ (pos (number_of number)))
+  pattern_by (PunctuatorKind punctuator.Minus) mark (Leaf number _ _) =
+      SameNumber (place_of_mark mark) (neg_ℤ (pos (number_of number)))
   pattern_by Text mark others = SameString (place_of_mark mark) (text_of mark)
-  pattern_by UpperName mark (Node _ arguments _) = Built (place_of_mark mark) (written mark) (pattern_arguments arguments)
+  pattern_by UpperName mark (Node _ arguments _) =
+      Built (place_of_mark mark) (written mark) (pattern_arguments arguments)
   pattern_by AbsName mark (Node _ arguments _) = Built (place_of_mark mark) (written mark) (pattern_arguments arguments)
-  pattern_by StdLibName mark (Node _ arguments _) = Built (place_of_mark mark) (written mark) (pattern_arguments arguments)
+  pattern_by StdLibName mark (Node _ arguments _) =
+      Built (place_of_mark mark) (written mark) (pattern_arguments arguments)
   pattern_by _ mark others = AnyValue (place_of_mark mark)
 
   -- perhaps "(", perhaps patterns, ")"
@@ -110,7 +116,8 @@ abbrev mutual
   patterns_in _ = NoPattern
 
   pub more_patterns : Forest → PatternTrees
-  more_patterns (Node _ (Leaf comma _ (Node _ pattern _)) (Node _ others _)) = NextPattern (pattern_in pattern) (more_patterns others)
+  more_patterns (Node _ (Leaf comma _ (Node _ pattern _)) (Node _ others _)) =
+      NextPattern (pattern_in pattern) (more_patterns others)
   more_patterns _ = NoPattern
 
 -- Expressions
@@ -118,7 +125,8 @@ abbrev mutual
 -- a first operand with the operators after it; without any it is the operand itself
 abbrev pub with_operators : Place → Phrase → Operands → Phrase
 with_operators place first NoOperands = first
-with_operators place first (NextOperand operator right others) = OperatorsOf place first (NextOperand operator right others)
+with_operators place first (NextOperand operator right others) =
+    OperatorsOf place first (NextOperand operator right others)
 
 -- the operator of a punctuator
 abbrev pub operator_of : TokenKind → Operator
@@ -161,8 +169,10 @@ built place name (Some arguments) = BuildOf place name arguments
 abbrev mutual
   -- Expr
   pub expr_in : Forest → Phrase
-  expr_in (Leaf mark _ (Leaf opening _ (Node _ type (Leaf name _ (Leaf closing _ (Leaf equals _ (Node _ value (Leaf in_token _ (Node _ body _))))))))) =
-      LetIn (place_of_mark mark) (type_in type) (place_of_mark name) (Unresolved (written name)) (expr_in value) (expr_in body)
+  expr_in (Leaf mark _ (Leaf opening _
+      (Node _ type (Leaf name _ (Leaf closing _ (Leaf equals _ (Node _ value (Leaf in_token _ (Node _ body _))))))))) =
+      LetIn (place_of_mark mark) (type_in type) (place_of_mark name) (Unresolved (written name)) (expr_in value)
+      (expr_in body)
   expr_in (Leaf mark _ (Node _ test (Leaf then_token _ (Node _ first (Leaf else_token _ (Node _ second _)))))) =
       IfElse (place_of_mark mark) (expr_in test) (expr_in first) (expr_in second)
   expr_in (Node _ or _) = or_in or
@@ -174,7 +184,8 @@ abbrev mutual
   or_in _ = NullOf start
 
   pub or_operands : Forest → Operands
-  or_operands (Node _ (Leaf mark _ (Node _ right _)) (Node _ others _)) = NextOperand (operator_of (token_kind mark)) (and_in right) (or_operands others)
+  or_operands (Node _ (Leaf mark _ (Node _ right _)) (Node _ others _)) =
+      NextOperand (operator_of (token_kind mark)) (and_in right) (or_operands others)
   or_operands _ = NoOperands
 
   pub and_in : Forest → Phrase
@@ -182,7 +193,8 @@ abbrev mutual
   and_in _ = NullOf start
 
   pub and_operands : Forest → Operands
-  and_operands (Node _ (Leaf mark _ (Node _ right _)) (Node _ others _)) = NextOperand (operator_of (token_kind mark)) (equal_in right) (and_operands others)
+  and_operands (Node _ (Leaf mark _ (Node _ right _)) (Node _ others _)) =
+      NextOperand (operator_of (token_kind mark)) (equal_in right) (and_operands others)
   and_operands _ = NoOperands
 
   pub equal_in : Forest → Phrase
@@ -190,7 +202,8 @@ abbrev mutual
   equal_in _ = NullOf start
 
   pub equal_operand : Forest → Operands
-  equal_operand (Node _ (Leaf mark _ (Node _ right _)) _) = NextOperand (operator_of (token_kind mark)) (compare_in right) NoOperands
+  equal_operand (Node _ (Leaf mark _ (Node _ right _)) _) =
+      NextOperand (operator_of (token_kind mark)) (compare_in right) NoOperands
   equal_operand _ = NoOperands
 
   pub compare_in : Forest → Phrase
@@ -198,7 +211,8 @@ abbrev mutual
   compare_in _ = NullOf start
 
   pub compare_operand : Forest → Operands
-  compare_operand (Node _ (Leaf mark _ (Node _ right _)) _) = NextOperand (operator_of (token_kind mark)) (sum_in right) NoOperands
+  compare_operand (Node _ (Leaf mark _ (Node _ right _)) _) =
+      NextOperand (operator_of (token_kind mark)) (sum_in right) NoOperands
   compare_operand _ = NoOperands
 
   pub sum_in : Forest → Phrase
@@ -206,7 +220,8 @@ abbrev mutual
   sum_in _ = NullOf start
 
   pub sum_operands : Forest → Operands
-  sum_operands (Node _ (Leaf mark _ (Node _ right _)) (Node _ others _)) = NextOperand (operator_of (token_kind mark)) (mul_in right) (sum_operands others)
+  sum_operands (Node _ (Leaf mark _ (Node _ right _)) (Node _ others _)) =
+      NextOperand (operator_of (token_kind mark)) (mul_in right) (sum_operands others)
   sum_operands _ = NoOperands
 
   pub mul_in : Forest → Phrase
@@ -214,12 +229,14 @@ abbrev mutual
   mul_in _ = NullOf start
 
   pub mul_operands : Forest → Operands
-  mul_operands (Node _ (Leaf mark _ (Node _ right _)) (Node _ others _)) = NextOperand (operator_of (token_kind mark)) (unary_in right) (mul_operands others)
+  mul_operands (Node _ (Leaf mark _ (Node _ right _)) (Node _ others _)) =
+      NextOperand (operator_of (token_kind mark)) (unary_in right) (mul_operands others)
   mul_operands _ = NoOperands
 
   -- Unary
   pub unary_in : Forest → Phrase
-  unary_in (Leaf mark _ (Node _ operand _)) = Prefixed (place_of_mark mark) (prefix_of (token_kind mark)) (unary_in operand)
+  unary_in (Leaf mark _ (Node _ operand _)) =
+      Prefixed (place_of_mark mark) (prefix_of (token_kind mark)) (unary_in operand)
   unary_in (Node _ primary _) = primary_in primary
   unary_in _ = NullOf start
 
@@ -238,15 +255,18 @@ abbrev mutual
   primary_by LocalName mark (Node _ arguments _) = named (place_of_mark mark) (written mark) (arguments_maybe arguments)
   primary_by UpperName mark (Node _ arguments _) = built (place_of_mark mark) (written mark) (arguments_maybe arguments)
   primary_by AbsName mark (Node _ arguments _) = built (place_of_mark mark) (written mark) (arguments_maybe arguments)
-  primary_by StdLibName mark (Node _ arguments _) = built (place_of_mark mark) (written mark) (arguments_maybe arguments)
-  primary_by (KeywordKind keyword.Case) mark (Node _ subject (Leaf opening _ (Node _ first (Node _ others (Leaf closing _ _))))) =
+  primary_by StdLibName mark (Node _ arguments _) =
+      built (place_of_mark mark) (written mark) (arguments_maybe arguments)
+  primary_by (KeywordKind keyword.Case) mark
+      (Node _ subject (Leaf opening _ (Node _ first (Node _ others (Leaf closing _ _))))) =
       CaseOf (place_of_mark mark) (expr_in subject) (branch_in first (branches_in others))
   primary_by (PunctuatorKind punctuator.OpenParen) mark (Node _ inside _) = expr_in inside
   primary_by _ mark others = NullOf (place_of_mark mark)
 
   -- after "this": perhaps ".", a name, and perhaps arguments
   pub this_in : Place → Forest → Phrase
-  this_in place (Node _ (Leaf dot _ (Leaf name _ (Node _ arguments _))) _) = member place (place_of_mark name) (written name) (arguments_maybe arguments)
+  this_in place (Node _ (Leaf dot _ (Leaf name _ (Node _ arguments _))) _) =
+      member place (place_of_mark name) (written name) (arguments_maybe arguments)
   this_in place _ = ThisOf place
 
   -- perhaps arguments
@@ -273,7 +293,8 @@ abbrev mutual
 
   -- Branch, before others
   pub branch_in : Forest → Branches → Branches
-  branch_in (Node _ pattern (Leaf arrow _ (Node _ expr (Leaf semicolon _ _)))) others = NextBranch (pattern_in pattern) (expr_in expr) others
+  branch_in (Node _ pattern (Leaf arrow _ (Node _ expr (Leaf semicolon _ _)))) others =
+      NextBranch (pattern_in pattern) (expr_in expr) others
   branch_in _ others = others
 
   pub branches_in : Forest → Branches
@@ -295,13 +316,15 @@ mode_in _ = mode.Plain
 -- an expression with what follows its ".": "get", or a name and arguments. The call has its receiver before the
 -- arguments.
 abbrev pub selected_in : Place → Phrase → Forest → SideTree
-selected_in place first (Leaf name _ (Node _ arguments _)) = CallOf place (written name) (NextPhrase first (arguments_in arguments)) None
+selected_in place first (Leaf name _ (Node _ arguments _)) =
+    CallOf place (written name) (NextPhrase first (arguments_in arguments)) None
 selected_in place first (Leaf get _ _) = GetOf place (place_of_mark get) first
 selected_in place first _ = ValueOf place first
 
 -- an expression with what follows it: "!", a name and arguments; or "." and what follows that; or nothing
 abbrev pub tail_in : Place → Phrase → Forest → SideTree
-tail_in place first (Node _ (Leaf bang _ (Leaf name _ (Node _ arguments _))) _) = SendOf place (written name) (NextPhrase first (arguments_in arguments))
+tail_in place first (Node _ (Leaf bang _ (Leaf name _ (Node _ arguments _))) _) =
+    SendOf place (written name) (NextPhrase first (arguments_in arguments))
 tail_in place first (Node _ (Leaf dot _ (Node _ selected _)) _) = selected_in place first selected
 tail_in place first _ = ValueOf place first
 
@@ -313,7 +336,8 @@ rhs_in _ = ValueOf start (NullOf start)
 
 -- a right side whose first operand is given, by what follows this operand
 abbrev pub rest_in : Place → Phrase → Forest → SideTree
-rest_in place first (Node _ muls (Node _ sums (Node _ compared (Node _ equal (Node _ ands (Node _ ors (Node _ tail _))))))) =
+rest_in place first (Node _ muls
+    (Node _ sums (Node _ compared (Node _ equal (Node _ ands (Node _ ors (Node _ tail _))))))) =
     let product = with_operators place first (mul_operands muls) in
     let sum = with_operators place product (sum_operands sums) in
     let comparison = with_operators place sum (compare_operand compared) in
@@ -330,7 +354,8 @@ is_asked Empty = false
 is_asked _ = true
 
 abbrev pub test_in : Forest → Tests → Tests
-test_in (Node _ equal (Node _ question _)) others = NextTest (place_in equal) (equal_in equal) (is_asked question) others
+test_in (Node _ equal (Node _ question _)) others =
+    NextTest (place_in equal) (equal_in equal) (is_asked question) others
 test_in _ others = others
 
 abbrev pub more_tests : Forest → Tests
@@ -350,19 +375,23 @@ initial_in _ = NoSide
 
 -- a statement with this index that begins with a variable, by what follows: "=" and a right side, or the rest of one
 abbrev pub after_variable : ℕ → Place → Name → Forest → Statement
-after_variable index place name (Leaf equals _ (Node _ rhs _)) = AssignOf index place (ToVariable place (Unresolved name)) (rhs_in rhs)
-after_variable index place name (Node _ arguments (Node _ rest _)) = DoOf index place (rest_in place (named place name (arguments_maybe arguments)) rest)
+after_variable index place name (Leaf equals _ (Node _ rhs _)) =
+    AssignOf index place (ToVariable place (Unresolved name)) (rhs_in rhs)
+after_variable index place name (Node _ arguments (Node _ rest _)) =
+    DoOf index place (rest_in place (named place name (arguments_maybe arguments)) rest)
 after_variable index place name _ = SkipOf index place
 
 -- the same for a statement that begins with "this", "." and a name
 abbrev pub after_field : ℕ → Place → Place → Name → Forest → Statement
-after_field index place name_place name (Leaf equals _ (Node _ rhs _)) = AssignOf index place (ToField place name_place name) (rhs_in rhs)
+after_field index place name_place name (Leaf equals _ (Node _ rhs _)) =
+    AssignOf index place (ToField place name_place name) (rhs_in rhs)
 after_field index place name_place name (Node _ arguments (Node _ rest _)) =
     DoOf index place (rest_in place (member place name_place name (arguments_maybe arguments)) rest)
 after_field index place name_place name _ = SkipOf index place
 
 abbrev pub after_this : ℕ → Place → Forest → Statement
-after_this index place (Leaf dot _ (Leaf name _ (Node _ after _))) = after_field index place (place_of_mark name) (written name) after
+after_this index place (Leaf dot _ (Leaf name _ (Node _ after _))) =
+    after_field index place (place_of_mark name) (written name) after
 after_this index place (Node _ rest _) = DoOf index place (rest_in place (ThisOf place) rest)
 after_this index place _ = SkipOf index place
 
@@ -377,7 +406,8 @@ abbrev mutual
   statement_in index (Leaf mark _ others) = statement_by index (token_kind mark) mark others
   statement_in index (Node _ block Empty) = BlockOf (place_in block) (block_in index block)
   statement_in index (Node _ type (Leaf name _ (Node _ initial _))) =
-      DeclareOf index (place_in type) (type_in type) (place_of_mark name) (Unresolved (written name)) (initial_in initial)
+      DeclareOf index (place_in type) (type_in type) (place_of_mark name) (Unresolved (written name))
+      (initial_in initial)
   statement_in index (Node _ rhs _) = DoOf index (place_in rhs) (rhs_in rhs)
   statement_in index Empty = SkipOf index start
 
@@ -385,10 +415,14 @@ abbrev mutual
   pub statement_by : ℕ → TokenKind → Mark → Forest → Statement
   statement_by index (KeywordKind keyword.Skip) mark others = SkipOf index (place_of_mark mark)
   statement_by index (KeywordKind keyword.Suspend) mark others = SuspendOf index (place_of_mark mark)
-  statement_by index (KeywordKind keyword.Await) mark (Node _ guard _) = AwaitOf index (place_of_mark mark) (guard_in guard)
-  statement_by index (KeywordKind keyword.Return) mark (Node _ expr _) = ReturnOf index (place_of_mark mark) (expr_in expr)
-  statement_by index (KeywordKind keyword.Println) mark (Leaf opening _ (Node _ expr _)) = PrintOf index (place_of_mark mark) (expr_in expr)
-  statement_by index (KeywordKind keyword.If) mark (Leaf opening _ (Node _ test (Leaf closing _ (Node _ first (Node _ other _))))) =
+  statement_by index (KeywordKind keyword.Await) mark (Node _ guard _) =
+      AwaitOf index (place_of_mark mark) (guard_in guard)
+  statement_by index (KeywordKind keyword.Return) mark (Node _ expr _) =
+      ReturnOf index (place_of_mark mark) (expr_in expr)
+  statement_by index (KeywordKind keyword.Println) mark (Leaf opening _ (Node _ expr _)) =
+      PrintOf index (place_of_mark mark) (expr_in expr)
+  statement_by index (KeywordKind keyword.If) mark
+      (Leaf opening _ (Node _ test (Leaf closing _ (Node _ first (Node _ other _))))) =
       let branch = branch_of (statement_in (index + 1) first) in
       IfOf index (place_of_mark mark) (expr_in test) branch (else_in (index + 1 + statement_count branch) other)
   statement_by index (KeywordKind keyword.While) mark (Leaf opening _ (Node _ test (Leaf closing _ (Node _ body _)))) =
@@ -435,7 +469,8 @@ names_maybe _ = []
 
 -- a parameter, before others
 abbrev pub param_in : Forest → List ParamTree → List ParamTree
-param_in (Node _ type (Leaf name _ _)) others = record { type_of = type_in type; place = place_of_mark name; variable = Unresolved (written name) } ∷ others
+param_in (Node _ type (Leaf name _ _)) others =
+    record { type_of = type_in type; place = place_of_mark name; variable = Unresolved (written name) } ∷ others
 param_in _ others = others
 
 abbrev pub more_params : Forest → List ParamTree
@@ -469,11 +504,13 @@ constructor_types _ = NoType
 
 -- a constructor, before others
 abbrev pub constructor_in : Forest → List ConstructorTree → List ConstructorTree
-constructor_in (Leaf name _ (Node _ types _)) others = record { name = declared name; types = constructor_types types } ∷ others
+constructor_in (Leaf name _ (Node _ types _)) others =
+    record { name = declared name; types = constructor_types types } ∷ others
 constructor_in _ others = others
 
 abbrev pub more_constructors : Forest → List ConstructorTree
-more_constructors (Node _ (Leaf bar _ (Node _ constructor _)) (Node _ others _)) = constructor_in constructor (more_constructors others)
+more_constructors (Node _ (Leaf bar _ (Node _ constructor _)) (Node _ others _)) =
+    constructor_in constructor (more_constructors others)
 more_constructors _ = []
 
 -- a method of an interface, before others
@@ -489,13 +526,16 @@ signatures_in _ = []
 -- a member, by what follows its type and name: ";", a value, or parameters and a body, whose first index is this one
 abbrev pub member_by : ℕ → TypeTree → DeclaredTree → Forest → MemberTree
 member_by index type name (Leaf opening _ (Node _ params (Leaf closing _ (Node _ block _)))) =
-    MethodTree (record { result = type; name = name; params = params_maybe params }) (block_end block) (block_in index block)
-member_by index type name (Leaf equals _ (Node _ expr (Leaf semicolon _ _))) = FieldTree type name (Value (expr_in expr))
+    MethodTree (record { result = type; name = name; params = params_maybe params }) (block_end block)
+    (block_in index block)
+member_by index type name (Leaf equals _ (Node _ expr (Leaf semicolon _ _))) =
+    FieldTree type name (Value (expr_in expr))
 member_by index type name _ = FieldTree type name NoValue
 
 -- a member, before others
 abbrev pub member_in : ℕ → Forest → List MemberTree → List MemberTree
-member_in index (Node _ type (Leaf name _ (Node _ tail _))) others = member_by index (type_in type) (declared name) tail ∷ others
+member_in index (Node _ type (Leaf name _ (Node _ tail _))) others =
+    member_by index (type_in type) (declared name) tail ∷ others
 member_in index _ others = others
 
 abbrev pub members_in : ℕ → Forest → List MemberTree
@@ -505,14 +545,21 @@ members_in index _ = []
 
 -- a declaration by its first token, before others
 abbrev pub decl_by : ℕ → TokenKind → Place → Forest → List DeclTree → List DeclTree
-decl_by index (KeywordKind keyword.Data) place (Leaf name _ (Node _ parameters (Leaf equals _ (Node _ first (Node _ more _))))) others =
+decl_by index (KeywordKind keyword.Data) place
+    (Leaf name _ (Node _ parameters (Leaf equals _ (Node _ first (Node _ more _))))) others =
     DataTree place (declared name) (names_maybe parameters) (constructor_in first (more_constructors more)) ∷ others
-decl_by index (KeywordKind keyword.Def) place (Node _ type (Leaf name _ (Node _ parameters (Leaf opening _ (Node _ params (Leaf closing _ (Leaf equals _ (Node _ expr _)))))))) others =
-    FunctionTree place (type_in type) (declared name) (names_maybe parameters) (params_maybe params) (expr_in expr) ∷ others
-decl_by index (KeywordKind keyword.Interface) place (Leaf name _ (Node _ extended (Leaf opening _ (Node _ signatures _)))) others =
+decl_by index (KeywordKind keyword.Def) place
+    (Node _ type (Leaf name _ (Node _ parameters
+    (Leaf opening _ (Node _ params (Leaf closing _ (Leaf equals _ (Node _ expr _)))))))) others =
+    FunctionTree place (type_in type) (declared name) (names_maybe parameters) (params_maybe params) (expr_in expr)
+    ∷ others
+decl_by index (KeywordKind keyword.Interface) place
+    (Leaf name _ (Node _ extended (Leaf opening _ (Node _ signatures _)))) others =
     InterfaceTree place (declared name) (names_maybe extended) (signatures_in signatures) ∷ others
-decl_by index (KeywordKind keyword.Class) place (Leaf name _ (Node _ params (Node _ implemented (Leaf opening _ (Node _ members _))))) others =
-    ClassTree place (declared name) (class_params_maybe params) (names_maybe implemented) (members_in index members) ∷ others
+decl_by index (KeywordKind keyword.Class) place
+    (Leaf name _ (Node _ params (Node _ implemented (Leaf opening _ (Node _ members _))))) others =
+    ClassTree place (declared name) (class_params_maybe params) (names_maybe implemented) (members_in index members)
+    ∷ others
 decl_by index _ place forest others = others
 
 -- a declaration, before others
@@ -521,7 +568,8 @@ decl_in index (Leaf mark _ inside) others = decl_by index (token_kind mark) (pla
 decl_in index _ others = others
 
 abbrev pub decls_in : ℕ → Forest → List DeclTree
-decls_in index (Node _ decl (Node _ more _)) = decl_in index decl (decls_in (index + decl_statements (decl_in index decl [])) more)
+decls_in index (Node _ decl (Node _ more _)) =
+    decl_in index decl (decls_in (index + decl_statements (decl_in index decl [])) more)
 decls_in index _ = []
 
 -- Program: the "module" and "import" lines leave nothing, and the indices of the main block follow those of the classes

@@ -25,7 +25,8 @@ fn param<'a, 'b>(
     requires names { HasRoom symbols.old (spot from) }
     ensures { Parses result (parse_of (One ParamSymbol) 0 symbols.old symbols.new (spot from.entry)
         (λ found. spot found.1)
-        (λ found names inside. (others : List ParamTree) → param_tree names found.0 ∷ others ≡ param_in inside others)) }
+        (λ found names inside. (others : List ParamTree)
+        → param_tree names found.0 ∷ others ≡ param_in inside others)) }
 {
     let (type_of, name_at) = type_term(alloc, symbols, 0, from)?;
     let (name, end) = name_at.take(Lexeme::LowerName, 0)?;

@@ -135,7 +135,7 @@ pub(crate) fn simple_statement<'a, 'b>(
     }
 }
 
-/// A statement that only its semicolon is still to follow, and the cursor after the semicolon.
+/// A statement of which only the semicolon is left to read, and the cursor after the semicolon.
 fn closed<'a, 'b>(
     stmt: Stmt,
     depth: u32,

@@ -3,6 +3,8 @@ use Rattle.std.proofs.Common.{◌≡◌, ℕ, ◌+◌, ◌<◌, List, ◌∷◌,
 use Rattle.std.proofs.lemmas.List.{drop_more}
 
 -- the rest of a list from an index is the entry at that index, followed by the entries after it
-pub drop_item : {A : Type 0} (items : List A) (index : ℕ) (item : A) → index < length items → item ≡ get_or items index item
+pub drop_item : {A : Type 0} (items : List A) (index : ℕ) (item : A) → index < length items
+    → item ≡ get_or items index item
     → drop index items ≡ item ∷ drop (index + 1) items
-drop_item {A} items index item there is = drop_more items index item there ∙ ap (λ (one : A). one ∷ drop (index + 1) items) (sym is)
+drop_item {A} items index item there is =
+    drop_more items index item there ∙ ap (λ (one : A). one ∷ drop (index + 1) items) (sym is)

@@ -14,7 +14,8 @@ use Rattle.abs_tree.specs.Names.{number_of_name, symbol_in}
 use Rattle.abs_tree.specs.Trees.{name_of}
 
 -- a fact of the image of each element is a fact of each element of the mapped list
-all-map : {A B : Type 0} (f : A → B) (P : B → Type 0) (xs : List A) → AllByRecursion (λ x. P (f x)) xs → AllByRecursion P (map f xs)
+all-map : {A B : Type 0} (f : A → B) (P : B → Type 0) (xs : List A) → AllByRecursion (λ x. P (f x)) xs
+    → AllByRecursion P (map f xs)
 all-map f P [] all = tt
 all-map f P (x ∷ xs) all = (all.0, all-map f P xs all.1)
 
@@ -23,7 +24,8 @@ distinct-map : {A B : Type 0} (f : A → B) (same : B → B → Bool) (xs : List
     → IsDistinct same (map f xs)
 unfolding IsDistinct
 distinct-map f same [] distinct = tt
-distinct-map f same (x ∷ xs) distinct = (all-map f (λ y. same (f x) y ≡ false) xs distinct.0, distinct-map f same xs distinct.1)
+distinct-map f same (x ∷ xs) distinct =
+    (all-map f (λ y. same (f x) y ≡ false) xs distinct.0, distinct-map f same xs distinct.1)
 
 -- in a table that has each name once, the number of the name of one of its symbols is the symbol's own
 own_number : (names : List (List ℕ)) (symbol : Symbol) → IsDistinct bytes_eq names → symbol.0 < length names
@@ -32,7 +34,8 @@ own_number names symbol distinct there =
     let name = get_or names symbol.0 [] in
     ap (number_of_name names) (unwrap_or-slice_get names symbol.0 [])
     ∙ position_or_len_is (bytes_eq name) names symbol.0 [] (omega arith)
-    (λ k before. nat_list_eq_equiv.symm name (get_or names k []) ∙ apart_from_distinct bytes_eq names k symbol.0 [] distinct before there)
+    (λ k before. nat_list_eq_equiv.symm name (get_or names k [])
+    ∙ apart_from_distinct bytes_eq names k symbol.0 [] distinct before there)
     (λ _. nat_list_eq_equiv.refl name)
 
 -- the same for a mapped list
@@ -52,7 +55,8 @@ pub number_of_found : (names : List (List ℕ)) (name : List ℕ) (symbol : Symb
 number_of_found names name symbol found = grind (arith, nat_tests)
 
 -- a name that the search does not find has the next number
-pub number_of_new : (names : List (List ℕ)) (name : List ℕ) → None ≡ symbol_in names name → length names ≡ number_of_name names name
+pub number_of_new : (names : List (List ℕ)) (name : List ℕ) → None ≡ symbol_in names name
+    → length names ≡ number_of_name names name
 number_of_new names name none = grind (arith, nat_tests, prefix_len-le-length)
 
 -- a name that the table has is its entry at the number of the name
@@ -61,7 +65,8 @@ name_at_number : (names : List (List ℕ)) (name : List ℕ) → number_of_name 
 name_at_number names name there = (bytes_eq-Decides name _).0 (passes_at_first (bytes_eq name) names [] there)
 
 -- a symbol whose name the table does not have has the empty name
-name_without_number : (names : List (List ℕ)) (symbol : Symbol) → length names ≤ number_of_name names (name_of names symbol)
+name_without_number : (names : List (List ℕ)) (symbol : Symbol)
+    → length names ≤ number_of_name names (name_of names symbol)
     → name_of names symbol ≡ []
 name_without_number names symbol absent = elim (leb_tells (length names) symbol.0) [
   | inl outside ↦ outside_name names symbol outside.1
@@ -75,9 +80,11 @@ name_without_number names symbol absent = elim (leb_tells (length names) symbol.
 
 -- two symbols whose names have the same number have the same name
 same_name : (names : List (List ℕ)) (one other : Symbol)
-    → number_of_name names (name_of names one) ≡ number_of_name names (name_of names other) → name_of names one ≡ name_of names other
+    → number_of_name names (name_of names one) ≡ number_of_name names (name_of names other)
+    → name_of names one ≡ name_of names other
 same_name names one other same = elim (leb_tells (length names) (number_of_name names (name_of names one))) [
-  | inl absent ↦ name_without_number names one absent.1 ∙ sym (name_without_number names other (omega (arith, absent.1)))
+  | inl absent ↦ name_without_number names one absent.1
+      ∙ sym (name_without_number names other (omega (arith, absent.1)))
   | inr there ↦
       name_at_number names (name_of names one) there.1 ∙ ap (λ (number : ℕ). get_or names number []) same
       ∙ sym (name_at_number names (name_of names other) (omega (arith, there.1)))
@@ -85,5 +92,6 @@ same_name names one other same = elim (leb_tells (length names) (number_of_name 
 
 -- the names of two symbols have the same number exactly if they are the same name
 pub numbers_tell_names : (names : List (List ℕ)) (one other : Symbol)
-    → (number_of_name names (name_of names one) ≡ number_of_name names (name_of names other)) ↔ (name_of names one ≡ name_of names other)
+    → (number_of_name names (name_of names one) ≡ number_of_name names (name_of names other)) ↔
+    (name_of names one ≡ name_of names other)
 numbers_tell_names names one other = (same_name names one other, ap (number_of_name names))

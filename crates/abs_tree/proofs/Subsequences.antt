@@ -21,7 +21,8 @@ part_before after (skipped x) = skipped (part_before after x)
 part_before after (kept x) = kept (part_before after x)
 
 -- So is a subsequence of a prefix, followed by one of the suffix after it.
-pub part_both : {few many fewer more : List Place} → IsPartOf few many → IsPartOf fewer more → IsPartOf (few ++ fewer) (many ++ more)
+pub part_both : {few many fewer more : List Place} → IsPartOf few many → IsPartOf fewer more
+    → IsPartOf (few ++ fewer) (many ++ more)
 part_both {many = many} none y = part_after many y
 part_both (skipped x) y = skipped (part_both x y)
 part_both (kept x) y = kept (part_both x y)
@@ -47,5 +48,6 @@ rise_from low lower (place ∷ others) few x = (omega (arith, few, x.0), x.1)
 -- A subsequence of places that rise rises too.
 pub part_rises : {few many : List Place} (low : ℕ) → IsPartOf few many → PlacesRise low many → PlacesRise low few
 part_rises low none x = tt
-part_rises low (skipped {place = place} {few = few} part) x = rise_from (place.offset + 1) low few (omega (arith, x.0)) (part_rises (place.offset + 1) part x.1)
+part_rises low (skipped {place = place} {few = few} part) x =
+    rise_from (place.offset + 1) low few (omega (arith, x.0)) (part_rises (place.offset + 1) part x.1)
 part_rises low (kept {place = place} part) x = (x.0, part_rises (place.offset + 1) part x.1)

@@ -20,7 +20,8 @@ use Rattle.abs_tree.specs.Trees.{name_of}
 use mathlib.Core.Former.{Count}
 
 -- the types in a row in memory
-types_in_row : (names : List (List ℕ)) (n : _) (row : Row_of-TypeTerm n) → type_row names row ≡ type_trees names (items-the_row-TypeTerm n row)
+types_in_row : (names : List (List ℕ)) (n : _) (row : Row_of-TypeTerm n)
+    → type_row names row ≡ type_trees names (items-the_row-TypeTerm n row)
 types_in_row names n end_of-TypeTerm = refl
 types_in_row names n (more_of-TypeTerm type others) = ap (NextType (type_tree names type)) (types_in_row names _ others)
 
@@ -31,15 +32,19 @@ row_of _ = (_, end_of-TypeTerm)
 
 -- the arguments of a type are those of its vector
 pub type_tree-unresolved : (names : List (List ℕ)) (place : Place) (symbol : Symbol) (arguments : Vec TypeTerm Global)
-    → type_tree names (code_type.Unresolved place symbol arguments) ≡ UnresolvedType place (name_of names symbol) (type_trees names arguments.items)
+    → type_tree names (code_type.Unresolved place symbol arguments)
+    ≡ UnresolvedType place (name_of names symbol) (type_trees names arguments.items)
 type_tree-unresolved names place symbol arguments =
     let row = row_of (code_type.Unresolved place symbol arguments) in
-    ap (UnresolvedType place (name_of names symbol)) (types_in_row names row.0 row.1 ∙ ap (type_trees names) (items_hidden-the_row-TypeTerm-0 arguments))
+    ap (UnresolvedType place (name_of names symbol))
+    (types_in_row names row.0 row.1 ∙ ap (type_trees names) (items_hidden-the_row-TypeTerm-0 arguments))
 
 -- the patterns in a row in memory
-patterns_in_row : (names : List (List ℕ)) (n : _) (row : Row_of-Pattern n) → pattern_row names row ≡ pattern_trees names (items-the_row-Pattern n row)
+patterns_in_row : (names : List (List ℕ)) (n : _) (row : Row_of-Pattern n)
+    → pattern_row names row ≡ pattern_trees names (items-the_row-Pattern n row)
 patterns_in_row names n end_of-Pattern = refl
-patterns_in_row names n (more_of-Pattern pattern others) = ap (NextPattern (pattern_tree names pattern)) (patterns_in_row names _ others)
+patterns_in_row names n (more_of-Pattern pattern others) =
+    ap (NextPattern (pattern_tree names pattern)) (patterns_in_row names _ others)
 
 -- how many parts a pattern has, and the row of them
 abbrev parts_of : Pattern → (n : Count) × Row_of-Pattern n
@@ -48,13 +53,16 @@ parts_of _ = (_, end_of-Pattern)
 
 -- the parts of a pattern are those of its vector
 pub pattern_tree-built : (names : List (List ℕ)) (place : Place) (symbol : Symbol) (parts : Vec Pattern Global)
-    → pattern_tree names (code_pattern.Built place symbol parts) ≡ Built place (name_of names symbol) (pattern_trees names parts.items)
+    → pattern_tree names (code_pattern.Built place symbol parts)
+    ≡ Built place (name_of names symbol) (pattern_trees names parts.items)
 pattern_tree-built names place symbol parts =
     let row = parts_of (code_pattern.Built place symbol parts) in
-    ap (Built place (name_of names symbol)) (patterns_in_row names row.0 row.1 ∙ ap (pattern_trees names) (items_hidden-the_row-Pattern-0 parts))
+    ap (Built place (name_of names symbol))
+    (patterns_in_row names row.0 row.1 ∙ ap (pattern_trees names) (items_hidden-the_row-Pattern-0 parts))
 
 -- the expressions in a row in memory
-phrases_in_row : (names : List (List ℕ)) (n : _) (row : Row_of-Expr n) → phrase_row names row ≡ phrases names (items-the_row-Expr n row)
+phrases_in_row : (names : List (List ℕ)) (n : _) (row : Row_of-Expr n)
+    → phrase_row names row ≡ phrases names (items-the_row-Expr n row)
 phrases_in_row names n end_of-Expr = refl
 phrases_in_row names n (more_of-Expr expr others) = ap (NextPhrase (phrase names expr)) (phrases_in_row names _ others)
 
@@ -66,28 +74,37 @@ arguments_of (Build' _ _ _ row) = (_, row)
 arguments_of _ = (_, end_of-Expr)
 
 -- the arguments of a call on `this`, of a function and of a constructor are those of their vector
-pub phrase-own_call : (names : List (List ℕ)) (place : Place) (symbol : Symbol) (arguments : Arc (Vec Expr Global) Global)
-    → phrase names (code_expr.OwnCall place symbol arguments) ≡ OwnCallOf place (name_of names symbol) (phrases names arguments.value.items)
+pub phrase-own_call : (names : List (List ℕ)) (place : Place) (symbol : Symbol)
+    (arguments : Arc (Vec Expr Global) Global)
+    → phrase names (code_expr.OwnCall place symbol arguments)
+    ≡ OwnCallOf place (name_of names symbol) (phrases names arguments.value.items)
 phrase-own_call names place symbol arguments =
     let row = arguments_of (code_expr.OwnCall place symbol arguments) in
-    ap (OwnCallOf place (name_of names symbol)) (phrases_in_row names row.0 row.1 ∙ ap (phrases names) (items_hidden-the_row-Expr-1 arguments.value))
+    ap (OwnCallOf place (name_of names symbol))
+    (phrases_in_row names row.0 row.1 ∙ ap (phrases names) (items_hidden-the_row-Expr-1 arguments.value))
 
 pub phrase-apply : (names : List (List ℕ)) (place : Place) (symbol : Symbol) (arguments : Vec Expr Global)
-    → phrase names (code_expr.Apply place symbol arguments) ≡ ApplyOf place (name_of names symbol) (phrases names arguments.items)
+    → phrase names (code_expr.Apply place symbol arguments)
+    ≡ ApplyOf place (name_of names symbol) (phrases names arguments.items)
 phrase-apply names place symbol arguments =
     let row = arguments_of (code_expr.Apply place symbol arguments) in
-    ap (ApplyOf place (name_of names symbol)) (phrases_in_row names row.0 row.1 ∙ ap (phrases names) (items_hidden-the_row-Expr-1 arguments))
+    ap (ApplyOf place (name_of names symbol))
+    (phrases_in_row names row.0 row.1 ∙ ap (phrases names) (items_hidden-the_row-Expr-1 arguments))
 
 pub phrase-build : (names : List (List ℕ)) (place : Place) (symbol : Symbol) (arguments : Vec Expr Global)
-    → phrase names (code_expr.Build place symbol arguments) ≡ BuildOf place (name_of names symbol) (phrases names arguments.items)
+    → phrase names (code_expr.Build place symbol arguments)
+    ≡ BuildOf place (name_of names symbol) (phrases names arguments.items)
 phrase-build names place symbol arguments =
     let row = arguments_of (code_expr.Build place symbol arguments) in
-    ap (BuildOf place (name_of names symbol)) (phrases_in_row names row.0 row.1 ∙ ap (phrases names) (items_hidden-the_row-Expr-1 arguments))
+    ap (BuildOf place (name_of names symbol))
+    (phrases_in_row names row.0 row.1 ∙ ap (phrases names) (items_hidden-the_row-Expr-1 arguments))
 
 -- the operators in a row in memory
-operands_in_row : (names : List (List ℕ)) (n : _) (row : Row_of-Operand n) → operand_row names row ≡ operand_trees names (items-the_row-Operand n row)
+operands_in_row : (names : List (List ℕ)) (n : _) (row : Row_of-Operand n)
+    → operand_row names row ≡ operand_trees names (items-the_row-Operand n row)
 operands_in_row names n end_of-Operand = refl
-operands_in_row names n (more_of-Operand operator right others) = ap (NextOperand operator (phrase names right)) (operands_in_row names _ others)
+operands_in_row names n (more_of-Operand operator right others) =
+    ap (NextOperand operator (phrase names right)) (operands_in_row names _ others)
 
 -- how many operators an expression has, and the row of them
 abbrev operands_of : Expr → (n : Count) × Row_of-Operand n
@@ -96,15 +113,19 @@ operands_of _ = (_, end_of-Operand)
 
 -- the operators of one precedence are those of their vector
 pub phrase-operators : (names : List (List ℕ)) (place : Place) (first : Box Expr Global) (operands : Vec Operand Global)
-    → phrase names (code_expr.Operators place first operands) ≡ OperatorsOf place (phrase names first.value) (operand_trees names operands.items)
+    → phrase names (code_expr.Operators place first operands)
+    ≡ OperatorsOf place (phrase names first.value) (operand_trees names operands.items)
 phrase-operators names place first operands =
     let row = operands_of (code_expr.Operators place first operands) in
-    ap (OperatorsOf place (phrase names first.value)) (operands_in_row names row.0 row.1 ∙ ap (operand_trees names) (items_hidden-the_row-Operand-0 operands))
+    ap (OperatorsOf place (phrase names first.value))
+    (operands_in_row names row.0 row.1 ∙ ap (operand_trees names) (items_hidden-the_row-Operand-0 operands))
 
 -- the branches in a row in memory
-branches_in_row : (names : List (List ℕ)) (n : _) (row : Row_of-Branch n) → branch_row names row ≡ branches names (items-the_row-Branch n row)
+branches_in_row : (names : List (List ℕ)) (n : _) (row : Row_of-Branch n)
+    → branch_row names row ≡ branches names (items-the_row-Branch n row)
 branches_in_row names n end_of-Branch = refl
-branches_in_row names n (more_of-Branch pattern value others) = ap (NextBranch (pattern_tree names pattern) (phrase names value)) (branches_in_row names _ others)
+branches_in_row names n (more_of-Branch pattern value others) =
+    ap (NextBranch (pattern_tree names pattern) (phrase names value)) (branches_in_row names _ others)
 
 -- how many branches an expression has, and the row of them
 abbrev branches_of : Expr → (n : Count) × Row_of-Branch n
@@ -113,7 +134,9 @@ branches_of _ = (_, end_of-Branch)
 
 -- the branches of a `case` are those of its vector
 pub phrase-case : (names : List (List ℕ)) (place : Place) (subject : Box Expr Global) (arms : Vec Branch Global)
-    → phrase names (code_expr.Case place subject arms) ≡ CaseOf place (phrase names subject.value) (branches names arms.items)
+    → phrase names (code_expr.Case place subject arms)
+    ≡ CaseOf place (phrase names subject.value) (branches names arms.items)
 phrase-case names place subject arms =
     let row = branches_of (code_expr.Case place subject arms) in
-    ap (CaseOf place (phrase names subject.value)) (branches_in_row names row.0 row.1 ∙ ap (branches names) (items_hidden-the_row-Branch-2 arms))
+    ap (CaseOf place (phrase names subject.value))
+    (branches_in_row names row.0 row.1 ∙ ap (branches names) (items_hidden-the_row-Branch-2 arms))

@@ -20,7 +20,8 @@ row_trees n end_of-Expr = refl
 row_trees n (more_of-Expr argument rest) = ap (More (expr_tree argument)) (row_trees _ rest)
 
 -- the arguments of an application are those of its vector
-pub expr_tree-apply : (place : Place) (function : Symbol) (arguments : Vec Expr Global) → expr_tree (code.Apply place function arguments) ≡ Apply place function (trees_of arguments.items)
+pub expr_tree-apply : (place : Place) (function : Symbol) (arguments : Vec Expr Global)
+    → expr_tree (code.Apply place function arguments) ≡ Apply place function (trees_of arguments.items)
 expr_tree-apply place function arguments =
     let row = row_of (code.Apply place function arguments) in
     ap (Apply place function) (row_trees row.0 row.1 ∙ ap trees_of (items_hidden-the_row-Expr-0 arguments))
@@ -34,7 +35,10 @@ operands_trees n end_of-Operand = refl
 operands_trees n (more_of-Operand operator right rest) = ap (Then operator (expr_tree right)) (operands_trees _ rest)
 
 -- the operands of an operator list are those of its vector
-pub expr_tree-operators : (place : Place) (first : Box Expr Global) (operands : Vec Operand Global) → expr_tree (code.Operators place first operands) ≡ Operators place (expr_tree first.value) (operands_of operands.items)
+pub expr_tree-operators : (place : Place) (first : Box Expr Global) (operands : Vec Operand Global)
+    → expr_tree (code.Operators place first operands)
+    ≡ Operators place (expr_tree first.value) (operands_of operands.items)
 expr_tree-operators place first operands =
     let row = operands_row (code.Operators place first operands) in
-    ap (Operators place (expr_tree first.value)) (operands_trees row.0 row.1 ∙ ap operands_of (items_hidden-the_row-Operand-1 operands))
+    ap (Operators place (expr_tree first.value))
+    (operands_trees row.0 row.1 ∙ ap operands_of (items_hidden-the_row-Operand-1 operands))

@@ -44,13 +44,15 @@ output_with value (FirstFault fault) = FirstFault fault
 
 -- a result before the outcomes of the rest; a fault ends the list
 abbrev pub outcomes_after : Evaluated → ℕ → (ℕ → Outcomes) → Outcomes
-outcomes_after (Good value) made rest = record { output = output_with value (rest made).output; applications = (rest made).applications }
+outcomes_after (Good value) made rest =
+    record { output = output_with value (rest made).output; applications = (rest made).applications }
 outcomes_after (Bad fault) made rest = record { output = FirstFault fault; applications = made }
 
 -- the outcomes of expressions from the left, each after the applications of those before it
 abbrev pub outcomes_of : (ExprTree → ℕ → Outcome) → ExprTrees → ℕ → Outcomes
 outcomes_of give NoMore made = record { output = Values []; applications = made }
-outcomes_of give (More expr rest) made = outcomes_after (give expr made).result (give expr made).applications (outcomes_of give rest)
+outcomes_of give (More expr rest) made =
+    outcomes_after (give expr made).result (give expr made).applications (outcomes_of give rest)
 
 -- a string that a run makes; one that is too long is a fault
 abbrev pub string_result : List ℕ → Evaluated
@@ -59,7 +61,8 @@ string_result bytes = if nat_le (length bytes) string_limit then Good (Text byte
 -- the result of a function: `toString` gives the string of its one argument; there is no other function
 abbrev pub function_result : List ℕ → List Value → Evaluated
 function_result name [] = Bad fault.Mistyped
-function_result name (value ∷ []) = if bytes_eq name (codes "toString") then string_result (string_of value) else Bad fault.Mistyped
+function_result name (value ∷ []) =
+    if bytes_eq name (codes "toString") then string_result (string_of value) else Bad fault.Mistyped
 function_result name (value ∷ other ∷ values) = Bad fault.Mistyped
 
 -- the outcome of an application after its arguments: it is counted, and the first one past the limit is a fault
@@ -97,7 +100,8 @@ operand_outcome give operator right (Bad fault) made = record { result = Bad fau
 -- the outcome of an operator list, applied from the left
 abbrev pub operators_outcome : (ExprTree → ℕ → Outcome) → Outcome → OperandTrees → Outcome
 operators_outcome give left NoOperand = left
-operators_outcome give left (Then operator right rest) = operators_outcome give (operand_outcome give operator right left.result left.applications) rest
+operators_outcome give left (Then operator right rest) =
+    operators_outcome give (operand_outcome give operator right left.result left.applications) rest
 
 -- the result of reading a slot; past the last slot it is a fault
 abbrev pub slot_result : Option Value → Evaluated
@@ -114,7 +118,8 @@ local_result slots (Named symbol) = Bad fault.Mistyped
 unfoldable pub evaluate : List (List ℕ) → List Value → ℕ → ExprTree → ℕ → Outcome
 evaluate names slots zero expr made = record { result = Bad fault.Levels; applications = made }
 evaluate names slots (suc left) (Number place number) made = record { result = Good (Int number); applications = made }
-evaluate names slots (suc left) (Local place variable) made = record { result = local_result slots variable; applications = made }
+evaluate names slots (suc left) (Local place variable) made =
+    record { result = local_result slots variable; applications = made }
 evaluate names slots (suc left) (Apply place function arguments) made =
     let found = outcomes_of (evaluate names slots left) arguments made in
     application_outcome (name_of names function) found.output found.applications

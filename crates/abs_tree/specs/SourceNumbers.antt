@@ -12,7 +12,8 @@ use Rattle.abs_tree.specs.SyntaxSizes.{statement_count, member_statements, decl_
 -- the statements of the methods of a class; a field has none
 abbrev pub MembersAreNumbered : ℕ → List MemberTree → Type 0
 MembersAreNumbered first [] = ⊤
-MembersAreNumbered first (MethodTree signature end body ∷ others) = AreNumbered first body × MembersAreNumbered (first + statement_count body) others
+MembersAreNumbered first (MethodTree signature end body ∷ others) =
+    AreNumbered first body × MembersAreNumbered (first + statement_count body) others
 MembersAreNumbered first (FieldTree type name initial ∷ others) = MembersAreNumbered first others
 
 -- those of declarations, of which only a class has any

@@ -17,15 +17,18 @@ abbrev pub member_variables : List MemberTree → ℕ
 member_variables [] = 0
 member_variables (FieldTree _ _ NoValue ∷ others) = member_variables others
 member_variables (FieldTree _ _ (Value value) ∷ others) = phrase_variables value + member_variables others
-member_variables (MethodTree signature _ body ∷ others) = length signature.params + statements_variables body + member_variables others
+member_variables (MethodTree signature _ body ∷ others) =
+    length signature.params + statements_variables body + member_variables others
 
 -- those of declarations
 abbrev pub decl_variables : List DeclTree → ℕ
 decl_variables [] = 0
 decl_variables (DataTree _ _ _ _ ∷ others) = decl_variables others
-decl_variables (FunctionTree _ _ _ _ params value ∷ others) = length params + phrase_variables value + decl_variables others
+decl_variables (FunctionTree _ _ _ _ params value ∷ others) =
+    length params + phrase_variables value + decl_variables others
 decl_variables (InterfaceTree _ _ _ signatures ∷ others) = signature_params signatures + decl_variables others
-decl_variables (ClassTree _ _ params _ members ∷ others) = length params + member_variables members + decl_variables others
+decl_variables (ClassTree _ _ params _ members ∷ others) =
+    length params + member_variables members + decl_variables others
 
 -- those of a source
 abbrev pub all_variables : SourceTree → ℕ

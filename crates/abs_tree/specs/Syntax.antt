@@ -64,7 +64,8 @@ mutual
 mutual
   -- an expression
   pub data Phrase : Type 0 where
-    LetIn : (place : Place) (type : TypeTree) (variable_place : Place) (variable : VariableTree) (value body : Phrase) → Phrase
+    LetIn : (place : Place) (type : TypeTree) (variable_place : Place) (variable : VariableTree) (value body : Phrase)
+        → Phrase
     IfElse : (place : Place) (condition first second : Phrase) → Phrase
     OperatorsOf : (place : Place) (first : Phrase) (operands : Operands) → Phrase
     Prefixed : (place : Place) (prefix : Prefix) (operand : Phrase) → Phrase
@@ -128,7 +129,8 @@ mutual
     PrintOf : (index : ℕ) (place : Place) (value : Phrase) → Statement
     IfOf : (index : ℕ) (place : Place) (condition : Phrase) (first : Statements) (second : MaybeStatements) → Statement
     WhileOf : (index : ℕ) (place : Place) (condition : Phrase) (body : Statements) → Statement
-    DeclareOf : (index : ℕ) (place : Place) (type : TypeTree) (variable_place : Place) (variable : VariableTree) (initial : MaybeSide) → Statement
+    DeclareOf : (index : ℕ) (place : Place) (type : TypeTree) (variable_place : Place) (variable : VariableTree)
+        (initial : MaybeSide) → Statement
     AssignOf : (index : ℕ) (place : Place) (target : TargetTree) (side : SideTree) → Statement
     DoOf : (index : ℕ) (place : Place) (side : SideTree) → Statement
 
@@ -171,10 +173,14 @@ pub data MemberTree : Type 0 where
 
 -- a declaration
 pub data DeclTree : Type 0 where
-  DataTree : (place : Place) (name : DeclaredTree) (type_params : List DeclaredTree) (constructors : List ConstructorTree) → DeclTree
-  FunctionTree : (place : Place) (result : TypeTree) (name : DeclaredTree) (type_params : List DeclaredTree) (params : List ParamTree) (value : Phrase) → DeclTree
-  InterfaceTree : (place : Place) (name : DeclaredTree) (extended : List DeclaredTree) (signatures : List SignatureTree) → DeclTree
-  ClassTree : (place : Place) (name : DeclaredTree) (params : List ParamTree) (implemented : List DeclaredTree) (members : List MemberTree) → DeclTree
+  DataTree : (place : Place) (name : DeclaredTree) (type_params : List DeclaredTree)
+      (constructors : List ConstructorTree) → DeclTree
+  FunctionTree : (place : Place) (result : TypeTree) (name : DeclaredTree) (type_params : List DeclaredTree)
+      (params : List ParamTree) (value : Phrase) → DeclTree
+  InterfaceTree : (place : Place) (name : DeclaredTree) (extended : List DeclaredTree) (signatures : List SignatureTree)
+      → DeclTree
+  ClassTree : (place : Place) (name : DeclaredTree) (params : List ParamTree) (implemented : List DeclaredTree)
+      (members : List MemberTree) → DeclTree
 
 -- a source: its declarations, and its main block with the place of the closing brace
 pub record SourceTree : Type 0 where

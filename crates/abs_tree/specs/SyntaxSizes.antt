@@ -52,7 +52,8 @@ abbrev mutual
 abbrev mutual
   pub phrase_variables : Phrase → ℕ
   phrase_variables (LetIn _ _ _ _ value body) = 1 + phrase_variables value + phrase_variables body
-  phrase_variables (IfElse _ condition first second) = phrase_variables condition + phrase_variables first + phrase_variables second
+  phrase_variables (IfElse _ condition first second) =
+      phrase_variables condition + phrase_variables first + phrase_variables second
   phrase_variables (OperatorsOf _ first operands) = phrase_variables first + operand_variables operands
   phrase_variables (Prefixed _ _ operand) = phrase_variables operand
   phrase_variables (OwnCallOf _ _ arguments) = phrases_variables arguments
@@ -71,7 +72,8 @@ abbrev mutual
 
   pub branch_variables : Branches → ℕ
   branch_variables NoBranch = 0
-  branch_variables (NextBranch pattern value others) = pattern_variables pattern + phrase_variables value + branch_variables others
+  branch_variables (NextBranch pattern value others) =
+      pattern_variables pattern + phrase_variables value + branch_variables others
 
 abbrev pub side_variables : SideTree → ℕ
 side_variables (NewOf _ _ _ _ arguments) = phrases_variables arguments
@@ -92,7 +94,8 @@ abbrev mutual
   statement_variables (ReturnOf _ _ value) = phrase_variables value
   statement_variables (PrintOf _ _ value) = phrase_variables value
   statement_variables (IfOf _ _ condition first NoElse) = phrase_variables condition + statements_variables first
-  statement_variables (IfOf _ _ condition first (Else second)) = phrase_variables condition + statements_variables first + statements_variables second
+  statement_variables (IfOf _ _ condition first (Else second)) =
+      phrase_variables condition + statements_variables first + statements_variables second
   statement_variables (WhileOf _ _ condition body) = phrase_variables condition + statements_variables body
   statement_variables (DeclareOf _ _ _ _ _ NoSide) = 1
   statement_variables (DeclareOf _ _ _ _ _ (SomeSide side)) = 1 + side_variables side
@@ -113,7 +116,8 @@ field_variables (_ ∷ others) = field_variables others
 -- the sizes of bodies: those of the methods of a class
 abbrev pub method_sizes : List MemberTree → List ℕ
 method_sizes [] = []
-method_sizes (MethodTree signature _ body ∷ others) = (length signature.params + statements_variables body) ∷ method_sizes others
+method_sizes (MethodTree signature _ body ∷ others) =
+    (length signature.params + statements_variables body) ∷ method_sizes others
 method_sizes (FieldTree _ _ _ ∷ others) = method_sizes others
 
 -- those of functions, and of classes with their initial values

@@ -43,11 +43,13 @@ variable_tree names (variable.Field field) = AtField field
 abbrev mutual
   -- the tree of a type
   pub type_tree : List Name → code_type.TypeTerm → TypeTree
-  type_tree names (code_type.Unresolved' place symbol shape arguments) = UnresolvedType place (name_of names symbol) (type_row names arguments)
+  type_tree names (code_type.Unresolved' place symbol shape arguments) =
+      UnresolvedType place (name_of names symbol) (type_row names arguments)
   type_tree names (code_type.Int place) = IntType place
   type_tree names (code_type.String place) = StringType place
   type_tree names (code_type.Fut' place at value) = FutType place (type_tree names value)
-  type_tree names (code_type.Data' place symbol shape arguments) = DataType place (name_of names symbol) (type_row names arguments)
+  type_tree names (code_type.Data' place symbol shape arguments) =
+      DataType place (name_of names symbol) (type_row names arguments)
   type_tree names (code_type.Interface place symbol) = InterfaceType place (name_of names symbol)
   type_tree names (code_type.Parameter place parameter) = ParameterType place parameter
   type_tree names code_type.Bottom = BottomType
@@ -70,11 +72,13 @@ abbrev mutual
   pattern_tree names (code_pattern.Binds place variable) = Binds place (variable_tree names variable)
   pattern_tree names (code_pattern.Number place number) = SameNumber place number
   pattern_tree names (code_pattern.Text place text) = SameString place text
-  pattern_tree names (code_pattern.Built' place symbol shape arguments) = Built place (name_of names symbol) (pattern_row names arguments)
+  pattern_tree names (code_pattern.Built' place symbol shape arguments) =
+      Built place (name_of names symbol) (pattern_row names arguments)
 
   pub pattern_row : {n : _} → List Name → code_pattern.Row_of-Pattern n → PatternTrees
   pattern_row names code_pattern.end_of-Pattern = NoPattern
-  pattern_row names (code_pattern.more_of-Pattern pattern others) = NextPattern (pattern_tree names pattern) (pattern_row names others)
+  pattern_row names (code_pattern.more_of-Pattern pattern others) =
+      NextPattern (pattern_tree names pattern) (pattern_row names others)
 
 -- the trees of a list of patterns
 abbrev pub pattern_trees : List Name → List code_pattern.Pattern → PatternTrees
@@ -85,10 +89,12 @@ abbrev mutual
   -- the tree of an expression
   pub phrase : List Name → code_expr.Expr → Phrase
   phrase names (code_expr.Let' place type variable_place variable at_value value at_body body) =
-      LetIn place (type_tree names type) variable_place (variable_tree names variable) (phrase names value) (phrase names body)
+      LetIn place (type_tree names type) variable_place (variable_tree names variable) (phrase names value)
+      (phrase names body)
   phrase names (code_expr.If' place at_condition condition at_first first at_second second) =
       IfElse place (phrase names condition) (phrase names first) (phrase names second)
-  phrase names (code_expr.Operators' place at_first first shape operands) = OperatorsOf place (phrase names first) (operand_row names operands)
+  phrase names (code_expr.Operators' place at_first first shape operands) =
+      OperatorsOf place (phrase names first) (operand_row names operands)
   phrase names (code_expr.Prefixed' place prefix at_operand operand) = Prefixed place prefix (phrase names operand)
   phrase names (code_expr.Number place number) = NumberOf place number
   phrase names (code_expr.Text place text) = StringOf place text
@@ -96,11 +102,15 @@ abbrev mutual
   phrase names (code_expr.Destiny place) = DestinyOf place
   phrase names (code_expr.This place) = ThisOf place
   phrase names (code_expr.Field place name_place symbol) = FieldOf place name_place (name_of names symbol)
-  phrase names (code_expr.OwnCall' place symbol shared shape arguments) = OwnCallOf place (name_of names symbol) (phrase_row names arguments)
+  phrase names (code_expr.OwnCall' place symbol shared shape arguments) =
+      OwnCallOf place (name_of names symbol) (phrase_row names arguments)
   phrase names (code_expr.Variable place variable) = VariableOf place (variable_tree names variable)
-  phrase names (code_expr.Apply' place symbol shape arguments) = ApplyOf place (name_of names symbol) (phrase_row names arguments)
-  phrase names (code_expr.Build' place symbol shape arguments) = BuildOf place (name_of names symbol) (phrase_row names arguments)
-  phrase names (code_expr.Case' place at_subject subject shape branches) = CaseOf place (phrase names subject) (branch_row names branches)
+  phrase names (code_expr.Apply' place symbol shape arguments) =
+      ApplyOf place (name_of names symbol) (phrase_row names arguments)
+  phrase names (code_expr.Build' place symbol shape arguments) =
+      BuildOf place (name_of names symbol) (phrase_row names arguments)
+  phrase names (code_expr.Case' place at_subject subject shape branches) =
+      CaseOf place (phrase names subject) (branch_row names branches)
 
   pub phrase_row : {n : _} → List Name → code_expr.Row_of-Expr n → Phrases
   phrase_row names code_expr.end_of-Expr = NoPhrase
@@ -108,11 +118,13 @@ abbrev mutual
 
   pub operand_row : {n : _} → List Name → code_expr.Row_of-Operand n → Operands
   operand_row names code_expr.end_of-Operand = NoOperands
-  operand_row names (code_expr.more_of-Operand operator right others) = NextOperand operator (phrase names right) (operand_row names others)
+  operand_row names (code_expr.more_of-Operand operator right others) =
+      NextOperand operator (phrase names right) (operand_row names others)
 
   pub branch_row : {n : _} → List Name → code_expr.Row_of-Branch n → Branches
   branch_row names code_expr.end_of-Branch = NoBranch
-  branch_row names (code_expr.more_of-Branch pattern value others) = NextBranch (pattern_tree names pattern) (phrase names value) (branch_row names others)
+  branch_row names (code_expr.more_of-Branch pattern value others) =
+      NextBranch (pattern_tree names pattern) (phrase names value) (branch_row names others)
 
 -- the trees of a list of expressions
 abbrev pub phrases : List Name → List code_expr.Expr → Phrases
@@ -122,19 +134,23 @@ phrases names (expr ∷ others) = NextPhrase (phrase names expr) (phrases names 
 -- the trees of a list of operators with their right operands, and of a list of branches
 abbrev pub operand_trees : List Name → List code_operand.Operand → Operands
 operand_trees names [] = NoOperands
-operand_trees names (operand ∷ others) = NextOperand operand.operator (phrase names operand.right) (operand_trees names others)
+operand_trees names (operand ∷ others) =
+    NextOperand operand.operator (phrase names operand.right) (operand_trees names others)
 
 abbrev pub branches : List Name → List code_branch.Branch → Branches
 branches names [] = NoBranch
-branches names (branch ∷ others) = NextBranch (pattern_tree names branch.pattern) (phrase names branch.value) (branches names others)
+branches names (branch ∷ others) =
+    NextBranch (pattern_tree names branch.pattern) (phrase names branch.value) (branches names others)
 
 -- the tree of a right side
 abbrev pub side_tree : List Name → code_side.RightSide → SideTree
-side_tree names (side.New place mode class_place class arguments) = NewOf place mode class_place (name_of names class) (phrases names arguments.value.items)
+side_tree names (side.New place mode class_place class arguments) =
+    NewOf place mode class_place (name_of names class) (phrases names arguments.value.items)
 side_tree names (side.Value place value) = ValueOf place (phrase names value.value)
 side_tree names (side.Send place method row) = SendOf place (name_of names method) (phrases names row.value.items)
 side_tree names (side.Get place get_place future) = GetOf place get_place (phrase names future.value)
-side_tree names (side.Call place method row slot) = CallOf place (name_of names method) (phrases names row.value.items) slot
+side_tree names (side.Call place method row slot) =
+    CallOf place (name_of names method) (phrases names row.value.items) slot
 
 abbrev pub maybe_side : List Name → Option code_side.RightSide → MaybeSide
 maybe_side names None = NoSide
@@ -160,15 +176,19 @@ abbrev mutual
   statement names (code_stmt.Print index place value) = PrintOf index place (phrase names value.value)
   statement names (code_stmt.If' index place condition shape first second) =
       IfOf index place (phrase names condition.value) (statement_row names first) (else_held names second)
-  statement names (code_stmt.While' index place condition shape body) = WhileOf index place (phrase names condition.value) (statement_row names body)
+  statement names (code_stmt.While' index place condition shape body) =
+      WhileOf index place (phrase names condition.value) (statement_row names body)
   statement names (code_stmt.Declare index place type variable_place variable initial) =
-      DeclareOf index place (type_tree names type) variable_place (variable_tree names variable) (maybe_side names initial)
-  statement names (code_stmt.Assign index place target rhs) = AssignOf index place (target_tree names target) (side_tree names rhs)
+      DeclareOf index place (type_tree names type) variable_place (variable_tree names variable)
+      (maybe_side names initial)
+  statement names (code_stmt.Assign index place target rhs) =
+      AssignOf index place (target_tree names target) (side_tree names rhs)
   statement names (code_stmt.Do index place rhs) = DoOf index place (side_tree names rhs)
 
   pub statement_row : {n : _} → List Name → code_stmt.Row_of-Stmt n → Statements
   statement_row names code_stmt.end_of-Stmt = NoStatement
-  statement_row names (code_stmt.more_of-Stmt stmt others) = NextStatement (statement names stmt) (statement_row names others)
+  statement_row names (code_stmt.more_of-Stmt stmt others) =
+      NextStatement (statement names stmt) (statement_row names others)
 
   else_held : List Name → code_stmt.Held-Stmt-If-4 → MaybeStatements
   else_held names code_stmt.None' = NoElse
@@ -189,10 +209,16 @@ abbrev pub declared : List Name → code_declared.Declared → DeclaredTree
 declared names item = record { place = item.place; name = name_of names item.name }
 
 abbrev pub param_tree : List Name → code_param.Param → ParamTree
-param_tree names param = record { type_of = type_tree names param.type_of; place = param.place; variable = variable_tree names param.variable }
+param_tree names param = record {
+  type_of = type_tree names param.type_of;
+  place = param.place;
+  variable =
+      variable_tree names param.variable;
+}
 
 abbrev pub constructor_tree : List Name → code_constructor.Constructor → ConstructorTree
-constructor_tree names constructor = record { name = declared names constructor.name; types = type_trees names constructor.types.items }
+constructor_tree names constructor =
+    record { name = declared names constructor.name; types = type_trees names constructor.types.items }
 
 abbrev pub signature_tree : List Name → code_signature.Signature → SignatureTree
 signature_tree names signature = record {
@@ -203,18 +229,24 @@ signature_tree names signature = record {
 
 abbrev pub member_tree : List Name → code_member.Member → MemberTree
 member_tree names (member.Field type name None) = FieldTree (type_tree names type) (declared names name) NoValue
-member_tree names (member.Field type name (Some value)) = FieldTree (type_tree names type) (declared names name) (Value (phrase names value.value))
-member_tree names (member.Method signature body) = MethodTree (signature_tree names signature) body.end (statements names body.statements.items)
+member_tree names (member.Field type name (Some value)) =
+    FieldTree (type_tree names type) (declared names name) (Value (phrase names value.value))
+member_tree names (member.Method signature body) =
+    MethodTree (signature_tree names signature) body.end (statements names body.statements.items)
 
 abbrev pub decl_tree : List Name → code_decl.Decl → DeclTree
 decl_tree names (decl.Data place name parameters constructors) =
-    DataTree place (declared names name) (map (declared names) parameters.items) (map (constructor_tree names) constructors.items)
+    DataTree place (declared names name) (map (declared names) parameters.items)
+    (map (constructor_tree names) constructors.items)
 decl_tree names (decl.Function place result name parameters params value) =
-    FunctionTree place (type_tree names result) (declared names name) (map (declared names) parameters.items) (map (param_tree names) params.items) (phrase names value.value)
+    FunctionTree place (type_tree names result) (declared names name) (map (declared names) parameters.items)
+    (map (param_tree names) params.items) (phrase names value.value)
 decl_tree names (decl.Interface place name extended signatures) =
-    InterfaceTree place (declared names name) (map (declared names) extended.items) (map (signature_tree names) signatures.items)
+    InterfaceTree place (declared names name) (map (declared names) extended.items)
+    (map (signature_tree names) signatures.items)
 decl_tree names (decl.Class place name params implemented members) =
-    ClassTree place (declared names name) (map (param_tree names) params.items) (map (declared names) implemented.items) (map (member_tree names) members.items)
+    ClassTree place (declared names name) (map (param_tree names) params.items) (map (declared names) implemented.items)
+    (map (member_tree names) members.items)
 
 -- the tree of a source, from its names, its declarations and its main block
 abbrev pub tree_of_parts : List Name → List code_decl.Decl → code_body.Body → SourceTree

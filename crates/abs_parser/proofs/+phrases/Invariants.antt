@@ -76,13 +76,21 @@ abbrev pub decreases-operators::operators_after-loop-operator : goal.decreases-o
 decreases-operators::operators_after-loop-operator l = length (spot l.here).rest
 
 abbrev pub invariant-cases::case_primary-loop-symbols : goal.invariant-cases::case_primary-loop-symbols
-invariant-cases::case_primary-loop-symbols l = record { read : ReadsCase l.depth l.fn.symbols l.symbols (spot l.from) (spot l.here) l.token.place l.subject l.branches.items }
+invariant-cases::case_primary-loop-symbols l =
+    record {
+      read : ReadsCase l.depth l.fn.symbols l.symbols (spot l.from) (spot l.here) l.token.place l.subject
+          l.branches.items;
+    }
 
 abbrev pub decreases-cases::case_primary-loop-symbols : goal.decreases-cases::case_primary-loop-symbols
 decreases-cases::case_primary-loop-symbols l = length (spot l.here).rest
 
 abbrev pub invariant-arguments::expressions-loop-after : goal.invariant-arguments::expressions-loop-after
-invariant-arguments::expressions-loop-after l = record { read : ReadsSoFar list_of_expressions trees_of_expressions l.depth l.fn.symbols l.symbols (spot l.from) (spot l.here) l.expressions.items }
+invariant-arguments::expressions-loop-after l =
+    record {
+      read : ReadsSoFar list_of_expressions trees_of_expressions l.depth l.fn.symbols l.symbols (spot l.from)
+          (spot l.here) l.expressions.items;
+    }
 
 abbrev pub decreases-arguments::expressions-loop-after : goal.decreases-arguments::expressions-loop-after
 decreases-arguments::expressions-loop-after l = length (spot l.here).rest

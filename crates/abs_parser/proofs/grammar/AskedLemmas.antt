@@ -37,24 +37,29 @@ spelled_alike a b alike =
     cc
 
 -- the lookup of a punctuator's bytes finds that punctuator
-punctuator_is_among : (which : Punctuator) → punctuator_among (long_punctuators ++ short_punctuators) (punctuator_bytes which) ≡ Some which
+punctuator_is_among : (which : Punctuator)
+    → punctuator_among (long_punctuators ++ short_punctuators) (punctuator_bytes which) ≡ Some which
 punctuator_is_among punctuator.OpenParen = refl
 punctuator_is_among _ = refl
 
 -- two punctuators with the same bytes are equal
 written_alike : (a b : Punctuator) → bytes_eq (punctuator_bytes a) (punctuator_bytes b) ≡ true → a ≡ b
 written_alike a b alike =
-    let same : punctuator_bytes a ≡ punctuator_bytes b = (bytes_eq-Decides (punctuator_bytes a) (punctuator_bytes b)).0 alike in
-    let found : Some a ≡ Some b = sym (punctuator_is_among a) ∙ (ap (punctuator_among (long_punctuators ++ short_punctuators)) same ∙ punctuator_is_among b) in
+    let same : punctuator_bytes a ≡ punctuator_bytes b =
+    (bytes_eq-Decides (punctuator_bytes a) (punctuator_bytes b)).0 alike in
+    let found : Some a ≡ Some b = sym (punctuator_is_among a)
+    ∙ (ap (punctuator_among (long_punctuators ++ short_punctuators)) same ∙ punctuator_is_among b) in
     cc
 
 -- a token kind that fits a keyword is that keyword
-pub keyword_fits : (keyword : Keyword) (found : TokenKind) → fits (KeywordKind keyword) found ≡ true → found ≡ KeywordKind keyword
+pub keyword_fits : (keyword : Keyword) (found : TokenKind) → fits (KeywordKind keyword) found ≡ true
+    → found ≡ KeywordKind keyword
 keyword_fits keyword (KeywordKind other) e = ap KeywordKind (sym (spelled_alike keyword other e))
 keyword_fits keyword _ e = cc
 
 -- a token kind that fits a punctuator is that punctuator
-pub punctuator_fits : (punctuator : Punctuator) (found : TokenKind) → fits (PunctuatorKind punctuator) found ≡ true → found ≡ PunctuatorKind punctuator
+pub punctuator_fits : (punctuator : Punctuator) (found : TokenKind) → fits (PunctuatorKind punctuator) found ≡ true
+    → found ≡ PunctuatorKind punctuator
 punctuator_fits punctuator (PunctuatorKind other) e = ap PunctuatorKind (sym (written_alike punctuator other e))
 punctuator_fits punctuator _ e = cc
 
@@ -79,7 +84,8 @@ lower_of true = refl
 lower_of false = refl
 
 -- an upper-case name has the lexeme UpperName, whether it is `ABS`, `StdLib` or neither
-upper_of : (is_abs is_library : Bool) → lexeme_of (cond is_abs AbsName (cond is_library StdLibName UpperName)) ≡ Some lexeme.UpperName
+upper_of : (is_abs is_library : Bool)
+    → lexeme_of (cond is_abs AbsName (cond is_library StdLibName UpperName)) ≡ Some lexeme.UpperName
 unfolding lexeme_of
 upper_of true is_library = refl
 upper_of false true = refl
@@ -110,19 +116,23 @@ of_asked lexeme.Number Number e = refl
 of_asked lexeme.Number _ e = cc
 of_asked lexeme.Text Text e = refl
 of_asked lexeme.Text _ e = cc
-of_asked (lexeme.Keyword keyword) (KeywordKind other) e = ap (λ (found : Keyword). Some (lexeme.Keyword found)) (sym (spelled_alike keyword other e))
+of_asked (lexeme.Keyword keyword) (KeywordKind other) e =
+    ap (λ (found : Keyword). Some (lexeme.Keyword found)) (sym (spelled_alike keyword other e))
 of_asked (lexeme.Keyword keyword) _ e = cc
 of_asked lexeme.Foreign _ e = cc
-of_asked (lexeme.Punctuator punctuator) (PunctuatorKind other) e = ap (λ (found : Punctuator). Some (lexeme.Punctuator found)) (sym (written_alike punctuator other e))
+of_asked (lexeme.Punctuator punctuator) (PunctuatorKind other) e =
+    ap (λ (found : Punctuator). Some (lexeme.Punctuator found)) (sym (written_alike punctuator other e))
 of_asked (lexeme.Punctuator punctuator) _ e = cc
 
 -- a token with another lexeme does not fit the token kind that is asked for
-pub other_kind : (kind : Lexeme) (token : Lexed) → (token.kind ≡ kind → ⊥) → fits (asked kind) (token_kind_of token.kind token.bytes) ≡ false
+pub other_kind : (kind : Lexeme) (token : Lexed) → (token.kind ≡ kind → ⊥)
+    → fits (asked kind) (token_kind_of token.kind token.bytes) ≡ false
 other_kind kind token differs = by (fits (asked kind) (token_kind_of token.kind token.bytes)) refl
   where
     by : (fit : Bool) → fits (asked kind) (token_kind_of token.kind token.bytes) ≡ fit → fit ≡ false
     by false e = refl
-    by true e = absurd (differs (let same : Some token.kind ≡ Some kind = sym (of_token token.kind token.bytes) ∙ of_asked kind (token_kind_of token.kind token.bytes) e in cc))
+    by true e = absurd (differs (let same : Some token.kind ≡ Some kind =
+        sym (of_token token.kind token.bytes) ∙ of_asked kind (token_kind_of token.kind token.bytes) e in cc))
 
 -- the end does not fit a token kind that is asked for by a lexeme
 pub end_is_other : (kind : Lexeme) → fits (asked kind) End ≡ false
@@ -132,8 +142,10 @@ end_is_other _ = refl
 -- the wanted token is refused at the next token, where that does not fit
 refused_at_first : (kind : TokenKind) (depth : ℕ) (items : List Wanted) (rest : List Lexed) (end : Place)
     → fits kind (next (left_at (record { rest = rest; end = end }))) ≡ false
-    → RefusedAt (Terminal kind depth ∷ items) (left_at (record { rest = rest; end = end })) (wrong_at (record { rest = rest; end = end }))
-refused_at_first kind depth items [] end unfit = record { mark = TextEnd end; after = []; code = S1; refuses = Other unfit refl; refusal_is = refl }
+    → RefusedAt (Terminal kind depth ∷ items) (left_at (record { rest = rest; end = end }))
+    (wrong_at (record { rest = rest; end = end }))
+refused_at_first kind depth items [] end unfit =
+    record { mark = TextEnd end; after = []; code = S1; refuses = Other unfit refl; refusal_is = refl }
 refused_at_first kind depth items (token ∷ others) end unfit = record {
   mark = Token token;
   after = left_at (record { rest = others; end = end });
@@ -143,12 +155,15 @@ refused_at_first kind depth items (token ∷ others) end unfit = record {
 }
 
 -- where the next token does not fit, the wanted token is refused, whatever items follow it
-pub other_refused : (kind : TokenKind) (from : Spot) (error : SourceError) → error ≡ Refused (wrong_at from) → fits kind (next (left_at from)) ≡ false
+pub other_refused : (kind : TokenKind) (from : Spot) (error : SourceError) → error ≡ Refused (wrong_at from)
+    → fits kind (next (left_at from)) ≡ false
     → (depth : ℕ) → IsRefused (Terminal kind depth) from error
-other_refused kind from error is unfit depth = λ items. rw is (refused_at_first kind depth items from.rest from.end unfit)
+other_refused kind from error is unfit depth =
+    λ items. rw is (refused_at_first kind depth items from.rest from.end unfit)
 
 -- the next token does not fit where it has another lexeme
-pub unfit_token : (kind : Lexeme) (token : Lexed) (from to : Spot) → TakesToken token from to → (token.kind ≡ kind → ⊥) → fits (asked kind) (next (left_at from)) ≡ false
+pub unfit_token : (kind : Lexeme) (token : Lexed) (from to : Spot) → TakesToken token from to → (token.kind ≡ kind → ⊥)
+    → fits (asked kind) (next (left_at from)) ≡ false
 unfit_token kind token from to takes differs = rw takes.rest (other_kind kind token differs)
 
 -- the next token does not fit where the source ends
@@ -163,4 +178,5 @@ other_than_end _ is = refl
 
 -- a token does not fit where the end is asked for
 pub unfit_for_end : {token : Lexed} {from to : Spot} → TakesToken token from to → fits End (next (left_at from)) ≡ false
-unfit_for_end {token} takes = rw takes.rest (other_than_end (token_kind_of token.kind token.bytes) (of_token token.kind token.bytes))
+unfit_for_end {token} takes = rw takes.rest
+    (other_than_end (token_kind_of token.kind token.bytes) (of_token token.kind token.bytes))

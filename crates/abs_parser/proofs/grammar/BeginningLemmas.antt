@@ -15,7 +15,8 @@ use Rattle.abs_parser.proofs.grammar.FirstTokens.{BeginsBy, begins_as}
 
 -- whether a pattern may begin with a token of this lexeme
 abbrev pub may_begin : Lexeme → Bool
-may_begin (lexeme.Punctuator which) = cond (sameb the_type which punctuator.Underscore) true (sameb the_type which punctuator.Minus)
+may_begin (lexeme.Punctuator which) =
+    cond (sameb the_type which punctuator.Underscore) true (sameb the_type which punctuator.Minus)
 may_begin (lexeme.Keyword keyword) = false
 may_begin lexeme.Foreign = false
 may_begin _ = true
@@ -33,6 +34,8 @@ unfolding begins begins_within
 first_kinds = record { told = may_begin_told; local_too = refl; abs_too = refl; library_too = refl }
 
 -- no pattern begins with a keyword or a foreign word
-pub keywords_do_not : {kind : Lexeme} → ((keyword : Keyword) × (kind ≡ lexeme.Keyword keyword)) ⊎ (kind ≡ lexeme.Foreign) → (bytes : List ℕ) → false ≡ begins Pattern (token_kind_of kind bytes)
+pub keywords_do_not : {kind : Lexeme}
+    → ((keyword : Keyword) × (kind ≡ lexeme.Keyword keyword)) ⊎ (kind ≡ lexeme.Foreign) → (bytes : List ℕ)
+    → false ≡ begins Pattern (token_kind_of kind bytes)
 keywords_do_not (inl (keyword, e)) = begins_as first_kinds (lexeme.Keyword keyword) e refl
 keywords_do_not (inr e) = begins_as first_kinds lexeme.Foreign e refl

@@ -21,7 +21,11 @@ digit_small byte h = grind (arith, nat_tests)
 -- each of some digits has a value below ten
 all_digits : (digits : List ℕ) → AllPass is_ascii_digit digits → AllDigits 10 digits
 all_digits [] h = tt
-all_digits (x ∷ xs) h = (digit_small x (h 0 0 (omega arith)), all_digits xs (All-tail (λ y. is_ascii_digit y ≡ true) x xs h))
+all_digits (x ∷ xs) h = (
+  digit_small x (h 0 0 (omega arith)),
+  all_digits xs
+      (All-tail (λ y. is_ascii_digit y ≡ true) x xs h),
+)
 
 -- the bytes of a number are a numeral
 pub numeral_of : {digits : List ℕ} → IsNumber digits → IsNumeral 10 digits

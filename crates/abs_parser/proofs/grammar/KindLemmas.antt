@@ -23,7 +23,8 @@ AllTell [] each = Unit {0}
 AllTell (part ∷ parts) each = ((x y : Values part) → each.0 x y ≡ true → x ≡ y) × AllTell parts each.1
 
 -- two choices of a variant and its fields that compare as equal are the same
-choices_same : (parts : List (List Field)) (each : Each Bool parts) → AllTell parts each → (c d : Choice parts) → by false false parts each c d ≡ true → c ≡ d
+choices_same : (parts : List (List Field)) (each : Each Bool parts) → AllTell parts each → (c d : Choice parts)
+    → by false false parts each c d ≡ true → c ≡ d
 choices_same [] each all c d same = absurd c
 choices_same (part ∷ parts) each all (inl x) (inl y) same = ap inl (all.0 x y same)
 choices_same (part ∷ parts) each all (inl x) (inr y) same = cc
@@ -40,7 +41,16 @@ no_field x y same = refl
 
 -- how the fields of lexemes are compared, variant by variant: only keywords and punctuators have a field
 abbrev compared : Each Bool enum.parts
-compared = (always, (always, (always, (always, (λ x y. sameb keyword x.0 y.0, (always, (λ x y. sameb punctuator x.0 y.0, tt)))))))
+compared = (
+  always,
+  (
+    always,
+    (
+      always,
+      (always, (λ x y. sameb keyword x.0 y.0, (always, (λ x y. sameb punctuator x.0 y.0, tt)))),
+    ),
+  ),
+)
 
 -- fields of lexemes that compare as equal are the same
 all_tell : AllTell enum.parts compared
@@ -64,7 +74,8 @@ all_tell = (
 -- lexemes that compare as equal are the same
 same_kind : (k l : Lexeme) → ghosts.eq k l ≡ true → k ≡ l
 same_kind k l same =
-    let values : enum.as_values k ≡ enum.as_values l = choices_same enum.parts compared all_tell (enum.as_values k) (enum.as_values l) same in
+    let values : enum.as_values k ≡ enum.as_values l =
+    choices_same enum.parts compared all_tell (enum.as_values k) (enum.as_values l) same in
     sym (enum.eta k) ∙ (ap enum.make values ∙ enum.eta l)
 
 -- a Boolean is true where its negation is false
@@ -102,8 +113,11 @@ kind_self (lexeme.Punctuator s) = same_punctuator s
 
 -- lexemes are different where their comparison answers false
 pub kind_other : (k l : Lexeme) (equal : Bool) → equal ≡ ghosts.eq k l → equal ≡ false → k ≡ l → ⊥
-kind_other k l equal is differ same = let clash : true ≡ false = sym (kind_self l) ∙ (ap (λ (j : Lexeme). ghosts.eq j l) (sym same) ∙ (sym is ∙ differ)) in cc
+kind_other k l equal is differ same = let clash : true ≡ false =
+    sym (kind_self l) ∙ (ap (λ (j : Lexeme). ghosts.eq j l) (sym same) ∙ (sym is ∙ differ)) in cc
 
 -- a punctuator that compares as equal with the wanted one is the wanted one
-pub punctuator_is : {kind : Lexeme} (one wanted : Punctuator) {is : Bool} → kind ≡ lexeme.Punctuator one → is ≡ sameb punctuator one wanted → is ≡ true → kind ≡ lexeme.Punctuator wanted
-punctuator_is one wanted kind_is tells holds = kind_is ∙ ap lexeme.Punctuator (same_true punctuator tt one wanted (sym tells ∙ holds))
+pub punctuator_is : {kind : Lexeme} (one wanted : Punctuator) {is : Bool} → kind ≡ lexeme.Punctuator one
+    → is ≡ sameb punctuator one wanted → is ≡ true → kind ≡ lexeme.Punctuator wanted
+punctuator_is one wanted kind_is tells holds =
+    kind_is ∙ ap lexeme.Punctuator (same_true punctuator tt one wanted (sym tells ∙ holds))

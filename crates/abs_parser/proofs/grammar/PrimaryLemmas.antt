@@ -58,8 +58,10 @@ unfolding begins begins_within
 first_kinds = record { told = may_begin_told; local_too = refl; abs_too = refl; library_too = refl }
 
 -- no other keyword begins a primary
-pub other_keyword : (which : Keyword) → (which ≡ keyword.Null → ⊥) → (which ≡ keyword.Destiny → ⊥) → (which ≡ keyword.This → ⊥) → (which ≡ keyword.Case → ⊥) → false ≡ may_begin (lexeme.Keyword which)
-other_keyword which not_null not_destiny not_this not_case = none_found keywords tt first_keywords which (not_null, (not_destiny, (not_this, (not_case, tt))))
+pub other_keyword : (which : Keyword) → (which ≡ keyword.Null → ⊥) → (which ≡ keyword.Destiny → ⊥)
+    → (which ≡ keyword.This → ⊥) → (which ≡ keyword.Case → ⊥) → false ≡ may_begin (lexeme.Keyword which)
+other_keyword which not_null not_destiny not_this not_case =
+    none_found keywords tt first_keywords which (not_null, (not_destiny, (not_this, (not_case, tt))))
 
 -- What they open to, given the next token
 
@@ -69,20 +71,24 @@ after_first lexeme.LowerName depth = Subgoal (Optional Arguments) depth ∷ []
 after_first lexeme.UpperName depth = Subgoal (Optional Arguments) depth ∷ []
 after_first (lexeme.Keyword keyword.This) depth = Subgoal (Optional ThisTail) depth ∷ []
 after_first (lexeme.Keyword keyword.Case) depth =
-    Subgoal (One Expr) depth ∷ Terminal (PunctuatorKind punctuator.OpenBrace) depth ∷ Subgoal (One Branch) depth ∷ Subgoal (Repeated Branch) depth
+    Subgoal (One Expr) depth ∷ Terminal (PunctuatorKind punctuator.OpenBrace) depth ∷ Subgoal (One Branch) depth
+    ∷ Subgoal (Repeated Branch) depth
     ∷ Terminal (PunctuatorKind punctuator.CloseBrace) depth ∷ []
-after_first (lexeme.Punctuator punctuator.OpenParen) depth = Subgoal (One Expr) depth ∷ Terminal (PunctuatorKind punctuator.CloseParen) depth ∷ []
+after_first (lexeme.Punctuator punctuator.OpenParen) depth =
+    Subgoal (One Expr) depth ∷ Terminal (PunctuatorKind punctuator.CloseParen) depth ∷ []
 after_first _ depth = []
 
 -- a lower-case name opens a primary, whether it is `local` or not
-pub lower_opened : (kind : TokenKind) (depth : ℕ) → fits LowerName kind ≡ true → opened (One Primary) kind depth ≡ Some (Terminal LowerName depth ∷ Subgoal (Optional Arguments) depth ∷ [])
+pub lower_opened : (kind : TokenKind) (depth : ℕ) → fits LowerName kind ≡ true
+    → opened (One Primary) kind depth ≡ Some (Terminal LowerName depth ∷ Subgoal (Optional Arguments) depth ∷ [])
 unfolding begins chosen begins_within
 lower_opened LowerName depth fit = refl
 lower_opened LocalName depth fit = refl
 lower_opened _ depth fit = absurd cc
 
 -- an upper-case name opens a primary, whether it is `ABS`, `StdLib` or neither
-pub upper_opened : (kind : TokenKind) (depth : ℕ) → fits UpperName kind ≡ true → opened (One Primary) kind depth ≡ Some (Terminal UpperName depth ∷ Subgoal (Optional Arguments) depth ∷ [])
+pub upper_opened : (kind : TokenKind) (depth : ℕ) → fits UpperName kind ≡ true
+    → opened (One Primary) kind depth ≡ Some (Terminal UpperName depth ∷ Subgoal (Optional Arguments) depth ∷ [])
 unfolding begins chosen begins_within
 upper_opened UpperName depth fit = refl
 upper_opened AbsName depth fit = refl
@@ -91,7 +97,8 @@ upper_opened _ depth fit = absurd cc
 
 -- a token that may begin a primary opens it
 pub primary_opened : (kind : Lexeme) (bytes : List ℕ) (depth : ℕ) → may_begin kind ≡ true
-    → opened (One Primary) (token_kind_of kind bytes) depth ≡ Some (Terminal (asked kind) depth ∷ after_first kind depth)
+    → opened (One Primary) (token_kind_of kind bytes) depth
+    ≡ Some (Terminal (asked kind) depth ∷ after_first kind depth)
 unfolding begins chosen begins_within
 primary_opened lexeme.LowerName bytes depth is = lower_opened _ depth (asked_fits lexeme.LowerName bytes refl)
 primary_opened lexeme.UpperName bytes depth is = upper_opened _ depth (asked_fits lexeme.UpperName bytes refl)
@@ -110,7 +117,8 @@ first_asked lexeme.Foreign is = absurd cc
 first_asked _ is = refl
 
 -- a token that may not begin a primary opens none
-pub primary_shut : (kind : Lexeme) (bytes : List ℕ) (depth : ℕ) → may_begin kind ≡ false → opened (One Primary) (token_kind_of kind bytes) depth ≡ None
+pub primary_shut : (kind : Lexeme) (bytes : List ℕ) (depth : ℕ) → may_begin kind ≡ false
+    → opened (One Primary) (token_kind_of kind bytes) depth ≡ None
 unfolding begins chosen begins_within
 primary_shut lexeme.LowerName bytes depth is = absurd cc
 primary_shut lexeme.UpperName bytes depth is = absurd cc
@@ -129,13 +137,16 @@ unfolding begins chosen begins_within
 primary_end depth = refl
 
 -- no punctuator but "(" opens a primary
-pub group_shut : (which : Punctuator) (depth : ℕ) → fits (PunctuatorKind punctuator.OpenParen) (PunctuatorKind which) ≡ false → opened (One Primary) (PunctuatorKind which) depth ≡ None
+pub group_shut : (which : Punctuator) (depth : ℕ)
+    → fits (PunctuatorKind punctuator.OpenParen) (PunctuatorKind which) ≡ false
+    → opened (One Primary) (PunctuatorKind which) depth ≡ None
 unfolding begins chosen begins_within
 group_shut punctuator.OpenParen depth differs = absurd cc
 group_shut _ depth differs = refl
 
 -- a unary opens to a primary where a primary may begin
-pub operand_opened : (kind : TokenKind) (depth : ℕ) → begins Primary kind ≡ true → opened (One Unary) kind depth ≡ Some (Subgoal (One Primary) (depth + 1) ∷ [])
+pub operand_opened : (kind : TokenKind) (depth : ℕ) → begins Primary kind ≡ true
+    → opened (One Unary) kind depth ≡ Some (Subgoal (One Primary) (depth + 1) ∷ [])
 unfolding begins chosen begins_within
 operand_opened LowerName depth is = refl
 operand_opened LocalName depth is = refl
@@ -153,14 +164,16 @@ operand_opened _ depth is = absurd cc
 
 -- a prefix operator opens a unary, followed by another unary
 pub prefix_opened : (operation : Prefix) (depth : ℕ)
-    → opened (One Unary) (PunctuatorKind (prefix_punctuator operation)) depth ≡ Some (Terminal (PunctuatorKind (prefix_punctuator operation)) (depth + 1) ∷ Subgoal (One Unary) (depth + 1) ∷ [])
+    → opened (One Unary) (PunctuatorKind (prefix_punctuator operation)) depth
+    ≡ Some (Terminal (PunctuatorKind (prefix_punctuator operation)) (depth + 1) ∷ Subgoal (One Unary) (depth + 1) ∷ [])
 unfolding begins chosen begins_within
 prefix_opened prefix.Not depth = refl
 prefix_opened prefix.Tilde depth = refl
 prefix_opened prefix.Minus depth = refl
 
 -- a token that is no prefix operator and may not begin a primary opens no unary
-pub unary_shut : (kind : Lexeme) (bytes : List ℕ) (depth : ℕ) → may_begin kind ≡ false → ((operation : Prefix) → kind ≡ lexeme.Punctuator (prefix_punctuator operation) → ⊥)
+pub unary_shut : (kind : Lexeme) (bytes : List ℕ) (depth : ℕ) → may_begin kind ≡ false
+    → ((operation : Prefix) → kind ≡ lexeme.Punctuator (prefix_punctuator operation) → ⊥)
     → opened (One Unary) (token_kind_of kind bytes) depth ≡ None
 unfolding begins chosen begins_within
 unary_shut lexeme.LowerName bytes depth is none = absurd cc
@@ -183,18 +196,22 @@ unfolding begins chosen begins_within
 unary_end depth = refl
 
 -- a dot after `this` opens the optional tail
-pub tail_follows : (depth : ℕ) (kind : TokenKind) → fits (PunctuatorKind punctuator.Dot) kind ≡ true → opened (Optional ThisTail) kind depth ≡ Some (Subgoal (One ThisTail) depth ∷ [])
+pub tail_follows : (depth : ℕ) (kind : TokenKind) → fits (PunctuatorKind punctuator.Dot) kind ≡ true
+    → opened (Optional ThisTail) kind depth ≡ Some (Subgoal (One ThisTail) depth ∷ [])
 unfolding begins begins_within
 tail_follows depth kind fit = rw fit refl
 
 -- the tail after `this` is a dot, a name and optional arguments
 pub tail_opened : (depth : ℕ) (kind : TokenKind) → fits (PunctuatorKind punctuator.Dot) kind ≡ true
-    → opened (One ThisTail) kind depth ≡ Some (Terminal (PunctuatorKind punctuator.Dot) depth ∷ Terminal LowerName depth ∷ Subgoal (Optional Arguments) depth ∷ [])
+    → opened (One ThisTail) kind depth
+    ≡ Some (Terminal (PunctuatorKind punctuator.Dot) depth ∷ Terminal LowerName depth
+    ∷ Subgoal (Optional Arguments) depth ∷ [])
 unfolding begins chosen begins_within
 tail_opened depth kind fit = rw fit refl
 
 -- the tail is left out where no dot is next
-pub no_tail : (depth : ℕ) (kind : TokenKind) → fits (PunctuatorKind punctuator.Dot) kind ≡ false → opened (Optional ThisTail) kind depth ≡ Some []
+pub no_tail : (depth : ℕ) (kind : TokenKind) → fits (PunctuatorKind punctuator.Dot) kind ≡ false
+    → opened (Optional ThisTail) kind depth ≡ Some []
 unfolding begins begins_within
 no_tail depth kind other = rw other refl
 
@@ -207,48 +224,64 @@ tree_by token at others is = ap (λ (kind : Lexeme). primary_by (token_kind_of k
 
 -- a lower-case name is a function call or a variable, whether it is `local` or not
 named_by : (is_local : Bool) (mark : Mark) (arguments : Forest)
-    → primary_by (cond is_local LocalName LowerName) mark (Node (Optional Arguments) arguments Empty) ≡ named (place_of_mark mark) (written mark) (arguments_maybe arguments)
+    → primary_by (cond is_local LocalName LowerName) mark (Node (Optional Arguments) arguments Empty)
+    ≡ named (place_of_mark mark) (written mark) (arguments_maybe arguments)
 named_by true mark arguments = refl
 named_by false mark arguments = refl
 
 -- a lower-case name is a function call where it has arguments, and else a variable
-pub named_tree : (token : Lexed) (at : ℕ) (arguments : Forest) {trees : Option Phrases} → token.kind ≡ lexeme.LowerName → trees ≡ arguments_maybe arguments
-    → named token.place token.bytes trees ≡ primary_in (Leaf (Token token) at (Node (Optional Arguments) arguments Empty))
+pub named_tree : (token : Lexed) (at : ℕ) (arguments : Forest) {trees : Option Phrases} → token.kind ≡ lexeme.LowerName
+    → trees ≡ arguments_maybe arguments
+    → named token.place token.bytes trees
+    ≡ primary_in (Leaf (Token token) at (Node (Optional Arguments) arguments Empty))
 named_tree token at arguments is trees =
     ap (named token.place token.bytes) trees
-    ∙ sym (tree_by token at (Node (Optional Arguments) arguments Empty) is ∙ named_by (bytes_eq token.bytes (codes "local")) (Token token) arguments)
+    ∙ sym (tree_by token at (Node (Optional Arguments) arguments Empty) is
+    ∙ named_by (bytes_eq token.bytes (codes "local")) (Token token) arguments)
 
 -- an upper-case name builds a value, whether it is `ABS`, `StdLib` or neither
 built_by : (is_abs is_library : Bool) (mark : Mark) (arguments : Forest)
-    → primary_by (cond is_abs AbsName (cond is_library StdLibName UpperName)) mark (Node (Optional Arguments) arguments Empty)
+    → primary_by (cond is_abs AbsName (cond is_library StdLibName UpperName)) mark
+    (Node (Optional Arguments) arguments Empty)
     ≡ built (place_of_mark mark) (written mark) (arguments_maybe arguments)
 built_by true is_library mark arguments = refl
 built_by false true mark arguments = refl
 built_by false false mark arguments = refl
 
 -- an upper-case name builds a value of its arguments, if it has any
-pub built_tree : (token : Lexed) (at : ℕ) (arguments : Forest) {trees : Option Phrases} → token.kind ≡ lexeme.UpperName → trees ≡ arguments_maybe arguments
-    → built token.place token.bytes trees ≡ primary_in (Leaf (Token token) at (Node (Optional Arguments) arguments Empty))
+pub built_tree : (token : Lexed) (at : ℕ) (arguments : Forest) {trees : Option Phrases} → token.kind ≡ lexeme.UpperName
+    → trees ≡ arguments_maybe arguments
+    → built token.place token.bytes trees
+    ≡ primary_in (Leaf (Token token) at (Node (Optional Arguments) arguments Empty))
 built_tree token at arguments is trees =
     ap (built token.place token.bytes) trees
-    ∙ sym (tree_by token at (Node (Optional Arguments) arguments Empty) is ∙ built_by (bytes_eq token.bytes (codes "ABS")) (bytes_eq token.bytes (codes "StdLib")) (Token token) arguments)
+    ∙ sym (tree_by token at (Node (Optional Arguments) arguments Empty) is
+    ∙ built_by (bytes_eq token.bytes (codes "ABS")) (bytes_eq token.bytes (codes "StdLib")) (Token token) arguments)
 
 -- `this`, a dot and a name are a method call where there are arguments, and else a field
-pub member_tree : (this dot name : Lexed) (at : ℕ) (arguments : Forest) {trees : Option Phrases} → this.kind ≡ lexeme.Keyword keyword.This → trees ≡ arguments_maybe arguments
+pub member_tree : (this dot name : Lexed) (at : ℕ) (arguments : Forest) {trees : Option Phrases}
+    → this.kind ≡ lexeme.Keyword keyword.This → trees ≡ arguments_maybe arguments
     → member this.place name.place name.bytes trees
-    ≡ primary_in (Leaf (Token this) at (Node (Optional ThisTail) (Node (One ThisTail) (Leaf (Token dot) at (Leaf (Token name) at (Node (Optional Arguments) arguments Empty))) Empty) Empty))
+    ≡ primary_in (Leaf (Token this) at
+    (Node (Optional ThisTail) (Node (One ThisTail)
+    (Leaf (Token dot) at (Leaf (Token name) at (Node (Optional Arguments) arguments Empty))) Empty) Empty))
 member_tree this dot name at arguments is trees =
     ap (member this.place name.place name.bytes) trees
-    ∙ sym (tree_by this at (Node (Optional ThisTail) (Node (One ThisTail) (Leaf (Token dot) at (Leaf (Token name) at (Node (Optional Arguments) arguments Empty))) Empty) Empty) is)
+    ∙ sym (tree_by this at (Node (Optional ThisTail)
+    (Node (One ThisTail) (Leaf (Token dot) at (Leaf (Token name) at (Node (Optional Arguments) arguments Empty))) Empty)
+    Empty) is)
 
 -- `this` without a dot is the object itself
-pub this_tree : (this : Lexed) (at : ℕ) → this.kind ≡ lexeme.Keyword keyword.This → ThisOf this.place ≡ primary_in (Leaf (Token this) at (Node (Optional ThisTail) Empty Empty))
+pub this_tree : (this : Lexed) (at : ℕ) → this.kind ≡ lexeme.Keyword keyword.This
+    → ThisOf this.place ≡ primary_in (Leaf (Token this) at (Node (Optional ThisTail) Empty Empty))
 this_tree this at is = sym (tree_by this at (Node (Optional ThisTail) Empty Empty) is)
 
 -- an expression in parentheses has the tree of the expression
-pub group_tree : (opening closing : Lexed) (at : ℕ) (inside : Forest) {tree : Phrase} → opening.kind ≡ lexeme.Punctuator punctuator.OpenParen → tree ≡ expr_in inside
+pub group_tree : (opening closing : Lexed) (at : ℕ) (inside : Forest) {tree : Phrase}
+    → opening.kind ≡ lexeme.Punctuator punctuator.OpenParen → tree ≡ expr_in inside
     → tree ≡ primary_in (Leaf (Token opening) at (Node (One Expr) inside (Leaf (Token closing) at Empty)))
-group_tree opening closing at inside is trees = trees ∙ sym (tree_by opening at (Node (One Expr) inside (Leaf (Token closing) at Empty)) is)
+group_tree opening closing at inside is trees =
+    trees ∙ sym (tree_by opening at (Node (One Expr) inside (Leaf (Token closing) at Empty)) is)
 
 -- the punctuator of a prefix operator is read as that operator
 prefix_told : (operation : Prefix) → prefix_of (PunctuatorKind (prefix_punctuator operation)) ≡ operation
@@ -257,19 +290,26 @@ prefix_told prefix.Tilde = refl
 prefix_told prefix.Minus = refl
 
 -- the tree of a prefix operator and the unary after it
-pub prefixed_tree : (operation : Prefix) (token : Lexed) (at : ℕ) (operand : Forest) {tree : Phrase} → token.kind ≡ lexeme.Punctuator (prefix_punctuator operation) → tree ≡ unary_in operand
+pub prefixed_tree : (operation : Prefix) (token : Lexed) (at : ℕ) (operand : Forest) {tree : Phrase}
+    → token.kind ≡ lexeme.Punctuator (prefix_punctuator operation) → tree ≡ unary_in operand
     → Prefixed token.place operation tree ≡ unary_in (Leaf (Token token) at (Node (One Unary) operand Empty))
 prefixed_tree operation token at operand is trees =
     ap (Prefixed token.place operation) trees
-    ∙ ap (λ (told : Prefix). Prefixed token.place told (unary_in operand)) (sym (ap (λ (kind : Lexeme). prefix_of (token_kind_of kind token.bytes)) is ∙ prefix_told operation))
+    ∙ ap (λ (told : Prefix). Prefixed token.place told (unary_in operand))
+    (sym (ap (λ (kind : Lexeme). prefix_of (token_kind_of kind token.bytes)) is ∙ prefix_told operation))
 
 -- a constructor has the given arguments
-pub build_phrase : (names : List (List ℕ)) (place : Place) (symbol : Symbol) (arguments : Vec code_expr.Expr Global) {given : Option (Vec code_expr.Expr Global)} {name : List ℕ}
-    → given ≡ Some arguments → name_of names symbol ≡ name → phrase names (code_expr.Build place symbol arguments) ≡ built place name (maybe_phrases names given)
+pub build_phrase : (names : List (List ℕ)) (place : Place) (symbol : Symbol) (arguments : Vec code_expr.Expr Global)
+    {given : Option (Vec code_expr.Expr Global)} {name : List ℕ}
+    → given ≡ Some arguments → name_of names symbol ≡ name
+    → phrase names (code_expr.Build place symbol arguments) ≡ built place name (maybe_phrases names given)
 build_phrase names place symbol arguments there is = rw (there, sym is) (phrase-build names place symbol arguments)
 
 -- a constructor without arguments has an empty list of them
-pub constant_phrase : (names : List (List ℕ)) (place : Place) (symbol : Symbol) (arguments : Vec code_expr.Expr Global) {given : Option (Vec code_expr.Expr Global)} {name : List ℕ}
-    → given ≡ None → arguments.items ≡ [] → name_of names symbol ≡ name → phrase names (code_expr.Build place symbol arguments) ≡ built place name (maybe_phrases names given)
+pub constant_phrase : (names : List (List ℕ)) (place : Place) (symbol : Symbol) (arguments : Vec code_expr.Expr Global)
+    {given : Option (Vec code_expr.Expr Global)} {name : List ℕ}
+    → given ≡ None → arguments.items ≡ [] → name_of names symbol ≡ name
+    → phrase names (code_expr.Build place symbol arguments) ≡ built place name (maybe_phrases names given)
 constant_phrase names place symbol arguments none empty is =
-    rw (none, sym is) (phrase-build names place symbol arguments ∙ ap (λ (items : List code_expr.Expr). BuildOf place (name_of names symbol) (phrases names items)) empty)
+    rw (none, sym is) (phrase-build names place symbol arguments
+    ∙ ap (λ (items : List code_expr.Expr). BuildOf place (name_of names symbol) (phrases names items)) empty)

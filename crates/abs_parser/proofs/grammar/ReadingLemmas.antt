@@ -22,10 +22,12 @@ depths_join : (before after : Forest) → depths (join before after) ≡ depths 
 depths_join Empty after = refl
 depths_join (Leaf mark depth before) after = ap (λ (levels : List ℕ). depth ∷ levels) (depths_join before after)
 depths_join (Node goal inside before) after =
-    ap (λ (levels : List ℕ). depths inside ++ levels) (depths_join before after) ∙ sym (append_assoc (depths inside) (depths before) (depths after))
+    ap (λ (levels : List ℕ). depths inside ++ levels) (depths_join before after)
+    ∙ sym (append_assoc (depths inside) (depths before) (depths after))
 
 -- Two readings, one after the other, are a reading of the items of both.
-reads_join : {first second : List Wanted} {ts middle rest : List Mark} {before after : Forest} → Reads first ts before middle → Reads second middle after rest
+reads_join : {first second : List Wanted} {ts middle rest : List Mark} {before after : Forest}
+    → Reads first ts before middle → Reads second middle after rest
     → Reads (first ++ second) ts (join before after) rest
 reads_join Nothing others = others
 reads_join (Taken fit reads) others = Taken fit (reads_join reads others)
@@ -41,8 +43,17 @@ record Split (first second : List Wanted) (ts rest : List Mark) (forest : Forest
   is : forest ≡ join before after
 
 -- A reading of some items followed by others splits into a reading of each.
-split : (first second : List Wanted) {ts rest : List Mark} {forest : Forest} → Reads (first ++ second) ts forest rest → Split first second ts rest forest
-split [] second reads = record { middle = _; before = Empty; after = _; reads_before = Nothing; reads_after = reads; is = refl }
+split : (first second : List Wanted) {ts rest : List Mark} {forest : Forest} → Reads (first ++ second) ts forest rest
+    → Split first second ts rest forest
+split [] second reads = record {
+  middle = _;
+  before = Empty;
+  after = _;
+  reads_before = Nothing;
+  reads_after =
+      reads;
+  is = refl;
+}
 split (Terminal kind depth ∷ first) second (Taken {mark = mark} fit reads) =
     let parts = split first second reads in
     record {
@@ -65,7 +76,8 @@ split (Subgoal goal depth ∷ first) second (Opened {inside = inside} is reads_i
     }
 
 -- A list is read as the same items in only one way.
-pub one_reading : {items : List Wanted} {ts rest left : List Mark} {forest other : Forest} → Reads items ts forest rest → Reads items ts other left
+pub one_reading : {items : List Wanted} {ts rest left : List Mark} {forest other : Forest} → Reads items ts forest rest
+    → Reads items ts other left
     → (forest ≡ other) × (rest ≡ left)
 one_reading Nothing Nothing = (refl, refl)
 one_reading (Taken fit reads) (Taken other_fit other_reads) =
@@ -84,7 +96,8 @@ pub record WholeReading (items : List Wanted) (ts : List Mark) (levels : List �
   pub are : depths forest ≡ levels
 
 -- A whole reading of what a part opens to, followed by others, is one of the part, followed by them.
-pub part_closed : {goal : Goal} {depth : ℕ} {inner items : List Wanted} {ts : List Mark} {levels : List ℕ} → opened goal (next ts) depth ≡ Some inner
+pub part_closed : {goal : Goal} {depth : ℕ} {inner items : List Wanted} {ts : List Mark} {levels : List ℕ}
+    → opened goal (next ts) depth ≡ Some inner
     → WholeReading (inner ++ items) ts levels → WholeReading (Subgoal goal depth ∷ items) ts levels
 part_closed {goal} {depth} {inner} {items} is reading =
     let parts = split inner items reading.reads in
@@ -95,28 +108,46 @@ part_closed {goal} {depth} {inner} {items} is reading =
     }
 
 -- What is read inside a part joins with what is read after it, to a whole reading of what the part opens to.
-inside_joined : {goal : Goal} {depth : ℕ} {inner items : List Wanted} {ts : List Mark} {forest : Forest} {levels : List ℕ} → opened goal (next ts) depth ≡ Some inner
+inside_joined : {goal : Goal} {depth : ℕ} {inner items : List Wanted} {ts : List Mark} {forest : Forest}
+    {levels : List ℕ} → opened goal (next ts) depth ≡ Some inner
     → Reads (Subgoal goal depth ∷ items) ts forest [] → depths forest ≡ levels → WholeReading (inner ++ items) ts levels
-inside_joined {inner = inner} is (Opened {inner = other_inner} {inside = inside} {forest = forest} other_is reads_inside reads) are =
+inside_joined {inner = inner} is
+    (Opened {inner = other_inner} {inside = inside} {forest = forest} other_is reads_inside reads) are =
     let alike : other_inner ≡ inner = cc in
-    record { forest = join inside forest; reads = reads_join (rw alike at reads_inside) reads; are = depths_join inside forest ∙ are }
+    record {
+      forest = join inside forest;
+      reads = reads_join (rw alike at reads_inside) reads;
+      are =
+          depths_join inside forest ∙ are;
+    }
 
 -- A whole reading of a part, followed by others, is one of what the part opens to, followed by them.
-pub part_opened : {goal : Goal} {depth : ℕ} {inner items : List Wanted} {ts : List Mark} {levels : List ℕ} → opened goal (next ts) depth ≡ Some inner
+pub part_opened : {goal : Goal} {depth : ℕ} {inner items : List Wanted} {ts : List Mark} {levels : List ℕ}
+    → opened goal (next ts) depth ≡ Some inner
     → WholeReading (Subgoal goal depth ∷ items) ts levels → WholeReading (inner ++ items) ts levels
 part_opened is reading = inside_joined is reading.reads reading.are
 
 -- A token fits and has the first of these depths, and the list after it is read as the other items.
-pub record TokenTaken (kind : TokenKind) (depth : ℕ) (items : List Wanted) (mark : Mark) (ts : List Mark) (levels : List ℕ) : Type 0 where
+pub record TokenTaken (kind : TokenKind) (depth : ℕ) (items : List Wanted) (mark : Mark) (ts : List Mark)
+    (levels : List ℕ) : Type 0 where
   pub fit : fits kind (token_kind mark) ≡ true
   pub others : List ℕ
   pub are : levels ≡ depth ∷ others
   pub after : WholeReading items ts others
 
 -- A reading that begins with a token consists of the token and of a reading of the list after it.
-first_taken : {kind : TokenKind} {depth : ℕ} {items : List Wanted} {mark : Mark} {ts : List Mark} {forest : Forest} {levels : List ℕ}
-    → Reads (Terminal kind depth ∷ items) (mark ∷ ts) forest [] → depths forest ≡ levels → TokenTaken kind depth items mark ts levels
-first_taken (Taken {forest = forest} fit reads) are = record { fit = fit; others = depths forest; are = sym are; after = record { forest = forest; reads = reads; are = refl } }
+first_taken : {kind : TokenKind} {depth : ℕ} {items : List Wanted} {mark : Mark} {ts : List Mark} {forest : Forest}
+    {levels : List ℕ}
+    → Reads (Terminal kind depth ∷ items) (mark ∷ ts) forest [] → depths forest ≡ levels
+    → TokenTaken kind depth items mark ts levels
+first_taken (Taken {forest = forest} fit reads) are =
+    record {
+      fit = fit;
+      others = depths forest;
+      are = sym are;
+      after =
+          record { forest = forest; reads = reads; are = refl };
+    }
 
 -- A whole reading that begins with a token does so, too.
 pub token_taken : {kind : TokenKind} {depth : ℕ} {items : List Wanted} {mark : Mark} {ts : List Mark} {levels : List ℕ}
@@ -124,23 +155,32 @@ pub token_taken : {kind : TokenKind} {depth : ℕ} {items : List Wanted} {mark :
 token_taken reading = first_taken reading.reads reading.are
 
 -- A token that fits can be put before a whole reading.
-pub token_put : {kind : TokenKind} {depth : ℕ} {items : List Wanted} {mark : Mark} {ts : List Mark} {levels : List ℕ} → fits kind (token_kind mark) ≡ true
+pub token_put : {kind : TokenKind} {depth : ℕ} {items : List Wanted} {mark : Mark} {ts : List Mark} {levels : List ℕ}
+    → fits kind (token_kind mark) ≡ true
     → WholeReading items ts levels → WholeReading (Terminal kind depth ∷ items) (mark ∷ ts) (depth ∷ levels)
 token_put {depth = depth} {mark = mark} fit reading =
-    record { forest = Leaf mark depth reading.forest; reads = Taken fit reading.reads; are = ap (λ (levels : List ℕ). depth ∷ levels) reading.are }
+    record {
+      forest = Leaf mark depth reading.forest;
+      reads = Taken fit reading.reads;
+      are =
+          ap (λ (levels : List ℕ). depth ∷ levels) reading.are;
+    }
 
 -- No whole reading begins with a token that does not fit.
-pub unfit_unread : {kind : TokenKind} {depth : ℕ} {items : List Wanted} {mark : Mark} {ts : List Mark} {levels : List ℕ} → fits kind (token_kind mark) ≡ false
+pub unfit_unread : {kind : TokenKind} {depth : ℕ} {items : List Wanted} {mark : Mark} {ts : List Mark} {levels : List ℕ}
+    → fits kind (token_kind mark) ≡ false
     → WholeReading (Terminal kind depth ∷ items) (mark ∷ ts) levels → ⊥
 unfit_unread unfit reading = cc (token_taken reading).fit
 
 -- A part that the next token does not open is not read.
-no_part : {goal : Goal} {depth : ℕ} {items : List Wanted} {ts rest : List Mark} {forest : Forest} → opened goal (next ts) depth ≡ None
+no_part : {goal : Goal} {depth : ℕ} {items : List Wanted} {ts rest : List Mark} {forest : Forest}
+    → opened goal (next ts) depth ≡ None
     → Reads (Subgoal goal depth ∷ items) ts forest rest → ⊥
 no_part shut (Opened is inside reads) = cc
 
 -- No whole reading begins with a part that the next token does not open.
-pub shut_unread : {goal : Goal} {depth : ℕ} {items : List Wanted} {ts : List Mark} {levels : List ℕ} → opened goal (next ts) depth ≡ None
+pub shut_unread : {goal : Goal} {depth : ℕ} {items : List Wanted} {ts : List Mark} {levels : List ℕ}
+    → opened goal (next ts) depth ≡ None
     → WholeReading (Subgoal goal depth ∷ items) ts levels → ⊥
 shut_unread shut reading = no_part shut reading.reads
 

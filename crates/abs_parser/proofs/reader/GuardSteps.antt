@@ -30,39 +30,55 @@ test_opened : (kind : TokenKind) (depth : ℕ) → begins Equal kind ≡ true
 test_opened kind depth may = part_opened Test kind depth refl refl (begins_with_part Test kind refl ∙ may)
 
 -- a test is refused where its value is
-pub test_refused : (depth : ℕ) (from : Spot) (error : SourceError) → IsRefused (Subgoal (One Equal) depth) from error → IsRefused (Subgoal (One Test) depth) from error
+pub test_refused : (depth : ℕ) (from : Spot) (error : SourceError) → IsRefused (Subgoal (One Equal) depth) from error
+    → IsRefused (Subgoal (One Test) depth) from error
 test_refused depth from error refused =
-    refused_in_front Equal depth (One Test) depth from error (test_opened _ depth) (λ none. part_shut Test _ depth (begins_with_part Test _ refl ∙ none)) refused
+    refused_in_front Equal depth (One Test) depth from error (test_opened _ depth)
+    (λ none. part_shut Test _ depth (begins_with_part Test _ refl ∙ none)) refused
 
 -- a `?` is found where it is next
-pub question_found : {token : Lexed} {from to : Spot} (depth : ℕ) (table : List (List ℕ)) → TakesKind (lexeme.Punctuator punctuator.Question) token from to → depth ≤ limit
+pub question_found : {token : Lexed} {from to : Spot} (depth : ℕ) (table : List (List ℕ))
+    → TakesKind (lexeme.Punctuator punctuator.Question) token from to → depth ≤ limit
     → FoundAs (Optional Question) depth table table from to (λ names inside. is_asked inside ≡ true)
 question_found {from = from} depth table takes within =
     let fit = begins_with_token Question _ refl ∙ fits_next refl takes in
     all_read (into_last (opens (Optional Question) depth table from _ (optional_opened Question _ depth fit))
-    (over_token (opens (One Question) depth table from _ (part_opened Question _ depth refl refl fit)) takes refl refl within)) (λ names more. refl)
+    (over_token (opens (One Question) depth table from _ (part_opened Question _ depth refl refl fit)) takes refl refl
+    within)) (λ names more. refl)
 
 -- a `?` is left out where it is not next
-pub question_left_out : (depth : ℕ) (table : List (List ℕ)) (from : Spot) → fits (PunctuatorKind punctuator.Question) (next (left_at from)) ≡ false
+pub question_left_out : (depth : ℕ) (table : List (List ℕ)) (from : Spot)
+    → fits (PunctuatorKind punctuator.Question) (next (left_at from)) ≡ false
     → FoundAs (Optional Question) depth table table from from (λ names inside. is_asked inside ≡ false)
 question_left_out depth table from other =
-    found_weaker (nothing_found (Optional Question) depth table from (optional_left_out Question _ depth (begins_with_token Question _ refl ∙ other))) (λ names more none. ap is_asked none)
+    found_weaker (nothing_found (Optional Question) depth table from
+    (optional_left_out Question _ depth (begins_with_token Question _ refl ∙ other)))
+    (λ names more none. ap is_asked none)
 
 -- this test was read, and its tree comes before any others
 abbrev IsTest : code_test.Test → List (List ℕ) → Forest → Type 0
-IsTest test names inside = (others : Tests) → NextTest test.place (phrase names test.value.value) test.asks others ≡ test_in inside others
+IsTest test names inside = (others : Tests)
+    → NextTest test.place (phrase names test.value.value) test.asks others ≡ test_in inside others
 
 -- a test is found with its value and an optional `?`
-pub test_found : {depth : ℕ} {old now new : List (List ℕ)} {from here to : Spot} {value : Expr} (test : code_test.Test) → test.place ≡ place_of from → test.value.value ≡ value
+pub test_found : {depth : ℕ} {old now new : List (List ℕ)} {from here to : Spot} {value : Expr} (test : code_test.Test)
+    → test.place ≡ place_of from → test.value.value ≡ value
     → FoundAs (One Equal) depth old now from here (λ names inside. phrase names value ≡ equal_in inside)
-    → FoundAs (Optional Question) depth now new here to (λ names inside. is_asked inside ≡ test.asks) → FoundAs (One Test) depth old new from to (IsTest test)
+    → FoundAs (Optional Question) depth now new here to (λ names inside. is_asked inside ≡ test.asks)
+    → FoundAs (One Test) depth old new from to (IsTest test)
 test_found {depth} {old} {from = from} test at held found question =
-    all_read (over_part (over_part (opens (One Test) depth old from _ (test_opened _ depth (part_begun Equal _ depth found.rule_is))) found) question) (λ names more others.
-    ap (λ (place : Place). NextTest place (phrase names test.value.value) test.asks others) (at ∙ sym (first_place_found found))
-    ∙ (ap (λ (tree : Phrase). NextTest (place_in found.inside) tree test.asks others) (ap (phrase names) held ∙ found.is names (goes_on_further (found_goes_on question) more))
-    ∙ ap (λ (asks : Bool). NextTest (place_in found.inside) (equal_in found.inside) asks others) (sym (question.is names more))))
+    all_read (over_part (over_part (opens (One Test) depth old from _
+    (test_opened _ depth (part_begun Equal _ depth found.rule_is))) found) question) (λ names more others.
+    ap (λ (place : Place). NextTest place (phrase names test.value.value) test.asks others)
+    (at ∙ sym (first_place_found found))
+    ∙ (ap (λ (tree : Phrase). NextTest (place_in found.inside) tree test.asks others)
+    (ap (phrase names) held ∙ found.is names (goes_on_further (found_goes_on question) more))
+    ∙ ap (λ (asks : Bool). NextTest (place_in found.inside) (equal_in found.inside) asks others)
+    (sym (question.is names more))))
 
 -- a test that was found before any others is found with no others after it
-pub one_test : {depth : ℕ} {old new : List (List ℕ)} {from to : Spot} (test : code_test.Test) → FoundAs (One Test) depth old new from to (IsTest test)
-    → FoundAs (One Test) depth old new from to (λ names inside. NextTest test.place (phrase names test.value.value) test.asks NoTest ≡ test_in inside NoTest)
+pub one_test : {depth : ℕ} {old new : List (List ℕ)} {from to : Spot} (test : code_test.Test)
+    → FoundAs (One Test) depth old new from to (IsTest test)
+    → FoundAs (One Test) depth old new from to
+    (λ names inside. NextTest test.place (phrase names test.value.value) test.asks NoTest ≡ test_in inside NoTest)
 one_test test found = found_weaker found (λ names more is. is NoTest)

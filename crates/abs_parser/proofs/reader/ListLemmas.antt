@@ -85,7 +85,13 @@ no_pattern_closes = refl
 
 -- the arguments of a pattern are patterns in parentheses
 abbrev pub pattern_arguments : InParentheses list_of_patterns
-pattern_arguments = record { nonterminal = PatternArguments; nonterminal_is = refl; nonterminal_counts = refl; none_closes = no_pattern_closes }
+pattern_arguments = record {
+  nonterminal = PatternArguments;
+  nonterminal_is = refl;
+  nonterminal_counts =
+      refl;
+  none_closes = no_pattern_closes;
+}
 
 -- Expressions
 
@@ -126,7 +132,13 @@ no_expression_closes = refl
 
 -- arguments are expressions in parentheses
 abbrev pub arguments : InParentheses list_of_expressions
-arguments = record { nonterminal = Arguments; nonterminal_is = refl; nonterminal_counts = refl; none_closes = no_expression_closes }
+arguments = record {
+  nonterminal = Arguments;
+  nonterminal_is = refl;
+  nonterminal_counts = refl;
+  none_closes =
+      no_expression_closes;
+}
 
 -- Guards
 
@@ -149,7 +161,8 @@ test_before (NextTest place value asks _) others = NextTest place value asks oth
 test_before NoTest others = others
 
 -- the tree of a test that is followed by others is its own tree, followed by them
-pub test_in_front : (inside : Forest) (others : Tests) → test_in inside others ≡ test_before (test_in inside NoTest) others
+pub test_in_front : (inside : Forest) (others : Tests)
+    → test_in inside others ≡ test_before (test_in inside NoTest) others
 test_in_front Empty others = refl
 test_in_front (Leaf mark depth after) others = refl
 test_in_front (Node equal inside Empty) others = refl

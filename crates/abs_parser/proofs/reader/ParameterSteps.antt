@@ -32,7 +32,8 @@ use Rattle.abs_parser.proofs.grammar.NonterminalLemmas.{begins_with_token, begin
 -- One parameter
 
 -- where a type may begin, a parameter opens to it and a name
-param_opened : (kind : TokenKind) (depth : ℕ) → begins Type' kind ≡ true → opened (One Param) kind depth ≡ Some (Subgoal (One Type') depth ∷ Terminal LowerName depth ∷ [])
+param_opened : (kind : TokenKind) (depth : ℕ) → begins Type' kind ≡ true
+    → opened (One Param) kind depth ≡ Some (Subgoal (One Type') depth ∷ Terminal LowerName depth ∷ [])
 param_opened kind depth may = part_opened Param kind depth refl refl (begins_with_part Param kind refl ∙ may)
 
 -- where no type may begin, no parameter opens
@@ -40,30 +41,43 @@ param_shut : (kind : TokenKind) (depth : ℕ) → begins Type' kind ≡ false �
 param_shut kind depth none = part_shut Param kind depth (begins_with_part Param kind refl ∙ none)
 
 -- what refuses the type of a parameter refuses the parameter
-pub refused_param : (depth : ℕ) (from : Spot) (error : SourceError) → IsRefused (Subgoal (One Type') depth) from error → IsRefused (Subgoal (One Param) depth) from error
-refused_param depth from error refused = refused_in_front Type' depth (One Param) depth from error (param_opened _ depth) (param_shut _ depth) refused
+pub refused_param : (depth : ℕ) (from : Spot) (error : SourceError) → IsRefused (Subgoal (One Type') depth) from error
+    → IsRefused (Subgoal (One Param) depth) from error
+refused_param depth from error refused =
+    refused_in_front Type' depth (One Param) depth from error (param_opened _ depth) (param_shut _ depth) refused
 
 -- the type of a parameter was read
-pub param_typed : {depth : ℕ} {old now : List (List ℕ)} {from name_at : Spot} {is_read : List (List ℕ) → Forest → Type 0} → (type : FoundAs (One Type') depth old now from name_at is_read)
-    → HasRead (One Param) depth old now from (λ rest. Node (One Type') type.inside rest) (Terminal LowerName depth ∷ []) name_at
-param_typed {depth} {old} {from = from} type = over_part (opens (One Param) depth old from _ (param_opened _ depth (part_begun Type' _ depth type.rule_is))) type
+pub param_typed : {depth : ℕ} {old now : List (List ℕ)} {from name_at : Spot}
+    {is_read : List (List ℕ) → Forest → Type 0} → (type : FoundAs (One Type') depth old now from name_at is_read)
+    → HasRead (One Param) depth old now from (λ rest. Node (One Type') type.inside rest) (Terminal LowerName depth ∷ [])
+    name_at
+param_typed {depth} {old} {from = from} type =
+    over_part (opens (One Param) depth old from _ (param_opened _ depth (part_begun Type' _ depth type.rule_is))) type
 
 -- the trees of two parameters with equal types and names are equal, whatever follows them
-param_kept : {held_type type : TypeTree} {held_name name : Name} (place : Place) (others : List ParamTree) → held_type ≡ type → held_name ≡ name
-    → record { type_of = held_type; place = place; variable = Unresolved held_name } ∷ others ≡ record { type_of = type; place = place; variable = Unresolved name } ∷ others
+param_kept : {held_type type : TypeTree} {held_name name : Name} (place : Place) (others : List ParamTree)
+    → held_type ≡ type → held_name ≡ name
+    → record { type_of = held_type; place = place; variable = Unresolved held_name } ∷ others
+    ≡ record { type_of = type; place = place; variable = Unresolved name } ∷ others
 param_kept {held_type} {name = name} place others type_is name_is =
-    let tree : TypeTree → Name → List ParamTree = λ type name. record { type_of = type; place = place; variable = Unresolved name } ∷ others in
+    let tree : TypeTree → Name → List ParamTree =
+    λ type name. record { type_of = type; place = place; variable = Unresolved name } ∷ others in
     ap (tree held_type) name_is ∙ ap (λ (type : TypeTree). tree type name) type_is
 
 -- a parameter is found with its type and its name
-pub param_found : {name : Lexed} {depth : ℕ} {old now table : List (List ℕ)} {from name_at end : Spot} (type_of : TypeTerm) (symbol : code_symbol.Symbol)
+pub param_found : {name : Lexed} {depth : ℕ} {old now table : List (List ℕ)} {from name_at end : Spot}
+    (type_of : TypeTerm) (symbol : code_symbol.Symbol)
     → FoundAs (One Type') depth old now from name_at (λ names inside. type_tree names type_of ≡ type_in inside)
-    → TakesKind lexeme.LowerName name name_at end → symbol.0 ≡ number_of_name now name.bytes → table ≡ with_name now name.bytes → depth ≤ limit
+    → TakesKind lexeme.LowerName name name_at end → symbol.0 ≡ number_of_name now name.bytes
+    → table ≡ with_name now name.bytes → depth ≤ limit
     → FoundAs (One Param) depth old table from end
-    (λ names inside. (others : List ParamTree) → param_tree names (record { type_of = type_of; place = name.place; variable = variable.Unresolved symbol }) ∷ others ≡ param_in inside others)
+    (λ names inside. (others : List ParamTree)
+    → param_tree names (record { type_of = type_of; place = name.place; variable = variable.Unresolved symbol })
+    ∷ others ≡ param_in inside others)
 param_found {name} {now = now} type_of symbol type takes number is within =
     all_read (over_name (param_typed type) takes refl refl within is) (λ names more others.
-    param_kept name.place others (type.is names (goes_on_further (goes_on_name now name.bytes is) more)) (symbol_kept now symbol number is names more))
+    param_kept name.place others (type.is names (goes_on_further (goes_on_name now name.bytes is) more))
+    (symbol_kept now symbol number is names more))
 
 -- Parameters
 
@@ -99,12 +113,15 @@ trees_of_params = record {
 
 -- parameters begin with an upper-case name
 pub params_begin : (kind : TokenKind) → begins Params kind ≡ fits UpperName kind
-params_begin kind = begins_with_part Params kind refl ∙ (begins_with_part Param kind refl ∙ begins_with_token Type' kind refl)
+params_begin kind = begins_with_part Params kind refl
+    ∙ (begins_with_part Param kind refl ∙ begins_with_token Type' kind refl)
 
 -- a parameter that is found before any others is found as an element of the list
 pub param_in_front : {depth : ℕ} {old new : List (List ℕ)} {from to : Spot} (param : code_param.Param)
-    → FoundAs (One Param) depth old new from to (λ names inside. (others : List ParamTree) → param_tree names param ∷ others ≡ param_in inside others)
-    → FoundAs (One Param) depth old new from to (λ names inside. trees_of_params.tree names param ≡ trees_of_params.one_in inside)
+    → FoundAs (One Param) depth old new from to
+    (λ names inside. (others : List ParamTree) → param_tree names param ∷ others ≡ param_in inside others)
+    → FoundAs (One Param) depth old new from to
+    (λ names inside. trees_of_params.tree names param ≡ trees_of_params.one_in inside)
 param_in_front param found = found_weaker found (λ names more is. fun_ext is)
 
 -- In parentheses
@@ -116,7 +133,13 @@ no_param_closes = refl
 
 -- the parameters of a class are parameters in parentheses
 abbrev pub class_parameters : InParentheses list_of_params
-class_parameters = record { nonterminal = ClassParameters; nonterminal_is = refl; nonterminal_counts = refl; none_closes = no_param_closes }
+class_parameters = record {
+  nonterminal = ClassParameters;
+  nonterminal_is = refl;
+  nonterminal_counts =
+      refl;
+  none_closes = no_param_closes;
+}
 
 -- no type begins with a closing parenthesis
 pub no_type_closes : begins Type' (PunctuatorKind punctuator.CloseParen) ≡ false
@@ -125,4 +148,10 @@ no_type_closes = refl
 
 -- the types of a constructor are types in parentheses
 abbrev pub constructor_types : InParentheses list_of_types
-constructor_types = record { nonterminal = ConstructorTypes; nonterminal_is = refl; nonterminal_counts = refl; none_closes = no_type_closes }
+constructor_types = record {
+  nonterminal = ConstructorTypes;
+  nonterminal_is = refl;
+  nonterminal_counts =
+      refl;
+  none_closes = no_type_closes;
+}

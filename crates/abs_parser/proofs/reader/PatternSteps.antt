@@ -29,7 +29,8 @@ use Rattle.abs_parser.proofs.grammar.AskedLemmas.{punctuator_fits}
 use Rattle.abs_parser.proofs.grammar.NonterminalLemmas.{part_shut}
 
 -- the next token kind is the one that the token's lexeme and bytes give
-pub next_taken : {kind : Lexeme} {token : Lexed} {from to : Spot} → TakesKind kind token from to → next (left_at from) ≡ token_kind_of kind token.bytes
+pub next_taken : {kind : Lexeme} {token : Lexed} {from to : Spot} → TakesKind kind token from to
+    → next (left_at from) ≡ token_kind_of kind token.bytes
 next_taken {token = token} takes = next_is takes.takes ∙ ap (λ (k : Lexeme). token_kind_of k token.bytes) takes.kind_is
 
 -- where no token is left, the end of the source is next
@@ -37,63 +38,93 @@ pub next_end : (spot : Spot) → spot.rest ≡ [] → next (left_at spot) ≡ En
 next_end spot e = rw e refl
 
 -- a pattern is opened by the token that begins it
-pub pattern_begins : {kind : Lexeme} {token : Lexed} {from after : Spot} (depth : ℕ) (table : List (List ℕ)) → TakesKind kind token from after → may_begin kind ≡ true
-    → HasRead (One Pattern) depth table table from (λ rest. rest) (Terminal (asked kind) (depth + 1) ∷ after_first kind (depth + 1)) from
+pub pattern_begins : {kind : Lexeme} {token : Lexed} {from after : Spot} (depth : ℕ) (table : List (List ℕ))
+    → TakesKind kind token from after → may_begin kind ≡ true
+    → HasRead (One Pattern) depth table table from (λ rest. rest)
+    (Terminal (asked kind) (depth + 1) ∷ after_first kind (depth + 1)) from
 pattern_begins {kind} {token} {from} depth table takes is =
     opens (One Pattern) depth table from _
-    (ap (λ (k : TokenKind). opened (One Pattern) k depth) (next_taken takes) ∙ pattern_opened kind token.bytes depth (sym (begins_by_kind first_kinds kind token.bytes) ∙ is))
+    (ap (λ (k : TokenKind). opened (One Pattern) k depth) (next_taken takes)
+    ∙ pattern_opened kind token.bytes depth (sym (begins_by_kind first_kinds kind token.bytes) ∙ is))
 
 -- at the end of the source a pattern is refused
-pub refused_at_end : (depth : ℕ) (from : Spot) (error : SourceError) → error ≡ Refused (wrong_at from) → from.rest ≡ [] → IsRefused (Subgoal (One Pattern) depth) from error
+pub refused_at_end : (depth : ℕ) (from : Spot) (error : SourceError) → error ≡ Refused (wrong_at from) → from.rest ≡ []
+    → IsRefused (Subgoal (One Pattern) depth) from error
 refused_at_end depth from error is none =
-    rw is (refused_shut (One Pattern) depth from (ap (λ (k : TokenKind). opened (One Pattern) k depth) (next_end from none) ∙ end_shut depth))
+    rw is (refused_shut (One Pattern) depth from
+    (ap (λ (k : TokenKind). opened (One Pattern) k depth) (next_end from none) ∙ end_shut depth))
 
 -- a token that begins no pattern is refused
-pub refused_no_pattern : {token : Lexed} {from after : Spot} (depth : ℕ) (error : SourceError) → error ≡ Refused (wrong_at from) → TakesToken token from after
+pub refused_no_pattern : {token : Lexed} {from after : Spot} (depth : ℕ) (error : SourceError)
+    → error ≡ Refused (wrong_at from) → TakesToken token from after
     → begins Pattern (token_kind_of token.kind token.bytes) ≡ false → IsRefused (Subgoal (One Pattern) depth) from error
 refused_no_pattern {token} {from} depth error is takes none =
-    rw is (refused_shut (One Pattern) depth from (part_shut Pattern (next (left_at from)) depth (ap (begins Pattern) (next_is takes) ∙ none)))
+    rw is (refused_shut (One Pattern) depth from
+    (part_shut Pattern (next (left_at from)) depth (ap (begins Pattern) (next_is takes) ∙ none)))
 
 -- what refuses the token that begins a pattern refuses the pattern
-pub refused_pattern : {kind : Lexeme} {token : Lexed} {from after : Spot} (depth : ℕ) (error : SourceError) → TakesKind kind token from after → may_begin kind ≡ true
+pub refused_pattern : {kind : Lexeme} {token : Lexed} {from after : Spot} (depth : ℕ) (error : SourceError)
+    → TakesKind kind token from after → may_begin kind ≡ true
     → IsRefused (Terminal (asked kind) (depth + 1)) from error → IsRefused (Subgoal (One Pattern) depth) from error
 refused_pattern depth error takes is refused = refused_inside (pattern_begins depth [] takes is) error refused
 
 -- where an underscore is next, what refuses it refuses the pattern
-pub refused_underscore : (depth : ℕ) (from : Spot) (error : SourceError) (which : Punctuator) {is : Bool} → next (left_at from) ≡ PunctuatorKind which → is ≡ sameb the_type which punctuator.Underscore → is ≡ true
-    → IsRefused (Terminal (PunctuatorKind punctuator.Underscore) (depth + 1)) from error → IsRefused (Subgoal (One Pattern) depth) from error
+pub refused_underscore : (depth : ℕ) (from : Spot) (error : SourceError) (which : Punctuator) {is : Bool}
+    → next (left_at from) ≡ PunctuatorKind which → is ≡ sameb the_type which punctuator.Underscore → is ≡ true
+    → IsRefused (Terminal (PunctuatorKind punctuator.Underscore) (depth + 1)) from error
+    → IsRefused (Subgoal (One Pattern) depth) from error
 refused_underscore depth from error which stands tells holds refused =
     refused_inside (opens (One Pattern) depth [] from _
-    (ap (λ (k : TokenKind). opened (One Pattern) k depth) (stands ∙ ap PunctuatorKind (same_true the_type tt which punctuator.Underscore (sym tells ∙ holds))) ∙ any_opened depth)) error refused
+    (ap (λ (k : TokenKind). opened (One Pattern) k depth)
+    (stands ∙ ap PunctuatorKind (same_true the_type tt which punctuator.Underscore (sym tells ∙ holds)))
+    ∙ any_opened depth)) error refused
 
 -- where another punctuator is next, what refuses a minus refuses the pattern
-pub refused_minus : (depth : ℕ) (from : Spot) (error : SourceError) (which : Punctuator) {is : Bool} → next (left_at from) ≡ PunctuatorKind which → is ≡ sameb the_type which punctuator.Underscore → is ≡ false
-    → IsRefused (Terminal (PunctuatorKind punctuator.Minus) (depth + 1)) from error → IsRefused (Subgoal (One Pattern) depth) from error
+pub refused_minus : (depth : ℕ) (from : Spot) (error : SourceError) (which : Punctuator) {is : Bool}
+    → next (left_at from) ≡ PunctuatorKind which → is ≡ sameb the_type which punctuator.Underscore → is ≡ false
+    → IsRefused (Terminal (PunctuatorKind punctuator.Minus) (depth + 1)) from error
+    → IsRefused (Subgoal (One Pattern) depth) from error
 refused_minus depth from error which stands tells fails refused =
     refused_first_token (PunctuatorKind punctuator.Minus) (depth + 1) (One Pattern) depth from error
-    (λ fit. ap (λ (k : TokenKind). opened (One Pattern) k depth) (punctuator_fits punctuator.Minus _ fit) ∙ minus_opened depth)
-    (λ other. ap (λ (k : TokenKind). opened (One Pattern) k depth) stands ∙ punctuator_shut which depth (sym tells ∙ fails) (ap (fits (PunctuatorKind punctuator.Minus)) (sym stands) ∙ other)) refused
+    (λ fit. ap (λ (k : TokenKind). opened (One Pattern) k depth) (punctuator_fits punctuator.Minus _ fit)
+    ∙ minus_opened depth)
+    (λ other. ap (λ (k : TokenKind). opened (One Pattern) k depth) stands
+    ∙ punctuator_shut which depth (sym tells ∙ fails)
+    (ap (fits (PunctuatorKind punctuator.Minus)) (sym stands) ∙ other)) refused
 
 -- a part that the next token leaves out is found empty
-pub nothing_found : (goal : Goal) (depth : ℕ) (table : List (List ℕ)) (from : Spot) → opened goal (next (left_at from)) depth ≡ Some []
+pub nothing_found : (goal : Goal) (depth : ℕ) (table : List (List ℕ)) (from : Spot)
+    → opened goal (next (left_at from)) depth ≡ Some []
     → FoundAs goal depth table table from from (λ names inside. inside ≡ Empty)
 nothing_found goal depth table from is = all_read (opens goal depth table from [] is) (λ names more. refl)
 
 -- a refusal of a part that the next token does not open is also one of a token kind that this token does not fit
-unfit_by : {part : Goal} {at : ℕ} {items others : List Wanted} (kind : TokenKind) (depth : ℕ) {ts rest : List Mark} {code : Code} → opened part (next ts) at ≡ None
-    → fits kind (next ts) ≡ false → Refuses (Subgoal part at ∷ items) ts rest code → Refuses (Terminal kind depth ∷ others) ts rest code
+unfit_by : {part : Goal} {at : ℕ} {items others : List Wanted} (kind : TokenKind) (depth : ℕ) {ts rest : List Mark}
+    {code : Code} → opened part (next ts) at ≡ None
+    → fits kind (next ts) ≡ false → Refuses (Subgoal part at ∷ items) ts rest code
+    → Refuses (Terminal kind depth ∷ others) ts rest code
 unfit_by kind depth closed differs (Shut e is) = Other differs is
 unfit_by kind depth closed differs (Open e refused) = absurd cc
 unfit_by kind depth closed differs (Cut is) = Cut is
 
 -- what refuses a part that the next token does not open refuses a token kind that this token does not fit
-pub refused_unfit : (part : Goal) (at : ℕ) (kind : TokenKind) (depth : ℕ) (spot : Spot) (error : SourceError) → opened part (next (left_at spot)) at ≡ None
-    → fits kind (next (left_at spot)) ≡ false → IsRefused (Subgoal part at) spot error → IsRefused (Terminal kind depth) spot error
+pub refused_unfit : (part : Goal) (at : ℕ) (kind : TokenKind) (depth : ℕ) (spot : Spot) (error : SourceError)
+    → opened part (next (left_at spot)) at ≡ None
+    → fits kind (next (left_at spot)) ≡ false → IsRefused (Subgoal part at) spot error
+    → IsRefused (Terminal kind depth) spot error
 refused_unfit part at kind depth spot (Refused refusal) closed differs refused = λ items.
     let found = refused items in
-    record { mark = found.mark; after = found.after; code = found.code; refuses = unfit_by kind depth closed differs found.refuses; refusal_is = found.refusal_is }
+    record {
+      mark = found.mark;
+      after = found.after;
+      code = found.code;
+      refuses =
+          unfit_by kind depth closed differs found.refuses;
+      refusal_is = found.refusal_is;
+    }
 refused_unfit part at kind depth spot Memory closed differs refused = λ items. tt
 
 -- the negation of a number below 2 ^ 127 is exact in signed 128 bits
-pub narrowed_minus : (z : ℤ) (value : ℕ) → z ≡ pos value → value < 2 ^ 127 → to_z w128 (of_z w128 (pos 0 -ℤ to_z w128 (of_z w128 z))) ≡ neg_ℤ (pos value)
+pub narrowed_minus : (z : ℤ) (value : ℕ) → z ≡ pos value → value < 2 ^ 127
+    → to_z w128 (of_z w128 (pos 0 -ℤ to_z w128 (of_z w128 z))) ≡ neg_ℤ (pos value)
 narrowed_minus z value is fits = rw (narrowed z value is fits) (omega (arith, ints, fits))

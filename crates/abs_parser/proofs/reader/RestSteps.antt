@@ -32,120 +32,178 @@ use Rattle.abs_parser.proofs.grammar.NonterminalLemmas.{begins_by, part_opened, 
 -- What was left out
 
 -- a reading of no items takes no token
-reads_nothing : {items : List Wanted} {ts to : List Mark} {forest : Forest} → items ≡ [] → Reads items ts forest to → to ≡ ts
+reads_nothing : {items : List Wanted} {ts to : List Mark} {forest : Forest} → items ≡ [] → Reads items ts forest to
+    → to ≡ ts
 reads_nothing none Nothing = refl
 reads_nothing none (Taken fit reads) = absurd cc
 reads_nothing none (Opened is first reads) = absurd cc
 
 -- a part that is left out leaves the tokens that there were
-nothing_left_out : {goal : Goal} {depth : ℕ} {old new : List (List ℕ)} {from to : Spot} {is_read : List (List ℕ) → Forest → Type 0}
-    → FoundAs goal depth old new from to is_read → opened goal (next (left_at from)) depth ≡ Some [] → left_at to ≡ left_at from
+nothing_left_out : {goal : Goal} {depth : ℕ} {old new : List (List ℕ)} {from to : Spot}
+    {is_read : List (List ℕ) → Forest → Type 0}
+    → FoundAs goal depth old new from to is_read → opened goal (next (left_at from)) depth ≡ Some []
+    → left_at to ≡ left_at from
 nothing_left_out found none = reads_nothing (same_Some _ _ (sym found.rule_is ∙ none)) found.reads
 
 -- a refusal of a part that is left out, with items after it, is one of these items
-after_by : {part : Goal} {at : ℕ} {item : Wanted} {items : List Wanted} {ts rest : List Mark} {code : Code} → opened part (next ts) at ≡ Some []
+after_by : {part : Goal} {at : ℕ} {item : Wanted} {items : List Wanted} {ts rest : List Mark} {code : Code}
+    → opened part (next ts) at ≡ Some []
     → Refuses (Subgoal part at ∷ item ∷ items) ts rest code → Refuses (item ∷ items) ts rest code
 after_by none (Shut shut is) = absurd cc
 after_by {item = item} {items} {ts} {rest} {code} none (Open is refused) =
-    subst (λ (inner : List Wanted). Refuses (inner ++ item ∷ items) ts rest code) (same_Some _ _ (sym is ∙ none)) refused
+    subst (λ (inner : List Wanted). Refuses (inner ++ item ∷ items) ts rest code) (same_Some _ _ (sym is ∙ none))
+    refused
 after_by none (Cut is) = Cut is
 
 -- what refuses a part that is left out refuses any item after it
-refused_later : (part : Goal) (at : ℕ) (item : Wanted) (spot : Spot) (error : SourceError) → opened part (next (left_at spot)) at ≡ Some []
+refused_later : (part : Goal) (at : ℕ) (item : Wanted) (spot : Spot) (error : SourceError)
+    → opened part (next (left_at spot)) at ≡ Some []
     → IsRefused (Subgoal part at) spot error → IsRefused item spot error
 refused_later part at item spot (Refused refusal) none refused = λ items.
     let found = refused (item ∷ items) in
-    record { mark = found.mark; after = found.after; code = found.code; refuses = after_by none found.refuses; refusal_is = found.refusal_is }
+    record {
+      mark = found.mark;
+      after = found.after;
+      code = found.code;
+      refuses =
+          after_by none found.refuses;
+      refusal_is = found.refusal_is;
+    }
 refused_later part at item spot Memory none refused = λ items. tt
 
 -- what refuses such a part together with an item after it refuses this item
-refused_second : (part : Goal) (at : ℕ) (item : Wanted) (spot : Spot) (error : SourceError) → opened part (next (left_at spot)) at ≡ Some []
+refused_second : (part : Goal) (at : ℕ) (item : Wanted) (spot : Spot) (error : SourceError)
+    → opened part (next (left_at spot)) at ≡ Some []
     → AreRefused (Subgoal part at ∷ item ∷ []) spot error → IsRefused item spot error
 refused_second part at item spot (Refused refusal) none refused = λ items.
     let found = refused items in
-    record { mark = found.mark; after = found.after; code = found.code; refuses = after_by none found.refuses; refusal_is = found.refusal_is }
+    record {
+      mark = found.mark;
+      after = found.after;
+      code = found.code;
+      refuses =
+          after_by none found.refuses;
+      refusal_is = found.refusal_is;
+    }
 refused_second part at item spot Memory none refused = λ items. tt
 
 -- an item that is refused at a spot is refused at each spot with the same tokens
-pub refused_there : (item : Wanted) (here there : Spot) (error : SourceError) → left_at here ≡ left_at there → IsRefused item here error → IsRefused item there error
-refused_there item here there error same refused = λ items. subst (λ (ts : List Mark). RefusedAs (item ∷ items) ts error) same (refused items)
+pub refused_there : (item : Wanted) (here there : Spot) (error : SourceError) → left_at here ≡ left_at there
+    → IsRefused item here error → IsRefused item there error
+refused_there item here there error same refused =
+    λ items. subst (λ (ts : List Mark). RefusedAs (item ∷ items) ts error) same (refused items)
 
 -- A part that not every token opens was read up to here, with these items left. If the next token may open the part,
 -- this was read of it. If not, no token was read.
-pub record MayHaveRead (may : Bool) (goal : Goal) (depth : ℕ) (old now : List (List ℕ)) (from : Spot) (make : Forest → Forest) (left : List Wanted) (here : Spot) : Type 0 where
+pub record MayHaveRead (may : Bool) (goal : Goal) (depth : ℕ) (old now : List (List ℕ)) (from : Spot)
+    (make : Forest → Forest) (left : List Wanted) (here : Spot) : Type 0 where
   pub read : may ≡ true → HasRead goal depth old now from make left here
   pub still : may ≡ false → left_at here ≡ left_at from
 
 -- nothing of the part was read
 pub may_open : {may : Bool} (goal : Goal) (depth : ℕ) (table : List (List ℕ)) (from : Spot) (inner : List Wanted)
-    → (may ≡ true → opened goal (next (left_at from)) depth ≡ Some inner) → MayHaveRead may goal depth table table from (λ rest. rest) inner from
+    → (may ≡ true → opened goal (next (left_at from)) depth ≡ Some inner)
+    → MayHaveRead may goal depth table table from (λ rest. rest) inner from
 may_open goal depth table from inner is = record {
   read = λ begun. opens goal depth table from inner (is begun);
   still = λ none. refl;
 }
 
 -- a part inside was read, which is left out where the whole is not opened
-pub over_left_out : {may : Bool} {goal part : Goal} {depth at : ℕ} {old now new : List (List ℕ)} {from here after : Spot} {make : Forest → Forest} {left : List Wanted}
+pub over_left_out : {may : Bool} {goal part : Goal} {depth at : ℕ} {old now new : List (List ℕ)}
+    {from here after : Spot} {make : Forest → Forest} {left : List Wanted}
     {is_read : List (List ℕ) → Forest → Type 0}
-    → MayHaveRead may goal depth old now from make (Subgoal part at ∷ left) here → (may ≡ false → opened part (next (left_at from)) at ≡ Some [])
-    → (found : FoundAs part at now new here after is_read) → MayHaveRead may goal depth old new from (λ rest. make (Node part found.inside rest)) left after
+    → MayHaveRead may goal depth old now from make (Subgoal part at ∷ left) here
+    → (may ≡ false → opened part (next (left_at from)) at ≡ Some [])
+    → (found : FoundAs part at now new here after is_read)
+    → MayHaveRead may goal depth old new from (λ rest. make (Node part found.inside rest)) left after
 over_left_out {part = part} {at = at} so left_out found = record {
   read = λ begun. over_part (so.read begun) found;
-  still = λ none. nothing_left_out found (ap (λ (ts : List Mark). opened part (next ts) at) (so.still none) ∙ left_out none) ∙ so.still none;
+  still = λ none. nothing_left_out found
+      (ap (λ (ts : List Mark). opened part (next ts) at) (so.still none) ∙ left_out none) ∙ so.still none;
 }
 
 -- the next lemma, by cases of whether the next token may open the part
-refused_by : (is : Bool) {may : Bool} {goal : Goal} {depth : ℕ} {old now : List (List ℕ)} {from here : Spot} {make : Forest → Forest} {item : Wanted} {left : List Wanted} → may ≡ is
-    → MayHaveRead may goal depth old now from make (item ∷ left) here → (error : SourceError) → IsRefused item here error
-    → (may ≡ false → left_at here ≡ left_at from → IsRefused (Subgoal goal depth) from error) → IsRefused (Subgoal goal depth) from error
+refused_by : (is : Bool) {may : Bool} {goal : Goal} {depth : ℕ} {old now : List (List ℕ)} {from here : Spot}
+    {make : Forest → Forest} {item : Wanted} {left : List Wanted} → may ≡ is
+    → MayHaveRead may goal depth old now from make (item ∷ left) here → (error : SourceError)
+    → IsRefused item here error
+    → (may ≡ false → left_at here ≡ left_at from → IsRefused (Subgoal goal depth) from error)
+    → IsRefused (Subgoal goal depth) from error
 refused_by true e so error refused otherwise = refused_inside (so.read e) error refused
 refused_by false e so error refused otherwise = otherwise e (so.still e)
 
 -- what refuses the next item refuses the part, if the part is also refused where no token opens it
-pub refused_either_way : {may : Bool} {goal : Goal} {depth : ℕ} {old now : List (List ℕ)} {from here : Spot} {make : Forest → Forest} {item : Wanted} {left : List Wanted}
-    → MayHaveRead may goal depth old now from make (item ∷ left) here → (error : SourceError) → IsRefused item here error
-    → (may ≡ false → left_at here ≡ left_at from → IsRefused (Subgoal goal depth) from error) → IsRefused (Subgoal goal depth) from error
+pub refused_either_way : {may : Bool} {goal : Goal} {depth : ℕ} {old now : List (List ℕ)} {from here : Spot}
+    {make : Forest → Forest} {item : Wanted} {left : List Wanted}
+    → MayHaveRead may goal depth old now from make (item ∷ left) here → (error : SourceError)
+    → IsRefused item here error
+    → (may ≡ false → left_at here ≡ left_at from → IsRefused (Subgoal goal depth) from error)
+    → IsRefused (Subgoal goal depth) from error
 refused_either_way {may} so error refused otherwise = refused_by may refl so error refused otherwise
 
 -- the next lemma, by cases of whether the next token may open the part
-both_by : (is : Bool) {may : Bool} {goal part : Goal} {depth at : ℕ} {old now : List (List ℕ)} {from here : Spot} {make : Forest → Forest} {second : Wanted} {left : List Wanted} → may ≡ is
-    → MayHaveRead may goal depth old now from make (Subgoal part at ∷ second ∷ left) here → (may ≡ false → opened part (next (left_at from)) at ≡ Some []) → (error : SourceError)
-    → AreRefused (Subgoal part at ∷ second ∷ []) here error → (may ≡ false → IsRefused second from error → IsRefused (Subgoal goal depth) from error) → IsRefused (Subgoal goal depth) from error
-both_by true {part = part} {at = at} {second = second} e so left_out error refused otherwise = refused_row (Subgoal part at ∷ second ∷ []) _ (so.read e) error refused
+both_by : (is : Bool) {may : Bool} {goal part : Goal} {depth at : ℕ} {old now : List (List ℕ)} {from here : Spot}
+    {make : Forest → Forest} {second : Wanted} {left : List Wanted} → may ≡ is
+    → MayHaveRead may goal depth old now from make (Subgoal part at ∷ second ∷ left) here
+    → (may ≡ false → opened part (next (left_at from)) at ≡ Some []) → (error : SourceError)
+    → AreRefused (Subgoal part at ∷ second ∷ []) here error
+    → (may ≡ false → IsRefused second from error → IsRefused (Subgoal goal depth) from error)
+    → IsRefused (Subgoal goal depth) from error
+both_by true {part = part} {at = at} {second = second} e so left_out error refused otherwise =
+    refused_row (Subgoal part at ∷ second ∷ []) _ (so.read e) error refused
 both_by false {part = part} {at = at} {from = from} {second = second} e so left_out error refused otherwise =
-    otherwise e (refused_second part at second from error (left_out e) (λ items. subst (λ (ts : List Mark). RefusedAs (Subgoal part at ∷ second ∷ items) ts error) (so.still e) (refused items)))
+    otherwise e (refused_second part at second from error (left_out e)
+    (λ items. subst (λ (ts : List Mark). RefusedAs (Subgoal part at ∷ second ∷ items) ts error) (so.still e)
+    (refused items)))
 
 -- what refuses the next two items refuses the part, if the first of them is left out where the part is not opened
-pub refused_both_either_way : {may : Bool} {goal part : Goal} {depth at : ℕ} {old now : List (List ℕ)} {from here : Spot} {make : Forest → Forest} {second : Wanted} {left : List Wanted}
-    → MayHaveRead may goal depth old now from make (Subgoal part at ∷ second ∷ left) here → (may ≡ false → opened part (next (left_at from)) at ≡ Some []) → (error : SourceError)
-    → AreRefused (Subgoal part at ∷ second ∷ []) here error → (may ≡ false → IsRefused second from error → IsRefused (Subgoal goal depth) from error) → IsRefused (Subgoal goal depth) from error
+pub refused_both_either_way : {may : Bool} {goal part : Goal} {depth at : ℕ} {old now : List (List ℕ)}
+    {from here : Spot} {make : Forest → Forest} {second : Wanted} {left : List Wanted}
+    → MayHaveRead may goal depth old now from make (Subgoal part at ∷ second ∷ left) here
+    → (may ≡ false → opened part (next (left_at from)) at ≡ Some []) → (error : SourceError)
+    → AreRefused (Subgoal part at ∷ second ∷ []) here error
+    → (may ≡ false → IsRefused second from error → IsRefused (Subgoal goal depth) from error)
+    → IsRefused (Subgoal goal depth) from error
 refused_both_either_way {may} so left_out error refused otherwise = both_by may refl so left_out error refused otherwise
 
 -- what refuses the next part refuses the whole, if that part is left out where the whole is not opened
-pub refused_left_out : {may : Bool} {goal part : Goal} {depth at : ℕ} {old now : List (List ℕ)} {from here : Spot} {make : Forest → Forest} {left : List Wanted}
-    → MayHaveRead may goal depth old now from make (Subgoal part at ∷ left) here → (may ≡ false → opened part (next (left_at from)) at ≡ Some []) → (error : SourceError)
+pub refused_left_out : {may : Bool} {goal part : Goal} {depth at : ℕ} {old now : List (List ℕ)} {from here : Spot}
+    {make : Forest → Forest} {left : List Wanted}
+    → MayHaveRead may goal depth old now from make (Subgoal part at ∷ left) here
+    → (may ≡ false → opened part (next (left_at from)) at ≡ Some []) → (error : SourceError)
     → IsRefused (Subgoal part at) here error → IsRefused (Subgoal goal depth) from error
 refused_left_out {goal = goal} {part} {depth} {at} {from = from} so left_out error refused =
     refused_either_way so error refused (λ none same.
-    refused_later part at (Subgoal goal depth) from error (left_out none) (refused_there (Subgoal part at) _ from error same refused))
+    refused_later part at (Subgoal goal depth) from error (left_out none)
+    (refused_there (Subgoal part at) _ from error same refused))
 
 -- what refuses the next item, a token, refuses the whole, if that does not fit where the whole is not opened
-pub refused_unfit_either_way : {may : Bool} {kind : TokenKind} {goal : Goal} {depth at : ℕ} {old now : List (List ℕ)} {from here : Spot} {make : Forest → Forest} {left : List Wanted}
-    → MayHaveRead may goal depth old now from make (Terminal kind at ∷ left) here → (may ≡ false → fits kind (next (left_at from)) ≡ false)
-    → (may ≡ false → opened goal (next (left_at from)) depth ≡ None) → (error : SourceError) → IsRefused (Terminal kind at) here error
+pub refused_unfit_either_way : {may : Bool} {kind : TokenKind} {goal : Goal} {depth at : ℕ} {old now : List (List ℕ)}
+    {from here : Spot} {make : Forest → Forest} {left : List Wanted}
+    → MayHaveRead may goal depth old now from make (Terminal kind at ∷ left) here
+    → (may ≡ false → fits kind (next (left_at from)) ≡ false)
+    → (may ≡ false → opened goal (next (left_at from)) depth ≡ None) → (error : SourceError)
+    → IsRefused (Terminal kind at) here error
     → IsRefused (Subgoal goal depth) from error
 refused_unfit_either_way {kind = kind} {goal} {depth} {at} {from = from} so differs shut error refused =
-    refused_either_way so error refused (λ none same. refused_other kind at goal depth from error (differs none) (shut none) (refused_there (Terminal kind at) _ from error same refused))
+    refused_either_way so error refused
+    (λ none same. refused_other kind at goal depth from error (differs none) (shut none)
+    (refused_there (Terminal kind at) _ from error same refused))
 
 -- the next lemma, by cases of whether the next token may open the part
-has_read_by : (is : Bool) {may : Bool} {goal : Goal} {depth : ℕ} {old now : List (List ℕ)} {from here : Spot} {make : Forest → Forest} {left : List Wanted} → may ≡ is
-    → MayHaveRead may goal depth old now from make left here → (may ≡ false → left_at here ≡ left_at from → ⊥) → HasRead goal depth old now from make left here
+has_read_by : (is : Bool) {may : Bool} {goal : Goal} {depth : ℕ} {old now : List (List ℕ)} {from here : Spot}
+    {make : Forest → Forest} {left : List Wanted} → may ≡ is
+    → MayHaveRead may goal depth old now from make left here → (may ≡ false → left_at here ≡ left_at from → ⊥)
+    → HasRead goal depth old now from make left here
 has_read_by true e so never = so.read e
 has_read_by false e so never = absurd (never e (so.still e))
 
 -- where the next token must open the part, the part was read up to here
-pub has_read : {may : Bool} {goal : Goal} {depth : ℕ} {old now : List (List ℕ)} {from here : Spot} {make : Forest → Forest} {left : List Wanted}
-    → MayHaveRead may goal depth old now from make left here → (may ≡ false → left_at here ≡ left_at from → ⊥) → HasRead goal depth old now from make left here
+pub has_read : {may : Bool} {goal : Goal} {depth : ℕ} {old now : List (List ℕ)} {from here : Spot}
+    {make : Forest → Forest} {left : List Wanted}
+    → MayHaveRead may goal depth old now from make left here → (may ≡ false → left_at here ≡ left_at from → ⊥)
+    → HasRead goal depth old now from make left here
 has_read {may} so never = has_read_by may refl so never
 
 -- After a first operand
@@ -172,10 +230,21 @@ begins_none kind none =
     let ands = or_parts _ _ equal.1 in
     let ors = or_parts _ _ ands.1 in
     let tail = or_parts _ _ ors.1 in
-    record { mul = muls.0; sum = sums.0; compare = compared.0; equal = equal.0; and = ands.0; or = ors.0; tail = tail.0; semicolon = tail.1 }
+    record {
+      mul = muls.0;
+      sum = sums.0;
+      compare = compared.0;
+      equal = equal.0;
+      and = ands.0;
+      or = ors.0;
+      tail =
+          tail.0;
+      semicolon = tail.1;
+    }
 
 -- where `Rest` is not opened, the operators of each precedence are left out
-precedence_left_out : (precedence : Precedence) (kind : TokenKind) (depth : ℕ) → begins Rest kind ≡ false → opened (rest_of precedence) kind depth ≡ Some []
+precedence_left_out : (precedence : Precedence) (kind : TokenKind) (depth : ℕ) → begins Rest kind ≡ false
+    → opened (rest_of precedence) kind depth ≡ Some []
 precedence_left_out precedence.Or kind depth none = rw ((begins_none kind none).or) refl
 precedence_left_out precedence.And kind depth none = rw ((begins_none kind none).and) refl
 precedence_left_out precedence.Equal kind depth none = rw ((begins_none kind none).equal) refl
@@ -185,7 +254,8 @@ precedence_left_out precedence.Mul kind depth none = rw ((begins_none kind none)
 
 -- `Rest` was read up to here, with these items left, where the next token may open it.
 abbrev pub RestRead : ℕ → List (List ℕ) → List (List ℕ) → Spot → (Forest → Forest) → List Wanted → Spot → Type 0
-RestRead depth old now from make left here = MayHaveRead (begins Rest (next (left_at from))) (One Rest) depth old now from make left here
+RestRead depth old now from make left here =
+    MayHaveRead (begins Rest (next (left_at from))) (One Rest) depth old now from make left here
 
 -- what is wanted after the operators
 abbrev pub after_operators : ℕ → List Wanted
@@ -194,49 +264,66 @@ after_operators depth = Subgoal (Optional RhsTail) depth ∷ Terminal (Punctuato
 -- `Rest` begins with the operators of each precedence
 pub rest_begins : (depth : ℕ) (table : List (List ℕ)) (from : Spot)
     → RestRead depth table table from (λ rest. rest)
-    (Subgoal (rest_of precedence.Mul) (depth + 1) ∷ Subgoal (rest_of precedence.Sum) (depth + 1) ∷ Subgoal (rest_of precedence.Compare) (depth + 1)
-    ∷ Subgoal (rest_of precedence.Equal) (depth + 1) ∷ Subgoal (rest_of precedence.And) (depth + 1) ∷ Subgoal (rest_of precedence.Or) (depth + 1) ∷ after_operators depth) from
-rest_begins depth table from = may_open (One Rest) depth table from _ (λ begun. part_opened Rest _ depth refl refl begun)
+    (Subgoal (rest_of precedence.Mul) (depth + 1) ∷ Subgoal (rest_of precedence.Sum) (depth + 1)
+    ∷ Subgoal (rest_of precedence.Compare) (depth + 1)
+    ∷ Subgoal (rest_of precedence.Equal) (depth + 1) ∷ Subgoal (rest_of precedence.And) (depth + 1)
+    ∷ Subgoal (rest_of precedence.Or) (depth + 1) ∷ after_operators depth) from
+rest_begins depth table from = may_open (One Rest) depth table from _
+    (λ begun. part_opened Rest _ depth refl refl begun)
 
 -- the operators of a precedence were read
-pub over_precedence : {depth : ℕ} {old now new : List (List ℕ)} {from here after : Spot} {make : Forest → Forest} {left : List Wanted}
-    {is_read : List (List ℕ) → Forest → Type 0} (precedence : Precedence) → RestRead depth old now from make (Subgoal (rest_of precedence) (depth + 1) ∷ left) here
+pub over_precedence : {depth : ℕ} {old now new : List (List ℕ)} {from here after : Spot} {make : Forest → Forest}
+    {left : List Wanted}
+    {is_read : List (List ℕ) → Forest → Type 0} (precedence : Precedence)
+    → RestRead depth old now from make (Subgoal (rest_of precedence) (depth + 1) ∷ left) here
     → (found : FoundAs (rest_of precedence) (depth + 1) now new here after is_read)
     → RestRead depth old new from (λ rest. make (Node (rest_of precedence) found.inside rest)) left after
 over_precedence {depth} precedence so found = over_left_out so (precedence_left_out precedence _ (depth + 1)) found
 
 -- `Rest` is refused where these operators are
-pub precedence_refused : {depth : ℕ} {old now : List (List ℕ)} {from here : Spot} {make : Forest → Forest} {left : List Wanted} (precedence : Precedence) (error : SourceError)
-    → RestRead depth old now from make (Subgoal (rest_of precedence) (depth + 1) ∷ left) here → IsRefused (Subgoal (rest_of precedence) (depth + 1)) here error
+pub precedence_refused : {depth : ℕ} {old now : List (List ℕ)} {from here : Spot} {make : Forest → Forest}
+    {left : List Wanted} (precedence : Precedence) (error : SourceError)
+    → RestRead depth old now from make (Subgoal (rest_of precedence) (depth + 1) ∷ left) here
+    → IsRefused (Subgoal (rest_of precedence) (depth + 1)) here error
     → IsRefused (Subgoal (One Rest) depth) from error
-precedence_refused {depth} precedence error so refused = refused_left_out so (precedence_left_out precedence _ (depth + 1)) error refused
+precedence_refused {depth} precedence error so refused =
+    refused_left_out so (precedence_left_out precedence _ (depth + 1)) error refused
 
 -- where `Rest` is not opened, nothing is read after the operators
-tail_left_out : (kind : TokenKind) (depth : ℕ) → begins Rest kind ≡ false → opened (Optional RhsTail) kind depth ≡ Some []
+tail_left_out : (kind : TokenKind) (depth : ℕ) → begins Rest kind ≡ false
+    → opened (Optional RhsTail) kind depth ≡ Some []
 tail_left_out kind depth none = optional_left_out RhsTail kind depth (begins_none kind none).tail
 
 -- `RhsTail`, which may follow an expression, was read
-pub over_tail : {depth : ℕ} {old now new : List (List ℕ)} {from here after : Spot} {make : Forest → Forest} {is_read : List (List ℕ) → Forest → Type 0}
-    → RestRead depth old now from make (after_operators depth) here → (found : FoundAs (Optional RhsTail) depth now new here after is_read)
-    → RestRead depth old new from (λ rest. make (Node (Optional RhsTail) found.inside rest)) (Terminal (PunctuatorKind punctuator.Semicolon) depth ∷ []) after
+pub over_tail : {depth : ℕ} {old now new : List (List ℕ)} {from here after : Spot} {make : Forest → Forest}
+    {is_read : List (List ℕ) → Forest → Type 0}
+    → RestRead depth old now from make (after_operators depth) here
+    → (found : FoundAs (Optional RhsTail) depth now new here after is_read)
+    → RestRead depth old new from (λ rest. make (Node (Optional RhsTail) found.inside rest))
+    (Terminal (PunctuatorKind punctuator.Semicolon) depth ∷ []) after
 over_tail {depth} so found = over_left_out so (tail_left_out _ depth) found
 
 -- `Rest` is refused where `RhsTail` is
-pub tail_refused : {depth : ℕ} {old now : List (List ℕ)} {from here : Spot} {make : Forest → Forest} (error : SourceError)
-    → RestRead depth old now from make (after_operators depth) here → IsRefused (Subgoal (Optional RhsTail) depth) here error
+pub tail_refused : {depth : ℕ} {old now : List (List ℕ)} {from here : Spot} {make : Forest → Forest}
+    (error : SourceError)
+    → RestRead depth old now from make (after_operators depth) here
+    → IsRefused (Subgoal (Optional RhsTail) depth) here error
     → IsRefused (Subgoal (One Rest) depth) from error
 tail_refused {depth} error so refused = refused_left_out so (tail_left_out _ depth) error refused
 
 -- `Rest` is refused where `;` is
-pub semicolon_refused : {depth : ℕ} {old now : List (List ℕ)} {from here : Spot} {make : Forest → Forest} (error : SourceError)
-    → RestRead depth old now from make (Terminal (PunctuatorKind punctuator.Semicolon) depth ∷ []) here → IsRefused (Terminal (PunctuatorKind punctuator.Semicolon) depth) here error
+pub semicolon_refused : {depth : ℕ} {old now : List (List ℕ)} {from here : Spot} {make : Forest → Forest}
+    (error : SourceError)
+    → RestRead depth old now from make (Terminal (PunctuatorKind punctuator.Semicolon) depth ∷ []) here
+    → IsRefused (Terminal (PunctuatorKind punctuator.Semicolon) depth) here error
     → IsRefused (Subgoal (One Rest) depth) from error
 semicolon_refused {depth} error so refused =
     refused_unfit_either_way so (λ none. (begins_none _ none).semicolon) (part_shut Rest _ depth) error refused
 
 -- `;` was read
 semicolon_read : {token : Lexed} {depth : ℕ} {old now : List (List ℕ)} {from here end : Spot} {make : Forest → Forest}
-    → RestRead depth old now from make (Terminal (PunctuatorKind punctuator.Semicolon) depth ∷ []) here → TakesKind (lexeme.Punctuator punctuator.Semicolon) token here end → depth ≤ limit
+    → RestRead depth old now from make (Terminal (PunctuatorKind punctuator.Semicolon) depth ∷ []) here
+    → TakesKind (lexeme.Punctuator punctuator.Semicolon) token here end → depth ≤ limit
     → HasRead (One Rest) depth old now from (λ rest. make (Leaf (Token token) depth rest)) [] end
 semicolon_read so semicolon within =
     over_token (has_read so (λ none same.
@@ -248,10 +335,12 @@ semicolon_read so semicolon within =
 -- the operators of a precedence were found after an operand; together they are this expression
 abbrev pub PrecedenceFound : Precedence → ℕ → List (List ℕ) → List (List ℕ) → Spot → Spot → Place → Expr → Expr → Type 0
 PrecedenceFound precedence depth old new from to place first expr =
-    FoundAs (rest_of precedence) (depth + 1) old new from to (λ names inside. phrase names expr ≡ with_operators place (phrase names first) (operands_in precedence inside))
+    FoundAs (rest_of precedence) (depth + 1) old new from to
+    (λ names inside. phrase names expr ≡ with_operators place (phrase names first) (operands_in precedence inside))
 
 -- `Rest` is found with the operators of each precedence, what may follow them, and `;`
-pub rest_found : {token : Lexed} {depth : ℕ} {old a b c d e f new : List (List ℕ)} {from at_sum at_compare at_equal at_and at_or at_tail at_end end : Spot} {place : Place}
+pub rest_found : {token : Lexed} {depth : ℕ} {old a b c d e f new : List (List ℕ)}
+    {from at_sum at_compare at_equal at_and at_or at_tail at_end end : Spot} {place : Place}
     (first product sum comparison equality conjunction disjunction : Expr) (side : RightSide)
     → PrecedenceFound precedence.Mul depth old a from at_sum place first product
     → PrecedenceFound precedence.Sum depth a b at_sum at_compare place product sum
@@ -259,10 +348,13 @@ pub rest_found : {token : Lexed} {depth : ℕ} {old a b c d e f new : List (List
     → PrecedenceFound precedence.Equal depth c d at_equal at_and place comparison equality
     → PrecedenceFound precedence.And depth d e at_and at_or place equality conjunction
     → PrecedenceFound precedence.Or depth e f at_or at_tail place conjunction disjunction
-    → FoundAs (Optional RhsTail) depth f new at_tail at_end (λ names inside. side_tree names side ≡ tail_in place (phrase names disjunction) inside)
+    → FoundAs (Optional RhsTail) depth f new at_tail at_end
+    (λ names inside. side_tree names side ≡ tail_in place (phrase names disjunction) inside)
     → TakesKind (lexeme.Punctuator punctuator.Semicolon) token at_end end → depth ≤ limit
-    → FoundAs (One Rest) depth old new from end (λ names inside. side_tree names side ≡ rest_in place (phrase names first) inside)
-rest_found {depth = depth} {old} {from = from} first product sum comparison equality conjunction disjunction side muls sums compares equals ands ors tail semicolon within =
+    → FoundAs (One Rest) depth old new from end
+    (λ names inside. side_tree names side ≡ rest_in place (phrase names first) inside)
+rest_found {depth = depth} {old} {from = from} first product sum comparison equality conjunction disjunction side muls
+    sums compares equals ands ors tail semicolon within =
     let up_to_mul = over_precedence precedence.Mul (rest_begins depth old from) muls in
     let up_to_sum = over_precedence precedence.Sum up_to_mul sums in
     let up_to_compare = over_precedence precedence.Compare up_to_sum compares in

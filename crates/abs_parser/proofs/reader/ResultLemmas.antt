@@ -17,18 +17,17 @@ passed_on part error (Ok x) passed refused = absurd passed
 passed_on part error (Err e) passed refused = subst (λ (e : SourceError). Parses (Err e) part) (sym passed) refused
 
 -- what a call returned for the last part of a whole is returned for the whole
-pub parses_further : {X : Type 0} (part whole : Parse X) (result : Result X SourceError) → ((found : X) → Parses (Ok found) part → Parses (Ok found) whole)
-    → ((error : SourceError) → Parses (Err error) part → Parses (Err error) whole) → Parses result part → Parses result whole
+pub parses_further : {X : Type 0} (part whole : Parse X) (result : Result X SourceError)
+    → ((found : X) → Parses (Ok found) part → Parses (Ok found) whole)
+    → ((error : SourceError) → Parses (Err error) part → Parses (Err error) whole) → Parses result part
+    → Parses result whole
 parses_further part whole (Ok x) found refused parses = found x parses
 parses_further part whole (Err e) found refused parses = refused e parses
 
 -- the same where two clauses of the call say what it found and what it refuses
-pub parses_by : {X : Type 0} (P : X → Type 0) (Q : SourceError → Type 0) (whole : Parse X) (result : Result X SourceError) → ((found : X) → P found → Parses (Ok found) whole)
-    → ((error : SourceError) → Q error → Parses (Err error) whole) → IfOk result P → IfErr result Q → Parses result whole
+pub parses_by : {X : Type 0} (P : X → Type 0) (Q : SourceError → Type 0) (whole : Parse X)
+    (result : Result X SourceError) → ((found : X) → P found → Parses (Ok found) whole)
+    → ((error : SourceError) → Q error → Parses (Err error) whole) → IfOk result P → IfErr result Q
+    → Parses result whole
 parses_by P Q whole (Ok x) found refused holds fails = found x holds
 parses_by P Q whole (Err e) found refused holds fails = refused e fails
-
--- what follows from how a part was found
-pub where_found : {X : Type 0} (part : Parse X) (Q : X → Type 0) (result : Result X SourceError) → ((found : X) → Parses (Ok found) part → Q found) → Parses result part → IfOk result Q
-where_found part Q (Ok x) so parses = so x parses
-where_found part Q (Err e) so parses = tt

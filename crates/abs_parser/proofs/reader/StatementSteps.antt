@@ -51,30 +51,38 @@ block_begins kind = begins_with_token Block kind refl
 
 -- "{" opens a block, and statements and "}" follow
 pub block_opened : (kind : TokenKind) (depth : ℕ) → fits (PunctuatorKind punctuator.OpenBrace) kind ≡ true
-    → opened (One Block) kind depth ≡ Some (Terminal (PunctuatorKind punctuator.OpenBrace) depth ∷ Subgoal (Repeated Stmt) depth ∷ Terminal (PunctuatorKind punctuator.CloseBrace) depth ∷ [])
+    → opened (One Block) kind depth
+    ≡ Some (Terminal (PunctuatorKind punctuator.OpenBrace) depth ∷ Subgoal (Repeated Stmt) depth
+    ∷ Terminal (PunctuatorKind punctuator.CloseBrace) depth ∷ [])
 block_opened kind depth fit = part_opened Block kind depth refl refl (block_begins kind ∙ fit)
 
 -- nothing else opens a block
-pub block_shut : (kind : TokenKind) (depth : ℕ) → fits (PunctuatorKind punctuator.OpenBrace) kind ≡ false → opened (One Block) kind depth ≡ None
+pub block_shut : (kind : TokenKind) (depth : ℕ) → fits (PunctuatorKind punctuator.OpenBrace) kind ≡ false
+    → opened (One Block) kind depth ≡ None
 block_shut kind depth differs = part_shut Block kind depth (block_begins kind ∙ differs)
 
 -- "{" opens a statement, which is a block
-nested_opened : (kind : TokenKind) (depth : ℕ) → fits (PunctuatorKind punctuator.OpenBrace) kind ≡ true → opened (One Stmt) kind depth ≡ Some (Subgoal (One Block) (depth + 1) ∷ [])
+nested_opened : (kind : TokenKind) (depth : ℕ) → fits (PunctuatorKind punctuator.OpenBrace) kind ≡ true
+    → opened (One Stmt) kind depth ≡ Some (Subgoal (One Block) (depth + 1) ∷ [])
 unfolding chosen
 nested_opened kind depth fit = rw (block_begins kind ∙ fit) refl
 
 -- a statement that begins with "{" begins with a block
-pub nested_begins : (depth : ℕ) (table : List (List ℕ)) (from : Spot) → fits (PunctuatorKind punctuator.OpenBrace) (next (left_at from)) ≡ true
+pub nested_begins : (depth : ℕ) (table : List (List ℕ)) (from : Spot)
+    → fits (PunctuatorKind punctuator.OpenBrace) (next (left_at from)) ≡ true
     → HasRead (One Stmt) depth table table from (λ rest. rest) (Subgoal (One Block) (depth + 1) ∷ []) from
 nested_begins depth table from fit = opens (One Stmt) depth table from _ (nested_opened _ depth fit)
 
 -- the block that was found is the statement
-pub nested_found : {depth : ℕ} {old new : List (List ℕ)} {from to : Spot} {place : Place} (index : ℕ) (body : Body) → place ≡ place_of from → fits (PunctuatorKind punctuator.OpenBrace) (next (left_at from)) ≡ true
-    → FoundAs (One Block) (depth + 1) old new from to (λ names inside. IsBlock index names body inside) → FoundAs (One Stmt) depth old new from to (IsStatement index (code_stmt.Block place body.statements))
+pub nested_found : {depth : ℕ} {old new : List (List ℕ)} {from to : Spot} {place : Place} (index : ℕ) (body : Body)
+    → place ≡ place_of from → fits (PunctuatorKind punctuator.OpenBrace) (next (left_at from)) ≡ true
+    → FoundAs (One Block) (depth + 1) old new from to (λ names inside. IsBlock index names body inside)
+    → FoundAs (One Stmt) depth old new from to (IsStatement index (code_stmt.Block place body.statements))
 nested_found {depth} {old} {from = from} {place = place} index body at fit found =
     all_read (over_part (nested_begins depth old from fit) found) (λ names more.
     statement-block names place body.statements
-    ∙ (ap (λ (here : Place). BlockOf here (statements names body.statements.items)) (at ∙ sym (first_place_found found)) ∙ ap (BlockOf (place_in found.inside)) ((found.is names more).statements_are)))
+    ∙ (ap (λ (here : Place). BlockOf here (statements names body.statements.items)) (at ∙ sym (first_place_found found))
+    ∙ ap (BlockOf (place_in found.inside)) ((found.is names more).statements_are)))
 
 -- Tests
 
@@ -83,109 +91,149 @@ abbrev pub tested_by : Keyword → ℕ → List Wanted → List Wanted
 tested_by which at left = Terminal (KeywordKind which) at ∷ in_parentheses_at at ++ left
 
 -- the keyword and the expression in parentheses were read
-pub test_read : {which : Keyword} {token : Lexed} {from test_at after : Spot} {depth : ℕ} {left : List Wanted} {old now : List (List ℕ)} {is_read : List (List ℕ) → Forest → Type 0}
-    → opened (One Stmt) (KeywordKind which) depth ≡ Some (tested_by which (depth + 1) left) → TakesKind (lexeme.Keyword which) token from test_at
+pub test_read : {which : Keyword} {token : Lexed} {from test_at after : Spot} {depth : ℕ} {left : List Wanted}
+    {old now : List (List ℕ)} {is_read : List (List ℕ) → Forest → Type 0}
+    → opened (One Stmt) (KeywordKind which) depth ≡ Some (tested_by which (depth + 1) left)
+    → TakesKind (lexeme.Keyword which) token from test_at
     → (test : FoundInParentheses (depth + 1) old now test_at after is_read) → depth + 1 ≤ limit
     → HasRead (One Stmt) depth old now from
-    (λ rest. Leaf (Token token) (depth + 1) (Leaf (Token test.opening) (depth + 1) (Node (One Expr) test.expr.inside (Leaf (Token test.closing) (depth + 1) rest)))) left after
+    (λ rest. Leaf (Token token) (depth + 1)
+    (Leaf (Token test.opening) (depth + 1)
+    (Node (One Expr) test.expr.inside (Leaf (Token test.closing) (depth + 1) rest)))) left after
 test_read {old = old} is takes test within = over_parentheses (keyword_read _ old is takes within) test
 
 -- what refuses the expression in parentheses refuses the statement
-pub refused_test : {which : Keyword} {token : Lexed} {from test_at : Spot} {left : List Wanted} (depth : ℕ) (error : SourceError)
-    → opened (One Stmt) (KeywordKind which) depth ≡ Some (tested_by which (depth + 1) left) → TakesKind (lexeme.Keyword which) token from test_at → depth + 1 ≤ limit
+pub refused_test : {which : Keyword} {token : Lexed} {from test_at : Spot} {left : List Wanted} (depth : ℕ)
+    (error : SourceError)
+    → opened (One Stmt) (KeywordKind which) depth ≡ Some (tested_by which (depth + 1) left)
+    → TakesKind (lexeme.Keyword which) token from test_at → depth + 1 ≤ limit
     → AreRefused (in_parentheses_at (depth + 1)) test_at error → IsRefused (Subgoal (One Stmt) depth) from error
-refused_test {left = left} depth error is takes within refused = refused_row (in_parentheses_at (depth + 1)) left (keyword_read _ [] is takes within) error refused
+refused_test {left = left} depth error is takes within refused =
+    refused_row (in_parentheses_at (depth + 1)) left (keyword_read _ [] is takes within) error refused
 
 -- `while`
 
 -- `while` opens a statement: a test, and one more statement
-pub while_opened : (depth : ℕ) → opened (One Stmt) (KeywordKind keyword.While) depth ≡ Some (tested_by keyword.While (depth + 1) (Subgoal (One Stmt) (depth + 1) ∷ []))
+pub while_opened : (depth : ℕ) → opened (One Stmt) (KeywordKind keyword.While) depth
+    ≡ Some (tested_by keyword.While (depth + 1) (Subgoal (One Stmt) (depth + 1) ∷ []))
 unfolding begins chosen begins_within
 while_opened depth = refl
 
 -- the trees of two `while` statements with equal parts are equal
-while_made : {test held_test : Phrase} {body held_body : Statements} (index : ℕ) (place : Place) → held_test ≡ test → held_body ≡ body → WhileOf index place held_test held_body ≡ WhileOf index place test body
+while_made : {test held_test : Phrase} {body held_body : Statements} (index : ℕ) (place : Place) → held_test ≡ test
+    → held_body ≡ body → WhileOf index place held_test held_body ≡ WhileOf index place test body
 while_made index place test body = rw (test, body) refl
 
 -- a `while` is found with its test and its body, as they are stored
-pub while_found : {token : Lexed} {from test_at body_at end : Spot} {depth : ℕ} {old now new : List (List ℕ)} {test : CodeExpr}
-    (index : ℕ) (held : Arc CodeExpr Global) (stmt : CodeStmt) (body : Vec CodeStmt Global) → held.value ≡ test → ((names : List Name) → statements names body.items ≡ branch_of (statement names stmt))
-    → TakesKind (lexeme.Keyword keyword.While) token from test_at → FoundInParentheses (depth + 1) old now test_at body_at (IsExpression test)
+pub while_found : {token : Lexed} {from test_at body_at end : Spot} {depth : ℕ} {old now new : List (List ℕ)}
+    {test : CodeExpr}
+    (index : ℕ) (held : Arc CodeExpr Global) (stmt : CodeStmt) (body : Vec CodeStmt Global) → held.value ≡ test
+    → ((names : List Name) → statements names body.items ≡ branch_of (statement names stmt))
+    → TakesKind (lexeme.Keyword keyword.While) token from test_at
+    → FoundInParentheses (depth + 1) old now test_at body_at (IsExpression test)
     → FoundAs (One Stmt) (depth + 1) now new body_at end (IsStatement (index + 1) stmt) → depth + 1 ≤ limit
     → FoundAs (One Stmt) depth old new from end (IsStatement index (code_stmt.While index token.place held body))
 while_found {token} {depth = depth} index held stmt body same are takes test found within =
     all_read (over_part (test_read (while_opened depth) takes test within) found) (λ names more.
     statement-while names index token.place held body
-    ∙ (while_made index token.place (ap (phrase names) same ∙ test.expr.is names (goes_on_further (found_goes_on found) more)) (are names ∙ ap branch_of (found.is names more))
+    ∙ (while_made index token.place
+    (ap (phrase names) same ∙ test.expr.is names (goes_on_further (found_goes_on found) more))
+    (are names ∙ ap branch_of (found.is names more))
     ∙ sym (statement_by_keyword index (depth + 1)
-    (Leaf (Token test.opening) (depth + 1) (Node (One Expr) test.expr.inside (Leaf (Token test.closing) (depth + 1) (Node (One Stmt) found.inside Empty)))) takes)))
+    (Leaf (Token test.opening) (depth + 1)
+    (Node (One Expr) test.expr.inside (Leaf (Token test.closing) (depth + 1) (Node (One Stmt) found.inside Empty))))
+    takes)))
 
 -- `if` and `else`
 
 -- `if` opens a statement: a test, one more statement, and perhaps `else`
-pub if_opened : (depth : ℕ) → opened (One Stmt) (KeywordKind keyword.If) depth ≡ Some (tested_by keyword.If (depth + 1) (Subgoal (One Stmt) (depth + 1) ∷ Subgoal (Optional Else) (depth + 1) ∷ []))
+pub if_opened : (depth : ℕ) → opened (One Stmt) (KeywordKind keyword.If) depth
+    ≡ Some (tested_by keyword.If (depth + 1)
+    (Subgoal (One Stmt) (depth + 1) ∷ Subgoal (Optional Else) (depth + 1) ∷ []))
 unfolding begins chosen begins_within
 if_opened depth = refl
 
 -- the trees of two `if` statements with equal parts are equal
-if_made : {test held_test : Phrase} {first held_first : Statements} {other held_other : MaybeStatements} (index : ℕ) (place : Place) → held_test ≡ test → held_first ≡ first → held_other ≡ other
+if_made : {test held_test : Phrase} {first held_first : Statements} {other held_other : MaybeStatements} (index : ℕ)
+    (place : Place) → held_test ≡ test → held_first ≡ first → held_other ≡ other
     → IfOf index place held_test held_first held_other ≡ IfOf index place test first other
 if_made index place test first other = rw (test, first, other) refl
 
 -- the test and the first branch of an `if` were read
-pub if_chosen : {token : Lexed} {from test_at first_at here : Spot} {depth : ℕ} {old now new : List (List ℕ)} {is_read is_chosen : List (List ℕ) → Forest → Type 0}
-    → TakesKind (lexeme.Keyword keyword.If) token from test_at → (test : FoundInParentheses (depth + 1) old now test_at first_at is_read)
+pub if_chosen : {token : Lexed} {from test_at first_at here : Spot} {depth : ℕ} {old now new : List (List ℕ)}
+    {is_read is_chosen : List (List ℕ) → Forest → Type 0}
+    → TakesKind (lexeme.Keyword keyword.If) token from test_at
+    → (test : FoundInParentheses (depth + 1) old now test_at first_at is_read)
     → (first : FoundAs (One Stmt) (depth + 1) now new first_at here is_chosen) → depth + 1 ≤ limit
     → HasRead (One Stmt) depth old new from
     (λ rest. Leaf (Token token) (depth + 1)
-    (Leaf (Token test.opening) (depth + 1) (Node (One Expr) test.expr.inside (Leaf (Token test.closing) (depth + 1) (Node (One Stmt) first.inside rest)))))
+    (Leaf (Token test.opening) (depth + 1)
+    (Node (One Expr) test.expr.inside (Leaf (Token test.closing) (depth + 1) (Node (One Stmt) first.inside rest)))))
     (Subgoal (Optional Else) (depth + 1) ∷ []) here
 if_chosen {depth = depth} takes test first within = over_part (test_read (if_opened depth) takes test within) first
 
 -- an `if` is found with its test and its branches, as they are stored
-pub if_found : {token : Lexed} {from test_at first_at here end : Spot} {depth : ℕ} {old one two new : List (List ℕ)} {test : CodeExpr}
-    (index middle : ℕ) (held : Arc CodeExpr Global) (stmt : CodeStmt) (first : Vec CodeStmt Global) (other : Option (Vec CodeStmt Global)) → held.value ≡ test
-    → ((names : List Name) → statements names first.items ≡ branch_of (statement names stmt)) → ((names : List Name) → middle ≡ index + 1 + statement_count (statements names first.items))
-    → TakesKind (lexeme.Keyword keyword.If) token from test_at → FoundInParentheses (depth + 1) old one test_at first_at (IsExpression test)
+pub if_found : {token : Lexed} {from test_at first_at here end : Spot} {depth : ℕ} {old one two new : List (List ℕ)}
+    {test : CodeExpr}
+    (index middle : ℕ) (held : Arc CodeExpr Global) (stmt : CodeStmt) (first : Vec CodeStmt Global)
+    (other : Option (Vec CodeStmt Global)) → held.value ≡ test
+    → ((names : List Name) → statements names first.items ≡ branch_of (statement names stmt))
+    → ((names : List Name) → middle ≡ index + 1 + statement_count (statements names first.items))
+    → TakesKind (lexeme.Keyword keyword.If) token from test_at
+    → FoundInParentheses (depth + 1) old one test_at first_at (IsExpression test)
     → FoundAs (One Stmt) (depth + 1) one two first_at here (IsStatement (index + 1) stmt)
-    → FoundAs (Optional Else) (depth + 1) two new here end (λ names inside. maybe_statements names other ≡ else_in middle inside) → depth + 1 ≤ limit
+    → FoundAs (Optional Else) (depth + 1) two new here end
+    (λ names inside. maybe_statements names other ≡ else_in middle inside) → depth + 1 ≤ limit
     → FoundAs (One Stmt) depth old new from end (IsStatement index (code_stmt.If index token.place held first other))
 if_found {token} {depth = depth} index middle held stmt first other same are is_middle takes test found after within =
     all_read (over_part (if_chosen takes test found within) after) (λ names more.
     let since = goes_on_further (found_goes_on after) more in
     let branch = are names ∙ ap branch_of (found.is names since) in
     statement-if names index token.place held first other
-    ∙ (if_made index token.place (ap (phrase names) same ∙ test.expr.is names (goes_on_further (found_goes_on found) since)) branch
-    (after.is names more ∙ (ap (λ (n : ℕ). else_in n after.inside) (is_middle names) ∙ ap (λ (trees : Statements). else_in (index + 1 + statement_count trees) after.inside) branch))
+    ∙ (if_made index token.place (ap (phrase names) same
+    ∙ test.expr.is names (goes_on_further (found_goes_on found) since)) branch
+    (after.is names more ∙ (ap (λ (n : ℕ). else_in n after.inside) (is_middle names)
+    ∙ ap (λ (trees : Statements). else_in (index + 1 + statement_count trees) after.inside) branch))
     ∙ sym (statement_by_keyword index (depth + 1)
     (Leaf (Token test.opening) (depth + 1)
-    (Node (One Expr) test.expr.inside (Leaf (Token test.closing) (depth + 1) (Node (One Stmt) found.inside (Node (Optional Else) after.inside Empty))))) takes)))
+    (Node (One Expr) test.expr.inside
+    (Leaf (Token test.closing) (depth + 1) (Node (One Stmt) found.inside (Node (Optional Else) after.inside Empty)))))
+    takes)))
 
 -- what may follow the first branch begins with `else`
 else_begins : (kind : TokenKind) → begins Else kind ≡ fits (KeywordKind keyword.Else) kind
 else_begins kind = begins_with_token Else kind refl
 
 -- `else` was read
-pub else_read : {token : Lexed} {from after : Spot} (depth : ℕ) (table : List (List ℕ)) → TakesKind (lexeme.Keyword keyword.Else) token from after → depth ≤ limit
-    → HasRead (Optional Else) depth table table from (λ rest. Node (One Else) (Leaf (Token token) depth rest) Empty) (Subgoal (One Stmt) depth ∷ []) after
+pub else_read : {token : Lexed} {from after : Spot} (depth : ℕ) (table : List (List ℕ))
+    → TakesKind (lexeme.Keyword keyword.Else) token from after → depth ≤ limit
+    → HasRead (Optional Else) depth table table from (λ rest. Node (One Else) (Leaf (Token token) depth rest) Empty)
+    (Subgoal (One Stmt) depth ∷ []) after
 else_read {from = from} depth table takes within =
     let fit = else_begins _ ∙ fits_next refl takes in
     into_last (opens (Optional Else) depth table from _ (optional_opened Else _ depth fit))
     (over_token (opens (One Else) depth table from _ (part_opened Else _ depth refl refl fit)) takes refl refl within)
 
 -- `else` is found with the statement after it
-pub else_found : {token : Lexed} {from after to : Spot} {depth : ℕ} {old new : List (List ℕ)} (index : ℕ) (stmt : CodeStmt) (branch : Vec CodeStmt Global)
-    → ((names : List Name) → statements names branch.items ≡ branch_of (statement names stmt)) → TakesKind (lexeme.Keyword keyword.Else) token from after
+pub else_found : {token : Lexed} {from after to : Spot} {depth : ℕ} {old new : List (List ℕ)} (index : ℕ)
+    (stmt : CodeStmt) (branch : Vec CodeStmt Global)
+    → ((names : List Name) → statements names branch.items ≡ branch_of (statement names stmt))
+    → TakesKind (lexeme.Keyword keyword.Else) token from after
     → FoundAs (One Stmt) depth old new after to (IsStatement index stmt) → depth ≤ limit
-    → FoundAs (Optional Else) depth old new from to (λ names inside. maybe_statements names (Some branch) ≡ else_in index inside)
+    → FoundAs (Optional Else) depth old new from to
+    (λ names inside. maybe_statements names (Some branch) ≡ else_in index inside)
 else_found {depth = depth} {old} index stmt branch are takes found within =
-    all_read (over_part (else_read depth old takes within) found) (λ names more. ap ElseTree (are names ∙ ap branch_of (found.is names more)))
+    all_read (over_part (else_read depth old takes within) found)
+    (λ names more. ap ElseTree (are names ∙ ap branch_of (found.is names more)))
 
 -- where `else` is not next, it is left out
-pub else_left_out : (index depth : ℕ) (table : List (List ℕ)) (from : Spot) → fits (KeywordKind keyword.Else) (next (left_at from)) ≡ false
-    → FoundAs (Optional Else) depth table table from from (λ names inside. maybe_statements names None ≡ else_in index inside)
+pub else_left_out : (index depth : ℕ) (table : List (List ℕ)) (from : Spot)
+    → fits (KeywordKind keyword.Else) (next (left_at from)) ≡ false
+    → FoundAs (Optional Else) depth table table from from
+    (λ names inside. maybe_statements names None ≡ else_in index inside)
 else_left_out index depth table from other =
-    found_weaker (nothing_found (Optional Else) depth table from (optional_left_out Else _ depth (else_begins _ ∙ other))) (λ names more none. sym (ap (else_in index) none))
+    found_weaker (nothing_found (Optional Else) depth table from
+    (optional_left_out Else _ depth (else_begins _ ∙ other))) (λ names more none. sym (ap (else_in index) none))
 
 -- The end of the source
 
@@ -195,6 +243,8 @@ unfolding begins chosen begins_within
 statement_end depth = refl
 
 -- so a statement is refused there
-pub statement_refused_at_end : (depth : ℕ) (from : Spot) (error : SourceError) → error ≡ Refused (wrong_at from) → from.rest ≡ [] → IsRefused (Subgoal (One Stmt) depth) from error
+pub statement_refused_at_end : (depth : ℕ) (from : Spot) (error : SourceError) → error ≡ Refused (wrong_at from)
+    → from.rest ≡ [] → IsRefused (Subgoal (One Stmt) depth) from error
 statement_refused_at_end depth from error is none =
-    rw is (refused_shut (One Stmt) depth from (ap (λ (k : TokenKind). opened (One Stmt) k depth) (next_end from none) ∙ statement_end depth))
+    rw is (refused_shut (One Stmt) depth from
+    (ap (λ (k : TokenKind). opened (One Stmt) k depth) (next_end from none) ∙ statement_end depth))

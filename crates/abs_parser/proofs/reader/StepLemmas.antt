@@ -48,10 +48,12 @@ left_of {token} {from} {to} takes = rw (takes.rest, takes.end) refl
 
 -- the number of tokens that are left, with the end
 pub left_length : (spot : Spot) → length (left_at spot) ≡ length spot.rest + 1
-left_length spot = length-append (map Token spot.rest) (TextEnd spot.end ∷ []) ∙ ap (λ (n : ℕ). n + 1) (length-map spot.rest Token)
+left_length spot = length-append (map Token spot.rest) (TextEnd spot.end ∷ [])
+    ∙ ap (λ (n : ℕ). n + 1) (length-map spot.rest Token)
 
 -- one token fewer is left after a token
-pub token_shorter : {token : Lexed} {from to : Spot} → TakesToken token from to → length from.rest ≡ suc (length to.rest)
+pub token_shorter : {token : Lexed} {from to : Spot} → TakesToken token from to
+    → length from.rest ≡ suc (length to.rest)
 token_shorter takes = ap length takes.rest
 
 -- whether tokens of this lexeme are names
@@ -72,40 +74,47 @@ upper_fits false true = refl
 upper_fits false false = refl
 
 -- a token fits where its lexeme is asked for, whatever its bytes are
-pub asked_fits : (kind : Lexeme) (bytes : List ℕ) → is_asked kind ≡ true → fits (asked kind) (token_kind_of kind bytes) ≡ true
+pub asked_fits : (kind : Lexeme) (bytes : List ℕ) → is_asked kind ≡ true
+    → fits (asked kind) (token_kind_of kind bytes) ≡ true
 asked_fits lexeme.LowerName bytes is = lower_fits _
 asked_fits lexeme.UpperName bytes is = upper_fits _ _
 asked_fits lexeme.Number bytes is = refl
 asked_fits lexeme.Text bytes is = refl
 asked_fits (lexeme.Keyword keyword) bytes is = (bytes_eq-Decides (spelling keyword) (spelling keyword)).1 refl
 asked_fits lexeme.Foreign bytes is = absurd cc
-asked_fits (lexeme.Punctuator punctuator) bytes is = (bytes_eq-Decides (punctuator_bytes punctuator) (punctuator_bytes punctuator)).1 refl
+asked_fits (lexeme.Punctuator punctuator) bytes is =
+    (bytes_eq-Decides (punctuator_bytes punctuator) (punctuator_bytes punctuator)).1 refl
 
 -- a lower-case name is put before others
-lower_named : (is_local : Bool) (name : List ℕ) (others : List (List ℕ)) → name_first (cond is_local LocalName LowerName) name others ≡ name ∷ others
+lower_named : (is_local : Bool) (name : List ℕ) (others : List (List ℕ))
+    → name_first (cond is_local LocalName LowerName) name others ≡ name ∷ others
 lower_named true name others = refl
 lower_named false name others = refl
 
 -- so is an upper-case name
-upper_named : (is_abs is_std : Bool) (name : List ℕ) (others : List (List ℕ)) → name_first (cond is_abs AbsName (cond is_std StdLibName UpperName)) name others ≡ name ∷ others
+upper_named : (is_abs is_std : Bool) (name : List ℕ) (others : List (List ℕ))
+    → name_first (cond is_abs AbsName (cond is_std StdLibName UpperName)) name others ≡ name ∷ others
 upper_named true is_std name others = refl
 upper_named false true name others = refl
 upper_named false false name others = refl
 
 -- a name is put before others
-pub named_first : (kind : Lexeme) (bytes : List ℕ) (others : List (List ℕ)) → is_name kind ≡ true → name_first (token_kind_of kind bytes) bytes others ≡ bytes ∷ others
+pub named_first : (kind : Lexeme) (bytes : List ℕ) (others : List (List ℕ)) → is_name kind ≡ true
+    → name_first (token_kind_of kind bytes) bytes others ≡ bytes ∷ others
 named_first lexeme.LowerName bytes others is = lower_named _ bytes others
 named_first lexeme.UpperName bytes others is = upper_named _ _ bytes others
 named_first _ bytes others is = absurd cc
 
 -- a token that is no name leaves the others as they are
-pub unnamed_first : (kind : Lexeme) (bytes : List ℕ) (others : List (List ℕ)) → is_name kind ≡ false → name_first (token_kind_of kind bytes) bytes others ≡ others
+pub unnamed_first : (kind : Lexeme) (bytes : List ℕ) (others : List (List ℕ)) → is_name kind ≡ false
+    → name_first (token_kind_of kind bytes) bytes others ≡ others
 unnamed_first lexeme.LowerName bytes others is = absurd cc
 unnamed_first lexeme.UpperName bytes others is = absurd cc
 unnamed_first _ bytes others is = refl
 
 -- a name that is put before two lists is put before the first of them
-name_first_append : (kind : TokenKind) (name : List ℕ) (others more : List (List ℕ)) → name_first kind name (others ++ more) ≡ name_first kind name others ++ more
+name_first_append : (kind : TokenKind) (name : List ℕ) (others more : List (List ℕ))
+    → name_first kind name (others ++ more) ≡ name_first kind name others ++ more
 name_first_append LowerName name others more = refl
 name_first_append LocalName name others more = refl
 name_first_append UpperName name others more = refl
@@ -114,21 +123,26 @@ name_first_append StdLibName name others more = refl
 name_first_append _ name others more = refl
 
 -- the names in what was read, put before two lists, are put before the first of them
-pub names_append : (forest : Forest) (others more : List (List ℕ)) → names_before forest (others ++ more) ≡ names_before forest others ++ more
+pub names_append : (forest : Forest) (others more : List (List ℕ))
+    → names_before forest (others ++ more) ≡ names_before forest others ++ more
 names_append Empty others more = refl
 names_append (Leaf mark depth after) others more =
-    ap (name_first (token_kind mark) (written mark)) (names_append after others more) ∙ name_first_append (token_kind mark) (written mark) (names_before after others) more
+    ap (name_first (token_kind mark) (written mark)) (names_append after others more)
+    ∙ name_first_append (token_kind mark) (written mark) (names_before after others) more
 names_append (Node goal inside after) others more =
     ap (names_before inside) (names_append after others more) ∙ names_append inside (names_before after others) more
 
 -- the names in what was read are added to the table before the others
 pub table_of_both : (table : List (List ℕ)) (forest : Forest) (others : List (List ℕ))
-    → fold with_name table (names_before forest others) ≡ fold with_name (fold with_name table (names_before forest [])) others
+    → fold with_name table (names_before forest others)
+    ≡ fold with_name (fold with_name table (names_before forest [])) others
 table_of_both table forest others =
-    ap (fold with_name table) (names_append forest [] others) ∙ fold-append with_name table (names_before forest []) others
+    ap (fold with_name table) (names_append forest [] others)
+    ∙ fold-append with_name table (names_before forest []) others
 
 -- a token gives at most one name
-few_first : (kind : TokenKind) (name : List ℕ) (others : List (List ℕ)) → length (name_first kind name others) ≤ length others + 1
+few_first : (kind : TokenKind) (name : List ℕ) (others : List (List ℕ))
+    → length (name_first kind name others) ≤ length others + 1
 few_first LowerName name others = omega arith
 few_first LocalName name others = omega arith
 few_first UpperName name others = omega arith
@@ -137,7 +151,8 @@ few_first StdLibName name others = omega arith
 few_first _ name others = omega arith
 
 -- what was read has no more names than tokens
-few_names : {items : List Wanted} {ts rest : List Mark} {forest : Forest} → Reads items ts forest rest → (others : List (List ℕ))
+few_names : {items : List Wanted} {ts rest : List Mark} {forest : Forest} → Reads items ts forest rest
+    → (others : List (List ℕ))
     → length (names_before forest others) + length rest ≤ length others + length ts
 few_names Nothing others = omega arith
 few_names (Taken {mark = mark} {forest = forest} e reads) others =
@@ -146,29 +161,41 @@ few_names (Opened {inside = inside} {forest = forest} e first reads) others =
     omega (arith, few_names first (names_before forest others), few_names reads others)
 
 -- a reading leaves no more tokens than there were
-pub reads_shorter : {items : List Wanted} {ts rest : List Mark} {forest : Forest} → Reads items ts forest rest → length rest ≤ length ts
+pub reads_shorter : {items : List Wanted} {ts rest : List Mark} {forest : Forest} → Reads items ts forest rest
+    → length rest ≤ length ts
 reads_shorter Nothing = omega arith
 reads_shorter (Taken e reads) = omega (arith, reads_shorter reads)
 reads_shorter (Opened e first reads) = omega (arith, reads_shorter first, reads_shorter reads)
 
 -- a part that was found leaves no more tokens than there were
-pub found_shorter : {goal : Goal} {depth : ℕ} {old new : List (List ℕ)} {from to : Spot} {is_read : List (List ℕ) → Forest → Type 0}
+pub found_shorter : {goal : Goal} {depth : ℕ} {old new : List (List ℕ)} {from to : Spot}
+    {is_read : List (List ℕ) → Forest → Type 0}
     → FoundAs goal depth old new from to is_read → length to.rest ≤ length from.rest
 found_shorter {from = from} {to = to} found = omega (arith, reads_shorter found.reads, left_length from, left_length to)
 
 -- a part that was found adds no more names to the table than it takes tokens
-pub found_few : {goal : Goal} {depth : ℕ} {old new : List (List ℕ)} {from to : Spot} {is_read : List (List ℕ) → Forest → Type 0}
+pub found_few : {goal : Goal} {depth : ℕ} {old new : List (List ℕ)} {from to : Spot}
+    {is_read : List (List ℕ) → Forest → Type 0}
     → FoundAs goal depth old new from to is_read → length new + length to.rest ≤ length old + length from.rest
 found_few {old = old} {from = from} {to = to} found =
-    omega (arith, few_more old (names_before found.inside []), few_names found.reads [], ap length found.table, left_length from, left_length to)
+    omega (
+      arith,
+      few_more old (names_before found.inside []),
+      few_names found.reads [],
+      ap length found.table,
+      left_length from,
+      left_length to,
+    )
 
 -- the table after a part that was found extends the one before
-pub found_goes_on : {goal : Goal} {depth : ℕ} {old new : List (List ℕ)} {from to : Spot} {is_read : List (List ℕ) → Forest → Type 0}
+pub found_goes_on : {goal : Goal} {depth : ℕ} {old new : List (List ℕ)} {from to : Spot}
+    {is_read : List (List ℕ) → Forest → Type 0}
     → FoundAs goal depth old new from to is_read → GoesOn old new
 found_goes_on {old = old} found = rw found.table (goes_on_all old (names_before found.inside []))
 
 -- a name is found by its number in `x ∷ xs`, if it is `x` or is found in `xs`
-place_by : (here after : Bool) (k : ℕ) (name x : List ℕ) (xs : List (List ℕ)) → (here ≡ true → x ≡ name) → (after ≡ true → slice_get xs k ≡ Some name)
+place_by : (here after : Bool) (k : ℕ) (name x : List ℕ) (xs : List (List ℕ)) → (here ≡ true → x ≡ name)
+    → (after ≡ true → slice_get xs k ≡ Some name)
     → (here || after) ≡ true → slice_get (x ∷ xs) (cond (not here) (1 + k) 0) ≡ Some name
 place_by true after k name x xs same further found = ap Some (same refl)
 place_by false after k name x xs same further found =
@@ -176,9 +203,11 @@ place_by false after k name x xs same further found =
     rw more (further found)
 
 -- a name is found by its number in a table that has it
-name_at : (table : List (List ℕ)) (name : List ℕ) → list_any (bytes_eq name) table ≡ true → slice_get table (number_of_name table name) ≡ Some name
+name_at : (table : List (List ℕ)) (name : List ℕ) → list_any (bytes_eq name) table ≡ true
+    → slice_get table (number_of_name table name) ≡ Some name
 name_at [] name found = absurd cc
-name_at (x ∷ xs) name found = place_by (bytes_eq name x) (list_any (bytes_eq name) xs) (number_of_name xs name) name x xs (λ e. sym ((bytes_eq-Decides name x).0 e)) (name_at xs name) found
+name_at (x ∷ xs) name found = place_by (bytes_eq name x) (list_any (bytes_eq name) xs) (number_of_name xs name) name x
+    xs (λ e. sym ((bytes_eq-Decides name x).0 e)) (name_at xs name) found
 
 -- a disjunction holds if its second part does
 or_right : (b : Bool) → (b || true) ≡ true
@@ -186,19 +215,25 @@ or_right true = refl
 or_right false = refl
 
 -- a table has the name that was added to it, by cases of whether it had it before
-is_there_by : (is : Bool) (table : List (List ℕ)) (name : List ℕ) → list_any (bytes_eq name) table ≡ is → list_any (bytes_eq name) (cond is table (table ++ name ∷ [])) ≡ true
+is_there_by : (is : Bool) (table : List (List ℕ)) (name : List ℕ) → list_any (bytes_eq name) table ≡ is
+    → list_any (bytes_eq name) (cond is table (table ++ name ∷ [])) ≡ true
 is_there_by true table name e = e
 is_there_by false table name e =
-    list_any-append (bytes_eq name) table (name ∷ []) ∙ (ap (λ (b : Bool). list_any (bytes_eq name) table || (b || false)) ((bytes_eq-Decides name name).1 refl) ∙ or_right _)
+    list_any-append (bytes_eq name) table (name ∷ [])
+    ∙ (ap (λ (b : Bool). list_any (bytes_eq name) table || (b || false)) ((bytes_eq-Decides name name).1 refl)
+    ∙ or_right _)
 
 -- a table has the name that was added to it
 is_there : (table : List (List ℕ)) (name : List ℕ) → list_any (bytes_eq name) (with_name table name) ≡ true
 is_there table name = is_there_by (list_any (bytes_eq name) table) table name refl
 
 -- so does each table that extends it
-is_there_still : (table : List (List ℕ)) (name : List ℕ) (names : List (List ℕ)) → GoesOn (with_name table name) names → list_any (bytes_eq name) names ≡ true
+is_there_still : (table : List (List ℕ)) (name : List ℕ) (names : List (List ℕ)) → GoesOn (with_name table name) names
+    → list_any (bytes_eq name) names ≡ true
 is_there_still table name names more =
-    ap (list_any (bytes_eq name)) more.is ∙ (list_any-append (bytes_eq name) (with_name table name) more.more ∙ ap (λ (b : Bool). b || list_any (bytes_eq name) more.more) (is_there table name))
+    ap (list_any (bytes_eq name)) more.is
+    ∙ (list_any-append (bytes_eq name) (with_name table name) more.more
+    ∙ ap (λ (b : Bool). b || list_any (bytes_eq name) more.more) (is_there table name))
 
 -- the symbol of a name that was added to a table has this name in each table that extends it
 pub symbol_named : (old : List (List ℕ)) (name : List ℕ) (symbol : Symbol) → symbol.0 ≡ number_of_name old name
@@ -210,19 +245,24 @@ symbol_named old name symbol is names more =
 -- A part was read from `from` up to `here`, and the items `left` are still to be read. `make` puts what is read as them
 -- into the forest of the part. `now` is the table of names so far, and no more names were added to it than tokens were
 -- taken.
-pub record HasRead (goal : Goal) (depth : ℕ) (old now : List (List ℕ)) (from : Spot) (make : Forest → Forest) (left : List Wanted) (here : Spot) : Type 0 where
+pub record HasRead (goal : Goal) (depth : ℕ) (old now : List (List ℕ)) (from : Spot) (make : Forest → Forest)
+    (left : List Wanted) (here : Spot) : Type 0 where
   pub inner : List Wanted
   pub rule_is : opened goal (next (left_at from)) depth ≡ Some inner
-  pub reads : (rest : Forest) (to : List Mark) → Reads left (left_at here) rest to → Reads inner (left_at from) (make rest) to
+  pub reads : (rest : Forest) (to : List Mark) → Reads left (left_at here) rest to
+      → Reads inner (left_at from) (make rest) to
   pub within : (rest : Forest) → AllWithin (depths rest) → AllWithin (depths (make rest))
-  pub refuses : (items : List Wanted) (to : List Mark) (code : Code) → Refuses (left ++ items) (left_at here) to code → Refuses (Subgoal goal depth ∷ items) (left_at from) to code
-  pub table : (rest : Forest) → fold with_name old (names_before (make rest) []) ≡ fold with_name now (names_before rest [])
+  pub refuses : (items : List Wanted) (to : List Mark) (code : Code) → Refuses (left ++ items) (left_at here) to code
+      → Refuses (Subgoal goal depth ∷ items) (left_at from) to code
+  pub table : (rest : Forest) → fold with_name old (names_before (make rest) [])
+      ≡ fold with_name now (names_before rest [])
   pub goes_on : GoesOn old now
   pub few : length now + length here.rest ≤ length old + length from.rest
   pub shorter : length here.rest ≤ length from.rest
 
 -- nothing of a part that the next token opens was read so far
-pub opens : (goal : Goal) (depth : ℕ) (table : List (List ℕ)) (from : Spot) (inner : List Wanted) → opened goal (next (left_at from)) depth ≡ Some inner
+pub opens : (goal : Goal) (depth : ℕ) (table : List (List ℕ)) (from : Spot) (inner : List Wanted)
+    → opened goal (next (left_at from)) depth ≡ Some inner
     → HasRead goal depth table table from (λ rest. rest) inner from
 opens goal depth table from inner is = record {
   inner = inner;
@@ -242,7 +282,8 @@ inside_alone (Node part inside Empty) = inside
 inside_alone forest = forest
 
 -- the inside of a part that is read alone is read as what the part opens to
-alone_reads : {goal : Goal} {depth : ℕ} {inner : List Wanted} {ts to : List Mark} {rest : Forest} → opened goal (next ts) depth ≡ Some inner
+alone_reads : {goal : Goal} {depth : ℕ} {inner : List Wanted} {ts to : List Mark} {rest : Forest}
+    → opened goal (next ts) depth ≡ Some inner
     → Reads (Subgoal goal depth ∷ []) ts rest to → Reads inner ts (inside_alone rest) to
 alone_reads is (Opened e first Nothing) = rw (same_Some _ _ (sym is ∙ e)) first
 
@@ -263,7 +304,8 @@ alone_names (Node part inside (Leaf mark depth others)) = refl
 alone_names (Node part inside (Node goal first others)) = refl
 
 -- a part that the next token opens is left as a whole where nothing of it was read
-pub left_whole : (goal : Goal) (depth : ℕ) (table : List (List ℕ)) (from : Spot) (inner : List Wanted) → opened goal (next (left_at from)) depth ≡ Some inner
+pub left_whole : (goal : Goal) (depth : ℕ) (table : List (List ℕ)) (from : Spot) (inner : List Wanted)
+    → opened goal (next (left_at from)) depth ≡ Some inner
     → HasRead goal depth table table from inside_alone (Subgoal goal depth ∷ []) from
 left_whole goal depth table from inner is = record {
   inner = inner;
@@ -278,15 +320,18 @@ left_whole goal depth table from inner is = record {
 }
 
 -- a token fits where its lexeme is asked for
-kind_fits : {kind : Lexeme} {token : Lexed} {from to : Spot} → is_asked kind ≡ true → TakesKind kind token from to → fits (asked kind) (token_kind (Token token)) ≡ true
+kind_fits : {kind : Lexeme} {token : Lexed} {from to : Spot} → is_asked kind ≡ true → TakesKind kind token from to
+    → fits (asked kind) (token_kind (Token token)) ≡ true
 kind_fits {kind} {token} wanted takes = rw takes.kind_is (asked_fits kind token.bytes wanted)
 
 -- the next token kind is that of the next token
-pub next_is : {token : Lexed} {from to : Spot} → TakesToken token from to → next (left_at from) ≡ token_kind (Token token)
+pub next_is : {token : Lexed} {from to : Spot} → TakesToken token from to
+    → next (left_at from) ≡ token_kind (Token token)
 next_is takes = ap next (left_of takes)
 
 -- the next token fits where its lexeme is asked for
-pub fits_next : {kind : Lexeme} {token : Lexed} {from to : Spot} → is_asked kind ≡ true → TakesKind kind token from to → fits (asked kind) (next (left_at from)) ≡ true
+pub fits_next : {kind : Lexeme} {token : Lexed} {from to : Spot} → is_asked kind ≡ true → TakesKind kind token from to
+    → fits (asked kind) (next (left_at from)) ≡ true
 fits_next {kind} wanted takes = ap (fits (asked kind)) (next_is takes.takes) ∙ kind_fits wanted takes
 
 -- a name with a spelling of its own fits where it is asked for
@@ -296,39 +341,50 @@ fits_itself fixed.Abs = refl
 fits_itself fixed.StdLib = refl
 
 -- so does a token that is this name
-fixed_fits : {name : FixedName} {token : Lexed} {from to : Spot} → TakesFixed name token from to → fits (fixed_kind name) (token_kind (Token token)) ≡ true
+fixed_fits : {name : FixedName} {token : Lexed} {from to : Spot} → TakesFixed name token from to
+    → fits (fixed_kind name) (token_kind (Token token)) ≡ true
 fixed_fits {name} takes = ap (fits (fixed_kind name)) takes.kind_is ∙ fits_itself name
 
 -- the next token kind is that of such a name
-pub next_fixed : {name : FixedName} {token : Lexed} {from to : Spot} → TakesFixed name token from to → next (left_at from) ≡ fixed_kind name
+pub next_fixed : {name : FixedName} {token : Lexed} {from to : Spot} → TakesFixed name token from to
+    → next (left_at from) ≡ fixed_kind name
 next_fixed takes = next_is takes.takes ∙ takes.kind_is
 
 -- a token that is no name leaves the others as they are
-token_unnamed : {kind : Lexeme} {token : Lexed} {from to : Spot} → TakesKind kind token from to → is_name kind ≡ false → (others : List (List ℕ))
+token_unnamed : {kind : Lexeme} {token : Lexed} {from to : Spot} → TakesKind kind token from to → is_name kind ≡ false
+    → (others : List (List ℕ))
     → name_first (token_kind (Token token)) token.bytes others ≡ others
 token_unnamed {kind} {token} takes is others = rw takes.kind_is (unnamed_first kind token.bytes others is)
 
 -- a token that is a name is put before others
-token_named : {kind : Lexeme} {token : Lexed} {from to : Spot} → TakesKind kind token from to → is_name kind ≡ true → (others : List (List ℕ))
+token_named : {kind : Lexeme} {token : Lexed} {from to : Spot} → TakesKind kind token from to → is_name kind ≡ true
+    → (others : List (List ℕ))
     → name_first (token_kind (Token token)) token.bytes others ≡ token.bytes ∷ others
 token_named {kind} {token} takes is others = rw takes.kind_is (named_first kind token.bytes others is)
 
 -- a name with a spelling of its own is put before others
-fixed_first : (name : FixedName) (bytes : List ℕ) (others : List (List ℕ)) → name_first (fixed_kind name) bytes others ≡ bytes ∷ others
+fixed_first : (name : FixedName) (bytes : List ℕ) (others : List (List ℕ))
+    → name_first (fixed_kind name) bytes others ≡ bytes ∷ others
 fixed_first fixed.Local bytes others = refl
 fixed_first fixed.Abs bytes others = refl
 fixed_first fixed.StdLib bytes others = refl
 
 -- so is a token that is this name
-fixed_named : {name : FixedName} {token : Lexed} {from to : Spot} → TakesFixed name token from to → (others : List (List ℕ))
+fixed_named : {name : FixedName} {token : Lexed} {from to : Spot} → TakesFixed name token from to
+    → (others : List (List ℕ))
     → name_first (token_kind (Token token)) token.bytes others ≡ token.bytes ∷ others
-fixed_named {name} {token} takes others = ap (λ (kind : TokenKind). name_first kind token.bytes others) takes.kind_is ∙ fixed_first name token.bytes others
+fixed_named {name} {token} takes others =
+    ap (λ (kind : TokenKind). name_first kind token.bytes others) takes.kind_is ∙ fixed_first name token.bytes others
 
 -- a token that fits was read, with what it adds to the table
-over_fitting : {goal : Goal} {depth at : ℕ} {old now table : List (List ℕ)} {from here after : Spot} {make : Forest → Forest} {left : List Wanted} {kind : TokenKind} {token : Lexed}
-    → HasRead goal depth old now from make (Terminal kind at ∷ left) here → TakesToken token here after → fits kind (token_kind (Token token)) ≡ true → at ≤ limit
-    → ((others : List (List ℕ)) → fold with_name now (name_first (token_kind (Token token)) token.bytes others) ≡ fold with_name table others)
-    → GoesOn now table → length table ≤ length now + 1 → HasRead goal depth old table from (λ rest. make (Leaf (Token token) at rest)) left after
+over_fitting : {goal : Goal} {depth at : ℕ} {old now table : List (List ℕ)} {from here after : Spot}
+    {make : Forest → Forest} {left : List Wanted} {kind : TokenKind} {token : Lexed}
+    → HasRead goal depth old now from make (Terminal kind at ∷ left) here → TakesToken token here after
+    → fits kind (token_kind (Token token)) ≡ true → at ≤ limit
+    → ((others : List (List ℕ)) → fold with_name now (name_first (token_kind (Token token)) token.bytes others)
+    ≡ fold with_name table others)
+    → GoesOn now table → length table ≤ length now + 1
+    → HasRead goal depth old table from (λ rest. make (Leaf (Token token) at rest)) left after
 over_fitting {at = at} {token = token} so takes fit within is goes_on few = record {
   inner = so.inner;
   rule_is = so.rule_is;
@@ -342,43 +398,61 @@ over_fitting {at = at} {token = token} so takes fit within is goes_on few = reco
 }
 
 -- a token that is no name was read
-pub over_token : {goal : Goal} {depth at : ℕ} {old now : List (List ℕ)} {from here after : Spot} {make : Forest → Forest} {left : List Wanted} {kind : Lexeme} {token : Lexed}
-    → HasRead goal depth old now from make (Terminal (asked kind) at ∷ left) here → TakesKind kind token here after → is_asked kind ≡ true → is_name kind ≡ false → at ≤ limit
+pub over_token : {goal : Goal} {depth at : ℕ} {old now : List (List ℕ)} {from here after : Spot}
+    {make : Forest → Forest} {left : List Wanted} {kind : Lexeme} {token : Lexed}
+    → HasRead goal depth old now from make (Terminal (asked kind) at ∷ left) here → TakesKind kind token here after
+    → is_asked kind ≡ true → is_name kind ≡ false → at ≤ limit
     → HasRead goal depth old now from (λ rest. make (Leaf (Token token) at rest)) left after
 over_token {now = now} so takes wanted no_name within =
-    over_fitting so takes.takes (kind_fits wanted takes) within (λ others. ap (fold with_name now) (token_unnamed takes no_name others)) (goes_on_itself now) (omega arith)
+    over_fitting so takes.takes (kind_fits wanted takes) within
+    (λ others. ap (fold with_name now) (token_unnamed takes no_name others)) (goes_on_itself now) (omega arith)
 
 -- a token that fits and is a name was read and added to the table
-over_named : {goal : Goal} {depth at : ℕ} {old now table : List (List ℕ)} {from here after : Spot} {make : Forest → Forest} {left : List Wanted} {kind : TokenKind} {token : Lexed}
-    → HasRead goal depth old now from make (Terminal kind at ∷ left) here → TakesToken token here after → fits kind (token_kind (Token token)) ≡ true
-    → ((others : List (List ℕ)) → name_first (token_kind (Token token)) token.bytes others ≡ token.bytes ∷ others) → at ≤ limit → table ≡ with_name now token.bytes
+over_named : {goal : Goal} {depth at : ℕ} {old now table : List (List ℕ)} {from here after : Spot}
+    {make : Forest → Forest} {left : List Wanted} {kind : TokenKind} {token : Lexed}
+    → HasRead goal depth old now from make (Terminal kind at ∷ left) here → TakesToken token here after
+    → fits kind (token_kind (Token token)) ≡ true
+    → ((others : List (List ℕ)) → name_first (token_kind (Token token)) token.bytes others ≡ token.bytes ∷ others)
+    → at ≤ limit → table ≡ with_name now token.bytes
     → HasRead goal depth old table from (λ rest. make (Leaf (Token token) at rest)) left after
 over_named {now = now} {token = token} so takes fit named within is =
-    over_fitting so takes fit within (λ others. ap (fold with_name now) (named others) ∙ ap (λ (names : List (List ℕ)). fold with_name names others) (sym is))
+    over_fitting so takes fit within
+    (λ others. ap (fold with_name now) (named others)
+    ∙ ap (λ (names : List (List ℕ)). fold with_name names others) (sym is))
     (rw is (goes_on_all now (token.bytes ∷ []))) (omega (arith, ap length is, few_more now (token.bytes ∷ [])))
 
 -- a name was read and added to the table
-pub over_name : {goal : Goal} {depth at : ℕ} {old now table : List (List ℕ)} {from here after : Spot} {make : Forest → Forest} {left : List Wanted} {kind : Lexeme} {token : Lexed}
-    → HasRead goal depth old now from make (Terminal (asked kind) at ∷ left) here → TakesKind kind token here after → is_asked kind ≡ true → is_name kind ≡ true → at ≤ limit
-    → table ≡ with_name now token.bytes → HasRead goal depth old table from (λ rest. make (Leaf (Token token) at rest)) left after
-over_name so takes wanted named within is = over_named so takes.takes (kind_fits wanted takes) (token_named takes named) within is
+pub over_name : {goal : Goal} {depth at : ℕ} {old now table : List (List ℕ)} {from here after : Spot}
+    {make : Forest → Forest} {left : List Wanted} {kind : Lexeme} {token : Lexed}
+    → HasRead goal depth old now from make (Terminal (asked kind) at ∷ left) here → TakesKind kind token here after
+    → is_asked kind ≡ true → is_name kind ≡ true → at ≤ limit
+    → table ≡ with_name now token.bytes
+    → HasRead goal depth old table from (λ rest. make (Leaf (Token token) at rest)) left after
+over_name so takes wanted named within is =
+    over_named so takes.takes (kind_fits wanted takes) (token_named takes named) within is
 
 -- a name with a spelling of its own was read and added to the table
-pub over_fixed : {goal : Goal} {depth at : ℕ} {old now table : List (List ℕ)} {from here after : Spot} {make : Forest → Forest} {left : List Wanted} {name : FixedName} {token : Lexed}
-    → HasRead goal depth old now from make (Terminal (fixed_kind name) at ∷ left) here → TakesFixed name token here after → at ≤ limit → table ≡ with_name now token.bytes
+pub over_fixed : {goal : Goal} {depth at : ℕ} {old now table : List (List ℕ)} {from here after : Spot}
+    {make : Forest → Forest} {left : List Wanted} {name : FixedName} {token : Lexed}
+    → HasRead goal depth old now from make (Terminal (fixed_kind name) at ∷ left) here
+    → TakesFixed name token here after → at ≤ limit → table ≡ with_name now token.bytes
     → HasRead goal depth old table from (λ rest. make (Leaf (Token token) at rest)) left after
 over_fixed so takes within is = over_named so takes.takes (fixed_fits takes) (fixed_named takes) within is
 
 -- a part that was found was read
-pub over_part : {goal part : Goal} {depth at : ℕ} {old now new : List (List ℕ)} {from here after : Spot} {make : Forest → Forest} {left : List Wanted} {is_read : List (List ℕ) → Forest → Type 0}
-    → HasRead goal depth old now from make (Subgoal part at ∷ left) here → (found : FoundAs part at now new here after is_read)
+pub over_part : {goal part : Goal} {depth at : ℕ} {old now new : List (List ℕ)} {from here after : Spot}
+    {make : Forest → Forest} {left : List Wanted} {is_read : List (List ℕ) → Forest → Type 0}
+    → HasRead goal depth old now from make (Subgoal part at ∷ left) here
+    → (found : FoundAs part at now new here after is_read)
     → HasRead goal depth old new from (λ rest. make (Node part found.inside rest)) left after
 over_part {part = part} {now = now} {left = left} so found = record {
   inner = so.inner;
   rule_is = so.rule_is;
   reads = λ rest to reads. so.reads (Node part found.inside rest) to (Opened found.rule_is found.reads reads);
-  within = λ rest others. so.within (Node part found.inside rest) (within_both (depths found.inside) (depths rest) found.within others);
-  refuses = λ items to code refused. so.refuses items to code (Open found.rule_is (refuses_after found.reads found.within refused));
+  within = λ rest others. so.within (Node part found.inside rest)
+      (within_both (depths found.inside) (depths rest) found.within others);
+  refuses = λ items to code refused.
+      so.refuses items to code (Open found.rule_is (refuses_after found.reads found.within refused));
   table = λ rest. so.table (Node part found.inside rest)
       ∙ (table_of_both now found.inside (names_before rest [])
       ∙ ap (λ (names : List (List ℕ)). fold with_name names (names_before rest [])) (sym found.table));
@@ -388,14 +462,18 @@ over_part {part = part} {now = now} {left = left} so found = record {
 }
 
 -- what was read of the last part was read of the whole, with the same items left
-pub into_last : {goal last : Goal} {depth at : ℕ} {old now new : List (List ℕ)} {from here after : Spot} {make make_last : Forest → Forest} {left : List Wanted}
-    → HasRead goal depth old now from make (Subgoal last at ∷ []) here → HasRead last at now new here make_last left after
+pub into_last : {goal last : Goal} {depth at : ℕ} {old now new : List (List ℕ)} {from here after : Spot}
+    {make make_last : Forest → Forest} {left : List Wanted}
+    → HasRead goal depth old now from make (Subgoal last at ∷ []) here
+    → HasRead last at now new here make_last left after
     → HasRead goal depth old new from (λ rest. make (Node last (make_last rest) Empty)) left after
 into_last {last = last} {make_last = make_last} so inside = record {
   inner = so.inner;
   rule_is = so.rule_is;
-  reads = λ rest to reads. so.reads (Node last (make_last rest) Empty) to (Opened inside.rule_is (inside.reads rest to reads) Nothing);
-  within = λ rest others. so.within (Node last (make_last rest) Empty) (within_both (depths (make_last rest)) [] (inside.within rest others) tt);
+  reads = λ rest to reads. so.reads (Node last (make_last rest) Empty) to
+      (Opened inside.rule_is (inside.reads rest to reads) Nothing);
+  within = λ rest others. so.within (Node last (make_last rest) Empty)
+      (within_both (depths (make_last rest)) [] (inside.within rest others) tt);
   refuses = λ items to code refused. so.refuses items to code (inside.refuses items to code refused);
   table = λ rest. so.table (Node last (make_last rest) Empty) ∙ inside.table rest;
   goes_on = goes_on_further so.goes_on inside.goes_on;
@@ -404,8 +482,10 @@ into_last {last = last} {make_last = make_last} so inside = record {
 }
 
 -- where nothing is left, the part is found
-pub all_read : {goal : Goal} {depth : ℕ} {old now : List (List ℕ)} {from here : Spot} {make : Forest → Forest} {is_read : List (List ℕ) → Forest → Type 0}
-    → HasRead goal depth old now from make [] here → ((names : List (List ℕ)) → GoesOn now names → is_read names (make Empty))
+pub all_read : {goal : Goal} {depth : ℕ} {old now : List (List ℕ)} {from here : Spot} {make : Forest → Forest}
+    {is_read : List (List ℕ) → Forest → Type 0}
+    → HasRead goal depth old now from make [] here
+    → ((names : List (List ℕ)) → GoesOn now names → is_read names (make Empty))
     → FoundAs goal depth old now from here is_read
 all_read {here = here} {make = make} so is = record {
   inside = make Empty;
@@ -418,8 +498,10 @@ all_read {here = here} {make = make} so is = record {
 }
 
 -- what refuses the next items together refuses the part
-pub refused_row : {goal : Goal} {depth : ℕ} {old now : List (List ℕ)} {from here : Spot} {make : Forest → Forest} (wanted left : List Wanted)
-    → HasRead goal depth old now from make (wanted ++ left) here → (error : SourceError) → AreRefused wanted here error → IsRefused (Subgoal goal depth) from error
+pub refused_row : {goal : Goal} {depth : ℕ} {old now : List (List ℕ)} {from here : Spot} {make : Forest → Forest}
+    (wanted left : List Wanted)
+    → HasRead goal depth old now from make (wanted ++ left) here → (error : SourceError) → AreRefused wanted here error
+    → IsRefused (Subgoal goal depth) from error
 refused_row wanted left so (Refused refusal) refused = λ items.
     let found = refused (left ++ items) in
     record {
@@ -432,12 +514,15 @@ refused_row wanted left so (Refused refusal) refused = λ items.
 refused_row wanted left so Memory refused = λ items. tt
 
 -- what refuses the next item refuses the part
-pub refused_inside : {goal : Goal} {depth : ℕ} {old now : List (List ℕ)} {from here : Spot} {make : Forest → Forest} {item : Wanted} {left : List Wanted}
-    → HasRead goal depth old now from make (item ∷ left) here → (error : SourceError) → IsRefused item here error → IsRefused (Subgoal goal depth) from error
+pub refused_inside : {goal : Goal} {depth : ℕ} {old now : List (List ℕ)} {from here : Spot} {make : Forest → Forest}
+    {item : Wanted} {left : List Wanted}
+    → HasRead goal depth old now from make (item ∷ left) here → (error : SourceError) → IsRefused item here error
+    → IsRefused (Subgoal goal depth) from error
 refused_inside {item = item} {left} so error refused = refused_row (item ∷ []) left so error refused
 
 -- after a token, what refuses the next items refuses them with the token before them
-pub refused_past : {kind : Lexeme} {token : Lexed} {from here : Spot} {at : ℕ} (wanted : List Wanted) → TakesKind kind token from here → is_asked kind ≡ true → at ≤ limit → (error : SourceError)
+pub refused_past : {kind : Lexeme} {token : Lexed} {from here : Spot} {at : ℕ} (wanted : List Wanted)
+    → TakesKind kind token from here → is_asked kind ≡ true → at ≤ limit → (error : SourceError)
     → AreRefused wanted here error → AreRefused (Terminal (asked kind) at ∷ wanted) from error
 refused_past wanted takes asks within (Refused refusal) refused = λ items.
     let found = refused items in
@@ -451,8 +536,10 @@ refused_past wanted takes asks within (Refused refusal) refused = λ items.
 refused_past wanted takes asks within Memory refused = λ items. tt
 
 -- after a part that was found, what refuses the next items refuses them with the part before them
-pub refused_past_part : {part : Goal} {at : ℕ} {old new : List (List ℕ)} {from here : Spot} {is_read : List (List ℕ) → Forest → Type 0} (wanted : List Wanted)
-    → FoundAs part at old new from here is_read → (error : SourceError) → AreRefused wanted here error → AreRefused (Subgoal part at ∷ wanted) from error
+pub refused_past_part : {part : Goal} {at : ℕ} {old new : List (List ℕ)} {from here : Spot}
+    {is_read : List (List ℕ) → Forest → Type 0} (wanted : List Wanted)
+    → FoundAs part at old new from here is_read → (error : SourceError) → AreRefused wanted here error
+    → AreRefused (Subgoal part at ∷ wanted) from error
 refused_past_part wanted found_part (Refused refusal) refused = λ items.
     let found = refused items in
     record {
@@ -465,13 +552,22 @@ refused_past_part wanted found_part (Refused refusal) refused = λ items.
 refused_past_part wanted found_part Memory refused = λ items. tt
 
 -- where the whole part is read, what refuses the item after it refuses the part together with this item
-pub refused_after : {goal part : Goal} {depth at : ℕ} {old now new : List (List ℕ)} {from here after : Spot} {make : Forest → Forest} {is_read : List (List ℕ) → Forest → Type 0} (second : Wanted)
-    → HasRead goal depth old now from make (Subgoal part at ∷ []) here → FoundAs part at now new here after is_read → (error : SourceError) → IsRefused second after error
+pub refused_after : {goal part : Goal} {depth at : ℕ} {old now new : List (List ℕ)} {from here after : Spot}
+    {make : Forest → Forest} {is_read : List (List ℕ) → Forest → Type 0} (second : Wanted)
+    → HasRead goal depth old now from make (Subgoal part at ∷ []) here → FoundAs part at now new here after is_read
+    → (error : SourceError) → IsRefused second after error
     → AreRefused (Subgoal goal depth ∷ second ∷ []) from error
 refused_after second so found (Refused refusal) refused = λ items.
     let over = over_part so found in
     let at = refused items in
-    record { mark = at.mark; after = at.after; code = at.code; refuses = over.refuses (second ∷ items) (at.mark ∷ at.after) at.code at.refuses; refusal_is = at.refusal_is }
+    record {
+      mark = at.mark;
+      after = at.after;
+      code = at.code;
+      refuses =
+          over.refuses (second ∷ items) (at.mark ∷ at.after) at.code at.refuses;
+      refusal_is = at.refusal_is;
+    }
 refused_after second so found Memory refused = λ items. tt
 
 -- the next token at a spot, and its place; the end of the source counts as one
@@ -484,7 +580,13 @@ record NextMark (spot : Spot) : Type 0 where
 -- each spot has a next token, by cases of whether a token is left
 next_by : (rest : List Lexed) (end : Place) → NextMark (record { rest = rest; end = end })
 next_by [] end = record { mark = TextEnd end; after = []; is = refl; place_is = refl }
-next_by (token ∷ others) end = record { mark = Token token; after = map Token others ++ TextEnd end ∷ []; is = refl; place_is = refl }
+next_by (token ∷ others) end = record {
+  mark = Token token;
+  after = map Token others ++ TextEnd end ∷ [];
+  is =
+      refl;
+  place_is = refl;
+}
 
 -- so each spot has a next token
 next_mark : (spot : Spot) → NextMark spot
@@ -492,7 +594,8 @@ next_mark spot = next_by spot.rest spot.end
 
 -- items that are refused at the next token of a spot are refused with the place of the spot
 pub refused_here : {items : List Wanted} (spot : Spot) (code : Code)
-    → ((mark : Mark) (after : List Mark) → left_at spot ≡ mark ∷ after → token_kind mark ≡ next (left_at spot) → Refuses items (mark ∷ after) (mark ∷ after) code)
+    → ((mark : Mark) (after : List Mark) → left_at spot ≡ mark ∷ after → token_kind mark ≡ next (left_at spot)
+    → Refuses items (mark ∷ after) (mark ∷ after) code)
     → RefusedAt items (left_at spot) (refusal_at code spot)
 refused_here {items} spot code refuses =
     let here = next_mark spot in
@@ -500,76 +603,112 @@ refused_here {items} spot code refuses =
       mark = here.mark;
       after = here.after;
       code = code;
-      refuses = subst (λ (ts : List Mark). Refuses items ts (here.mark ∷ here.after) code) (sym here.is) (refuses here.mark here.after here.is (sym (ap next here.is)));
+      refuses = subst (λ (ts : List Mark). Refuses items ts (here.mark ∷ here.after) code) (sym here.is)
+          (refuses here.mark here.after here.is (sym (ap next here.is)));
       refusal_is = ap (λ (place : Place). refusal_of (record { code = code; place = place })) (sym here.place_is);
     }
 
 -- a part that the next token does not open is refused there
-pub refused_shut : (goal : Goal) (depth : ℕ) (spot : Spot) → opened goal (next (left_at spot)) depth ≡ None → IsRefused (Subgoal goal depth) spot (Refused (wrong_at spot))
+pub refused_shut : (goal : Goal) (depth : ℕ) (spot : Spot) → opened goal (next (left_at spot)) depth ≡ None
+    → IsRefused (Subgoal goal depth) spot (Refused (wrong_at spot))
 refused_shut goal depth spot shut = λ items.
     refused_here spot (wrong_code (next (left_at spot))) (λ mark after is same.
     Shut (ap (λ (kind : TokenKind). opened goal kind depth) same ∙ shut) (ap wrong_code (sym same)))
 
 -- a token that fits and is too deeply nested is refused
-pub deep_refused : (kind : TokenKind) (depth : ℕ) (spot : Spot) (error : SourceError) → error ≡ Refused (refusal_at S2 spot) → fits kind (next (left_at spot)) ≡ true → limit < depth
+pub deep_refused : (kind : TokenKind) (depth : ℕ) (spot : Spot) (error : SourceError)
+    → error ≡ Refused (refusal_at S2 spot) → fits kind (next (left_at spot)) ≡ true → limit < depth
     → IsRefused (Terminal kind depth) spot error
-deep_refused kind depth spot error is fit deep = rw is (λ items. refused_here spot S2 (λ mark after is_left same. Below (ap (fits kind) same ∙ fit) deep))
+deep_refused kind depth spot error is fit deep =
+    rw is (λ items. refused_here spot S2 (λ mark after is_left same. Below (ap (fits kind) same ∙ fit) deep))
 
 -- a refusal of a token that does not fit is also one of a part that it does not open, with other items after it
-other_by : {kind : TokenKind} {at : ℕ} {items others : List Wanted} {goal : Goal} {depth : ℕ} {ts rest : List Mark} {code : Code} → fits kind (next ts) ≡ false
-    → opened goal (next ts) depth ≡ None → Refuses (Terminal kind at ∷ items) ts rest code → Refuses (Subgoal goal depth ∷ others) ts rest code
+other_by : {kind : TokenKind} {at : ℕ} {items others : List Wanted} {goal : Goal} {depth : ℕ} {ts rest : List Mark}
+    {code : Code} → fits kind (next ts) ≡ false
+    → opened goal (next ts) depth ≡ None → Refuses (Terminal kind at ∷ items) ts rest code
+    → Refuses (Subgoal goal depth ∷ others) ts rest code
 other_by differs shut (Other e is) = Shut shut is
 other_by differs shut (Below e deep) = absurd cc
 other_by differs shut (Past e within refused) = absurd cc
 other_by differs shut (Cut is) = Cut is
 
 -- what refuses a token that does not fit refuses a part that it does not open
-pub refused_other : (kind : TokenKind) (at : ℕ) (goal : Goal) (depth : ℕ) (spot : Spot) (error : SourceError) → fits kind (next (left_at spot)) ≡ false
-    → opened goal (next (left_at spot)) depth ≡ None → IsRefused (Terminal kind at) spot error → IsRefused (Subgoal goal depth) spot error
+pub refused_other : (kind : TokenKind) (at : ℕ) (goal : Goal) (depth : ℕ) (spot : Spot) (error : SourceError)
+    → fits kind (next (left_at spot)) ≡ false
+    → opened goal (next (left_at spot)) depth ≡ None → IsRefused (Terminal kind at) spot error
+    → IsRefused (Subgoal goal depth) spot error
 refused_other kind at goal depth spot (Refused refusal) differs shut refused = λ items.
     let found = refused items in
-    record { mark = found.mark; after = found.after; code = found.code; refuses = other_by differs shut found.refuses; refusal_is = found.refusal_is }
+    record {
+      mark = found.mark;
+      after = found.after;
+      code = found.code;
+      refuses =
+          other_by differs shut found.refuses;
+      refusal_is = found.refusal_is;
+    }
 refused_other kind at goal depth spot Memory differs shut refused = λ items. tt
 
 -- the next lemma, by cases of whether the next token fits
-by_fit : (fit : Bool) (kind : TokenKind) (at : ℕ) (goal : Goal) (depth : ℕ) {inner : List Wanted} (spot : Spot) (error : SourceError) → fits kind (next (left_at spot)) ≡ fit
-    → (fits kind (next (left_at spot)) ≡ true → opened goal (next (left_at spot)) depth ≡ Some (Terminal kind at ∷ inner))
+by_fit : (fit : Bool) (kind : TokenKind) (at : ℕ) (goal : Goal) (depth : ℕ) {inner : List Wanted} (spot : Spot)
+    (error : SourceError) → fits kind (next (left_at spot)) ≡ fit
+    → (fits kind (next (left_at spot)) ≡ true
+    → opened goal (next (left_at spot)) depth ≡ Some (Terminal kind at ∷ inner))
     → (fits kind (next (left_at spot)) ≡ false → opened goal (next (left_at spot)) depth ≡ None)
     → IsRefused (Terminal kind at) spot error → IsRefused (Subgoal goal depth) spot error
-by_fit true kind at goal depth spot error e is_opened is_shut refused = refused_inside (opens goal depth [] spot _ (is_opened e)) error refused
-by_fit false kind at goal depth spot error e is_opened is_shut refused = refused_other kind at goal depth spot error e (is_shut e) refused
+by_fit true kind at goal depth spot error e is_opened is_shut refused =
+    refused_inside (opens goal depth [] spot _ (is_opened e)) error refused
+by_fit false kind at goal depth spot error e is_opened is_shut refused =
+    refused_other kind at goal depth spot error e (is_shut e) refused
 
 -- if a part begins with a token of one kind and with nothing else, what refuses this token refuses the part
-pub refused_first_token : (kind : TokenKind) (at : ℕ) (goal : Goal) (depth : ℕ) {inner : List Wanted} (spot : Spot) (error : SourceError)
-    → (fits kind (next (left_at spot)) ≡ true → opened goal (next (left_at spot)) depth ≡ Some (Terminal kind at ∷ inner))
+pub refused_first_token : (kind : TokenKind) (at : ℕ) (goal : Goal) (depth : ℕ) {inner : List Wanted} (spot : Spot)
+    (error : SourceError)
+    → (fits kind (next (left_at spot)) ≡ true
+    → opened goal (next (left_at spot)) depth ≡ Some (Terminal kind at ∷ inner))
     → (fits kind (next (left_at spot)) ≡ false → opened goal (next (left_at spot)) depth ≡ None)
     → IsRefused (Terminal kind at) spot error → IsRefused (Subgoal goal depth) spot error
 refused_first_token kind at goal depth spot error is_opened is_shut refused =
     by_fit (fits kind (next (left_at spot))) kind at goal depth spot error refl is_opened is_shut refused
 
 -- a refusal of a part that is not opened is also one of another such part, with other items after it
-shut_by : {part : Goal} {at : ℕ} {items others : List Wanted} {goal : Goal} {depth : ℕ} {ts rest : List Mark} {code : Code} → opened part (next ts) at ≡ None
-    → opened goal (next ts) depth ≡ None → Refuses (Subgoal part at ∷ items) ts rest code → Refuses (Subgoal goal depth ∷ others) ts rest code
+shut_by : {part : Goal} {at : ℕ} {items others : List Wanted} {goal : Goal} {depth : ℕ} {ts rest : List Mark}
+    {code : Code} → opened part (next ts) at ≡ None
+    → opened goal (next ts) depth ≡ None → Refuses (Subgoal part at ∷ items) ts rest code
+    → Refuses (Subgoal goal depth ∷ others) ts rest code
 shut_by closed shut (Shut e is) = Shut shut is
 shut_by closed shut (Open e refused) = absurd cc
 shut_by closed shut (Cut is) = Cut is
 
 -- what refuses a part that is not opened refuses another one that is not
-pub refused_alike : (part : Goal) (at : ℕ) (goal : Goal) (depth : ℕ) (spot : Spot) (error : SourceError) → opened part (next (left_at spot)) at ≡ None
-    → opened goal (next (left_at spot)) depth ≡ None → IsRefused (Subgoal part at) spot error → IsRefused (Subgoal goal depth) spot error
+pub refused_alike : (part : Goal) (at : ℕ) (goal : Goal) (depth : ℕ) (spot : Spot) (error : SourceError)
+    → opened part (next (left_at spot)) at ≡ None
+    → opened goal (next (left_at spot)) depth ≡ None → IsRefused (Subgoal part at) spot error
+    → IsRefused (Subgoal goal depth) spot error
 refused_alike part at goal depth spot (Refused refusal) closed shut refused = λ items.
     let found = refused items in
-    record { mark = found.mark; after = found.after; code = found.code; refuses = shut_by closed shut found.refuses; refusal_is = found.refusal_is }
+    record {
+      mark = found.mark;
+      after = found.after;
+      code = found.code;
+      refuses =
+          shut_by closed shut found.refuses;
+      refusal_is = found.refusal_is;
+    }
 refused_alike part at goal depth spot Memory closed shut refused = λ items. tt
 
 -- `symbol_named`, with a variable for the table
-pub symbol_kept : (old : List (List ℕ)) {table : List (List ℕ)} {name : List ℕ} (symbol : Symbol) → symbol.0 ≡ number_of_name old name → table ≡ with_name old name
+pub symbol_kept : (old : List (List ℕ)) {table : List (List ℕ)} {name : List ℕ} (symbol : Symbol)
+    → symbol.0 ≡ number_of_name old name → table ≡ with_name old name
     → (names : List (List ℕ)) → GoesOn table names → name_of names symbol ≡ name
-symbol_kept old {name = name} symbol number is names more = symbol_named old name symbol number names (subst (λ (t : List (List ℕ)). GoesOn t names) is more)
+symbol_kept old {name = name} symbol number is names more =
+    symbol_named old name symbol number names (subst (λ (t : List (List ℕ)). GoesOn t names) is more)
 
 -- a part that was found has each property that follows from how it was found
-pub found_weaker : {goal : Goal} {depth : ℕ} {old new : List (List ℕ)} {from to : Spot} {is_read is_too : List (List ℕ) → Forest → Type 0} → (found : FoundAs goal depth old new from to is_read)
-    → ((names : List (List ℕ)) → GoesOn new names → is_read names found.inside → is_too names found.inside) → FoundAs goal depth old new from to is_too
+pub found_weaker : {goal : Goal} {depth : ℕ} {old new : List (List ℕ)} {from to : Spot}
+    {is_read is_too : List (List ℕ) → Forest → Type 0} → (found : FoundAs goal depth old new from to is_read)
+    → ((names : List (List ℕ)) → GoesOn new names → is_read names found.inside → is_too names found.inside)
+    → FoundAs goal depth old new from to is_too
 found_weaker found so = record {
   inside = found.inside;
   inner = found.inner;

@@ -58,7 +58,8 @@ begins_none kind none =
 
 -- A source was read up to here, with these items left, where its first token may begin a program.
 abbrev pub ProgramRead : List (List ℕ) → List (List ℕ) → Spot → (Forest → Forest) → List Wanted → Spot → Type 0
-ProgramRead old now from make left here = MayHaveRead (begins Program (next (left_at from))) (One Program) 0 old now from make left here
+ProgramRead old now from make left here =
+    MayHaveRead (begins Program (next (left_at from))) (One Program) 0 old now from make left here
 
 -- what is wanted after the declarations
 abbrev pub after_declarations : List Wanted
@@ -66,7 +67,8 @@ after_declarations = Subgoal (One Block) 0 ∷ Terminal End 0 ∷ []
 
 -- a source begins with the lines before its declarations
 pub program_begins : (table : List (List ℕ)) (from : Spot)
-    → ProgramRead table table from (λ rest. rest) (Subgoal (Optional Module) 0 ∷ Subgoal (Optional Import) 0 ∷ Subgoal (Repeated Decl) 0 ∷ after_declarations) from
+    → ProgramRead table table from (λ rest. rest)
+    (Subgoal (Optional Module) 0 ∷ Subgoal (Optional Import) 0 ∷ Subgoal (Repeated Decl) 0 ∷ after_declarations) from
 program_begins table from = may_open (One Program) 0 table from _ (λ begun. part_opened Program _ 0 refl refl begun)
 
 -- where no program may begin, the `module` line is left out
@@ -82,26 +84,34 @@ decls_left_out : (kind : TokenKind) → begins Program kind ≡ false → opened
 decls_left_out kind none = repeated_ends Decl kind 0 (begins_none kind none).decl
 
 -- the optional `module` line was read
-pub over_heading : {old now new : List (List ℕ)} {from here after : Spot} {make : Forest → Forest} {left : List Wanted} {is_read : List (List ℕ) → Forest → Type 0}
-    → ProgramRead old now from make (Subgoal (Optional Module) 0 ∷ left) here → (found : FoundAs (Optional Module) 0 now new here after is_read)
+pub over_heading : {old now new : List (List ℕ)} {from here after : Spot} {make : Forest → Forest} {left : List Wanted}
+    {is_read : List (List ℕ) → Forest → Type 0}
+    → ProgramRead old now from make (Subgoal (Optional Module) 0 ∷ left) here
+    → (found : FoundAs (Optional Module) 0 now new here after is_read)
     → ProgramRead old new from (λ rest. make (Node (Optional Module) found.inside rest)) left after
 over_heading so found = over_left_out so (heading_left_out _) found
 
 -- the optional `import` line was read
-pub over_import : {old now new : List (List ℕ)} {from here after : Spot} {make : Forest → Forest} {left : List Wanted} {is_read : List (List ℕ) → Forest → Type 0}
-    → ProgramRead old now from make (Subgoal (Optional Import) 0 ∷ left) here → (found : FoundAs (Optional Import) 0 now new here after is_read)
+pub over_import : {old now new : List (List ℕ)} {from here after : Spot} {make : Forest → Forest} {left : List Wanted}
+    {is_read : List (List ℕ) → Forest → Type 0}
+    → ProgramRead old now from make (Subgoal (Optional Import) 0 ∷ left) here
+    → (found : FoundAs (Optional Import) 0 now new here after is_read)
     → ProgramRead old new from (λ rest. make (Node (Optional Import) found.inside rest)) left after
 over_import so found = over_left_out so (import_left_out _) found
 
 -- the declarations were read
-pub over_declarations : {old now new : List (List ℕ)} {from here after : Spot} {make : Forest → Forest} {left : List Wanted} {is_read : List (List ℕ) → Forest → Type 0}
-    → ProgramRead old now from make (Subgoal (Repeated Decl) 0 ∷ left) here → (found : FoundAs (Repeated Decl) 0 now new here after is_read)
+pub over_declarations : {old now new : List (List ℕ)} {from here after : Spot} {make : Forest → Forest}
+    {left : List Wanted} {is_read : List (List ℕ) → Forest → Type 0}
+    → ProgramRead old now from make (Subgoal (Repeated Decl) 0 ∷ left) here
+    → (found : FoundAs (Repeated Decl) 0 now new here after is_read)
     → ProgramRead old new from (λ rest. make (Node (Repeated Decl) found.inside rest)) left after
 over_declarations so found = over_left_out so (decls_left_out _) found
 
 -- the main block, which is not optional, was read
-pub over_block : {old now new : List (List ℕ)} {from here after : Spot} {make : Forest → Forest} {left : List Wanted} {is_read : List (List ℕ) → Forest → Type 0}
-    → ProgramRead old now from make (Subgoal (One Block) 0 ∷ left) here → (found : FoundAs (One Block) 0 now new here after is_read)
+pub over_block : {old now new : List (List ℕ)} {from here after : Spot} {make : Forest → Forest} {left : List Wanted}
+    {is_read : List (List ℕ) → Forest → Type 0}
+    → ProgramRead old now from make (Subgoal (One Block) 0 ∷ left) here
+    → (found : FoundAs (One Block) 0 now new here after is_read)
     → HasRead (One Program) 0 old new from (λ rest. make (Node (One Block) found.inside rest)) left after
 over_block so found =
     over_part (has_read so (λ none same.
@@ -111,33 +121,45 @@ over_block so found =
     cc)) found
 
 -- a source is refused where its `module` line is
-pub heading_refused : {old now : List (List ℕ)} {from here : Spot} {make : Forest → Forest} {left : List Wanted} (error : SourceError)
-    → ProgramRead old now from make (Subgoal (Optional Module) 0 ∷ left) here → IsRefused (Subgoal (Optional Module) 0) here error
+pub heading_refused : {old now : List (List ℕ)} {from here : Spot} {make : Forest → Forest} {left : List Wanted}
+    (error : SourceError)
+    → ProgramRead old now from make (Subgoal (Optional Module) 0 ∷ left) here
+    → IsRefused (Subgoal (Optional Module) 0) here error
     → IsRefused (Subgoal (One Program) 0) from error
 heading_refused error so refused = refused_left_out so (heading_left_out _) error refused
 
 -- a source is refused where its `import` line is
-pub import_refused : {old now : List (List ℕ)} {from here : Spot} {make : Forest → Forest} {left : List Wanted} (error : SourceError)
-    → ProgramRead old now from make (Subgoal (Optional Import) 0 ∷ left) here → IsRefused (Subgoal (Optional Import) 0) here error
+pub import_refused : {old now : List (List ℕ)} {from here : Spot} {make : Forest → Forest} {left : List Wanted}
+    (error : SourceError)
+    → ProgramRead old now from make (Subgoal (Optional Import) 0 ∷ left) here
+    → IsRefused (Subgoal (Optional Import) 0) here error
     → IsRefused (Subgoal (One Program) 0) from error
 import_refused error so refused = refused_left_out so (import_left_out _) error refused
 
 -- where no program may begin, what refuses the main block refuses the source
-block_alike : (from : Spot) (error : SourceError) → begins Program (next (left_at from)) ≡ false → IsRefused (Subgoal (One Block) 0) from error → IsRefused (Subgoal (One Program) 0) from error
-block_alike from error none refused = refused_alike (One Block) 0 (One Program) 0 from error (part_shut Block _ 0 (begins_none _ none).block) (part_shut Program _ 0 none) refused
+block_alike : (from : Spot) (error : SourceError) → begins Program (next (left_at from)) ≡ false
+    → IsRefused (Subgoal (One Block) 0) from error → IsRefused (Subgoal (One Program) 0) from error
+block_alike from error none refused =
+    refused_alike (One Block) 0 (One Program) 0 from error (part_shut Block _ 0 (begins_none _ none).block)
+    (part_shut Program _ 0 none) refused
 
 -- a source is refused where its declarations with the main block are
-pub declarations_refused : {old now : List (List ℕ)} {from here : Spot} {make : Forest → Forest} {left : List Wanted} (error : SourceError)
-    → ProgramRead old now from make (Subgoal (Repeated Decl) 0 ∷ Subgoal (One Block) 0 ∷ left) here → AreRefused (Subgoal (Repeated Decl) 0 ∷ Subgoal (One Block) 0 ∷ []) here error
+pub declarations_refused : {old now : List (List ℕ)} {from here : Spot} {make : Forest → Forest} {left : List Wanted}
+    (error : SourceError)
+    → ProgramRead old now from make (Subgoal (Repeated Decl) 0 ∷ Subgoal (One Block) 0 ∷ left) here
+    → AreRefused (Subgoal (Repeated Decl) 0 ∷ Subgoal (One Block) 0 ∷ []) here error
     → IsRefused (Subgoal (One Program) 0) from error
-declarations_refused {from = from} error so refused = refused_both_either_way so (decls_left_out _) error refused (block_alike from error)
+declarations_refused {from = from} error so refused =
+    refused_both_either_way so (decls_left_out _) error refused (block_alike from error)
 
 -- a source is refused where its main block is
-pub block_refused : {old now : List (List ℕ)} {from here : Spot} {make : Forest → Forest} {left : List Wanted} (error : SourceError)
+pub block_refused : {old now : List (List ℕ)} {from here : Spot} {make : Forest → Forest} {left : List Wanted}
+    (error : SourceError)
     → ProgramRead old now from make (Subgoal (One Block) 0 ∷ left) here → IsRefused (Subgoal (One Block) 0) here error
     → IsRefused (Subgoal (One Program) 0) from error
 block_refused {from = from} error so refused =
-    refused_either_way so error refused (λ none same. block_alike from error none (refused_there (Subgoal (One Block) 0) _ from error same refused))
+    refused_either_way so error refused
+    (λ none same. block_alike from error none (refused_there (Subgoal (One Block) 0) _ from error same refused))
 
 -- where a program is refused, the parser fails with this refusal
 stops_with : (list : TokenList) (refusal : Refusal) → RefusedAt a_program (marks list) refusal → StopsWith list refusal
@@ -149,17 +171,21 @@ stops_with list refusal at =
       mark = stop.mark;
       code = at.code;
       stops = stop.stops;
-      refusal_is = at.refusal_is ∙ ap (λ (mark : Mark). refusal_of (record { code = at.code; place = place_of_mark mark })) same;
+      refusal_is = at.refusal_is ∙ ap
+          (λ (mark : Mark). refusal_of (record { code = at.code; place = place_of_mark mark })) same;
     }
 
 -- where a program is refused with an error, the error has its cause
-text_stops : (list : TokenList) (error : SourceError) → IsRefused (Subgoal (One Program) 0) (whole list) error → RefusesText error list
+text_stops : (list : TokenList) (error : SourceError) → IsRefused (Subgoal (One Program) 0) (whole list) error
+    → RefusesText error list
 text_stops list (Refused refusal) refused = stops_with list refusal (refused [])
 text_stops list Memory refused = tt
 
 -- the same, with a variable for the first spot
-pub stops_from : {list : TokenList} {from : Spot} (error : SourceError) → from ≡ whole list → IsRefused (Subgoal (One Program) 0) from error → RefusesText error list
-stops_from {list} error is refused = text_stops list error (subst (λ (spot : Spot). IsRefused (Subgoal (One Program) 0) spot error) is refused)
+pub stops_from : {list : TokenList} {from : Spot} (error : SourceError) → from ≡ whole list
+    → IsRefused (Subgoal (One Program) 0) from error → RefusesText error list
+stops_from {list} error is refused =
+    text_stops list error (subst (λ (spot : Spot). IsRefused (Subgoal (One Program) 0) spot error) is refused)
 
 -- A whole source was read as a program that consists of this, and these are its names.
 pub record TextRead (list : TokenList) (names : List (List ℕ)) (inside : Forest) : Type 0 where
@@ -173,12 +199,14 @@ end_left : (spot : Spot) → spot.rest ≡ [] → left_at spot ≡ TextEnd spot.
 end_left spot none = ap (λ (rest : List Lexed). left_at (record { rest = rest; end = spot.end })) none
 
 -- where only the end is left, the whole source was read
-all_of_text : {list : TokenList} {names : List (List ℕ)} {make : Forest → Forest} {here : Spot} → HasRead (One Program) 0 [] names (whole list) make (Terminal End 0 ∷ []) here
+all_of_text : {list : TokenList} {names : List (List ℕ)} {make : Forest → Forest} {here : Spot}
+    → HasRead (One Program) 0 [] names (whole list) make (Terminal End 0 ∷ []) here
     → here.rest ≡ [] → TextRead list names (make (Leaf (TextEnd here.end) 0 Empty))
 all_of_text {make = make} {here = here} so ends =
     let last = Leaf (TextEnd here.end) 0 Empty in
     let reads_last : Reads (Terminal End 0 ∷ []) (left_at here) last [] =
-    subst (λ (ts : List Mark). Reads (Terminal End 0 ∷ []) ts last []) (sym (end_left here ends)) (Taken refl Nothing) in
+    subst (λ (ts : List Mark). Reads (Terminal End 0 ∷ []) ts last []) (sym (end_left here ends)) (Taken refl Nothing)
+    in
     record {
       reads = Opened so.rule_is (so.reads last [] reads_last) Nothing;
       within = within_both (depths (make last)) [] (so.within last (omega arith, tt)) tt;
@@ -187,14 +215,17 @@ all_of_text {make = make} {here = here} so ends =
     }
 
 -- the same was read of a source, with variables for its first table and its first spot
-from_all : {list : TokenList} {old names : List (List ℕ)} {from here : Spot} {make : Forest → Forest} {left : List Wanted} → old ≡ [] → from ≡ whole list
-    → HasRead (One Program) 0 old names from make left here → HasRead (One Program) 0 [] names (whole list) make left here
+from_all : {list : TokenList} {old names : List (List ℕ)} {from here : Spot} {make : Forest → Forest}
+    {left : List Wanted} → old ≡ [] → from ≡ whole list
+    → HasRead (One Program) 0 old names from make left here
+    → HasRead (One Program) 0 [] names (whole list) make left here
 from_all {list} {old} {names} {here = here} {make} {left} none is so =
     subst (λ (table : List (List ℕ)). HasRead (One Program) 0 table names (whole list) make left here) none
     (subst (λ (spot : Spot). HasRead (One Program) 0 old names spot make left here) is so)
 
 -- A program was found in a source. The tree of its parts, with these names, is that of what was read of the source.
-pub record ProgramFound (list : TokenList) (names : List (List ℕ)) (declarations : List code_decl.Decl) (main : Body) : Type 0 where
+pub record ProgramFound (list : TokenList) (names : List (List ℕ)) (declarations : List code_decl.Decl) (main : Body)
+    : Type 0 where
   pub inside : Forest
   pub read : TextRead list names inside
   pub tree_is : tree_of_parts names declarations main ≡ tree_of (Node (One Program) inside Empty)
@@ -205,11 +236,13 @@ same_text a b decls main end = rw (decls, main, end)
 
 -- these declarations were found, from index 0
 abbrev pub DeclarationsFound : List (List ℕ) → List (List ℕ) → Spot → Spot → List code_decl.Decl → Type 0
-DeclarationsFound old new from to declarations = FoundAs (Repeated Decl) 0 old new from to (λ names inside. map (decl_tree names) declarations ≡ decls_in 0 inside)
+DeclarationsFound old new from to declarations =
+    FoundAs (Repeated Decl) 0 old new from to (λ names inside. map (decl_tree names) declarations ≡ decls_in 0 inside)
 
 -- a block was found, from its first index
 abbrev pub BlockFound : ℕ → List (List ℕ) → List (List ℕ) → Spot → Spot → Body → Type 0
-BlockFound index old new from to main = FoundAs (One Block) 0 old new from to (λ names inside. IsBlock index names main inside)
+BlockFound index old new from to main =
+    FoundAs (One Block) 0 old new from to (λ names inside. IsBlock index names main inside)
 
 -- a line before a program was found, or was left out
 abbrev pub LineFound : Nonterminal → List (List ℕ) → List (List ℕ) → Spot → Spot → Type 0
@@ -217,22 +250,29 @@ LineFound nonterminal old new from to = FoundAs (Optional nonterminal) 0 old new
 
 -- a program is found with the lines before it, its declarations and its main block, where no token is left after the
 -- block
-pub program_found : {list : TokenList} {old a b c names : List (List ℕ)} {from import_at first main_at end : Spot} {free : ℕ} (declarations : List code_decl.Decl) (main : Body)
-    → old ≡ [] → from ≡ whole list → LineFound Module old a from import_at → LineFound Import a b import_at first → DeclarationsFound b c first main_at declarations
-    → ((table : List (List ℕ)) → free ≡ 0 + decl_statements (map (decl_tree table) declarations)) → BlockFound free c names main_at end main → end.rest ≡ [] → ProgramFound list names declarations main
-program_found {old = old} {names = names} {from = from} declarations main none is heading imported decls is_free block ends =
-    let so = over_block (over_declarations (over_import (over_heading (program_begins old from) heading) imported) decls) block in
+pub program_found : {list : TokenList} {old a b c names : List (List ℕ)} {from import_at first main_at end : Spot}
+    {free : ℕ} (declarations : List code_decl.Decl) (main : Body)
+    → old ≡ [] → from ≡ whole list → LineFound Module old a from import_at → LineFound Import a b import_at first
+    → DeclarationsFound b c first main_at declarations
+    → ((table : List (List ℕ)) → free ≡ 0 + decl_statements (map (decl_tree table) declarations))
+    → BlockFound free c names main_at end main → end.rest ≡ [] → ProgramFound list names declarations main
+program_found {old = old} {names = names} {from = from} declarations main none is heading imported decls is_free block
+    ends =
+    let so = over_block (over_declarations (over_import (over_heading (program_begins old from) heading) imported)
+    decls) block in
     let is_block = block.is names (goes_on_itself names) in
     let trees = decls.is names (found_goes_on block) in
     let from_free = is_free names ∙ (omega arith ∙ ap decl_statements trees) in
     record {
       inside = _;
       read = all_of_text (from_all none is so) ends;
-      tree_is = same_text _ _ trees (is_block.statements_are ∙ ap (λ (n : ℕ). block_in n block.inside) from_free) is_block.end_is;
+      tree_is = same_text _ _ trees (is_block.statements_are ∙ ap (λ (n : ℕ). block_in n block.inside) from_free)
+          is_block.end_is;
     }
 
 -- such a source is accepted, and these are its names and its tree
-pub text_found : {list : TokenList} {names : List (List ℕ)} {declarations : List code_decl.Decl} {main : Body} → ProgramFound list names declarations main
+pub text_found : {list : TokenList} {names : List (List ℕ)} {declarations : List code_decl.Decl} {main : Body}
+    → ProgramFound list names declarations main
     → IsTextOf list names (tree_of_parts names declarations main)
 text_found found = record {
   forest = Node (One Program) found.inside Empty;
@@ -242,46 +282,72 @@ text_found found = record {
 }
 
 -- each of its names has the bytes of one of its tokens
-pub names_found : {list : TokenList} {names : List (List ℕ)} {declarations : List code_decl.Decl} {main : Body} → ProgramFound list names declarations main
+pub names_found : {list : TokenList} {names : List (List ℕ)} {declarations : List code_decl.Decl} {main : Body}
+    → ProgramFound list names declarations main
     → All (IsWritten list.tokens) names
-names_found {list} {names} found = All-same (IsWritten list.tokens) names _ found.read.names_are (table_written list found.read.reads)
+names_found {list} {names} found =
+    All-same (IsWritten list.tokens) names _ found.read.names_are (table_written list found.read.reads)
 
 -- The sizes of what was read
 
 -- the forest of a source has at most one leaf more than the source has tokens: its end
-few_leaves : {list : TokenList} {names : List (List ℕ)} {inside : Forest} → TextRead list names inside → leaves (Node (One Program) inside Empty) ≤ length list.tokens + 1
+few_leaves : {list : TokenList} {names : List (List ℕ)} {inside : Forest} → TextRead list names inside
+    → leaves (Node (One Program) inside Empty) ≤ length list.tokens + 1
 few_leaves {list} read = omega (arith, leaves_taken read.reads, left_length (whole list))
 
 -- a source has at most one variable more than tokens
-pub variables_found : {list : TokenList} {names : List (List ℕ)} {declarations : List code_decl.Decl} {main : Body} → ProgramFound list names declarations main
+pub variables_found : {list : TokenList} {names : List (List ℕ)} {declarations : List code_decl.Decl} {main : Body}
+    → ProgramFound list names declarations main
     → all_variables (tree_of_parts names declarations main) ≤ length list.tokens + 1
-variables_found found = omega (arith, ap all_variables found.tree_is, variables_of_text (Node (One Program) found.inside Empty), few_leaves found.read)
+variables_found found = omega (
+  arith,
+  ap all_variables found.tree_is,
+  variables_of_text
+      (Node (One Program) found.inside Empty),
+  few_leaves found.read,
+)
 
 -- each body of a source has no more variables than a bound on its tokens and its end
-pub bodies_found : {list : TokenList} {names : List (List ℕ)} {declarations : List code_decl.Decl} {main : Body} (bound : ℕ) → ProgramFound list names declarations main
+pub bodies_found : {list : TokenList} {names : List (List ℕ)} {declarations : List code_decl.Decl} {main : Body}
+    (bound : ℕ) → ProgramFound list names declarations main
     → length list.tokens + 1 ≤ bound → All (λ (n : ℕ). n ≤ bound) (body_sizes (tree_of_parts names declarations main))
 bodies_found bound found within =
     let forest = Node (One Program) found.inside Empty in
     subst (λ (tree : SourceTree). All (λ (n : ℕ). n ≤ bound) (body_sizes tree)) (sym found.tree_is)
-    (All-weaker (λ (n : ℕ). n ≤ leaves forest) (λ (n : ℕ). n ≤ bound) (λ n few. omega (arith, few, few_leaves found.read)) (body_sizes (tree_of forest)) (bodies_of_text forest))
+    (All-weaker (λ (n : ℕ). n ≤ leaves forest) (λ (n : ℕ). n ≤ bound)
+    (λ n few. omega (arith, few, few_leaves found.read)) (body_sizes (tree_of forest)) (bodies_of_text forest))
 
 -- each class of a source has no more fields than a bound on its tokens and its end
-pub fields_found : {list : TokenList} {names : List (List ℕ)} {declarations : List code_decl.Decl} {main : Body} (bound : ℕ) → ProgramFound list names declarations main
+pub fields_found : {list : TokenList} {names : List (List ℕ)} {declarations : List code_decl.Decl} {main : Body}
+    (bound : ℕ) → ProgramFound list names declarations main
     → length list.tokens + 1 ≤ bound → All (λ (n : ℕ). n ≤ bound) (class_sizes (tree_of_parts names declarations main))
 fields_found bound found within =
     let forest = Node (One Program) found.inside Empty in
     subst (λ (tree : SourceTree). All (λ (n : ℕ). n ≤ bound) (class_sizes tree)) (sym found.tree_is)
-    (All-weaker (λ (n : ℕ). n ≤ leaves forest) (λ (n : ℕ). n ≤ bound) (λ n few. omega (arith, few, few_leaves found.read)) (class_sizes (tree_of forest)) (fields_of_text forest))
+    (All-weaker (λ (n : ℕ). n ≤ leaves forest) (λ (n : ℕ). n ≤ bound)
+    (λ n few. omega (arith, few, few_leaves found.read)) (class_sizes (tree_of forest)) (fields_of_text forest))
 
 -- a source has no more statements than tokens, if its declarations and its main block have no more
 pub statements_found : {list : TokenList} {old a b : List (List ℕ)} {from import_at first : Spot} {free all : ℕ}
-    (main_at end : Spot) (names : List (List ℕ)) (declarations : List code_decl.Decl) (main : Body) → from ≡ whole list → LineFound Module old a from import_at → LineFound Import a b import_at first
-    → ((table : List (List ℕ)) → free ≡ 0 + decl_statements (map (decl_tree table) declarations)) → ((table : List (List ℕ)) → all ≡ free + statement_count (statements table main.statements.items))
+    (main_at end : Spot) (names : List (List ℕ)) (declarations : List code_decl.Decl) (main : Body) → from ≡ whole list
+    → LineFound Module old a from import_at → LineFound Import a b import_at first
+    → ((table : List (List ℕ)) → free ≡ 0 + decl_statements (map (decl_tree table) declarations))
+    → ((table : List (List ℕ)) → all ≡ free + statement_count (statements table main.statements.items))
     → free + length main_at.rest ≤ 0 + length first.rest → all + length end.rest ≤ free + length main_at.rest
     → all_statements (tree_of_parts names declarations main) ≤ length list.tokens
 statements_found main_at end names declarations main is heading imported is_free is_all few_declarations few_main =
     let tokens = ap (λ (spot : Spot). length spot.rest) is in
-    omega (arith, is_free names, is_all names, few_declarations, few_main, found_shorter imported, found_shorter heading, tokens)
+    omega (
+      arith,
+      is_free names,
+      is_all names,
+      few_declarations,
+      few_main,
+      found_shorter imported,
+      found_shorter
+          heading,
+      tokens,
+    )
 
 -- at most `source_limit` tokens are left at a cursor
 pub few_at : (cursor : Cursor) → length (spot cursor).rest ≤ source_limit

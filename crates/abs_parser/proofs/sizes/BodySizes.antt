@@ -7,7 +7,8 @@ use Rattle.abs_tree.specs.SyntaxSizes.{phrase_variables, statements_variables, f
 use Rattle.abs_tree.specs.SourceSizes.{member_variables, decl_variables, all_variables}
 
 -- the numbers of a list are within a bound if the first is and the others are
-pub within_cons : (bound n : ℕ) (others : List ℕ) → n ≤ bound → All (λ m. m ≤ bound) others → All (λ m. m ≤ bound) (n ∷ others)
+pub within_cons : (bound n : ℕ) (others : List ℕ) → n ≤ bound → All (λ m. m ≤ bound) others
+    → All (λ m. m ≤ bound) (n ∷ others)
 within_cons bound n others here after = All-cons (λ m. m ≤ bound) n others here after
 
 -- the initial values of a class have no more variables than all its members together
@@ -18,27 +19,35 @@ values_within (FieldTree type name (Value value) ∷ others) = omega (arith, val
 values_within (MethodTree signature end body ∷ others) = omega (arith, values_within others)
 
 -- a bound on the variables of all members of a class holds for each of its methods
-methods_within : (bound : ℕ) (members : List MemberTree) → member_variables members ≤ bound → All (λ n. n ≤ bound) (method_sizes members)
+methods_within : (bound : ℕ) (members : List MemberTree) → member_variables members ≤ bound
+    → All (λ n. n ≤ bound) (method_sizes members)
 methods_within bound [] few = All-nil _
 methods_within bound (FieldTree type name NoValue ∷ others) few = methods_within bound others few
 methods_within bound (FieldTree type name (Value value) ∷ others) few = methods_within bound others (omega (arith, few))
 methods_within bound (MethodTree signature end body ∷ others) few =
-    within_cons bound (length signature.params + statements_variables body) (method_sizes others) (omega (arith, few)) (methods_within bound others (omega (arith, few)))
+    within_cons bound (length signature.params + statements_variables body) (method_sizes others) (omega (arith, few))
+    (methods_within bound others (omega (arith, few)))
 
 -- a bound on the variables of all declarations holds for each of their bodies
-decls_within : (bound : ℕ) (decls : List DeclTree) → decl_variables decls ≤ bound → All (λ n. n ≤ bound) (decl_sizes decls)
+decls_within : (bound : ℕ) (decls : List DeclTree) → decl_variables decls ≤ bound
+    → All (λ n. n ≤ bound) (decl_sizes decls)
 decls_within bound [] few = All-nil _
 decls_within bound (DataTree place name parameters constructors ∷ others) few = decls_within bound others few
 decls_within bound (FunctionTree place type name parameters params value ∷ others) few =
-    within_cons bound (length params + phrase_variables value) (decl_sizes others) (omega (arith, few)) (decls_within bound others (omega (arith, few)))
-decls_within bound (InterfaceTree place name extended signatures ∷ others) few = decls_within bound others (omega (arith, few))
+    within_cons bound (length params + phrase_variables value) (decl_sizes others) (omega (arith, few))
+    (decls_within bound others (omega (arith, few)))
+decls_within bound (InterfaceTree place name extended signatures ∷ others) few =
+    decls_within bound others (omega (arith, few))
 decls_within bound (ClassTree place name params implemented members ∷ others) few =
     let methods = methods_within bound members (omega (arith, few)) in
     let after = decls_within bound others (omega (arith, few)) in
-    within_cons bound (field_variables members) (method_sizes members ++ decl_sizes others) (omega (arith, few, values_within members))
+    within_cons bound (field_variables members) (method_sizes members ++ decl_sizes others)
+    (omega (arith, few, values_within members))
     (All-append (λ n. n ≤ bound) (method_sizes members) (decl_sizes others) methods after)
 
 -- a bound on the variables of a source holds for each of its bodies
-pub bodies_within : (bound : ℕ) (text : SourceTree) → all_variables text ≤ bound → All (λ n. n ≤ bound) (body_sizes text)
+pub bodies_within : (bound : ℕ) (text : SourceTree) → all_variables text ≤ bound
+    → All (λ n. n ≤ bound) (body_sizes text)
 bodies_within bound text few =
-    within_cons bound (statements_variables text.main) (decl_sizes text.declarations) (omega (arith, few)) (decls_within bound text.declarations (omega (arith, few)))
+    within_cons bound (statements_variables text.main) (decl_sizes text.declarations) (omega (arith, few))
+    (decls_within bound text.declarations (omega (arith, few)))

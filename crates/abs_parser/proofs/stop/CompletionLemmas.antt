@@ -120,7 +120,8 @@ after_primary = PunctuatorKind punctuator.Dot ∷ PunctuatorKind punctuator.Open
 
 -- after a product
 abbrev after_mul : List TokenKind
-after_mul = PunctuatorKind punctuator.Star ∷ PunctuatorKind punctuator.Slash ∷ PunctuatorKind punctuator.Percent ∷ after_primary
+after_mul = PunctuatorKind punctuator.Star ∷ PunctuatorKind punctuator.Slash ∷ PunctuatorKind punctuator.Percent
+    ∷ after_primary
 
 -- after a sum
 abbrev after_sum : List TokenKind
@@ -129,7 +130,8 @@ after_sum = PunctuatorKind punctuator.Plus ∷ PunctuatorKind punctuator.Minus �
 -- after a comparison
 abbrev after_compare : List TokenKind
 after_compare =
-    PunctuatorKind punctuator.Less ∷ PunctuatorKind punctuator.LessEqual ∷ PunctuatorKind punctuator.Greater ∷ PunctuatorKind punctuator.GreaterEqual ∷ after_sum
+    PunctuatorKind punctuator.Less ∷ PunctuatorKind punctuator.LessEqual ∷ PunctuatorKind punctuator.Greater
+    ∷ PunctuatorKind punctuator.GreaterEqual ∷ after_sum
 
 -- after an equality
 abbrev after_equal : List TokenKind
@@ -222,42 +224,58 @@ pub fine_after : (kind : TokenKind) (depth : ℕ) (items : List Wanted) → Fine
 fine_after kind depth items fine = fine.1
 
 -- A token kind that does not meet two lists together meets neither.
-meets_neither : (front after : List TokenKind) (kind : TokenKind) → meets (front ++ after) kind ≡ false → (meets front kind ≡ false) × (meets after kind ≡ false)
-meets_neither front after kind e = or_parts _ _ (sym (list_any-append (λ (asked : TokenKind). fits asked kind) front after) ∙ e)
+meets_neither : (front after : List TokenKind) (kind : TokenKind) → meets (front ++ after) kind ≡ false
+    → (meets front kind ≡ false) × (meets after kind ≡ false)
+meets_neither front after kind e =
+    or_parts _ _ (sym (list_any-append (λ (asked : TokenKind). fits asked kind) front after) ∙ e)
 
 -- An item, followed by others, begins with the token kinds that are listed for it.
-item_tells : (first : Nonterminal → TokenKind → Bool) (kinds : Nonterminal → List TokenKind) (kind : TokenKind) → ((nonterminal : Nonterminal) → first nonterminal kind ≡ meets (kinds nonterminal) kind)
+item_tells : (first : Nonterminal → TokenKind → Bool) (kinds : Nonterminal → List TokenKind) (kind : TokenKind)
+    → ((nonterminal : Nonterminal) → first nonterminal kind ≡ meets (kinds nonterminal) kind)
     → (item : Item) (others : List Item) → items_begin first others kind ≡ meets (items_start kinds others) kind
     → items_begin first (item ∷ others) kind ≡ meets (items_start kinds (item ∷ others)) kind
 item_tells first kinds kind tells (Of asked) others e = sym (or-false (fits asked kind))
 item_tells first kinds kind tells (Part nonterminal) others e = tells nonterminal
 item_tells first kinds kind tells (Opt nonterminal) others e =
-    ap (λ b. b || items_begin first others kind) (tells nonterminal) ∙ (ap (λ b. meets (kinds nonterminal) kind || b) e ∙ sym (list_any-append (λ (asked : TokenKind). fits asked kind) (kinds nonterminal) (items_start kinds others)))
+    ap (λ b. b || items_begin first others kind) (tells nonterminal)
+    ∙ (ap (λ b. meets (kinds nonterminal) kind || b) e
+    ∙ sym (list_any-append (λ (asked : TokenKind). fits asked kind) (kinds nonterminal) (items_start kinds others)))
 item_tells first kinds kind tells (Many nonterminal) others e =
-    ap (λ b. b || items_begin first others kind) (tells nonterminal) ∙ (ap (λ b. meets (kinds nonterminal) kind || b) e ∙ sym (list_any-append (λ (asked : TokenKind). fits asked kind) (kinds nonterminal) (items_start kinds others)))
+    ap (λ b. b || items_begin first others kind) (tells nonterminal)
+    ∙ (ap (λ b. meets (kinds nonterminal) kind || b) e
+    ∙ sym (list_any-append (λ (asked : TokenKind). fits asked kind) (kinds nonterminal) (items_start kinds others)))
 item_tells first kinds kind tells (Inside more item) others e = item_tells first kinds kind tells item others e
 
 -- An alternative begins with the token kinds that are listed for it.
-items_tell : (first : Nonterminal → TokenKind → Bool) (kinds : Nonterminal → List TokenKind) (kind : TokenKind) → ((nonterminal : Nonterminal) → first nonterminal kind ≡ meets (kinds nonterminal) kind)
+items_tell : (first : Nonterminal → TokenKind → Bool) (kinds : Nonterminal → List TokenKind) (kind : TokenKind)
+    → ((nonterminal : Nonterminal) → first nonterminal kind ≡ meets (kinds nonterminal) kind)
     → (items : List Item) → items_begin first items kind ≡ meets (items_start kinds items) kind
 items_tell first kinds kind tells [] = refl
-items_tell first kinds kind tells (item ∷ others) = item_tells first kinds kind tells item others (items_tell first kinds kind tells others)
+items_tell first kinds kind tells (item ∷ others) =
+    item_tells first kinds kind tells item others (items_tell first kinds kind tells others)
 
 -- Some alternatives begin with the token kinds that are listed for them.
-alternatives_tell : (first : Nonterminal → TokenKind → Bool) (kinds : Nonterminal → List TokenKind) (kind : TokenKind) → ((nonterminal : Nonterminal) → first nonterminal kind ≡ meets (kinds nonterminal) kind)
+alternatives_tell : (first : Nonterminal → TokenKind → Bool) (kinds : Nonterminal → List TokenKind) (kind : TokenKind)
+    → ((nonterminal : Nonterminal) → first nonterminal kind ≡ meets (kinds nonterminal) kind)
     → (alternatives : List (List Item))
-    → list_any (λ (items : List Item). items_begin first items kind) alternatives ≡ meets (alternatives_start kinds alternatives) kind
+    → list_any (λ (items : List Item). items_begin first items kind) alternatives
+    ≡ meets (alternatives_start kinds alternatives) kind
 alternatives_tell first kinds kind tells [] = refl
 alternatives_tell first kinds kind tells (items ∷ others) =
-    ap (λ b. b || list_any (λ (items : List Item). items_begin first items kind) others) (items_tell first kinds kind tells items)
+    ap (λ b. b || list_any (λ (items : List Item). items_begin first items kind) others)
+    (items_tell first kinds kind tells items)
     ∙ (ap (λ b. meets (items_start kinds items) kind || b) (alternatives_tell first kinds kind tells others)
-    ∙ sym (list_any-append (λ (asked : TokenKind). fits asked kind) (items_start kinds items) (alternatives_start kinds others)))
+    ∙ sym (list_any-append (λ (asked : TokenKind). fits asked kind) (items_start kinds items)
+    (alternatives_start kinds others)))
 
 -- A nonterminal begins with the token kinds that are listed for it, in any number of rounds.
-rounds_tell : (rounds : ℕ) (nonterminal : Nonterminal) (kind : TokenKind) → begins_within rounds nonterminal kind ≡ meets (starts_within rounds nonterminal) kind
+rounds_tell : (rounds : ℕ) (nonterminal : Nonterminal) (kind : TokenKind)
+    → begins_within rounds nonterminal kind ≡ meets (starts_within rounds nonterminal) kind
 unfolding begins_within starts_within
 rounds_tell zero nonterminal kind = refl
-rounds_tell (suc rounds) nonterminal kind = alternatives_tell (begins_within rounds) (starts_within rounds) kind (λ nonterminal. rounds_tell rounds nonterminal kind) (rule nonterminal)
+rounds_tell (suc rounds) nonterminal kind =
+    alternatives_tell (begins_within rounds) (starts_within rounds) kind
+    (λ nonterminal. rounds_tell rounds nonterminal kind) (rule nonterminal)
 
 -- A nonterminal begins with the token kinds that are listed for it.
 starts_tell : (nonterminal : Nonterminal) (kind : TokenKind) → begins nonterminal kind ≡ meets (starts nonterminal) kind
@@ -265,8 +283,10 @@ unfolding begins starts
 starts_tell nonterminal kind = rounds_tell 12 nonterminal kind
 
 -- A nonterminal does not begin with a token kind that neither starts nor continues it.
-begins_not : (nonterminal : Nonterminal) (kind : TokenKind) → meets (starts nonterminal ++ continues nonterminal) kind ≡ false → begins nonterminal kind ≡ false
-begins_not nonterminal kind e = starts_tell nonterminal kind ∙ (meets_neither (starts nonterminal) (continues nonterminal) kind e).0
+begins_not : (nonterminal : Nonterminal) (kind : TokenKind)
+    → meets (starts nonterminal ++ continues nonterminal) kind ≡ false → begins nonterminal kind ≡ false
+begins_not nonterminal kind e =
+    starts_tell nonterminal kind ∙ (meets_neither (starts nonterminal) (continues nonterminal) kind e).0
 
 -- whether two token kinds are the same keyword or the same punctuator
 abbrev is_same : TokenKind → TokenKind → Bool
@@ -279,7 +299,8 @@ same_fits : (one other kind : TokenKind) → is_same one other ≡ true → fits
 same_fits (KeywordKind one) (KeywordKind other) (KeywordKind keyword) same e =
     ap (λ bytes. bytes_eq bytes (spelling keyword)) ((bytes_eq-Decides (spelling one) (spelling other)).0 same) ∙ e
 same_fits (PunctuatorKind one) (PunctuatorKind other) (PunctuatorKind punctuator) same e =
-    ap (λ bytes. bytes_eq bytes (punctuator_bytes punctuator)) ((bytes_eq-Decides (punctuator_bytes one) (punctuator_bytes other)).0 same) ∙ e
+    ap (λ bytes. bytes_eq bytes (punctuator_bytes punctuator))
+    ((bytes_eq-Decides (punctuator_bytes one) (punctuator_bytes other)).0 same) ∙ e
 same_fits (KeywordKind one) (KeywordKind other) kind same e = refl
 same_fits (PunctuatorKind one) (PunctuatorKind other) kind same e = refl
 same_fits one other kind same e = absurd cc
@@ -311,13 +332,15 @@ items_are_fine last [] = true
 items_are_fine last (item ∷ others) = item_is_fine item (clears last others) && items_are_fine last others
 
 -- Each alternative of the grammar passes the test.
-table_is_fine : (nonterminal : Nonterminal) → list_all (λ (items : List Item). items_are_fine (continues nonterminal) items) (rule nonterminal) ≡ true
+table_is_fine : (nonterminal : Nonterminal)
+    → list_all (λ (items : List Item). items_are_fine (continues nonterminal) items) (rule nonterminal) ≡ true
 unfolding short short_within starts starts_within
 table_is_fine Program = refl
 table_is_fine _ = refl
 
 -- The first token of a nonterminal's short list chooses the simplest alternative.
-chosen_shortly : (nonterminal : Nonterminal) (ts : List Mark) → chosen nonterminal (next (short nonterminal ++ ts)) ≡ Some (simplest nonterminal)
+chosen_shortly : (nonterminal : Nonterminal) (ts : List Mark)
+    → chosen nonterminal (next (short nonterminal ++ ts)) ≡ Some (simplest nonterminal)
 unfolding short short_within chosen begins begins_within
 chosen_shortly Program ts = refl
 chosen_shortly _ ts = refl
@@ -335,21 +358,27 @@ tokens_shortly Program = refl
 tokens_shortly _ = refl
 
 -- Token kinds that the short list does not begin with are not met if more tokens follow it.
-meets_shortly : (nonterminal : Nonterminal) (kinds : List TokenKind) (ts : List Mark) → meets kinds (next (short nonterminal)) ≡ false
+meets_shortly : (nonterminal : Nonterminal) (kinds : List TokenKind) (ts : List Mark)
+    → meets kinds (next (short nonterminal)) ≡ false
     → meets kinds (next (short nonterminal ++ ts)) ≡ false
 meets_shortly nonterminal kinds ts e = ap (meets kinds) (next_shortly nonterminal ts) ∙ e
 
 -- The completion of an item that passes the test, followed by others, begins with none of the token kinds.
-item_clear : (item : Item) (kinds : List TokenKind) (after : Bool) (depth : ℕ) (items : List Wanted) → item_clears item kinds after ≡ true
-    → (after ≡ true → meets kinds (next (finish items)) ≡ false) → meets kinds (next (finish (place_item depth item ∷ items))) ≡ false
+item_clear : (item : Item) (kinds : List TokenKind) (after : Bool) (depth : ℕ) (items : List Wanted)
+    → item_clears item kinds after ≡ true
+    → (after ≡ true → meets kinds (next (finish items)) ≡ false)
+    → meets kinds (next (finish (place_item depth item ∷ items))) ≡ false
 item_clear (Of kind) kinds after depth items e others = not-true _ e
-item_clear (Part nonterminal) kinds after depth items e others = meets_shortly nonterminal kinds (finish items) (not-true _ e)
+item_clear (Part nonterminal) kinds after depth items e others =
+    meets_shortly nonterminal kinds (finish items) (not-true _ e)
 item_clear (Opt nonterminal) kinds after depth items e others = others e
 item_clear (Many nonterminal) kinds after depth items e others = others e
-item_clear (Inside more item) kinds after depth items e others = item_clear item kinds after (depth + more) items e others
+item_clear (Inside more item) kinds after depth items e others =
+    item_clear item kinds after (depth + more) items e others
 
 -- A token kind that is the same as one of `last` is not met where none of `last` is met.
-one_clear : (last : List TokenKind) (one kind : TokenKind) → list_any (λ (other : TokenKind). is_same one other) last ≡ true → meets last kind ≡ false → fits one kind ≡ false
+one_clear : (last : List TokenKind) (one kind : TokenKind)
+    → list_any (λ (other : TokenKind). is_same one other) last ≡ true → meets last kind ≡ false → fits one kind ≡ false
 one_clear [] one kind e none = absurd cc
 one_clear (other ∷ last) one kind e none =
     let parts = or_parts (fits other kind) (meets last kind) none in
@@ -362,7 +391,8 @@ one_clear (other ∷ last) one kind e none =
     go false is none further e = further e
 
 -- No token kind of a list is met if each is the same as one of `last`, of which none is met.
-all_clear : (last kinds : List TokenKind) (kind : TokenKind) → list_all (λ (one : TokenKind). list_any (λ (other : TokenKind). is_same one other) last) kinds ≡ true
+all_clear : (last kinds : List TokenKind) (kind : TokenKind)
+    → list_all (λ (one : TokenKind). list_any (λ (other : TokenKind). is_same one other) last) kinds ≡ true
     → meets last kind ≡ false → meets kinds kind ≡ false
 all_clear last [] kind e none = refl
 all_clear last (one ∷ kinds) kind e none =
@@ -370,15 +400,19 @@ all_clear last (one ∷ kinds) kind e none =
     ap (λ b. b || meets kinds kind) (one_clear last one kind parts.0 none) ∙ all_clear last kinds kind parts.1 none
 
 -- The completion of items that pass the test begins with none of the token kinds.
-items_clear : (last : List TokenKind) (others : List Item) (kinds : List TokenKind) (depth : ℕ) (items : List Wanted) → clears last others kinds ≡ true
+items_clear : (last : List TokenKind) (others : List Item) (kinds : List TokenKind) (depth : ℕ) (items : List Wanted)
+    → clears last others kinds ≡ true
     → meets last (next (finish items)) ≡ false → meets kinds (next (finish (place depth others ++ items))) ≡ false
 items_clear last [] kinds depth items e none = all_clear last kinds (next (finish items)) e none
 items_clear last (item ∷ others) kinds depth items e none =
-    item_clear item kinds (clears last others kinds) depth (place depth others ++ items) e (λ e. items_clear last others kinds depth items e none)
+    item_clear item kinds (clears last others kinds) depth (place depth others ++ items) e
+    (λ e. items_clear last others kinds depth items e none)
 
 -- An item that passes the test is fine before others.
-item_fine : (item : Item) (after : List TokenKind → Bool) (depth : ℕ) (items : List Wanted) → item_is_fine item after ≡ true
-    → ((kinds : List TokenKind) → after kinds ≡ true → meets kinds (next (finish items)) ≡ false) → Fine items → Fine (place_item depth item ∷ items)
+item_fine : (item : Item) (after : List TokenKind → Bool) (depth : ℕ) (items : List Wanted)
+    → item_is_fine item after ≡ true
+    → ((kinds : List TokenKind) → after kinds ≡ true → meets kinds (next (finish items)) ≡ false) → Fine items
+    → Fine (place_item depth item ∷ items)
 item_fine (Of kind) after depth items e others fine = (e, fine)
 item_fine (Part nonterminal) after depth items e others fine = (others _ e, fine)
 item_fine (Opt nonterminal) after depth items e others fine = (others _ e, fine)
@@ -386,40 +420,50 @@ item_fine (Many nonterminal) after depth items e others fine = (others _ e, fine
 item_fine (Inside more item) after depth items e others fine = item_fine item after (depth + more) items e others fine
 
 -- An alternative that passes the test is fine before others.
-items_fine : (last : List TokenKind) (others : List Item) (depth : ℕ) (items : List Wanted) → items_are_fine last others ≡ true
+items_fine : (last : List TokenKind) (others : List Item) (depth : ℕ) (items : List Wanted)
+    → items_are_fine last others ≡ true
     → meets last (next (finish items)) ≡ false → Fine items → Fine (place depth others ++ items)
 items_fine last [] depth items e none fine = fine
 items_fine last (item ∷ others) depth items e none fine =
     let parts = and_parts _ _ e in
-    item_fine item (clears last others) depth (place depth others ++ items) parts.0 (λ kinds e. items_clear last others kinds depth items e none)
+    item_fine item (clears last others) depth (place depth others ++ items) parts.0
+    (λ kinds e. items_clear last others kinds depth items e none)
     (items_fine last others depth items parts.1 none fine)
 
 -- An element found in a list passes a test that each element passes.
-found_passes : {A : Type 0} (wanted test : A → Bool) (xs : List A) (found : A) → find wanted xs ≡ Some found → list_all test xs ≡ true → test found ≡ true
+found_passes : {A : Type 0} (wanted test : A → Bool) (xs : List A) (found : A) → find wanted xs ≡ Some found
+    → list_all test xs ≡ true → test found ≡ true
 found_passes wanted test [] found is e = absurd cc
 found_passes wanted test (x ∷ xs) found is e =
     let parts = and_parts _ _ e in
     go (wanted x) is parts.0 (λ is. found_passes wanted test xs found is parts.1)
   where
-    go : (here : Bool) → cond here (Some x) (find wanted xs) ≡ Some found → test x ≡ true → (find wanted xs ≡ Some found → test found ≡ true) → test found ≡ true
+    go : (here : Bool) → cond here (Some x) (find wanted xs) ≡ Some found → test x ≡ true
+        → (find wanted xs ≡ Some found → test found ≡ true) → test found ≡ true
     go true is passes further =
         let same : x ≡ found = cc in
         ap test (sym same) ∙ passes
     go false is passes further = further is
 
 -- The chosen alternative passes the test.
-chosen_is_fine : (nonterminal : Nonterminal) (kind : TokenKind) (items : List Item) → chosen nonterminal kind ≡ Some items → items_are_fine (continues nonterminal) items ≡ true
+chosen_is_fine : (nonterminal : Nonterminal) (kind : TokenKind) (items : List Item)
+    → chosen nonterminal kind ≡ Some items → items_are_fine (continues nonterminal) items ≡ true
 unfolding chosen
-chosen_is_fine nonterminal kind items e = found_passes _ (λ (items : List Item). items_are_fine (continues nonterminal) items) (rule nonterminal) items e (table_is_fine nonterminal)
+chosen_is_fine nonterminal kind items e =
+    found_passes _ (λ (items : List Item). items_are_fine (continues nonterminal) items) (rule nonterminal) items e
+    (table_is_fine nonterminal)
 
 -- What a nonterminal opens to is fine where the nonterminal was.
-chosen_fine : (nonterminal : Nonterminal) (kind : TokenKind) (depth : ℕ) (alternative : Option (List Item)) (inner items : List Wanted) → chosen nonterminal kind ≡ alternative
-    → option_map (place (inner_depth nonterminal depth)) alternative ≡ Some inner → Fine (Subgoal (One nonterminal) depth ∷ items) → Fine (inner ++ items)
+chosen_fine : (nonterminal : Nonterminal) (kind : TokenKind) (depth : ℕ) (alternative : Option (List Item))
+    (inner items : List Wanted) → chosen nonterminal kind ≡ alternative
+    → option_map (place (inner_depth nonterminal depth)) alternative ≡ Some inner
+    → Fine (Subgoal (One nonterminal) depth ∷ items) → Fine (inner ++ items)
 chosen_fine nonterminal kind depth None inner items is e fine = absurd cc
 chosen_fine nonterminal kind depth (Some alternative) inner items is e fine =
     let same : place (inner_depth nonterminal depth) alternative ≡ inner = cc in
     subst (λ (l : List Wanted). Fine (l ++ items)) same
-    (items_fine (continues nonterminal) alternative (inner_depth nonterminal depth) items (chosen_is_fine nonterminal kind alternative is) fine.0 fine.1)
+    (items_fine (continues nonterminal) alternative (inner_depth nonterminal depth) items
+    (chosen_is_fine nonterminal kind alternative is) fine.0 fine.1)
 
 -- What an optional part opens to is fine where the part was.
 optional_fine : (nonterminal : Nonterminal) (depth : ℕ) (begin : Bool) (inner items : List Wanted)
@@ -427,31 +471,39 @@ optional_fine : (nonterminal : Nonterminal) (depth : ℕ) (begin : Bool) (inner 
     → Fine (Subgoal (Optional nonterminal) depth ∷ items) → Fine (inner ++ items)
 optional_fine nonterminal depth true inner items e fine =
     let same : Subgoal (One nonterminal) depth ∷ [] ≡ inner = cc in
-    subst (λ (l : List Wanted). Fine (l ++ items)) same ((meets_neither (starts nonterminal) (continues nonterminal) _ fine.0).1, fine.1)
+    subst (λ (l : List Wanted). Fine (l ++ items)) same
+    ((meets_neither (starts nonterminal) (continues nonterminal) _ fine.0).1, fine.1)
 optional_fine nonterminal depth false inner items e fine =
     let same : [] ≡ inner = cc in
     subst (λ (l : List Wanted). Fine (l ++ items)) same fine.1
 
 -- What a repeated part opens to is fine where the part was.
 repeated_fine : (nonterminal : Nonterminal) (depth : ℕ) (begin : Bool) (inner items : List Wanted)
-    → (if begin then Some (Subgoal (One nonterminal) depth ∷ Subgoal (Repeated nonterminal) depth ∷ []) else Some []) ≡ Some inner
+    → (if begin then Some (Subgoal (One nonterminal) depth ∷ Subgoal (Repeated nonterminal) depth ∷ []) else Some [])
+    ≡ Some inner
     → Fine (Subgoal (Repeated nonterminal) depth ∷ items) → Fine (inner ++ items)
 repeated_fine nonterminal depth true inner items e fine =
     let same : Subgoal (One nonterminal) depth ∷ Subgoal (Repeated nonterminal) depth ∷ [] ≡ inner = cc in
-    subst (λ (l : List Wanted). Fine (l ++ items)) same ((meets_neither (starts nonterminal) (continues nonterminal) _ fine.0).1, fine)
+    subst (λ (l : List Wanted). Fine (l ++ items)) same
+    ((meets_neither (starts nonterminal) (continues nonterminal) _ fine.0).1, fine)
 repeated_fine nonterminal depth false inner items e fine =
     let same : [] ≡ inner = cc in
     subst (λ (l : List Wanted). Fine (l ++ items)) same fine.1
 
 -- What any part opens to is fine where the part was.
-opened_fine : (goal : Goal) (kind : TokenKind) (depth : ℕ) (inner items : List Wanted) → opened goal kind depth ≡ Some inner
+opened_fine : (goal : Goal) (kind : TokenKind) (depth : ℕ) (inner items : List Wanted)
+    → opened goal kind depth ≡ Some inner
     → Fine (Subgoal goal depth ∷ items) → Fine (inner ++ items)
-opened_fine (One nonterminal) kind depth inner items e fine = chosen_fine nonterminal kind depth (chosen nonterminal kind) inner items refl e fine
-opened_fine (Optional nonterminal) kind depth inner items e fine = optional_fine nonterminal depth (begins nonterminal kind) inner items e fine
-opened_fine (Repeated nonterminal) kind depth inner items e fine = repeated_fine nonterminal depth (begins nonterminal kind) inner items e fine
+opened_fine (One nonterminal) kind depth inner items e fine =
+    chosen_fine nonterminal kind depth (chosen nonterminal kind) inner items refl e fine
+opened_fine (Optional nonterminal) kind depth inner items e fine =
+    optional_fine nonterminal depth (begins nonterminal kind) inner items e fine
+opened_fine (Repeated nonterminal) kind depth inner items e fine =
+    repeated_fine nonterminal depth (begins nonterminal kind) inner items e fine
 
 -- Fine items stay fine as they move over the tokens.
-pub fine_moves : {items others : List Wanted} {ts rest : List Mark} → Moves items ts others rest → Fine items → Fine others
+pub fine_moves : {items others : List Wanted} {ts rest : List Mark} → Moves items ts others rest → Fine items
+    → Fine others
 fine_moves Stays fine = fine
 fine_moves (Takes e within moves) fine = fine_moves moves fine.1
 fine_moves (Opens {goal = goal} {depth = depth} {inner = inner} {items = items} {ts = ts} e moves) fine =
@@ -463,34 +515,41 @@ pub record Finishes (items : List Wanted) : Type 0 where
   pub whole : WholeReading items (finish items) depths
 
 -- A token is read, followed by items that are read to the end.
-token_finishes : (kind : TokenKind) (depth : ℕ) (items : List Wanted) → Fine (Terminal kind depth ∷ items) → Finishes items → Finishes (Terminal kind depth ∷ items)
+token_finishes : (kind : TokenKind) (depth : ℕ) (items : List Wanted) → Fine (Terminal kind depth ∷ items)
+    → Finishes items → Finishes (Terminal kind depth ∷ items)
 token_finishes kind depth items fine rest = record {
   depths = depth ∷ rest.depths;
   whole = token_put fine.0 rest.whole;
 }
 
 -- A part that opens to nothing is left out, followed by items that are read to the end.
-left_out : (goal : Goal) (depth : ℕ) (items : List Wanted) → goal_tokens goal ≡ [] → opened goal (next (finish items)) depth ≡ Some [] → Finishes items
+left_out : (goal : Goal) (depth : ℕ) (items : List Wanted) → goal_tokens goal ≡ []
+    → opened goal (next (finish items)) depth ≡ Some [] → Finishes items
     → Finishes (Subgoal goal depth ∷ items)
 left_out goal depth items none e rest = record {
   depths = rest.depths;
-  whole = subst (λ (ts : List Mark). WholeReading (Subgoal goal depth ∷ items) (ts ++ finish items) rest.depths) (sym none)
+  whole = subst (λ (ts : List Mark). WholeReading (Subgoal goal depth ∷ items) (ts ++ finish items) rest.depths)
+      (sym none)
       (part_closed e rest.whole);
 }
 
 -- A fine optional part is left out.
-optional_finishes : (nonterminal : Nonterminal) (depth : ℕ) (items : List Wanted) → Fine (Subgoal (Optional nonterminal) depth ∷ items) → Finishes items
+optional_finishes : (nonterminal : Nonterminal) (depth : ℕ) (items : List Wanted)
+    → Fine (Subgoal (Optional nonterminal) depth ∷ items) → Finishes items
     → Finishes (Subgoal (Optional nonterminal) depth ∷ items)
 optional_finishes nonterminal depth items fine rest =
     left_out (Optional nonterminal) depth items refl
-    (ap (λ b. if b then Some (Subgoal (One nonterminal) depth ∷ []) else Some []) (begins_not nonterminal _ fine.0)) rest
+    (ap (λ b. if b then Some (Subgoal (One nonterminal) depth ∷ []) else Some []) (begins_not nonterminal _ fine.0))
+    rest
 
 -- A fine repeated part is left out.
-repeated_finishes : (nonterminal : Nonterminal) (depth : ℕ) (items : List Wanted) → Fine (Subgoal (Repeated nonterminal) depth ∷ items) → Finishes items
+repeated_finishes : (nonterminal : Nonterminal) (depth : ℕ) (items : List Wanted)
+    → Fine (Subgoal (Repeated nonterminal) depth ∷ items) → Finishes items
     → Finishes (Subgoal (Repeated nonterminal) depth ∷ items)
 repeated_finishes nonterminal depth items fine rest =
     left_out (Repeated nonterminal) depth items refl
-    (ap (λ b. if b then Some (Subgoal (One nonterminal) depth ∷ Subgoal (Repeated nonterminal) depth ∷ []) else Some []) (begins_not nonterminal _ fine.0)) rest
+    (ap (λ b. if b then Some (Subgoal (One nonterminal) depth ∷ Subgoal (Repeated nonterminal) depth ∷ []) else Some [])
+    (begins_not nonterminal _ fine.0)) rest
 
 -- whether an item that is a nonterminal passes a test; other items pass
 abbrev item_passes : (Nonterminal → Bool) → Item → Bool
@@ -511,21 +570,30 @@ twelve_are_enough _ = refl
 
 -- a nonterminal is read to the end, followed by items that are
 abbrev Completes : Nonterminal → Type 0
-Completes nonterminal = (depth : ℕ) (items : List Wanted) → Fine (Subgoal (One nonterminal) depth ∷ items) → Finishes items → Finishes (Subgoal (One nonterminal) depth ∷ items)
+Completes nonterminal = (depth : ℕ) (items : List Wanted) → Fine (Subgoal (One nonterminal) depth ∷ items)
+    → Finishes items → Finishes (Subgoal (One nonterminal) depth ∷ items)
 
 -- An item is read to the end if its nonterminal is.
-item_finishes : (test : Nonterminal → Bool) → ((nonterminal : Nonterminal) → test nonterminal ≡ true → Completes nonterminal) → (item : Item) → item_passes test item ≡ true
-    → (depth : ℕ) (items : List Wanted) → Fine (place_item depth item ∷ items) → Finishes items → Finishes (place_item depth item ∷ items)
+item_finishes : (test : Nonterminal → Bool)
+    → ((nonterminal : Nonterminal) → test nonterminal ≡ true → Completes nonterminal) → (item : Item)
+    → item_passes test item ≡ true
+    → (depth : ℕ) (items : List Wanted) → Fine (place_item depth item ∷ items) → Finishes items
+    → Finishes (place_item depth item ∷ items)
 item_finishes test complete (Of kind) e depth items fine rest = token_finishes kind depth items fine rest
 item_finishes test complete (Part nonterminal) e depth items fine rest = complete nonterminal e depth items fine rest
-item_finishes test complete (Opt nonterminal) e depth items fine rest = optional_finishes nonterminal depth items fine rest
-item_finishes test complete (Many nonterminal) e depth items fine rest = repeated_finishes nonterminal depth items fine rest
-item_finishes test complete (Inside more item) e depth items fine rest = item_finishes test complete item e (depth + more) items fine rest
+item_finishes test complete (Opt nonterminal) e depth items fine rest =
+    optional_finishes nonterminal depth items fine rest
+item_finishes test complete (Many nonterminal) e depth items fine rest =
+    repeated_finishes nonterminal depth items fine rest
+item_finishes test complete (Inside more item) e depth items fine rest =
+    item_finishes test complete item e (depth + more) items fine rest
 
 -- An alternative is read to the end if its nonterminals are.
-items_finish : (test : Nonterminal → Bool) → ((nonterminal : Nonterminal) → test nonterminal ≡ true → Completes nonterminal)
+items_finish : (test : Nonterminal → Bool)
+    → ((nonterminal : Nonterminal) → test nonterminal ≡ true → Completes nonterminal)
     → (others : List Item) → list_all (λ (item : Item). item_passes test item) others ≡ true
-    → (depth : ℕ) (items : List Wanted) → Fine (place depth others ++ items) → Finishes items → Finishes (place depth others ++ items)
+    → (depth : ℕ) (items : List Wanted) → Fine (place depth others ++ items) → Finishes items
+    → Finishes (place depth others ++ items)
 items_finish test complete [] e depth items fine rest = rest
 items_finish test complete (item ∷ others) e depth items fine rest =
     let parts = and_parts _ _ e in
@@ -533,12 +601,14 @@ items_finish test complete (item ∷ others) e depth items fine rest =
     (items_finish test complete others parts.1 depth items (fine_tail _ _ fine) rest)
 
 -- The completion of an item, followed by others, is the item's tokens followed by the completion of the others.
-item_completed : (item : Item) (depth : ℕ) (items : List Wanted) → finish (place_item depth item ∷ items) ≡ item_tokens short item ++ finish items
+item_completed : (item : Item) (depth : ℕ) (items : List Wanted)
+    → finish (place_item depth item ∷ items) ≡ item_tokens short item ++ finish items
 item_completed (Inside more item) depth items = item_completed item (depth + more) items
 item_completed _ depth items = refl
 
 -- The completion of an alternative, followed by others, is its tokens followed by the completion of the others.
-items_completed : (others : List Item) (depth : ℕ) (items : List Wanted) → finish (place depth others ++ items) ≡ items_tokens short others ++ finish items
+items_completed : (others : List Item) (depth : ℕ) (items : List Wanted)
+    → finish (place depth others ++ items) ≡ items_tokens short others ++ finish items
 items_completed [] depth items = refl
 items_completed (item ∷ others) depth items =
     item_completed item depth (place depth others ++ items)
@@ -546,16 +616,21 @@ items_completed (item ∷ others) depth items =
     ∙ sym (append_assoc (item_tokens short item) (items_tokens short others) (finish items)))
 
 -- A nonterminal is read to the end if its simplest alternative is.
-symbol_finishes : (nonterminal : Nonterminal) (depth : ℕ) (items : List Wanted) → Finishes (place (inner_depth nonterminal depth) (simplest nonterminal) ++ items)
+symbol_finishes : (nonterminal : Nonterminal) (depth : ℕ) (items : List Wanted)
+    → Finishes (place (inner_depth nonterminal depth) (simplest nonterminal) ++ items)
     → Finishes (Subgoal (One nonterminal) depth ∷ items)
 symbol_finishes nonterminal depth items inside =
-    let same : finish (place (inner_depth nonterminal depth) (simplest nonterminal) ++ items) ≡ short nonterminal ++ finish items =
-    items_completed (simplest nonterminal) (inner_depth nonterminal depth) items ∙ ap (λ (l : List Mark). l ++ finish items) (tokens_shortly nonterminal) in
+    let same : finish (place (inner_depth nonterminal depth) (simplest nonterminal) ++ items) ≡ short nonterminal
+    ++ finish items =
+    items_completed (simplest nonterminal) (inner_depth nonterminal depth) items
+    ∙ ap (λ (l : List Mark). l ++ finish items) (tokens_shortly nonterminal) in
     record {
       depths = inside.depths;
       whole = part_closed
-          (ap (λ (o : Option (List Item)). option_map (place (inner_depth nonterminal depth)) o) (chosen_shortly nonterminal (finish items)))
-          (subst (λ (ts : List Mark). WholeReading (place (inner_depth nonterminal depth) (simplest nonterminal) ++ items) ts inside.depths) same inside.whole);
+          (ap (λ (o : Option (List Item)). option_map (place (inner_depth nonterminal depth)) o)
+          (chosen_shortly nonterminal (finish items)))
+          (subst (λ (ts : List Mark). WholeReading
+          (place (inner_depth nonterminal depth) (simplest nonterminal) ++ items) ts inside.depths) same inside.whole);
     }
 
 -- Each nonterminal for which this many rounds are enough is read to the end.
@@ -565,14 +640,19 @@ completes zero nonterminal e depth items fine rest = absurd cc
 completes (suc rounds) nonterminal e depth items fine rest =
     let inside : Fine (place (inner_depth nonterminal depth) (simplest nonterminal) ++ items) =
     items_fine (continues nonterminal) (simplest nonterminal) (inner_depth nonterminal depth) items
-    (chosen_is_fine nonterminal (next (short nonterminal ++ [])) (simplest nonterminal) (chosen_shortly nonterminal [])) fine.0 fine.1 in
+    (chosen_is_fine nonterminal (next (short nonterminal ++ [])) (simplest nonterminal) (chosen_shortly nonterminal []))
+    fine.0 fine.1 in
     symbol_finishes nonterminal depth items
-    (items_finish (enough rounds) (λ inner e. completes rounds inner e) (simplest nonterminal) e (inner_depth nonterminal depth) items inside rest)
+    (items_finish (enough rounds) (λ inner e. completes rounds inner e) (simplest nonterminal) e
+    (inner_depth nonterminal depth) items inside rest)
 
 -- Fine items are read from their completion, to its end.
 pub finishes : (items : List Wanted) → Fine items → Finishes items
 finishes [] fine = record { depths = []; whole = record { forest = Empty; reads = Nothing; are = refl } }
 finishes (Terminal kind depth ∷ items) fine = token_finishes kind depth items fine (finishes items fine.1)
-finishes (Subgoal (One nonterminal) depth ∷ items) fine = completes 12 nonterminal (twelve_are_enough nonterminal) depth items fine (finishes items fine.1)
-finishes (Subgoal (Optional nonterminal) depth ∷ items) fine = optional_finishes nonterminal depth items fine (finishes items fine.1)
-finishes (Subgoal (Repeated nonterminal) depth ∷ items) fine = repeated_finishes nonterminal depth items fine (finishes items fine.1)
+finishes (Subgoal (One nonterminal) depth ∷ items) fine =
+    completes 12 nonterminal (twelve_are_enough nonterminal) depth items fine (finishes items fine.1)
+finishes (Subgoal (Optional nonterminal) depth ∷ items) fine =
+    optional_finishes nonterminal depth items fine (finishes items fine.1)
+finishes (Subgoal (Repeated nonterminal) depth ∷ items) fine =
+    repeated_finishes nonterminal depth items fine (finishes items fine.1)

@@ -16,7 +16,8 @@ use Rattle.abs_parser.specs.Refusing.{Refuses, Beyond, Other, Below, Past, Shut,
 use Rattle.abs_parser.proofs.grammar.ReadingLemmas.{WholeReading, part_closed, token_put}
 
 -- An element found in a list passes each test that all elements pass.
-pub found_passes : {X : Type 0} (test passes : X → Bool) (list : List X) (one : X) → list_all passes list ≡ true → find test list ≡ Some one → passes one ≡ true
+pub found_passes : {X : Type 0} (test passes : X → Bool) (list : List X) (one : X) → list_all passes list ≡ true
+    → find test list ≡ Some one → passes one ≡ true
 found_passes test passes [] one all e = cc
 found_passes test passes (x ∷ others) one all e =
     at (cases_Bool (test x)) (and_parts (passes x) (list_all passes others) all) (found_passes test passes others one)
@@ -63,7 +64,8 @@ module _ (mark : Mark) (ts : List Mark) (after : (items : List Wanted) → Decid
   at_token : (kind : TokenKind) (depth : ℕ) (items : List Wanted) → Decided (Terminal kind depth ∷ items) (mark ∷ ts)
   at_token kind depth items = go (cases_Bool (fits kind (token_kind mark))) (cases_lt limit depth) (after items)
     where
-      go : (fits kind (token_kind mark) ≡ true) ⊎ (fits kind (token_kind mark) ≡ false) → (limit < depth) ⊎ (depth ≤ limit) → Decided items ts
+      go : (fits kind (token_kind mark) ≡ true) ⊎ (fits kind (token_kind mark) ≡ false)
+          → (limit < depth) ⊎ (depth ≤ limit) → Decided items ts
           → Decided (Terminal kind depth ∷ items) (mark ∷ ts)
       go (inr other) room x = refused _ _ (Other other refl)
       go (inl fit) (inl deep) x = refused _ _ (Below fit deep)
@@ -71,37 +73,47 @@ module _ (mark : Mark) (ts : List Mark) (after : (items : List Wanted) → Decid
       go (inl fit) (inr within) (refused rest code no_reading) = refused rest code (Past fit within no_reading)
 
   -- A part is decided if what it opens to is.
-  at_opened : (goal : Goal) (depth : ℕ) (inner items : List Wanted) → opened goal (token_kind mark) depth ≡ Some inner → Decided (inner ++ items) (mark ∷ ts)
+  at_opened : (goal : Goal) (depth : ℕ) (inner items : List Wanted) → opened goal (token_kind mark) depth ≡ Some inner
+      → Decided (inner ++ items) (mark ∷ ts)
       → Decided (Subgoal goal depth ∷ items) (mark ∷ ts)
   at_opened goal depth inner items e (read depths whole all) = read depths (part_closed e whole) all
   at_opened goal depth inner items e (refused rest code no_reading) = refused rest code (Open e no_reading)
 
   -- An optional part is decided if the items with it and the items without it are.
-  at_optional : (nonterminal : Nonterminal) (depth : ℕ) (items : List Wanted) → Decided (Subgoal (One nonterminal) depth ∷ items) (mark ∷ ts) → Decided items (mark ∷ ts)
+  at_optional : (nonterminal : Nonterminal) (depth : ℕ) (items : List Wanted)
+      → Decided (Subgoal (One nonterminal) depth ∷ items) (mark ∷ ts) → Decided items (mark ∷ ts)
       → Decided (Subgoal (Optional nonterminal) depth ∷ items) (mark ∷ ts)
   at_optional nonterminal depth items with_it without = go (cases_Bool (begins nonterminal (token_kind mark)))
     where
-      go : (begins nonterminal (token_kind mark) ≡ true) ⊎ (begins nonterminal (token_kind mark) ≡ false) → Decided (Subgoal (Optional nonterminal) depth ∷ items) (mark ∷ ts)
-      go (inl stands) = at_opened (Optional nonterminal) depth (Subgoal (One nonterminal) depth ∷ []) items (cond-true _ _ _ stands) with_it
+      go : (begins nonterminal (token_kind mark) ≡ true) ⊎ (begins nonterminal (token_kind mark) ≡ false)
+          → Decided (Subgoal (Optional nonterminal) depth ∷ items) (mark ∷ ts)
+      go (inl stands) = at_opened (Optional nonterminal) depth (Subgoal (One nonterminal) depth ∷ []) items
+          (cond-true _ _ _ stands) with_it
       go (inr missing) = at_opened (Optional nonterminal) depth [] items (cond-false _ _ _ missing) without
 
   -- A repeated part is decided if the items with one more of it and the items without it are.
   at_repeated : (nonterminal : Nonterminal) (depth : ℕ) (items : List Wanted)
-      → Decided (Subgoal (One nonterminal) depth ∷ Subgoal (Repeated nonterminal) depth ∷ items) (mark ∷ ts) → Decided items (mark ∷ ts)
+      → Decided (Subgoal (One nonterminal) depth ∷ Subgoal (Repeated nonterminal) depth ∷ items) (mark ∷ ts)
+      → Decided items (mark ∷ ts)
       → Decided (Subgoal (Repeated nonterminal) depth ∷ items) (mark ∷ ts)
   at_repeated nonterminal depth items with_one without = go (cases_Bool (begins nonterminal (token_kind mark)))
     where
-      go : (begins nonterminal (token_kind mark) ≡ true) ⊎ (begins nonterminal (token_kind mark) ≡ false) → Decided (Subgoal (Repeated nonterminal) depth ∷ items) (mark ∷ ts)
+      go : (begins nonterminal (token_kind mark) ≡ true) ⊎ (begins nonterminal (token_kind mark) ≡ false)
+          → Decided (Subgoal (Repeated nonterminal) depth ∷ items) (mark ∷ ts)
       go (inl stands) =
-          at_opened (Repeated nonterminal) depth (Subgoal (One nonterminal) depth ∷ Subgoal (Repeated nonterminal) depth ∷ []) items (cond-true _ _ _ stands) with_one
+          at_opened (Repeated nonterminal) depth
+          (Subgoal (One nonterminal) depth ∷ Subgoal (Repeated nonterminal) depth ∷ []) items (cond-true _ _ _ stands)
+          with_one
       go (inr missing) = at_opened (Repeated nonterminal) depth [] items (cond-false _ _ _ missing) without
 
   -- these nonterminals are decided, whatever follows them
   abbrev Decides : (Nonterminal → Bool) → Type 0
-  Decides leads = (nonterminal : Nonterminal) → leads nonterminal ≡ true → (depth : ℕ) (items : List Wanted) → Decided (Subgoal (One nonterminal) depth ∷ items) (mark ∷ ts)
+  Decides leads = (nonterminal : Nonterminal) → leads nonterminal ≡ true → (depth : ℕ) (items : List Wanted)
+      → Decided (Subgoal (One nonterminal) depth ∷ items) (mark ∷ ts)
 
   -- An item that reaches a token is decided.
-  at_item : (leads : Nonterminal → Bool) → Decides leads → (item : Item) (others_lead : Bool) → item_leads leads item others_lead ≡ true → (depth : ℕ) (items : List Wanted)
+  at_item : (leads : Nonterminal → Bool) → Decides leads → (item : Item) (others_lead : Bool)
+      → item_leads leads item others_lead ≡ true → (depth : ℕ) (items : List Wanted)
       → (others_lead ≡ true → Decided items (mark ∷ ts)) → Decided (place_item depth item ∷ items) (mark ∷ ts)
   at_item leads each (Of kind) others_lead e depth items others = at_token kind depth items
   at_item leads each (Part nonterminal) others_lead e depth items others = each nonterminal e depth items
@@ -110,15 +122,19 @@ module _ (mark : Mark) (ts : List Mark) (after : (items : List Wanted) → Decid
       at_optional nonterminal depth items (each nonterminal both.0 depth items) (others both.1)
   at_item leads each (Many nonterminal) others_lead e depth items others =
       let both = and_parts (leads nonterminal) others_lead e in
-      at_repeated nonterminal depth items (each nonterminal both.0 depth (Subgoal (Repeated nonterminal) depth ∷ items)) (others both.1)
-  at_item leads each (Inside more item) others_lead e depth items others = at_item leads each item others_lead e (depth + more) items others
+      at_repeated nonterminal depth items (each nonterminal both.0 depth (Subgoal (Repeated nonterminal) depth ∷ items))
+      (others both.1)
+  at_item leads each (Inside more item) others_lead e depth items others =
+      at_item leads each item others_lead e (depth + more) items others
 
   -- An alternative that reaches a token is decided, whatever follows it.
-  at_alternative : (leads : Nonterminal → Bool) → Decides leads → (alternative : List Item) → items_lead leads alternative ≡ true → (depth : ℕ) (items : List Wanted)
+  at_alternative : (leads : Nonterminal → Bool) → Decides leads → (alternative : List Item)
+      → items_lead leads alternative ≡ true → (depth : ℕ) (items : List Wanted)
       → Decided (place depth alternative ++ items) (mark ∷ ts)
   at_alternative leads each [] e depth items = cc
   at_alternative leads each (item ∷ alternative) e depth items =
-      at_item leads each item (items_lead leads alternative) e depth (place depth alternative ++ items) (λ others_lead. at_alternative leads each alternative others_lead depth items)
+      at_item leads each item (items_lead leads alternative) e depth (place depth alternative ++ items)
+      (λ others_lead. at_alternative leads each alternative others_lead depth items)
 
   -- A nonterminal whose alternatives all reach a token is decided.
   at_symbol : (rounds : ℕ) → Decides (leads_within rounds)
@@ -126,7 +142,8 @@ module _ (mark : Mark) (ts : List Mark) (after : (items : List Wanted) → Decid
   at_symbol zero nonterminal e depth items = cc
   at_symbol (suc rounds) nonterminal e depth items = go (at_symbol rounds) (chosen nonterminal (token_kind mark)) refl
     where
-      go : Decides (leads_within rounds) → (choice : Option (List Item)) → chosen nonterminal (token_kind mark) ≡ choice → Decided (Subgoal (One nonterminal) depth ∷ items) (mark ∷ ts)
+      go : Decides (leads_within rounds) → (choice : Option (List Item)) → chosen nonterminal (token_kind mark) ≡ choice
+          → Decided (Subgoal (One nonterminal) depth ∷ items) (mark ∷ ts)
       go each None shut = refused _ _ (Shut (ap (option_map (place (inner_depth nonterminal depth))) shut) refl)
       go each (Some alternative) is =
           let deeper = inner_depth nonterminal depth in
@@ -139,9 +156,12 @@ module _ (mark : Mark) (ts : List Mark) (after : (items : List Wanted) → Decid
   at_stack [] = refused _ _ (Beyond refl)
   at_stack (Terminal kind depth ∷ items) = at_token kind depth items
   at_stack (Subgoal (One nonterminal) depth ∷ items) = at_symbol 12 nonterminal (all_lead nonterminal) depth items
-  at_stack (Subgoal (Optional nonterminal) depth ∷ items) = at_optional nonterminal depth items (at_symbol 12 nonterminal (all_lead nonterminal) depth items) (at_stack items)
+  at_stack (Subgoal (Optional nonterminal) depth ∷ items) =
+      at_optional nonterminal depth items (at_symbol 12 nonterminal (all_lead nonterminal) depth items) (at_stack items)
   at_stack (Subgoal (Repeated nonterminal) depth ∷ items) =
-      at_repeated nonterminal depth items (at_symbol 12 nonterminal (all_lead nonterminal) depth (Subgoal (Repeated nonterminal) depth ∷ items)) (at_stack items)
+      at_repeated nonterminal depth items
+      (at_symbol 12 nonterminal (all_lead nonterminal) depth (Subgoal (Repeated nonterminal) depth ∷ items))
+      (at_stack items)
 
 -- Each token list is read as the wanted items, or refused.
 pub decided : (ts : List Mark) (items : List Wanted) → Decided items ts

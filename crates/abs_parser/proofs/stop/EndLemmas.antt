@@ -35,7 +35,8 @@ data Closed : List Wanted → Type 0 where
   LastProgram : {depth : ℕ} → Closed (Subgoal (One Program) depth ∷ [])
 
 -- The alternatives of the inner nonterminals have no end in them.
-inner_endless : (nonterminal : Nonterminal) (depth : ℕ) → is_inner nonterminal ≡ true → list_all (λ (items : List Item). list_all endless (place depth items)) (rule nonterminal) ≡ true
+inner_endless : (nonterminal : Nonterminal) (depth : ℕ) → is_inner nonterminal ≡ true
+    → list_all (λ (items : List Item). list_all endless (place depth items)) (rule nonterminal) ≡ true
 inner_endless Program depth e = cc
 inner_endless _ depth e = refl
 
@@ -52,20 +53,24 @@ ClosedInside None items = Unit {0}
 ClosedInside (Some inner) items = Closed (inner ++ items)
 
 -- Where a test decides between such items and none, both are closed before closed items.
-either_closed : (stands : Bool) (inner items : List Wanted) → list_all endless inner ≡ true → Closed items → ClosedInside (if stands then Some inner else Some []) items
+either_closed : (stands : Bool) (inner items : List Wanted) → list_all endless inner ≡ true → Closed items
+    → ClosedInside (if stands then Some inner else Some []) items
 either_closed true inner items e closed = endless_first inner items e closed
 either_closed false inner items e closed = closed
 
 -- What an inner nonterminal opens to is closed before closed items.
-inner_closed : (nonterminal : Nonterminal) (kind : TokenKind) (depth : ℕ) (items : List Wanted) → is_inner nonterminal ≡ true → Closed items → ClosedInside (opened (One nonterminal) kind depth) items
+inner_closed : (nonterminal : Nonterminal) (kind : TokenKind) (depth : ℕ) (items : List Wanted)
+    → is_inner nonterminal ≡ true → Closed items → ClosedInside (opened (One nonterminal) kind depth) items
 unfolding chosen
 inner_closed nonterminal kind depth items is closed = go (chosen nonterminal kind) refl
   where
-    go : (choice : Option (List Item)) → chosen nonterminal kind ≡ choice → ClosedInside (option_map (place (inner_depth nonterminal depth)) choice) items
+    go : (choice : Option (List Item)) → chosen nonterminal kind ≡ choice
+        → ClosedInside (option_map (place (inner_depth nonterminal depth)) choice) items
     go None shut = tt
     go (Some alternative) e =
         let deeper = inner_depth nonterminal depth in
-        let without_end = found_passes _ (λ (row : List Item). list_all endless (place deeper row)) (rule nonterminal) alternative (inner_endless nonterminal deeper is) e in
+        let without_end = found_passes _ (λ (row : List Item). list_all endless (place deeper row)) (rule nonterminal)
+        alternative (inner_endless nonterminal deeper is) e in
         endless_first (place deeper alternative) items without_end closed
 
 -- Where a test decides between an alternative and none, the choice is closed if the alternative is.
@@ -80,14 +85,18 @@ unfolding chosen
 program_closed kind depth = only_closed _ _ depth (Endless refl (Endless refl (Endless refl (Endless refl LastEnd))))
 
 -- Closed items stay closed when the first part opens.
-opened_closed : (goal : Goal) (kind : TokenKind) (depth : ℕ) (items : List Wanted) → Closed (Subgoal goal depth ∷ items) → ClosedInside (opened goal kind depth) items
+opened_closed : (goal : Goal) (kind : TokenKind) (depth : ℕ) (items : List Wanted) → Closed (Subgoal goal depth ∷ items)
+    → ClosedInside (opened goal kind depth) items
 opened_closed (One nonterminal) kind depth items (Endless e closed) = inner_closed nonterminal kind depth items e closed
 opened_closed (One Program) kind depth [] LastProgram = program_closed kind depth
 opened_closed (Optional nonterminal) kind depth items (Endless e closed) =
-    either_closed (begins nonterminal kind) (Subgoal (One nonterminal) depth ∷ []) items (and_from (is_inner nonterminal) true e refl) closed
+    either_closed (begins nonterminal kind) (Subgoal (One nonterminal) depth ∷ []) items
+    (and_from (is_inner nonterminal) true e refl) closed
 opened_closed (Repeated nonterminal) kind depth items (Endless e closed) =
-    let both = and_from (is_inner nonterminal) (is_inner nonterminal && true) e (and_from (is_inner nonterminal) true e refl) in
-    either_closed (begins nonterminal kind) (Subgoal (One nonterminal) depth ∷ Subgoal (Repeated nonterminal) depth ∷ []) items both closed
+    let both = and_from (is_inner nonterminal) (is_inner nonterminal && true) e
+    (and_from (is_inner nonterminal) true e refl) in
+    either_closed (begins nonterminal kind)
+    (Subgoal (One nonterminal) depth ∷ Subgoal (Repeated nonterminal) depth ∷ []) items both closed
 
 -- Closed items that begin with a token stay closed without it.
 after_token : {kind : TokenKind} {depth : ℕ} {items : List Wanted} → Closed (Terminal kind depth ∷ items) → Closed items
@@ -100,7 +109,8 @@ end_fits End e = refl
 end_fits _ e = cc
 
 -- In closed items nothing follows the end.
-after_end : {kind : TokenKind} {depth : ℕ} {items : List Wanted} → kind ≡ End → Closed (Terminal kind depth ∷ items) → items ≡ []
+after_end : {kind : TokenKind} {depth : ℕ} {items : List Wanted} → kind ≡ End → Closed (Terminal kind depth ∷ items)
+    → items ≡ []
 after_end {depth = depth} is (Endless e closed) =
     let not_endless : endless (Terminal End depth) ≡ true = subst (λ kind. endless (Terminal kind depth) ≡ true) is e in
     cc
@@ -111,7 +121,8 @@ nothing_moves : {others : List Wanted} {ts rest : List Mark} → Moves [] ts oth
 nothing_moves Stays = refl
 
 -- When closed items have moved over a whole source, none is left.
-all_moved : {items others : List Wanted} {ts : List Mark} → Moves items ts others [] → (tokens : List Lexed) (end : Place) → ts ≡ map Token tokens ++ TextEnd end ∷ []
+all_moved : {items others : List Wanted} {ts : List Mark} → Moves items ts others []
+    → (tokens : List Lexed) (end : Place) → ts ≡ map Token tokens ++ TextEnd end ∷ []
     → Closed items → others ≡ []
 all_moved Stays [] end are closed = cc
 all_moved Stays (token ∷ tokens) end are closed = cc
@@ -123,10 +134,12 @@ all_moved (Takes {ts = ts} fit within moves) (token ∷ tokens) end are closed =
     let tail : ts ≡ map Token tokens ++ TextEnd end ∷ [] = cc in
     all_moved moves tokens end tail (after_token closed)
 all_moved (Opens {goal = goal} {depth = depth} {items = items} {ts = ts} is moves) tokens end are closed =
-    all_moved moves tokens end are (subst (λ (choice : Option (List Wanted)). ClosedInside choice items) is (opened_closed goal (next ts) depth items closed))
+    all_moved moves tokens end are (subst (λ (choice : Option (List Wanted)). ClosedInside choice items) is
+    (opened_closed goal (next ts) depth items closed))
 
 -- A source is refused at a token, and never because it was cut off.
-pub text_refused : (list : TokenList) (rest : List Mark) (code : Code) → Refuses a_program (marks list) rest code → Blocked a_program (marks list) rest code
+pub text_refused : (list : TokenList) (rest : List Mark) (code : Code) → Refuses a_program (marks list) rest code
+    → Blocked a_program (marks list) rest code
 text_refused list rest code refused = go (refusal refused)
   where
     go : Refusal a_program (marks list) rest code → Blocked a_program (marks list) rest code

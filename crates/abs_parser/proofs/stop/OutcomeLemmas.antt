@@ -25,48 +25,57 @@ data Places (before front : List Mark) (mark other : Mark) : Type 0 where
   After : (between : List Mark) → before ≡ front ++ other ∷ between → Places before front mark other
 
 -- This stays so with one more token before both.
-places_after : {before front : List Mark} {mark other : Mark} (first : Mark) → Places before front mark other → Places (first ∷ before) (first ∷ front) mark other
+places_after : {before front : List Mark} {mark other : Mark} (first : Mark) → Places before front mark other
+    → Places (first ∷ before) (first ∷ front) mark other
 places_after first (Same alike same) = Same (ap (λ (list : List Mark). first ∷ list) alike) same
 places_after first (Before between is) = Before between (ap (λ (list : List Mark). first ∷ list) is)
 places_after first (After between is) = After between (ap (λ (list : List Mark). first ∷ list) is)
 
 -- Any two tokens in a list are the same, or one is before the other.
-places : (before front : List Mark) (mark other : Mark) (after others : List Mark) → before ++ mark ∷ after ≡ front ++ other ∷ others → Places before front mark other
+places : (before front : List Mark) (mark other : Mark) (after others : List Mark)
+    → before ++ mark ∷ after ≡ front ++ other ∷ others → Places before front mark other
 places [] [] mark other after others is = Same refl cc
 places [] (first ∷ front) mark other after others is = Before front cc
 places (first ∷ before) [] mark other after others is = After before cc
 places (first ∷ before) (one ∷ front) mark other after others is =
     let same : first ≡ one = cc in
-    subst (λ (head : Mark). Places (first ∷ before) (head ∷ front) mark other) same (places_after first (places before front mark other after others cc))
+    subst (λ (head : Mark). Places (first ∷ before) (head ∷ front) mark other) same
+    (places_after first (places before front mark other after others cc))
 
 -- No token is both a syntax error and too deeply nested.
 wrong_not_deep : {before : List Mark} {mark : Mark} → IsWrong before mark → IsDeep before mark → ⊥
 wrong_not_deep none below = none below.after below.forest below.reads
 
 -- A token is refused by just one code.
-one_code : {before : List Mark} {mark : Mark} {code by : Code} → RefusedBy before mark code → RefusedBy before mark by → by ≡ code
+one_code : {before : List Mark} {mark : Mark} {code by : Code} → RefusedBy before mark code → RefusedBy before mark by
+    → by ≡ code
 one_code (deep below) (deep other) = refl
 one_code (deep below) (wrong by none is) = absurd (wrong_not_deep none below)
 one_code (wrong code none is) (deep below) = absurd (wrong_not_deep none below)
 one_code (wrong code none is) (wrong by other by_is) = by_is ∙ sym is
 
 -- No token before a failure is refused.
-not_before : {ts before front : List Mark} (between : List Mark) {mark other : Mark} {code by : Code} → RefusedBy before mark code → StopsAt ts front other by
+not_before : {ts before front : List Mark} (between : List Mark) {mark other : Mark} {code by : Code}
+    → RefusedBy before mark code → StopsAt ts front other by
     → front ≡ before ++ mark ∷ between → ⊥
 not_before {before = before} between {mark = mark} (deep below) stop is = stop.not_deep before between mark is below
-not_before {before = before} between {mark = mark} (wrong code none by) stop is = stop.not_wrong before between mark is none
+not_before {before = before} between {mark = mark} (wrong code none by) stop is =
+    stop.not_wrong before between mark is none
 
 -- Two failures in a list are the same, by cases of where they are.
-one_stop_by : {ts before front : List Mark} {mark other : Mark} {code by : Code} → StopsAt ts before mark code → StopsAt ts front other by → Places before front mark other
+one_stop_by : {ts before front : List Mark} {mark other : Mark} {code by : Code} → StopsAt ts before mark code
+    → StopsAt ts front other by → Places before front mark other
     → (front ≡ before) × (other ≡ mark) × (by ≡ code)
 one_stop_by {front = front} {mark = mark} {code = code} stop another (Same alike same) =
-    let here = subst (λ (token : Mark). RefusedBy front token code) same (subst (λ (list : List Mark). RefusedBy list mark code) alike stop.refused) in
+    let here = subst (λ (token : Mark). RefusedBy front token code) same
+    (subst (λ (list : List Mark). RefusedBy list mark code) alike stop.refused) in
     (sym alike, sym same, one_code here another.refused)
 one_stop_by stop another (Before between is) = absurd (not_before between stop.refused another is)
 one_stop_by stop another (After between is) = absurd (not_before between another.refused stop is)
 
 -- The parser fails at one token of a list, with one code.
-pub one_stop : {ts before front : List Mark} {mark other : Mark} {code by : Code} → StopsAt ts before mark code → StopsAt ts front other by
+pub one_stop : {ts before front : List Mark} {mark other : Mark} {code by : Code} → StopsAt ts before mark code
+    → StopsAt ts front other by
     → (front ≡ before) × (other ≡ mark) × (by ≡ code)
 one_stop {before = before} {front = front} {mark = mark} {other = other} stop another =
     one_stop_by stop another (places before front mark other stop.after another.after (sym stop.is ∙ another.is))
@@ -74,11 +83,13 @@ one_stop {before = before} {front = front} {mark = mark} {other = other} stop an
 -- The parser accepts a source that is read, and fails in one that is refused.
 outcome_of : (list : TokenList) → Decided a_program (marks list) → Outcome (marks list)
 outcome_of list (read levels whole within) =
-    accepts whole.forest (accepted whole.reads (subst AllWithin (sym whole.are) within)) (λ other program. (one_reading program.reads whole.reads).0)
+    accepts whole.forest (accepted whole.reads (subst AllWithin (sym whole.are) within))
+    (λ other program. (one_reading program.reads whole.reads).0)
     (λ tree made. made.is ∙ ap tree_of (one_reading made.reads.reads whole.reads).0)
 outcome_of list (refused rest code refusal) =
     let stop = stopped (text_refused list rest code refusal) in
-    stops stop.before stop.mark code stop.stops (λ front other by another. one_stop stop.stops another) (λ forest is. is.no_stop stop.before stop.mark code stop.stops)
+    stops stop.before stop.mark code stop.stops (λ front other by another. one_stop stop.stops another)
+    (λ forest is. is.no_stop stop.before stop.mark code stop.stops)
 
 -- Each source has one outcome.
 pub each_text : EachTextStopsOrIsAccepted

@@ -16,20 +16,25 @@ use Rattle.abs_parser.proofs.stop.MoveLemmas.{Stays, Blocks, Unread, TooDeep, Bl
 use Rattle.abs_parser.proofs.grammar.ReadingLemmas.{a_program, WholeReading, token_put}
 
 -- Where the depths of the passed tokens are within the limit, that of the last of them is.
-last_within : (before after passed ahead : List ℕ) (depth : ℕ) → before ++ depth ∷ after ≡ passed ++ ahead → length passed ≡ suc (length before)
+last_within : (before after passed ahead : List ℕ) (depth : ℕ) → before ++ depth ∷ after ≡ passed ++ ahead
+    → length passed ≡ suc (length before)
     → AllWithin passed → depth ≤ limit
 last_within before after [] ahead depth are long within = absurd (omega arith)
 last_within [] after (first ∷ passed) ahead depth are long within =
     let same : depth ≡ first = cc in
     omega (arith, within.0)
-last_within (first ∷ before) after (other ∷ passed) ahead depth are long within = last_within before after passed ahead depth (cc) (omega arith) within.1
+last_within (first ∷ before) after (other ∷ passed) ahead depth are long within =
+    last_within before after passed ahead depth (cc) (omega arith) within.1
 
 -- A token that was moved over is not too deeply nested.
 not_deep : {before : List Mark} {mark : Mark} → MovesOver a_program before mark → IsDeep before mark → ⊥
 not_deep {before} {mark} over below =
-    let all = read_ahead (over.moves below.after) (record { forest = below.forest; reads = below.reads.reads; are = below.are }) in
-    let count : length all.passed ≡ suc (length below.depths_before) = omega (arith, all.count, below.place, length-append before (mark ∷ below.after)) in
-    let within = last_within below.depths_before below.depths_after all.passed all.ahead below.depth all.are count all.within in
+    let all = read_ahead (over.moves below.after)
+    (record { forest = below.forest; reads = below.reads.reads; are = below.are }) in
+    let count : length all.passed ≡ suc (length below.depths_before) =
+    omega (arith, all.count, below.place, length-append before (mark ∷ below.after)) in
+    let within = last_within below.depths_before below.depths_after all.passed all.ahead below.depth all.are count
+    all.within in
     omega (arith, below.deep)
 
 -- A token that was moved over is no syntax error.
@@ -40,19 +45,24 @@ not_wrong over none =
     none (finish over.others) all.reading.forest record { reads = all.reading.reads }
 
 -- A token that was moved over is not refused.
-not_refused : {before : List Mark} {mark : Mark} {code : Code} → MovesOver a_program before mark → RefusedBy before mark code → ⊥
+not_refused : {before : List Mark} {mark : Mark} {code : Code} → MovesOver a_program before mark
+    → RefusedBy before mark code → ⊥
 not_refused over (deep below) = not_deep over below
 not_refused over (wrong code none is) = not_wrong over none
 
 -- Each token before one that the items moved up to was moved over.
-each_over : {others : List Wanted} {mark : Mark} {ts after : List Mark} → (up : MovesUpTo a_program others mark ts after) → (front more : List Mark) (other : Mark)
+each_over : {others : List Wanted} {mark : Mark} {ts after : List Mark}
+    → (up : MovesUpTo a_program others mark ts after) → (front more : List Mark) (other : Mark)
     → up.before ≡ front ++ other ∷ more → MovesOver a_program front other
 each_over {mark = mark} {after = after} up front more other is =
-    let all : up.before ++ mark ∷ after ≡ front ++ other ∷ (more ++ mark ∷ after) = rw is (append_assoc front (other ∷ more) (mark ∷ after)) in
-    moves_over (up.moves after) front other (more ++ mark ∷ after) all (omega (arith, length-append more (mark ∷ after)))
+    let all : up.before ++ mark ∷ after ≡ front ++ other ∷ (more ++ mark ∷ after) =
+    rw is (append_assoc front (other ∷ more) (mark ∷ after)) in
+    moves_over (up.moves after) front other (more ++ mark ∷ after) all
+    (omega (arith, length-append more (mark ∷ after)))
 
 -- A token that fits beyond the limit is too deeply nested: the items wanted after it can be completed.
-is_deep : {kind : TokenKind} {depth : ℕ} {items : List Wanted} {mark : Mark} {ts after : List Mark} → (up : MovesUpTo a_program (Terminal kind depth ∷ items) mark ts after)
+is_deep : {kind : TokenKind} {depth : ℕ} {items : List Wanted} {mark : Mark} {ts after : List Mark}
+    → (up : MovesUpTo a_program (Terminal kind depth ∷ items) mark ts after)
     → Fine (Terminal kind depth ∷ items) → fits kind (token_kind mark) ≡ true → limit < depth → IsDeep up.before mark
 is_deep {kind} {depth} {items} {mark} up fine fit below =
     let last = finishes items (fine_after kind depth items fine) in
@@ -77,7 +87,8 @@ is_wrong up none = λ more forest program.
     none more rest.ahead rest.reading
 
 -- A token that blocks the wanted items is refused.
-is_refused : {others : List Wanted} {mark : Mark} {ts after : List Mark} {code : Code} → (up : MovesUpTo a_program others mark ts after) → Fine others
+is_refused : {others : List Wanted} {mark : Mark} {ts after : List Mark} {code : Code}
+    → (up : MovesUpTo a_program others mark ts after) → Fine others
     → Blocks others mark code → RefusedBy up.before mark code
 is_refused up fine (Unread none is) = wrong _ (is_wrong up none) is
 is_refused up fine (TooDeep fit below) = deep (is_deep up fine fit below)
@@ -107,8 +118,10 @@ stopped blocked =
     }
 
 -- A list that is read within the limit is accepted.
-pub accepted : {ts : List Mark} {forest : Forest} → Reads a_program ts forest [] → AllWithin (depths forest) → IsAccepted ts forest
+pub accepted : {ts : List Mark} {forest : Forest} → Reads a_program ts forest [] → AllWithin (depths forest)
+    → IsAccepted ts forest
 accepted reads within = record {
   reads = record { reads = reads };
-  no_stop = λ before mark code stop. not_refused (moves_over (passes reads within Stays) before mark stop.after stop.is (omega arith)) stop.refused;
+  no_stop = λ before mark code stop.
+      not_refused (moves_over (passes reads within Stays) before mark stop.after stop.is (omega arith)) stop.refused;
 }

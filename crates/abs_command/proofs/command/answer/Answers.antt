@@ -10,7 +10,8 @@ use Rattle.abs_command.proofs.command.answer.Goals as goal
 
 pub returns-then-bytes-gt-SOURCE_LIMIT-clause-answered : goal.returns-then-bytes-gt-SOURCE_LIMIT-clause-answered
 returns-then-bytes-gt-SOURCE_LIMIT-clause-answered g c = λ words source source' named.
-    delivered words c.args.bytes.now source source' c.before_analysis-ended.result c.deliver.result _ _ _ [] c.as_bytes.result.now _ _ _
+    delivered words c.args.bytes.now source source' c.before_analysis-ended.result c.deliver.result _ _ _ []
+    c.as_bytes.result.now _ _ _
     (oversized (record {
       named = named;
       cause = omega arith;
@@ -21,13 +22,16 @@ returns-then-bytes-gt-SOURCE_LIMIT-clause-answered g c = λ words source source'
 
 pub returns-in-Ok-clause-answered : goal.returns-in-Ok-clause-answered
 returns-in-Ok-clause-answered g c = ok_follows c.answer_program.result c.answer_program.ensures.answered
-    (λ ended answer words source source' named. answer words c.args.bytes.now source source' named (record { small = omega arith; read = c.in-Ok.ensures.found }))
+    (λ ended answer words source source' named.
+    answer words c.args.bytes.now source source' named (record { small = omega arith; read = c.in-Ok.ensures.found }))
 
 pub returns-in-Ok-clause-exhausted : goal.returns-in-Ok-clause-exhausted
 returns-in-Ok-clause-exhausted g c = error_follows c.answer_program.result c.answer_program.ensures.exhausted
-    (λ written words named. written words c.args.bytes.now named (record { small = omega arith; read = c.in-Ok.ensures.found }))
+    (λ written words named. written words c.args.bytes.now named
+    (record { small = omega arith; read = c.in-Ok.ensures.found }))
 
 pub returns-in-Err-Refused-clause-answered : goal.returns-in-Err-Refused-clause-answered
 returns-in-Err-Refused-clause-answered g c = ok_follows c.refuse.result c.refuse.ensures.answered
     (λ ended answer words source source' named. answer words c.args.bytes.now source source' named (omega arith)
-    (subst (λ (e : SourceError). HasCause (FirstOffence c.args.bytes.now) e) c.in-Err-Refused.field-0-is c.in-Err-Refused.ensures.refused))
+    (subst (λ (e : SourceError). HasCause (FirstOffence c.args.bytes.now) e) c.in-Err-Refused.field-0-is
+    c.in-Err-Refused.ensures.refused))

@@ -6,7 +6,8 @@ use Rattle.abs_command.proofs.command.refuse.Goals as goal
 
 pub returns-clause-answered : goal.returns-clause-answered
 returns-clause-answered g c = λ words bytes source source' named small first.
-    delivered words bytes source source' c.before_analysis-ended.result c.deliver.result _ _ _ [] c.as_bytes.result.now _ _ _
+    delivered words bytes source source' c.before_analysis-ended.result c.deliver.result _ _ _ [] c.as_bytes.result.now
+    _ _ _
     (refused (record {
       named = named;
       small = small;

@@ -22,23 +22,32 @@ returns-in_default-clause-promises g c = promised _ [] _ _ _ _ _ (nothing_read _
 
 pub returns-in-Ok-clause-promises : goal.returns-in-Ok-clause-promises
 returns-in-Ok-clause-promises g c =
-    let took = subst (λ (bytes : List ℕ). TookWhole (g.S.Source.under c.args.source.now c.in-Some.file.now) (g.S.Source.left c.take.new.source) bytes) (sym c.as_slice.ensures.value) c.in-Ok.ensures.took in
+    let took = subst (λ (bytes : List ℕ).
+    TookWhole (g.S.Source.under c.args.source.now c.in-Some.file.now) (g.S.Source.left c.take.new.source) bytes)
+    (sym c.as_slice.ensures.value) c.in-Ok.ensures.took in
     ok_follows c.answer.result c.answer.ensures.answered (λ ended answer. promised _ c.as_slice.result.now _ _ _ _ ended
-    (read_whole _ _ _ c.in-Some.file.now c.as_slice.result.now ended.status c.in-Some.ensures.some took c.in-Ok.ensures.missing c.in-Ok.ensures.same_names)
+    (read_whole _ _ _ c.in-Some.file.now c.as_slice.result.now ended.status c.in-Some.ensures.some took
+    c.in-Ok.ensures.missing c.in-Ok.ensures.same_names)
     (answer _ _ _ (c.in-Some.file.now, c.in-Some.ensures.some)))
 
 pub returns-in-Ok-clause-exhausted : goal.returns-in-Ok-clause-exhausted
 returns-in-Ok-clause-exhausted g c =
-    let took = subst (λ (bytes : List ℕ). TookWhole (g.S.Source.under c.args.source.now c.in-Some.file.now) (g.S.Source.left c.take.new.source) bytes) (sym c.as_slice.ensures.value) c.in-Ok.ensures.took in
-    error_follows c.answer.result c.answer.ensures.exhausted (λ written ended is. promised _ c.as_slice.result.now _ _ _ _ ended
-    (read_whole _ _ _ c.in-Some.file.now c.as_slice.result.now ended.status c.in-Some.ensures.some took c.in-Ok.ensures.missing c.in-Ok.ensures.same_names)
+    let took = subst (λ (bytes : List ℕ).
+    TookWhole (g.S.Source.under c.args.source.now c.in-Some.file.now) (g.S.Source.left c.take.new.source) bytes)
+    (sym c.as_slice.ensures.value) c.in-Ok.ensures.took in
+    error_follows c.answer.result c.answer.ensures.exhausted
+    (λ written ended is. promised _ c.as_slice.result.now _ _ _ _ ended
+    (read_whole _ _ _ c.in-Some.file.now c.as_slice.result.now ended.status c.in-Some.ensures.some took
+    c.in-Ok.ensures.missing c.in-Ok.ensures.same_names)
     (exhausted is (written _ (c.in-Some.file.now, c.in-Some.ensures.some))))
 
 pub returns-in-Err-Failed-clause-promises : goal.returns-in-Err-Failed-clause-promises
 returns-in-Err-Failed-clause-promises g c =
-    let part = some_taken (g.S.Source.under c.args.source.now c.in-Some.file.now) (g.S.Source.left c.args.source.now) (g.S.Source.left c.take.new.source) c.in-Err-Failed.ensures.some in
+    let part = some_taken (g.S.Source.under c.args.source.now c.in-Some.file.now) (g.S.Source.left c.args.source.now)
+    (g.S.Source.left c.take.new.source) c.in-Err-Failed.ensures.some in
     promised _ part.bytes _ _ _ _ _
-    (read_in_part _ _ _ c.in-Some.file.now _ c.in-Some.ensures.some (λ read. subst WasRead c.before_analysis.ensures.status read) part c.in-Err-Failed.ensures.same_names)
+    (read_in_part _ _ _ c.in-Some.file.now _ c.in-Some.ensures.some
+    (λ read. subst WasRead c.before_analysis.ensures.status read) part c.in-Err-Failed.ensures.same_names)
     (whole [] (unread (record {
       file = c.in-Some.file.now;
       named = c.in-Some.ensures.some;

@@ -20,17 +20,21 @@ use Rattle.abs_command.proofs.source.program_of.Goals as goal
 pub returns-in-Err-NotYet-clause-refused : goal.returns-in-Err-NotYet-clause-refused
 returns-in-Err-NotYet-clause-refused c =
     let tree = c.in_ok-tree.tree in
-    let read : IsTree c.args.text.now tree.symbols (source_tree tree) = record { list = c.in_ok-list.list; tokens = c.in_ok-list.ensures.found; is = c.in_ok-tree.ensures.found } in
-    let waits = subst (λ (e : RunnableError). ForNotYet e (λ (place : Place). runnable tree.symbols (source_tree tree) ≡ Err place)) c.in-Err-NotYet.field-0-is
+    let read : IsTree c.args.text.now tree.symbols (source_tree tree) =
+    record { list = c.in_ok-list.list; tokens = c.in_ok-list.ensures.found; is = c.in_ok-tree.ensures.found } in
+    let waits = subst (λ (e : RunnableError).
+    ForNotYet e (λ (place : Place). runnable tree.symbols (source_tree tree) ≡ Err place)) c.in-Err-NotYet.field-0-is
     c.in-Err-NotYet.ensures.not_yet in
     not_yet tree.symbols (source_tree tree) c.in-Err-NotYet.place read waits
-    (c.refusal.ensures ∙ ap (λ (begin : Place). refusal_of (record { code = S1; place = begin })) c.in-Err-NotYet.place-is)
+    (c.refusal.ensures ∙ ap (λ (begin : Place). refusal_of (record { code = S1; place = begin }))
+    c.in-Err-NotYet.place-is)
 
 pub returns-in_err-tree-clause-refused : goal.returns-in_err-tree-clause-refused
 returns-in_err-tree-clause-refused c =
     let error = err_from_is_err_and c.from_residual-in_err-tree.result c.from_residual-in_err-tree.ensures.1 in
     rw error.1 (subst (HasCause (FirstOffence c.args.text.now)) (sym error.2)
-    (cause_follows c.in_err-tree.field-0.0 c.in_err-tree.ensures.refused (λ refusal stops. unread c.in_ok-list.list c.in_ok-list.ensures.found stops)))
+    (cause_follows c.in_err-tree.field-0.0 c.in_err-tree.ensures.refused
+    (λ refusal stops. unread c.in_ok-list.list c.in_ok-list.ensures.found stops)))
 
 pub returns-clause-found : goal.returns-clause-found
 returns-clause-found c =
@@ -50,7 +54,8 @@ returns-clause-pieces c =
     let tree = c.in_ok-tree.tree in
     ok_follows c.resolve.result c.resolve.ensures.found (λ program is.
     let resolved_names = ap (λ (named : NamedTree). named.names) is in
-    let names = resolved_names ∙ part_names tree.symbols (source_tree tree) (program_tree c.in-Ok.program) c.in-Ok.ensures.found in
+    let names = resolved_names ∙ part_names tree.symbols (source_tree tree) (program_tree c.in-Ok.program)
+    c.in-Ok.ensures.found in
     All-same (IsPiece c.args.text.now) program.symbols tree.symbols names
     (names_are_pieces c.in_ok-list.list.tokens tree.symbols c.in_ok-list.ensures.slices c.in_ok-tree.ensures.names))
 
@@ -58,6 +63,8 @@ pub returns-clause-refused : goal.returns-clause-refused
 returns-clause-refused c =
     let tree = c.in_ok-tree.tree in
     let part = program_tree c.in-Ok.program in
-    if_error_follows c.resolve.result c.resolve.ensures.refused (λ error refused. cause_follows error refused (λ refusal first.
-    misnamed tree.symbols (source_tree tree) part (record { list = c.in_ok-list.list; tokens = c.in_ok-list.ensures.found; is = c.in_ok-tree.ensures.found })
+    if_error_follows c.resolve.result c.resolve.ensures.refused
+    (λ error refused. cause_follows error refused (λ refusal first.
+    misnamed tree.symbols (source_tree tree) part
+    (record { list = c.in_ok-list.list; tokens = c.in_ok-list.ensures.found; is = c.in_ok-tree.ensures.found })
     c.in-Ok.ensures.found first))

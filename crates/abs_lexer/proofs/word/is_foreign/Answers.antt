@@ -6,5 +6,6 @@ use Rattle.abs_lexer.proofs.word.is_foreign.Goals as goal
 
 pub returns : goal.returns
 returns c =
-    any_from_yields_List (λ w. bytes_eq c.args.word.now w.now) _ _ _ c.any.ensures.ran (YieldsList-from_slice _ c.iter.ensures.rest)
+    any_from_yields_List (λ w. bytes_eq c.args.word.now w.now) _ _ _ c.any.ensures.ran
+    (YieldsList-from_slice _ c.iter.ensures.rest)
     (λ x b q k. search (rules, tests))

@@ -9,12 +9,16 @@ use Rattle.abs_names.proofs.resolver.+expressions.Given as goal
 -- the part resolved so far and the rest resolved are the whole resolved; the offences of the rest are still to be noted
 abbrev pub invariant-expressions-loop-expr : goal.invariant-expressions-loop-expr
 invariant-expressions-loop-expr l = record {
-  found : in_front l.found.items (resolved_exprs l.scope (trees_of (drop l.expr-index l.exprs))) ≡ resolved_exprs l.scope (trees_of l.exprs);
-  noted : fold earlier l.first (unknown_in_all l.scope (trees_of (drop l.expr-index l.exprs))) ≡ fold earlier l.fn.first (unknown_in_all l.scope (trees_of l.exprs));
+  found : in_front l.found.items (resolved_exprs l.scope (trees_of (drop l.expr-index l.exprs)))
+      ≡ resolved_exprs l.scope (trees_of l.exprs);
+  noted : fold earlier l.first (unknown_in_all l.scope (trees_of (drop l.expr-index l.exprs)))
+      ≡ fold earlier l.fn.first (unknown_in_all l.scope (trees_of l.exprs));
 }
 
 abbrev pub invariant-operands-loop-operand : goal.invariant-operands-loop-operand
 invariant-operands-loop-operand l = record {
-  found : operands_in_front l.found.items (resolved_operands l.scope (operands_of (drop l.operand-index l.operands))) ≡ resolved_operands l.scope (operands_of l.operands);
-  noted : fold earlier l.first (unknown_in_operands l.scope (operands_of (drop l.operand-index l.operands))) ≡ fold earlier l.fn.first (unknown_in_operands l.scope (operands_of l.operands));
+  found : operands_in_front l.found.items (resolved_operands l.scope (operands_of (drop l.operand-index l.operands)))
+      ≡ resolved_operands l.scope (operands_of l.operands);
+  noted : fold earlier l.first (unknown_in_operands l.scope (operands_of (drop l.operand-index l.operands)))
+      ≡ fold earlier l.fn.first (unknown_in_operands l.scope (operands_of l.operands));
 }

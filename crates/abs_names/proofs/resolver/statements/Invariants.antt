@@ -15,6 +15,7 @@ invariant-loop-stmt l =
     record {
       found : map stmt_tree l.found.items ++ resolved_from l.scope rest ≡ resolved_from l.fn.scope all;
       after : scope_after l.scope rest ≡ scope_after l.fn.scope all;
-      noted : fold earlier l.first (offences_from l.scope rest) ≡ fold earlier l.fn.first (offences_from l.fn.scope all);
+      noted : fold earlier l.first (offences_from l.scope rest)
+          ≡ fold earlier l.fn.first (offences_from l.fn.scope all);
       few : length l.scope ≤ length l.fn.scope + l.stmt-index;
     }

@@ -7,7 +7,8 @@ use Rattle.abs_parser.proofs.declarations.interface.Given as goal
 -- what was read so far
 abbrev pub invariant-loop-alloc : goal.invariant-loop-alloc
 invariant-loop-alloc l = record {
-  read : ReadsParts signatures_of AnyIndex (interface_of l.token.place l.declared l.extended.items) 0 l.fn.symbols l.symbols (spot l.from) (spot l.here) l.signatures.items;
+  read : ReadsParts signatures_of AnyIndex (interface_of l.token.place l.declared l.extended.items) 0 l.fn.symbols
+      l.symbols (spot l.from) (spot l.here) l.signatures.items;
 }
 
 abbrev pub decreases-loop-alloc : goal.decreases-loop-alloc

@@ -9,7 +9,8 @@ use Rattle.abs_parser.proofs.guards.guard.Goals as goal
 
 pub returns-in_err-first : goal.returns-in_err-first
 returns-in_err-first c =
-    passed_on _ _ c.from_residual.result c.from_residual.ensures.1 (refused_first list_of_tests c.args.depth (spot c.args.from) _ c.in_err-first.ensures)
+    passed_on _ _ c.from_residual.result c.from_residual.ensures.1
+    (refused_first list_of_tests c.args.depth (spot c.args.from) _ c.in_err-first.ensures)
 
 pub loop-after-init : goal.loop-after-init
 loop-after-init c = record {
@@ -25,7 +26,8 @@ test-requires-in-Some-clause-names c =
 
 pub returns-in_err-next : goal.returns-in_err-next
 returns-in_err-next c =
-    passed_on _ _ c.from_residual-in_err-next.result c.from_residual-in_err-next.ensures.1 (refused_next c.loop-after.invariant.read c.in-Some.ensures.found c.requires.depth _ c.in_err-next.ensures)
+    passed_on _ _ c.from_residual-in_err-next.result c.from_residual-in_err-next.ensures.1
+    (refused_next c.loop-after.invariant.read c.in-Some.ensures.found c.requires.depth _ c.in_err-next.ensures)
 
 pub loop-after-smaller : goal.loop-after-smaller
 loop-after-smaller c =
@@ -35,7 +37,8 @@ loop-after-smaller c =
 
 pub loop-after-preserved : goal.loop-after-preserved
 loop-after-preserved c = record {
-  read = next_so_far c.loop-after.invariant.read c.in_ok-push.ensures.items c.in-Some.ensures.found c.requires.depth (one_test c.in_ok-next.next c.in_ok-next.ensures);
+  read = next_so_far c.loop-after.invariant.read c.in_ok-push.ensures.items c.in-Some.ensures.found c.requires.depth
+      (one_test c.in_ok-next.next c.in_ok-next.ensures);
 }
 
 pub returns : goal.returns

@@ -7,14 +7,17 @@ use Rattle.abs_parser.proofs.guards.test.Goals as goal
 
 pub returns-in_err-value : goal.returns-in_err-value
 returns-in_err-value c =
-    passed_on _ _ c.from_residual.result c.from_residual.ensures.1 (test_refused c.args.depth (spot c.args.from) _ c.in_err-value.ensures)
+    passed_on _ _ c.from_residual.result c.from_residual.ensures.1
+    (test_refused c.args.depth (spot c.args.from) _ c.in_err-value.ensures)
 
 pub returns-in_default : goal.returns-in_default
 returns-in_default c =
     let test : Test = record { place = c.place-place.result; value = c.in_ok-value-2.value; asks = false } in
-    test_found test c.place-place.ensures c.in_ok-value-2.ensures.ok c.in_ok-value.ensures (question_left_out c.args.depth _ (spot c.in_ok-value.after) c.in_default.ensures.other)
+    test_found test c.place-place.ensures c.in_ok-value-2.ensures.ok c.in_ok-value.ensures
+    (question_left_out c.args.depth _ (spot c.in_ok-value.after) c.in_default.ensures.other)
 
 pub returns : goal.returns
 returns c =
     let test : Test = record { place = c.place-place.result; value = c.in_ok-value-2.value; asks = true } in
-    test_found test c.place-place.ensures c.in_ok-value-2.ensures.ok c.in_ok-value.ensures (question_found c.args.depth _ c.in-Some.ensures.found c.requires.depth)
+    test_found test c.place-place.ensures c.in_ok-value-2.ensures.ok c.in_ok-value.ensures
+    (question_found c.args.depth _ c.in-Some.ensures.found c.requires.depth)

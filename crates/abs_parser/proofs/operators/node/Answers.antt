@@ -11,5 +11,6 @@ pub returns : goal.returns
 returns c names =
     let some : 0 < length c.args.operands.items = grind (arith, nat_tests, c.args.operands.ok.0) in
     phrase-operators names c.args.place c.in_ok-new.field-0 c.args.operands
-    ∙ (ap (λ (first : Expr). OperatorsOf c.args.place (phrase names first) (operand_trees names c.args.operands.items)) c.in_ok-new.ensures.ok
+    ∙ (ap (λ (first : Expr). OperatorsOf c.args.place (phrase names first) (operand_trees names c.args.operands.items))
+    c.in_ok-new.ensures.ok
     ∙ node_is names c.args.place (phrase names c.args.first) c.args.operands.items some)

@@ -8,11 +8,13 @@ use Rattle.abs_parser.proofs.parameters.params.Goals as goal
 
 pub returns-in_err-first : goal.returns-in_err-first
 returns-in_err-first c =
-    passed_on _ _ c.from_residual.result c.from_residual.ensures.1 (refused_first list_of_params 0 (spot c.args.from) _ c.in_err-first.ensures)
+    passed_on _ _ c.from_residual.result c.from_residual.ensures.1
+    (refused_first list_of_params 0 (spot c.args.from) _ c.in_err-first.ensures)
 
 pub loop-after-init : goal.loop-after-init
 loop-after-init c = record {
-  read = first_so_far list_of_params trees_of_params c.in_ok-params.ensures.items (param_in_front c.in_ok-first.first c.in_ok-first.ensures);
+  read = first_so_far list_of_params trees_of_params c.in_ok-params.ensures.items
+      (param_in_front c.in_ok-first.first c.in_ok-first.ensures);
 }
 
 pub param-requires-in-Some : goal.param-requires-in-Some
@@ -23,7 +25,8 @@ param-requires-in-Some c =
 
 pub returns-in_err-next : goal.returns-in_err-next
 returns-in_err-next c =
-    passed_on _ _ c.from_residual-in_err-next.result c.from_residual-in_err-next.ensures.1 (refused_next c.loop-after.invariant.read c.in-Some.ensures.found (omega arith) _ c.in_err-next.ensures)
+    passed_on _ _ c.from_residual-in_err-next.result c.from_residual-in_err-next.ensures.1
+    (refused_next c.loop-after.invariant.read c.in-Some.ensures.found (omega arith) _ c.in_err-next.ensures)
 
 pub loop-after-smaller : goal.loop-after-smaller
 loop-after-smaller c =
@@ -33,7 +36,8 @@ loop-after-smaller c =
 
 pub loop-after-preserved : goal.loop-after-preserved
 loop-after-preserved c = record {
-  read = next_so_far c.loop-after.invariant.read c.in_ok-push.ensures.items c.in-Some.ensures.found (omega arith) (param_in_front c.in_ok-next.next c.in_ok-next.ensures);
+  read = next_so_far c.loop-after.invariant.read c.in_ok-push.ensures.items c.in-Some.ensures.found (omega arith)
+      (param_in_front c.in_ok-next.next c.in_ok-next.ensures);
 }
 
 pub returns : goal.returns

@@ -6,7 +6,10 @@ use Rattle.abs_parser.proofs.parameters.params.Given as goal
 
 -- what was read so far
 abbrev pub invariant-loop-after : goal.invariant-loop-after
-invariant-loop-after l = record { read : ReadsSoFar list_of_params trees_of_params 0 l.fn.symbols l.symbols (spot l.from) (spot l.here) l.params.items }
+invariant-loop-after l = record {
+  read : ReadsSoFar list_of_params trees_of_params 0 l.fn.symbols l.symbols
+      (spot l.from) (spot l.here) l.params.items;
+}
 
 abbrev pub decreases-loop-after : goal.decreases-loop-after
 decreases-loop-after l = length (spot l.here).rest

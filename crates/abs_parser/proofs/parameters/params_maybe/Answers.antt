@@ -13,11 +13,15 @@ use Rattle.abs_parser.proofs.parameters.params_maybe.Goals as goal
 
 pub returns-then-not-is : goal.returns-then-not-is
 returns-then-not-is c =
-    all_read (opens (Optional Params) 0 c.args.symbols.now (spot c.args.from) _ (optional_left_out Params _ 0 (params_begin _ ∙ (sym c.is.ensures ∙ c.if-not-is.true))))
+    all_read (opens (Optional Params) 0 c.args.symbols.now (spot c.args.from) _
+    (optional_left_out Params _ 0 (params_begin _ ∙ (sym c.is.ensures ∙ c.if-not-is.true))))
     (λ names more. ap (map (param_tree names)) c.new.ensures.items)
 
 pub returns : goal.returns
 returns c =
-    parses_further _ _ c.params.result (λ found read. found_weaker (maybe_found list_of_params read) (λ names more is. read.is names more ∙ sym (ap params_maybe is))) (λ error refused.
-    refused_inside (opens (Optional Params) 0 c.args.symbols.now (spot c.args.from) _ (optional_opened Params _ 0 (params_begin _ ∙ (sym c.is.ensures ∙ c.if-not-is.false)))) error refused)
+    parses_further _ _ c.params.result
+    (λ found read. found_weaker (maybe_found list_of_params read)
+    (λ names more is. read.is names more ∙ sym (ap params_maybe is))) (λ error refused.
+    refused_inside (opens (Optional Params) 0 c.args.symbols.now (spot c.args.from) _
+    (optional_opened Params _ 0 (params_begin _ ∙ (sym c.is.ensures ∙ c.if-not-is.false)))) error refused)
     c.params.ensures

@@ -18,7 +18,11 @@ decreases-patterns l = 3 * length (spot l.from).rest + 2
 
 -- what was read so far
 abbrev pub invariant-patterns-loop-after : goal.invariant-patterns-loop-after
-invariant-patterns-loop-after l = record { read : ReadsSoFar list_of_patterns trees_of_patterns l.depth l.fn.symbols l.symbols (spot l.from) (spot l.here) l.patterns.items }
+invariant-patterns-loop-after l =
+    record {
+      read : ReadsSoFar list_of_patterns trees_of_patterns l.depth l.fn.symbols l.symbols (spot l.from)
+          (spot l.here) l.patterns.items;
+    }
 
 abbrev pub decreases-patterns-loop-after : goal.decreases-patterns-loop-after
 decreases-patterns-loop-after l = length (spot l.here).rest

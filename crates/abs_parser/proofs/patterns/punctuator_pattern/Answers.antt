@@ -13,22 +13,29 @@ use Rattle.abs_parser.proofs.patterns.punctuator_pattern.Goals as goal
 
 pub returns-in_err-any-clause-refused : goal.returns-in_err-any-clause-refused
 returns-in_err-any-clause-refused c =
-    error_passed_on _ c.from_residual.result c.from_residual.ensures.1 (refused_underscore c.args.depth (spot c.args.from) _ c.args.punctuator c.requires.begins c.eq.ensures c.if-eq.true c.in_err-any.ensures.refused)
+    error_passed_on _ c.from_residual.result c.from_residual.ensures.1
+    (refused_underscore c.args.depth (spot c.args.from) _ c.args.punctuator c.requires.begins c.eq.ensures c.if-eq.true
+    c.in_err-any.ensures.refused)
 
 pub returns-then-eq-clause-found : goal.returns-then-eq-clause-found
 returns-then-eq-clause-found c table =
     let takes = c.in_ok-any.ensures.found in
-    all_read (over_token {kind = lexeme.Punctuator punctuator.Underscore} (pattern_begins c.args.depth table takes refl) takes refl refl c.in_ok-any.ensures.within)
+    all_read (over_token {kind = lexeme.Punctuator punctuator.Underscore} (pattern_begins c.args.depth table takes refl)
+    takes refl refl c.in_ok-any.ensures.within)
     (λ names more. sym (any_tree (lexed c.in_ok-any.any) (c.args.depth + 1) takes.kind_is))
 
 pub returns-in_err-minus-clause-refused : goal.returns-in_err-minus-clause-refused
 returns-in_err-minus-clause-refused c =
-    error_passed_on _ c.from_residual-in_err-minus.result c.from_residual-in_err-minus.ensures.1 (refused_minus c.args.depth (spot c.args.from) _ c.args.punctuator c.requires.begins c.eq.ensures c.if-eq.false c.in_err-minus.ensures.refused)
+    error_passed_on _ c.from_residual-in_err-minus.result c.from_residual-in_err-minus.ensures.1
+    (refused_minus c.args.depth (spot c.args.from) _ c.args.punctuator c.requires.begins c.eq.ensures c.if-eq.false
+    c.in_err-minus.ensures.refused)
 
 pub returns-in_err-digits-clause-refused : goal.returns-in_err-digits-clause-refused
 returns-in_err-digits-clause-refused c =
     let minus = c.in_ok-minus.ensures.found in
-    error_passed_on _ c.from_residual-in_err-digits.result c.from_residual-in_err-digits.ensures.1 (refused_inside (over_token {kind = lexeme.Punctuator punctuator.Minus} (pattern_begins c.args.depth [] minus refl) minus refl refl c.in_ok-minus.ensures.within) _ c.in_err-digits.ensures.refused)
+    error_passed_on _ c.from_residual-in_err-digits.result c.from_residual-in_err-digits.ensures.1
+    (refused_inside (over_token {kind = lexeme.Punctuator punctuator.Minus} (pattern_begins c.args.depth [] minus refl)
+    minus refl refl c.in_ok-minus.ensures.within) _ c.in_err-digits.ensures.refused)
 
 pub numeral-requires-clause-number : goal.numeral-requires-clause-number
 numeral-requires-clause-number c = number_digits c.in_ok-digits.ensures.found.kind_is c.in_ok-digits.ensures.well_formed
@@ -38,7 +45,11 @@ returns-clause-found c table =
     let minus = c.in_ok-minus.ensures.found in
     let digits = c.in_ok-digits.ensures in
     all_read
-    (over_token {kind = lexeme.Number} (over_token {kind = lexeme.Punctuator punctuator.Minus} (pattern_begins c.args.depth table minus refl) minus refl refl c.in_ok-minus.ensures.within) digits.found refl refl digits.within)
+    (over_token {kind = lexeme.Number}
+    (over_token {kind = lexeme.Punctuator punctuator.Minus} (pattern_begins c.args.depth table minus refl) minus refl
+    refl c.in_ok-minus.ensures.within) digits.found refl refl digits.within)
     (λ names more.
-    ap (SameNumber c.in_ok-minus.minus.place) (narrowed_minus c.numeral.result _ c.numeral.ensures (number_fits digits.found.kind_is digits.well_formed))
-    ∙ sym (minus_tree (lexed c.in_ok-minus.minus) (lexed c.in_ok-digits.digits) (c.args.depth + 1) (c.args.depth + 1) minus.kind_is))
+    ap (SameNumber c.in_ok-minus.minus.place)
+    (narrowed_minus c.numeral.result _ c.numeral.ensures (number_fits digits.found.kind_is digits.well_formed))
+    ∙ sym (minus_tree (lexed c.in_ok-minus.minus) (lexed c.in_ok-digits.digits) (c.args.depth + 1) (c.args.depth + 1)
+    minus.kind_is))

@@ -8,15 +8,19 @@ use Rattle.abs_parser.proofs.reader.PreambleSteps.{past_token, past_part, read_w
 use Rattle.abs_parser.proofs.preamble.module_line.Goals as goal
 
 pub returns-in_default : goal.returns-in_default
-returns-in_default c = line_left_out {nonterminal = Module} c.args.symbols.now (spot c.args.from) refl c.in_default.ensures.other
+returns-in_default c = line_left_out {nonterminal = Module} c.args.symbols.now (spot c.args.from) refl
+    c.in_default.ensures.other
 
 pub returns-in_err-last : goal.returns-in_err-last
 returns-in_err-last c =
-    passed_on _ _ c.from_residual.result c.from_residual.ensures.1 (refused_left _ (module_begins c.args.symbols.now c.in-Some.ensures.found) c.in_err-last.ensures)
+    passed_on _ _ c.from_residual.result c.from_residual.ensures.1
+    (refused_left _ (module_begins c.args.symbols.now c.in-Some.ensures.found) c.in_err-last.ensures)
 
 pub returns-in_err-end : goal.returns-in_err-end
 returns-in_err-end c =
-    passed_on _ _ c.from_residual-in_err-end.result c.from_residual-in_err-end.ensures.1 (refused_left _ (past_part (module_begins c.args.symbols.now c.in-Some.ensures.found) c.in_ok-last.ensures) c.in_err-end.ensures.refused)
+    passed_on _ _ c.from_residual-in_err-end.result c.from_residual-in_err-end.ensures.1
+    (refused_left _ (past_part (module_begins c.args.symbols.now c.in-Some.ensures.found) c.in_ok-last.ensures)
+    c.in_err-end.ensures.refused)
 
 pub returns : goal.returns
 returns c =

@@ -11,4 +11,5 @@ use Rattle.abs_parser.proofs.primaries.member.Goals as goal
 pub returns-in_ok-new-in-Some : goal.returns-in_ok-new-in-Some
 returns-in_ok-new-in-Some c = λ names.
     rw c.in-Some.is (phrase-own_call names c.args.place c.args.name c.in_ok-new-in-Some.field-0
-    ∙ ap (λ (arguments : Vec Expr Global). OwnCallOf c.args.place (name_of names c.args.name) (phrases names arguments.items)) c.in_ok-new-in-Some.ensures.ok)
+    ∙ ap (λ (arguments : Vec Expr Global).
+    OwnCallOf c.args.place (name_of names c.args.name) (phrases names arguments.items)) c.in_ok-new-in-Some.ensures.ok)

@@ -8,7 +8,8 @@ use Rattle.abs_parser.proofs.right_sides.right_side.Goals as goal
 
 pub returns-in_err-first : goal.returns-in_err-first
 returns-in_err-first c =
-    passed_on _ _ c.from_residual.result c.from_residual.ensures.1 (refused_rhs c.args.depth (spot c.args.from) _ (sym c.is.ensures ∙ c.if-is.false) c.in_err-first.ensures)
+    passed_on _ _ c.from_residual.result c.from_residual.ensures.1
+    (refused_rhs c.args.depth (spot c.args.from) _ (sym c.is.ensures ∙ c.if-is.false) c.in_err-first.ensures)
 
 pub right_side_tail-requires-clause-names : goal.right_side_tail-requires-clause-names
 right_side_tail-requires-clause-names c =
@@ -21,5 +22,6 @@ right_side_tail-requires-clause-depth c = found_within c.in_ok-first.ensures
 pub returns : goal.returns
 returns c =
     let no_new = sym c.is.ensures ∙ c.if-is.false in
-    parses_further _ _ c.right_side_tail.result (λ found. rhs_found c.in_ok-first.first found.0 no_new c.place.ensures c.in_ok-first.ensures)
+    parses_further _ _ c.right_side_tail.result
+    (λ found. rhs_found c.in_ok-first.first found.0 no_new c.place.ensures c.in_ok-first.ensures)
     (λ error. refused_inside (rhs_begins no_new c.in_ok-first.ensures) error) c.right_side_tail.ensures

@@ -23,11 +23,14 @@ use Rattle.abs_parser.proofs.statements.+statements.Goals as goal
 
 pub block-returns-in_err-here-clause-parses : goal.block-returns-in_err-here-clause-parses
 block-returns-in_err-here-clause-parses t c =
-    passed_on _ _ c.from_residual.result c.from_residual.ensures.1 (refused_first_token (PunctuatorKind punctuator.OpenBrace) c.args.depth (One Block) c.args.depth (spot c.args.from) _ (block_opened _ c.args.depth) (block_shut _ c.args.depth) c.in_err-here.ensures.refused)
+    passed_on _ _ c.from_residual.result c.from_residual.ensures.1
+    (refused_first_token (PunctuatorKind punctuator.OpenBrace) c.args.depth (One Block) c.args.depth (spot c.args.from)
+    _ (block_opened _ c.args.depth) (block_shut _ c.args.depth) c.in_err-here.ensures.refused)
 
 pub block-loop-alloc-init : goal.block-loop-alloc-init
 block-loop-alloc-init t c = record {
-  read = first_statement c.args.index c.args.symbols.now c.new-statements.ensures.items c.in_ok-here.ensures.found c.in_ok-here.ensures.within;
+  read = first_statement c.args.index c.args.symbols.now c.new-statements.ensures.items c.in_ok-here.ensures.found
+      c.in_ok-here.ensures.within;
   free = λ names. rw c.new-statements.ensures.items (omega arith);
   few = let brace = token_shorter c.in_ok-here.ensures.found.takes in omega arith;
 }
@@ -41,7 +44,9 @@ block-statement-requires t c =
 
 pub block-returns-in_err-next-clause-parses : goal.block-returns-in_err-next-clause-parses
 block-returns-in_err-next-clause-parses t c =
-    passed_on _ _ c.from_residual-in_err-next.result c.from_residual-in_err-next.ensures.1 (refused_statement _ c.loop-alloc.invariant.read (sym c.is.ensures ∙ c.loop-alloc-test.true) c.in_err-next.ensures.parses)
+    passed_on _ _ c.from_residual-in_err-next.result c.from_residual-in_err-next.ensures.1
+    (refused_statement _ c.loop-alloc.invariant.read (sym c.is.ensures ∙ c.loop-alloc-test.true)
+    c.in_err-next.ensures.parses)
 
 pub block-loop-alloc-smaller : goal.block-loop-alloc-smaller
 block-loop-alloc-smaller t c =
@@ -50,14 +55,18 @@ block-loop-alloc-smaller t c =
 
 pub block-loop-alloc-preserved : goal.block-loop-alloc-preserved
 block-loop-alloc-preserved t c = record {
-  read = next_statement c.in_ok-next.next c.in_ok-push.ensures.items c.loop-alloc.invariant.read c.loop-alloc.invariant.free c.in_ok-next.ensures.parses;
-  free = next_free c.args.index c.loop-alloc.statements.items c.in_ok-next.next c.in_ok-push.ensures.items c.loop-alloc.invariant.free c.in_ok-next.ensures.free;
+  read = next_statement c.in_ok-next.next c.in_ok-push.ensures.items c.loop-alloc.invariant.read
+      c.loop-alloc.invariant.free c.in_ok-next.ensures.parses;
+  free = next_free c.args.index c.loop-alloc.statements.items c.in_ok-next.next c.in_ok-push.ensures.items
+      c.loop-alloc.invariant.free c.in_ok-next.ensures.free;
   few = omega (arith, c.loop-alloc.invariant.few, c.in_ok-next.ensures.few);
 }
 
 pub block-returns-in_err-close-clause-parses : goal.block-returns-in_err-close-clause-parses
 block-returns-in_err-close-clause-parses t c =
-    passed_on _ _ c.from_residual-in_err-close.result c.from_residual-in_err-close.ensures.1 (refused_brace _ c.loop-alloc.invariant.read (sym c.is.ensures ∙ c.loop-alloc-test.false) c.in_err-close.ensures.refused)
+    passed_on _ _ c.from_residual-in_err-close.result c.from_residual-in_err-close.ensures.1
+    (refused_brace _ c.loop-alloc.invariant.read (sym c.is.ensures ∙ c.loop-alloc-test.false)
+    c.in_err-close.ensures.refused)
 
 pub block-returns-clause-parses : goal.block-returns-clause-parses
 block-returns-clause-parses t c =
@@ -75,12 +84,14 @@ block-returns-clause-few t c =
 
 pub if_statement-returns-in_err-token-clause-parses : goal.if_statement-returns-in_err-token-clause-parses
 if_statement-returns-in_err-token-clause-parses t c =
-    passed_on _ _ c.from_residual.result c.from_residual.ensures.1 (keyword_refused _ _ _ _ (if_opened c.args.depth) c.requires.begins c.in_err-token.ensures.refused)
+    passed_on _ _ c.from_residual.result c.from_residual.ensures.1
+    (keyword_refused _ _ _ _ (if_opened c.args.depth) c.requires.begins c.in_err-token.ensures.refused)
 
 pub if_statement-returns-in_err-test-clause-parses : goal.if_statement-returns-in_err-test-clause-parses
 if_statement-returns-in_err-test-clause-parses t c =
     passed_on _ _ c.from_residual-in_err-test.result c.from_residual-in_err-test.ensures.1
-    (refused_test c.args.depth _ (if_opened c.args.depth) c.in_ok-token.ensures.found c.in_ok-token.ensures.within c.in_err-test.ensures.refused)
+    (refused_test c.args.depth _ (if_opened c.args.depth) c.in_ok-token.ensures.found c.in_ok-token.ensures.within
+    c.in_err-test.ensures.refused)
 
 pub if_statement-statement-requires : goal.if_statement-statement-requires
 if_statement-statement-requires t c =
@@ -92,7 +103,8 @@ if_statement-statement-requires t c =
 pub if_statement-returns-in_err-first-clause-parses : goal.if_statement-returns-in_err-first-clause-parses
 if_statement-returns-in_err-first-clause-parses t c =
     passed_on _ _ c.from_residual-in_err-first.result c.from_residual-in_err-first.ensures.1
-    (refused_inside (test_read (if_opened c.args.depth) c.in_ok-token.ensures.found c.in_ok-test.ensures.found c.in_ok-token.ensures.within) _ c.in_err-first.ensures.parses)
+    (refused_inside (test_read (if_opened c.args.depth) c.in_ok-token.ensures.found c.in_ok-test.ensures.found
+    c.in_ok-token.ensures.within) _ c.in_err-first.ensures.parses)
 
 pub if_statement-else_branch-requires : goal.if_statement-else_branch-requires
 if_statement-else_branch-requires t c =
@@ -107,18 +119,27 @@ if_statement-else_branch-requires t c =
 pub if_statement-returns-in_err-second-clause-parses : goal.if_statement-returns-in_err-second-clause-parses
 if_statement-returns-in_err-second-clause-parses t c =
     passed_on _ _ c.from_residual-in_err-second.result c.from_residual-in_err-second.ensures.1
-    (refused_inside (if_chosen c.in_ok-token.ensures.found c.in_ok-test.ensures.found c.in_ok-first.ensures.parses c.in_ok-token.ensures.within) _ c.in_err-second.ensures.parses)
+    (refused_inside (if_chosen c.in_ok-token.ensures.found c.in_ok-test.ensures.found c.in_ok-first.ensures.parses
+    c.in_ok-token.ensures.within) _ c.in_err-second.ensures.parses)
 
 pub if_statement-returns-clause-parses : goal.if_statement-returns-clause-parses
 if_statement-returns-clause-parses t c =
-    if_found c.args.index c.in_ok-first.middle c.in_ok-condition.condition c.in_ok-first.first c.in_ok-first-2.first c.in_ok-second.second c.in_ok-condition.ensures.ok c.in_ok-first-2.ensures.found
+    if_found c.args.index c.in_ok-first.middle c.in_ok-condition.condition c.in_ok-first.first c.in_ok-first-2.first
+    c.in_ok-second.second c.in_ok-condition.ensures.ok c.in_ok-first-2.ensures.found
     (λ names. omega (arith, c.in_ok-first.ensures.free names, c.in_ok-first-2.ensures.count names))
-    c.in_ok-token.ensures.found c.in_ok-test.ensures.found c.in_ok-first.ensures.parses c.in_ok-second.ensures.parses c.in_ok-token.ensures.within
+    c.in_ok-token.ensures.found c.in_ok-test.ensures.found c.in_ok-first.ensures.parses c.in_ok-second.ensures.parses
+    c.in_ok-token.ensures.within
 
 pub if_statement-returns-clause-free : goal.if_statement-returns-clause-free
 if_statement-returns-clause-free t c names =
-    let tree = statement-if names c.args.index c.in_ok-token.token.place c.in_ok-condition.condition c.in_ok-first-2.first c.in_ok-second.second in
-    rw (ap count_of tree) (omega (arith, c.in_ok-first.ensures.free names, c.in_ok-first-2.ensures.count names, c.in_ok-second.ensures.free names))
+    let tree = statement-if names c.args.index c.in_ok-token.token.place c.in_ok-condition.condition
+    c.in_ok-first-2.first c.in_ok-second.second in
+    rw (ap count_of tree) (omega (
+      arith,
+      c.in_ok-first.ensures.free names,
+      c.in_ok-first-2.ensures.count names,
+      c.in_ok-second.ensures.free names,
+    ))
 
 pub if_statement-returns-clause-few : goal.if_statement-returns-clause-few
 if_statement-returns-clause-few t c =
@@ -130,12 +151,14 @@ if_statement-returns-clause-few t c =
 
 pub while_statement-returns-in_err-token-clause-parses : goal.while_statement-returns-in_err-token-clause-parses
 while_statement-returns-in_err-token-clause-parses t c =
-    passed_on _ _ c.from_residual.result c.from_residual.ensures.1 (keyword_refused _ _ _ _ (while_opened c.args.depth) c.requires.begins c.in_err-token.ensures.refused)
+    passed_on _ _ c.from_residual.result c.from_residual.ensures.1
+    (keyword_refused _ _ _ _ (while_opened c.args.depth) c.requires.begins c.in_err-token.ensures.refused)
 
 pub while_statement-returns-in_err-test-clause-parses : goal.while_statement-returns-in_err-test-clause-parses
 while_statement-returns-in_err-test-clause-parses t c =
     passed_on _ _ c.from_residual-in_err-test.result c.from_residual-in_err-test.ensures.1
-    (refused_test c.args.depth _ (while_opened c.args.depth) c.in_ok-token.ensures.found c.in_ok-token.ensures.within c.in_err-test.ensures.refused)
+    (refused_test c.args.depth _ (while_opened c.args.depth) c.in_ok-token.ensures.found c.in_ok-token.ensures.within
+    c.in_err-test.ensures.refused)
 
 pub while_statement-statement-requires : goal.while_statement-statement-requires
 while_statement-statement-requires t c =
@@ -147,16 +170,19 @@ while_statement-statement-requires t c =
 pub while_statement-returns-in_err-body-clause-parses : goal.while_statement-returns-in_err-body-clause-parses
 while_statement-returns-in_err-body-clause-parses t c =
     passed_on _ _ c.from_residual-in_err-body.result c.from_residual-in_err-body.ensures.1
-    (refused_inside (test_read (while_opened c.args.depth) c.in_ok-token.ensures.found c.in_ok-test.ensures.found c.in_ok-token.ensures.within) _ c.in_err-body.ensures.parses)
+    (refused_inside (test_read (while_opened c.args.depth) c.in_ok-token.ensures.found c.in_ok-test.ensures.found
+    c.in_ok-token.ensures.within) _ c.in_err-body.ensures.parses)
 
 pub while_statement-returns-clause-parses : goal.while_statement-returns-clause-parses
 while_statement-returns-clause-parses t c =
-    while_found c.args.index c.in_ok-condition.condition c.in_ok-body.body c.in_ok-body-2.body c.in_ok-condition.ensures.ok c.in_ok-body-2.ensures.found
+    while_found c.args.index c.in_ok-condition.condition c.in_ok-body.body c.in_ok-body-2.body
+    c.in_ok-condition.ensures.ok c.in_ok-body-2.ensures.found
     c.in_ok-token.ensures.found c.in_ok-test.ensures.found c.in_ok-body.ensures.parses c.in_ok-token.ensures.within
 
 pub while_statement-returns-clause-free : goal.while_statement-returns-clause-free
 while_statement-returns-clause-free t c names =
-    let tree = statement-while names c.args.index c.in_ok-token.token.place c.in_ok-condition.condition c.in_ok-body-2.body in
+    let tree = statement-while names c.args.index c.in_ok-token.token.place c.in_ok-condition.condition
+    c.in_ok-body-2.body in
     rw (ap count_of tree) (omega (arith, c.in_ok-body.ensures.free names, c.in_ok-body-2.ensures.count names))
 
 pub while_statement-returns-clause-few : goal.while_statement-returns-clause-few
@@ -171,16 +197,22 @@ block_statement-block-requires t c = (search rules, (c.requires.names, (c.requir
 
 pub block_statement-returns-in_err-body-clause-parses : goal.block_statement-returns-in_err-body-clause-parses
 block_statement-returns-in_err-body-clause-parses t c =
-    passed_on _ _ c.from_residual.result c.from_residual.ensures.1 (refused_inside (nested_begins c.args.depth c.args.symbols.now (spot c.args.from) c.requires.begins) _ c.in_err-body.ensures.parses)
+    passed_on _ _ c.from_residual.result c.from_residual.ensures.1
+    (refused_inside (nested_begins c.args.depth c.args.symbols.now (spot c.args.from) c.requires.begins) _
+    c.in_err-body.ensures.parses)
 
 pub block_statement-returns-clause-parses : goal.block_statement-returns-clause-parses
-block_statement-returns-clause-parses t c = nested_found c.args.index c.in_ok-body.body c.place-place.ensures c.requires.begins c.in_ok-body.ensures.parses
+block_statement-returns-clause-parses t c =
+    nested_found c.args.index c.in_ok-body.body c.place-place.ensures c.requires.begins c.in_ok-body.ensures.parses
 
 pub block_statement-returns-clause-free : goal.block_statement-returns-clause-free
-block_statement-returns-clause-free t c names = rw (ap count_of (statement-block names c.place-place.result c.in_ok-body.body.statements)) (c.in_ok-body.ensures.free names)
+block_statement-returns-clause-free t c names =
+    rw (ap count_of (statement-block names c.place-place.result c.in_ok-body.body.statements))
+    (c.in_ok-body.ensures.free names)
 
 pub else_branch-returns-in_default-clause-parses : goal.else_branch-returns-in_default-clause-parses
-else_branch-returns-in_default-clause-parses t c = else_left_out c.args.index c.args.depth c.args.symbols.now (spot c.args.from) c.in_default.ensures.other
+else_branch-returns-in_default-clause-parses t c =
+    else_left_out c.args.index c.args.depth c.args.symbols.now (spot c.args.from) c.in_default.ensures.other
 
 pub else_branch-statement-requires : goal.else_branch-statement-requires
 else_branch-statement-requires t c =
@@ -189,86 +221,149 @@ else_branch-statement-requires t c =
 
 pub else_branch-returns-in_err-other-clause-parses : goal.else_branch-returns-in_err-other-clause-parses
 else_branch-returns-in_err-other-clause-parses t c =
-    passed_on _ _ c.from_residual.result c.from_residual.ensures.1 (refused_inside (else_read c.args.depth c.args.symbols.now c.in-Some.ensures.found c.requires.depth) _ c.in_err-other.ensures.parses)
+    passed_on _ _ c.from_residual.result c.from_residual.ensures.1
+    (refused_inside (else_read c.args.depth c.args.symbols.now c.in-Some.ensures.found c.requires.depth) _
+    c.in_err-other.ensures.parses)
 
 pub else_branch-returns-clause-parses : goal.else_branch-returns-clause-parses
-else_branch-returns-clause-parses t c = else_found c.args.index c.in_ok-other.other c.in_ok-branch.field-0 c.in_ok-branch.ensures.found c.in-Some.ensures.found c.in_ok-other.ensures.parses c.requires.depth
+else_branch-returns-clause-parses t c =
+    else_found c.args.index c.in_ok-other.other c.in_ok-branch.field-0 c.in_ok-branch.ensures.found
+    c.in-Some.ensures.found c.in_ok-other.ensures.parses c.requires.depth
 
 pub statement-returns-in_default-clause-parses : goal.statement-returns-in_default-clause-parses
-statement-returns-in_default-clause-parses t c = statement_refused_at_end c.args.depth (spot c.args.from) _ c.wrong.ensures c.in_default.ensures.none
+statement-returns-in_default-clause-parses t c =
+    statement_refused_at_end c.args.depth (spot c.args.from) _ c.wrong.ensures c.in_default.ensures.none
 
 pub statement-keyword_statement-requires : goal.statement-keyword_statement-requires
-statement-keyword_statement-requires t c = (search rules, (next_taken (stands c.in-Some.ensures.some c.in-Keyword.is), (c.requires.names, (c.requires.few, c.requires.depth))))
+statement-keyword_statement-requires t c = (
+  search rules,
+  (
+    next_taken (stands c.in-Some.ensures.some c.in-Keyword.is),
+    (c.requires.names, (c.requires.few, c.requires.depth)),
+  ),
+)
 
 pub statement-block_statement-requires : goal.statement-block_statement-requires
 statement-block_statement-requires t c =
-    let brace = punctuator_is c.in-Punctuator.punctuator punctuator.OpenBrace c.in-Punctuator.is c.eq.ensures c.if-eq.true in
-    (search rules, (fits_next refl (stands c.in-Some.ensures.some brace), (c.requires.names, (c.requires.few, c.requires.depth))))
+    let brace = punctuator_is c.in-Punctuator.punctuator punctuator.OpenBrace c.in-Punctuator.is c.eq.ensures
+    c.if-eq.true in (
+      search rules,
+      (
+        fits_next refl (stands c.in-Some.ensures.some brace),
+        (c.requires.names, (c.requires.few, c.requires.depth)),
+      ),
+    )
 
 pub keyword_statement-if_statement-requires : goal.keyword_statement-if_statement-requires
 keyword_statement-if_statement-requires t c =
-    let stands_if = c.requires.begins ∙ ap KeywordKind c.in-If.is in
-    (search rules, (ap (fits (KeywordKind keyword.If)) stands_if, (c.requires.names, (c.requires.few, c.requires.depth))))
+    let stands_if = c.requires.begins ∙ ap KeywordKind c.in-If.is in (
+      search rules,
+      (
+        ap (fits (KeywordKind keyword.If)) stands_if,
+        (c.requires.names, (c.requires.few, c.requires.depth)),
+      ),
+    )
 
 pub keyword_statement-while_statement-requires : goal.keyword_statement-while_statement-requires
 keyword_statement-while_statement-requires t c =
-    let stands_while = c.requires.begins ∙ ap KeywordKind c.in-While.is in
-    (search rules, (ap (fits (KeywordKind keyword.While)) stands_while, (c.requires.names, (c.requires.few, c.requires.depth))))
+    let stands_while = c.requires.begins ∙ ap KeywordKind c.in-While.is in (
+      search rules,
+      (
+        ap (fits (KeywordKind keyword.While)) stands_while,
+        (c.requires.names, (c.requires.few, c.requires.depth)),
+      ),
+    )
 
-pub keyword_statement-returns-in_err-this_statement-in-This-clause-parses : goal.keyword_statement-returns-in_err-this_statement-in-This-clause-parses
-keyword_statement-returns-in_err-this_statement-in-This-clause-parses t c = passed_on _ _ c.from_residual.result c.from_residual.ensures.1 c.in_err-this_statement-in-This.ensures.parses
+pub keyword_statement-returns-in_err-this_statement-in-This-clause-parses
+    : goal.keyword_statement-returns-in_err-this_statement-in-This-clause-parses
+keyword_statement-returns-in_err-this_statement-in-This-clause-parses t c =
+    passed_on _ _ c.from_residual.result c.from_residual.ensures.1 c.in_err-this_statement-in-This.ensures.parses
 
-pub keyword_statement-returns-in_err-simple_statement-in-Skip-clause-parses : goal.keyword_statement-returns-in_err-simple_statement-in-Skip-clause-parses
-keyword_statement-returns-in_err-simple_statement-in-Skip-clause-parses t c = passed_on _ _ c.from_residual-in_err-simple_statement-in-Skip.result c.from_residual-in_err-simple_statement-in-Skip.ensures.1 c.in_err-simple_statement-in-Skip.ensures.parses
+pub keyword_statement-returns-in_err-simple_statement-in-Skip-clause-parses
+    : goal.keyword_statement-returns-in_err-simple_statement-in-Skip-clause-parses
+keyword_statement-returns-in_err-simple_statement-in-Skip-clause-parses t c =
+    passed_on _ _ c.from_residual-in_err-simple_statement-in-Skip.result
+    c.from_residual-in_err-simple_statement-in-Skip.ensures.1 c.in_err-simple_statement-in-Skip.ensures.parses
 
-pub keyword_statement-returns-in_err-stmt-in_default-clause-parses : goal.keyword_statement-returns-in_err-stmt-in_default-clause-parses
-keyword_statement-returns-in_err-stmt-in_default-clause-parses t c = passed_on _ _ c.from_residual-in_err-stmt-in_default.result c.from_residual-in_err-stmt-in_default.ensures.1 c.in_err-stmt-in_default.ensures.parses
+pub keyword_statement-returns-in_err-stmt-in_default-clause-parses
+    : goal.keyword_statement-returns-in_err-stmt-in_default-clause-parses
+keyword_statement-returns-in_err-stmt-in_default-clause-parses t c =
+    passed_on _ _ c.from_residual-in_err-stmt-in_default.result c.from_residual-in_err-stmt-in_default.ensures.1
+    c.in_err-stmt-in_default.ensures.parses
 
-pub statement-returns-in_err-variable_declaration-in-UpperName-clause-parses : goal.statement-returns-in_err-variable_declaration-in-UpperName-clause-parses
-statement-returns-in_err-variable_declaration-in-UpperName-clause-parses t c = passed_on _ _ c.from_residual.result c.from_residual.ensures.1 c.in_err-variable_declaration-in-UpperName.ensures.parses
+pub statement-returns-in_err-variable_declaration-in-UpperName-clause-parses
+    : goal.statement-returns-in_err-variable_declaration-in-UpperName-clause-parses
+statement-returns-in_err-variable_declaration-in-UpperName-clause-parses t c =
+    passed_on _ _ c.from_residual.result c.from_residual.ensures.1
+    c.in_err-variable_declaration-in-UpperName.ensures.parses
 
-pub statement-returns-in_err-variable_statement-in-LowerName-clause-parses : goal.statement-returns-in_err-variable_statement-in-LowerName-clause-parses
-statement-returns-in_err-variable_statement-in-LowerName-clause-parses t c = passed_on _ _ c.from_residual-in_err-variable_statement-in-LowerName.result c.from_residual-in_err-variable_statement-in-LowerName.ensures.1 c.in_err-variable_statement-in-LowerName.ensures.parses
+pub statement-returns-in_err-variable_statement-in-LowerName-clause-parses
+    : goal.statement-returns-in_err-variable_statement-in-LowerName-clause-parses
+statement-returns-in_err-variable_statement-in-LowerName-clause-parses t c =
+    passed_on _ _ c.from_residual-in_err-variable_statement-in-LowerName.result
+    c.from_residual-in_err-variable_statement-in-LowerName.ensures.1
+    c.in_err-variable_statement-in-LowerName.ensures.parses
 
-pub statement-returns-in_err-right_side_statement-in-Punctuator-clause-parses : goal.statement-returns-in_err-right_side_statement-in-Punctuator-clause-parses
-statement-returns-in_err-right_side_statement-in-Punctuator-clause-parses t c = passed_on _ _ c.from_residual-in_err-right_side_statement-in-Punctuator.result c.from_residual-in_err-right_side_statement-in-Punctuator.ensures.1 c.in_err-right_side_statement-in-Punctuator.ensures.parses
+pub statement-returns-in_err-right_side_statement-in-Punctuator-clause-parses
+    : goal.statement-returns-in_err-right_side_statement-in-Punctuator-clause-parses
+statement-returns-in_err-right_side_statement-in-Punctuator-clause-parses t c =
+    passed_on _ _ c.from_residual-in_err-right_side_statement-in-Punctuator.result
+    c.from_residual-in_err-right_side_statement-in-Punctuator.ensures.1
+    c.in_err-right_side_statement-in-Punctuator.ensures.parses
 
 pub statement-returns-in_err-stmt-in-Number-clause-parses : goal.statement-returns-in_err-stmt-in-Number-clause-parses
-statement-returns-in_err-stmt-in-Number-clause-parses t c = passed_on _ _ c.from_residual-in_err-stmt-in-Number.result c.from_residual-in_err-stmt-in-Number.ensures.1 c.in_err-stmt-in-Number.ensures.parses
+statement-returns-in_err-stmt-in-Number-clause-parses t c =
+    passed_on _ _ c.from_residual-in_err-stmt-in-Number.result c.from_residual-in_err-stmt-in-Number.ensures.1
+    c.in_err-stmt-in-Number.ensures.parses
 
 pub statement-returns-clause-parses : goal.statement-returns-clause-parses
 statement-returns-clause-parses t c =
     elim c.match-token.branch [
-      | statement-in-UpperName+in_ok-variable_declaration-in-UpperName w ↦ rw (w.symbols-is, w.stmt-is) w.in_ok-variable_declaration-in-UpperName.ensures.parses
-      | statement-in-LowerName+in_ok-variable_statement-in-LowerName w ↦ rw (w.symbols-is, w.stmt-is) w.in_ok-variable_statement-in-LowerName.ensures.parses
-      | statement-in-Punctuator+else-eq+in_ok-right_side_statement-in-Punctuator w ↦ rw (w.symbols-is, w.stmt-is) w.in_ok-right_side_statement-in-Punctuator.ensures.parses
+      | statement-in-UpperName+in_ok-variable_declaration-in-UpperName w ↦
+          rw (w.symbols-is, w.stmt-is) w.in_ok-variable_declaration-in-UpperName.ensures.parses
+      | statement-in-LowerName+in_ok-variable_statement-in-LowerName w ↦
+          rw (w.symbols-is, w.stmt-is) w.in_ok-variable_statement-in-LowerName.ensures.parses
+      | statement-in-Punctuator+else-eq+in_ok-right_side_statement-in-Punctuator w ↦
+          rw (w.symbols-is, w.stmt-is) w.in_ok-right_side_statement-in-Punctuator.ensures.parses
       | statement-in-Number+in_ok-stmt-in-Number w ↦ rw (w.symbols-is, w.stmt-is) w.in_ok-stmt-in-Number.ensures.parses
     ]
 
-pub keyword_statement-simple_statement-requires-clause-begins : goal.keyword_statement-simple_statement-requires-clause-begins
+pub keyword_statement-simple_statement-requires-clause-begins
+    : goal.keyword_statement-simple_statement-requires-clause-begins
 keyword_statement-simple_statement-requires-clause-begins t c = c.requires.begins
 
 pub keyword_statement-returns-clause-parses : goal.keyword_statement-returns-clause-parses
 keyword_statement-returns-clause-parses t c =
     elim c.match-keyword.branch [
-      | keyword_statement-in-This+in_ok-this_statement-in-This w ↦ rw (w.symbols-is, w.stmt-is) w.in_ok-this_statement-in-This.ensures.parses
-      | keyword_statement-in-Skip+in_ok-simple_statement-in-Skip w ↦ rw (w.symbols-is, w.stmt-is) w.in_ok-simple_statement-in-Skip.ensures.parses
-      | keyword_statement-in_default+in_ok-stmt-in_default w ↦ rw (w.symbols-is, w.stmt-is) w.in_ok-stmt-in_default.ensures.parses
+      | keyword_statement-in-This+in_ok-this_statement-in-This w ↦
+          rw (w.symbols-is, w.stmt-is) w.in_ok-this_statement-in-This.ensures.parses
+      | keyword_statement-in-Skip+in_ok-simple_statement-in-Skip w ↦
+          rw (w.symbols-is, w.stmt-is) w.in_ok-simple_statement-in-Skip.ensures.parses
+      | keyword_statement-in_default+in_ok-stmt-in_default w ↦
+          rw (w.symbols-is, w.stmt-is) w.in_ok-stmt-in_default.ensures.parses
     ]
 
 pub statement-returns-clause-few : goal.statement-returns-clause-few
 statement-returns-clause-few t c =
     elim c.match-token.branch [
-      | statement-in-UpperName+in_ok-variable_declaration-in-UpperName w ↦ rw w.stmt-is (let fewer = found_fewer w.in_ok-variable_declaration-in-UpperName.ensures.parses in omega arith)
-      | statement-in-LowerName+in_ok-variable_statement-in-LowerName w ↦ rw w.stmt-is (let fewer = found_fewer w.in_ok-variable_statement-in-LowerName.ensures.parses in omega arith)
-      | statement-in-Punctuator+else-eq+in_ok-right_side_statement-in-Punctuator w ↦ rw w.stmt-is (let fewer = found_fewer w.in_ok-right_side_statement-in-Punctuator.ensures.parses in omega arith)
-      | statement-in-Number+in_ok-stmt-in-Number w ↦ rw w.stmt-is (let fewer = found_fewer w.in_ok-stmt-in-Number.ensures.parses in omega arith)
+      | statement-in-UpperName+in_ok-variable_declaration-in-UpperName w ↦
+          rw w.stmt-is (let fewer = found_fewer w.in_ok-variable_declaration-in-UpperName.ensures.parses in omega arith)
+      | statement-in-LowerName+in_ok-variable_statement-in-LowerName w ↦
+          rw w.stmt-is (let fewer = found_fewer w.in_ok-variable_statement-in-LowerName.ensures.parses in omega arith)
+      | statement-in-Punctuator+else-eq+in_ok-right_side_statement-in-Punctuator w ↦
+          rw w.stmt-is (let fewer = found_fewer w.in_ok-right_side_statement-in-Punctuator.ensures.parses in
+          omega arith)
+      | statement-in-Number+in_ok-stmt-in-Number w ↦
+          rw w.stmt-is (let fewer = found_fewer w.in_ok-stmt-in-Number.ensures.parses in omega arith)
     ]
 
 pub keyword_statement-returns-clause-few : goal.keyword_statement-returns-clause-few
 keyword_statement-returns-clause-few t c =
     elim c.match-keyword.branch [
-      | keyword_statement-in-This+in_ok-this_statement-in-This w ↦ rw w.stmt-is (let fewer = found_fewer w.in_ok-this_statement-in-This.ensures.parses in omega arith)
-      | keyword_statement-in-Skip+in_ok-simple_statement-in-Skip w ↦ rw w.stmt-is (let fewer = found_fewer w.in_ok-simple_statement-in-Skip.ensures.parses in omega arith)
-      | keyword_statement-in_default+in_ok-stmt-in_default w ↦ rw w.stmt-is (let fewer = found_fewer w.in_ok-stmt-in_default.ensures.parses in omega arith)
+      | keyword_statement-in-This+in_ok-this_statement-in-This w ↦
+          rw w.stmt-is (let fewer = found_fewer w.in_ok-this_statement-in-This.ensures.parses in omega arith)
+      | keyword_statement-in-Skip+in_ok-simple_statement-in-Skip w ↦
+          rw w.stmt-is (let fewer = found_fewer w.in_ok-simple_statement-in-Skip.ensures.parses in omega arith)
+      | keyword_statement-in_default+in_ok-stmt-in_default w ↦
+          rw w.stmt-is (let fewer = found_fewer w.in_ok-stmt-in_default.ensures.parses in omega arith)
     ]

@@ -7,8 +7,10 @@ use Rattle.abs_parser.proofs.statements.branch.Goals as goal
 
 pub returns-in-Block-clause-found : goal.returns-in-Block-clause-found
 returns-in-Block-clause-found c =
-    λ names. sym (ap branch_of (ap (statement_tree names) c.in-Block.is ∙ statement-block names c.in-Block.field-0 c.in-Block.statements))
+    λ names. sym (ap branch_of (ap (statement_tree names) c.in-Block.is
+    ∙ statement-block names c.in-Block.field-0 c.in-Block.statements))
 
 pub returns-in-Block-clause-count : goal.returns-in-Block-clause-count
 returns-in-Block-clause-count c =
-    λ names. sym (ap count_of (ap (statement_tree names) c.in-Block.is ∙ statement-block names c.in-Block.field-0 c.in-Block.statements))
+    λ names. sym (ap count_of (ap (statement_tree names) c.in-Block.is
+    ∙ statement-block names c.in-Block.field-0 c.in-Block.statements))

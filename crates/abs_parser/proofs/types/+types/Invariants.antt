@@ -15,7 +15,10 @@ decreases-types l = 2 * length (spot l.from).rest + 1
 
 -- what was read so far
 abbrev pub invariant-types-loop-after : goal.invariant-types-loop-after
-invariant-types-loop-after l = record { read : ReadsSoFar list_of_types trees_of_types l.depth l.fn.symbols l.symbols (spot l.from) (spot l.here) l.types.items }
+invariant-types-loop-after l = record {
+  read : ReadsSoFar list_of_types trees_of_types l.depth l.fn.symbols l.symbols
+      (spot l.from) (spot l.here) l.types.items;
+}
 
 abbrev pub decreases-types-loop-after : goal.decreases-types-loop-after
 decreases-types-loop-after l = length (spot l.here).rest

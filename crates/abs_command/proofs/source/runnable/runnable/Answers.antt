@@ -11,7 +11,8 @@ invariant_of-result c =
     let names = c.args.text.symbols in
     let trees = statements names c.args.text.main.statements.items in
     let made = map stmt_tree c.in_ok-main.main.items in
-    let runs : statements_run names c.args.text.main.statements.items ≡ Ok made = ap (statements_run names) (sym c.as_slice.ensures.value) ∙ c.in_ok-main.ensures.found in
+    let runs : statements_run names c.args.text.main.statements.items ≡ Ok made =
+    ap (statements_run names) (sym c.as_slice.ensures.value) ∙ c.in_ok-main.ensures.found in
     let fewer : length made ≤ statement_count trees = all_counted names trees made runs in
     let same = length-map c.in_ok-main.main.items stmt_tree in
     let few = c.args.text.few_statements in

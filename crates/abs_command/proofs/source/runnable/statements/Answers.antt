@@ -12,7 +12,8 @@ returns-in_err-statement-clause-not_yet c =
     let names = c.args.symbols.now in
     let p = err_from_is_err_and c.from_residual-in_err-statement.result c.from_residual-in_err-statement.ensures.1 in
     rw (p.1, p.2) (not_yet_for c.in_err-statement.field-0.0
-    (λ at none. read_no_further (statements_run names) (map stmt_tree) c.args.stmts.now c.loop-stmt.stmt-index c.loop-stmt.found.items c.stmt-item.result at
+    (λ at none. read_no_further (statements_run names) (map stmt_tree) c.args.stmts.now c.loop-stmt.stmt-index
+    c.loop-stmt.found.items c.stmt-item.result at
     c.loop-stmt-test.true c.stmt-item.is (statement_not_yet names c.stmt-item.result at none) c.loop-stmt.invariant)
     c.in_err-statement.ensures.not_yet)
 
@@ -22,9 +23,12 @@ loop-stmt-preserved c =
     let stmt = c.stmt-item.result in
     let made = c.in_ok-statement.field-0 in
     rw c.in_ok-push.ensures.items
-    (read_more (statements_run names) (map stmt_tree) c.args.stmts.now c.loop-stmt.stmt-index c.loop-stmt.found.items stmt made c.loop-stmt-test.true c.stmt-item.is
-    (statement_runs names stmt made c.in_ok-statement.ensures.found) (statements_not_yet names stmt made c.in_ok-statement.ensures.found) c.loop-stmt.invariant)
+    (read_more (statements_run names) (map stmt_tree) c.args.stmts.now c.loop-stmt.stmt-index c.loop-stmt.found.items
+    stmt made c.loop-stmt-test.true c.stmt-item.is
+    (statement_runs names stmt made c.in_ok-statement.ensures.found)
+    (statements_not_yet names stmt made c.in_ok-statement.ensures.found) c.loop-stmt.invariant)
 
 pub returns-clause-found : goal.returns-clause-found
 returns-clause-found c =
-    read_all (statements_run c.args.symbols.now) (map stmt_tree) c.args.stmts.now c.loop-stmt.stmt-index c.loop-stmt.found.items c.loop-stmt-test.false refl c.loop-stmt.invariant
+    read_all (statements_run c.args.symbols.now) (map stmt_tree) c.args.stmts.now c.loop-stmt.stmt-index
+    c.loop-stmt.found.items c.loop-stmt-test.false refl c.loop-stmt.invariant

@@ -8,5 +8,7 @@ use Rattle.abs_lexer.proofs.token.Tokens.at.Goals as goal
 pub returns-clause-well_formed : goal.returns-clause-well_formed
 returns-clause-well_formed c =
     let view = ap (λ (list : TokenList). length list.tokens) c.self.view_is in
-    let few : c.args.index < length c.self.inside.list.items = omega (arith, c.requires, view, length-map c.self.inside.list.items lexed) in
-    subst (λ (token : Token). IsWellFormed (lexed token)) (sym c.index.ensures) (c.self.invariant.1 c.args.index c.index.result.now few)
+    let few : c.args.index < length c.self.inside.list.items =
+    omega (arith, c.requires, view, length-map c.self.inside.list.items lexed) in
+    subst (λ (token : Token). IsWellFormed (lexed token)) (sym c.index.ensures)
+    (c.self.invariant.1 c.args.index c.index.result.now few)

@@ -5,8 +5,10 @@ use Rattle.abs_tree.proofs.symbol.Symbols.intern.Goals as goal
 
 pub returns-clause-symbol : goal.returns-clause-symbol
 returns-clause-symbol c =
-    rw (← c.self.view_is) (c.in_ok-index.ensures.index ∙ sym (position_or_len-map (λ n. n.now) (bytes_eq c.args.name.now) c.self.inside.names.keys))
+    rw (← c.self.view_is) (c.in_ok-index.ensures.index
+    ∙ sym (position_or_len-map (λ n. n.now) (bytes_eq c.args.name.now) c.self.inside.names.keys))
 
 pub returns-clause-names : goal.returns-clause-names
 returns-clause-names c =
-    rw (← c.self.view_is) (ap (map (λ n. n.now)) c.in_ok-index.ensures.keys ∙ inserted-map (λ n. n.now) (bytes_eq c.args.name.now) c.self.inside.names.keys c.args.name)
+    rw (← c.self.view_is) (ap (map (λ n. n.now)) c.in_ok-index.ensures.keys
+    ∙ inserted-map (λ n. n.now) (bytes_eq c.args.name.now) c.self.inside.names.keys c.args.name)
