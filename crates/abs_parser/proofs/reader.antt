@@ -1,6 +1,7 @@
 -- The steps of the parsing functions: for lists, for parts up to a closing token, and for each nonterminal. A step
 -- reads a token, a name or a part after what was read of a nonterminal so far. In the end the nonterminal is found, or
 -- it is refused.
+pub mod FoundLemmas
 pub mod StepLemmas
 pub mod ResultLemmas
 pub mod PatternSteps

@@ -2,6 +2,7 @@
 -- the parser accepts a list with one reading, or fails at one token.
 pub mod MoveLemmas
 pub mod CompletionLemmas
+pub mod FinishLemmas
 pub mod DecisionLemmas
 pub mod StopLemmas
 pub mod OutcomeLemmas

@@ -153,8 +153,8 @@ AreRefused wanted from error = (items : List Wanted) → RefusedAs (wanted ++ it
 abbrev pub IsRefused : Wanted → Spot → SourceError → Type 0
 IsRefused item from error = AreRefused (item ∷ []) from error
 
--- What a parsing function has to say of a part: its goal, nested so deeply, with the table of names before and after it, from a spot up to
--- another one, and what was read as what it found.
+-- What a parsing function is to do: its goal and nesting depth, the tables of names before and after it, the spot from
+-- which it parses, the spot up to which it parsed, and what the forest has to be, both for what it found.
 pub data Parse (Found : Type 0) : Type 1 where
   parse_of : Goal → ℕ → List (List ℕ) → List (List ℕ) → Spot → (Found → Spot)
       → (Found → List (List ℕ) → Forest → Type 0) → Parse Found

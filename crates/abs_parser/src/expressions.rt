@@ -91,6 +91,7 @@ fn let_expression<'a, 'b>(
     let (value, in_at) = expression(alloc, symbols, depth + 1, value_at)?;
     let (_, body_at) = in_at.take(Lexeme::Keyword(Keyword::In), depth + 1)?;
     let (body, end) = expression(alloc, symbols, depth + 1, body_at)?;
+    let type_of = Box::new(alloc, type_of)?;
     let value = Box::new(alloc, value)?;
     let body = Box::new(alloc, body)?;
     let expr = Expr::Let {

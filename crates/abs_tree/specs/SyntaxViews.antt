@@ -89,7 +89,7 @@ abbrev mutual
   -- the tree of an expression
   pub phrase : List Name → code_expr.Expr → Phrase
   phrase names (code_expr.Let' place type variable_place variable at_value value at_body body) =
-      LetIn place (type_tree names type) variable_place (variable_tree names variable) (phrase names value)
+      LetIn place (type_tree names type.value) variable_place (variable_tree names variable) (phrase names value)
       (phrase names body)
   phrase names (code_expr.If' place at_condition condition at_first first at_second second) =
       IfElse place (phrase names condition) (phrase names first) (phrase names second)

@@ -78,14 +78,14 @@ fn operators(
 {
     let mut so_far = first;
     for operand in operands {
-        so_far = after(alloc, names, slots, left, so_far, operand, made)?;
+        so_far = with_operand(alloc, names, slots, left, so_far, operand, made)?;
     }
     Ok(so_far)
 }
 
 /// The result of one operator of a list, given the result of all before it. After a fault the operand is not evaluated.
 #[cycle(evaluation)]
-fn after(
+fn with_operand(
     alloc: Global,
     names: &Symbols<'_>,
     slots: &[Value],

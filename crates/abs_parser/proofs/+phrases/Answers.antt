@@ -13,7 +13,8 @@ use Rattle.abs_parser.proofs.grammar.PrimaryLemmas.{other_keyword, no_tail, tree
 use Rattle.abs_parser.proofs.reader.PrimarySteps.{stands, first_read, name_read, member_begins, call_found, prefix_read, prefix_refused, operand_found, operand_refused, refused_primary, refused_lower, refused_upper, refused_group, refused_keyword, unary_refused_at_end, primary_refused_at_end, refused_no_primary}
 use Rattle.abs_parser.proofs.reader.KeywordSteps.{keyword_refused}
 use Rattle.abs_parser.proofs.reader.ResultLemmas.{parses_further, parses_by, passed_on, error_passed_on}
-use Rattle.abs_parser.proofs.reader.StepLemmas.{token_shorter, found_shorter, opens, over_token, over_name, over_part, into_last, all_read, refused_inside, refused_first_token, found_few}
+use Rattle.abs_parser.proofs.reader.FoundLemmas.{token_shorter, found_shorter, found_few}
+use Rattle.abs_parser.proofs.reader.StepLemmas.{opens, over_token, over_name, over_part, into_last, all_read, refused_inside, refused_first_token}
 use Rattle.abs_parser.specs.TokenKinds.{PunctuatorKind, fits, KeywordKind}
 use Rattle.abs_parser.specs.Productions.{ThisTail, Expr, Arguments}
 use Rattle.abs_parser.specs.ReaderAnswers.{is_asked, maybe_phrases}
@@ -205,8 +206,8 @@ expressions::let_expression-returns-in_err-body t c =
 pub expressions::let_expression-returns : goal.expressions::let_expression-returns
 expressions::let_expression-returns t c =
     let named = c.in_ok-intern.ensures in
-    let_found c.in_ok-type_of.type_of c.in_ok-intern.field-0 c.in_ok-value-2.value.value c.in_ok-body-2.body.value
-    c.in_ok-value-2.ensures.ok c.in_ok-body-2.ensures.ok c.in_ok-token.ensures.found c.in_ok-type_at.ensures.found
+    let_found c.in_ok-type_of-2.type_of.value c.in_ok-intern.field-0 c.in_ok-value-2.value.value
+    c.in_ok-body-2.body.value c.in_ok-type_of-2.ensures.ok c.in_ok-value-2.ensures.ok c.in_ok-body-2.ensures.ok c.in_ok-token.ensures.found c.in_ok-type_at.ensures.found
     c.in_ok-type_of.ensures c.in_ok-name.ensures.found named.symbol named.names c.in_ok-equals.ensures.found
     c.in_ok-value_at.ensures.found c.in_ok-value.ensures
     c.in_ok-body_at.ensures.found c.in_ok-body.ensures c.in_ok-token.ensures.within

@@ -18,7 +18,7 @@ use Rattle.abs_parser.specs.Stops.{limit}
 use Rattle.abs_parser.specs.Tokens.{Spot, place_of}
 use Rattle.abs_parser.specs.TreesOf.{first_place, place_in}
 use Rattle.abs_parser.proofs.stop.MoveLemmas.{within_first}
-use Rattle.abs_parser.proofs.reader.StepLemmas.{reads_shorter, left_length}
+use Rattle.abs_parser.proofs.reader.FoundLemmas.{reads_shorter, left_length}
 
 -- an element that `find` finds passes the test
 found_fits : {X : Type 0} (test : X → Bool) (list : List X) (one : X) → find test list ≡ Some one → test one ≡ true

@@ -29,7 +29,8 @@ use Rattle.abs_tree.specs.declared.source_error.SourceError.{SourceError}
 use Rattle.abs_parser.proofs.grammar.FirstPlaceLemmas.{first_place_found}
 use Rattle.abs_parser.proofs.grammar.NameLemmas.{goes_on_further}
 use Rattle.abs_parser.proofs.reader.PatternSteps.{next_taken}
-use Rattle.abs_parser.proofs.reader.StepLemmas.{HasRead, opens, inside_alone, left_whole, over_token, over_part, into_last, all_read, refused_inside, found_goes_on}
+use Rattle.abs_parser.proofs.reader.FoundLemmas.{found_goes_on}
+use Rattle.abs_parser.proofs.reader.StepLemmas.{HasRead, opens, inside_alone, left_whole, over_token, over_part, into_last, all_read, refused_inside}
 use Rattle.abs_parser.proofs.grammar.NonterminalLemmas.{begins_with_part, part_shut, part_begun}
 use Rattle.abs_parser.proofs.reader.InFrontSteps.{refused_in_front}
 

@@ -16,7 +16,7 @@ use Rattle.abs_parser.specs.Productions.{Pattern, PatternArguments, begins, chos
 use Rattle.abs_parser.specs.Readings.{Goal, One, Optional, Wanted, Terminal, Subgoal, opened, Forest, Empty, Leaf, Node}
 use Rattle.abs_parser.specs.ReaderAnswers.{asked}
 use Rattle.abs_parser.specs.TreesOf.{written, unescaped, pattern_in, pattern_by, pattern_arguments}
-use Rattle.abs_parser.proofs.reader.StepLemmas.{asked_fits}
+use Rattle.abs_parser.proofs.reader.FoundLemmas.{asked_fits}
 
 -- the items after the first token of a pattern, which has this lexeme
 abbrev pub after_first : Lexeme → ℕ → List Wanted

@@ -32,7 +32,7 @@ use Rattle.abs_parser.specs.Readings.{One, Optional, Repeated, Wanted, Terminal,
 use Rattle.abs_parser.specs.ReaderAnswers.{asked, maybe_phrases, is_asked}
 use Rattle.abs_parser.specs.TreesOf.{written, prefix_of, named, member, built, unary_in, primary_in, primary_by, arguments_maybe, expr_in}
 use Rattle.abs_parser.proofs.grammar.FirstTokens.{BeginsBy, none_found}
-use Rattle.abs_parser.proofs.reader.StepLemmas.{asked_fits}
+use Rattle.abs_parser.proofs.reader.FoundLemmas.{asked_fits}
 
 -- the keywords that begin a primary
 abbrev first_keywords : List Keyword

@@ -23,7 +23,8 @@ use Rattle.abs_parser.proofs.grammar.FirstPlaceLemmas.{found_fewer}
 use Rattle.abs_parser.proofs.grammar.NameLemmas.{goes_on_further}
 use Rattle.abs_parser.proofs.reader.RepeatSteps.{in_front, over_one_more, refused_up_to, none_before}
 use Rattle.abs_parser.proofs.reader.StatementSteps.{IsStatement, block_opened}
-use Rattle.abs_parser.proofs.reader.StepLemmas.{HasRead, opens, over_token, over_part, all_read, refused_inside, fits_next, token_shorter, found_goes_on}
+use Rattle.abs_parser.proofs.reader.FoundLemmas.{token_shorter, found_goes_on}
+use Rattle.abs_parser.proofs.reader.StepLemmas.{HasRead, opens, over_token, over_part, all_read, refused_inside, fits_next}
 use Rattle.abs_parser.proofs.grammar.NonterminalLemmas.{part_begun, repeated_opened}
 
 -- the trees of these statements, followed by others

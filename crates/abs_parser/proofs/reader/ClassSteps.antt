@@ -27,7 +27,8 @@ use Rattle.abs_parser.proofs.reader.DeclarationSteps.{Parts, ReadsParts, next_pa
 use Rattle.abs_parser.proofs.reader.MemberSteps.{IsMember}
 use Rattle.abs_parser.proofs.reader.RepeatSteps.{ends_at}
 use Rattle.abs_parser.proofs.grammar.NameLemmas.{goes_on_further}
-use Rattle.abs_parser.proofs.reader.StepLemmas.{HasRead, over_token, over_part, found_goes_on}
+use Rattle.abs_parser.proofs.reader.FoundLemmas.{found_goes_on}
+use Rattle.abs_parser.proofs.reader.StepLemmas.{HasRead, over_token, over_part}
 
 -- no member begins with "}"
 pub no_member_closes : begins Member (PunctuatorKind punctuator.CloseBrace) ≡ false

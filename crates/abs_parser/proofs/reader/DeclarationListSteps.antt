@@ -31,7 +31,8 @@ use Rattle.abs_parser.proofs.grammar.NameLemmas.{goes_on_further}
 use Rattle.abs_parser.proofs.reader.PatternSteps.{next_end}
 use Rattle.abs_parser.proofs.reader.RepeatSteps.{in_front, over_one_more, none_before}
 use Rattle.abs_parser.proofs.reader.StatementSteps.{block_shut}
-use Rattle.abs_parser.proofs.reader.StepLemmas.{HasRead, inside_alone, left_whole, opens, over_part, all_read, refused_inside, refused_after, refused_alike, refused_shut, found_goes_on}
+use Rattle.abs_parser.proofs.reader.FoundLemmas.{found_goes_on}
+use Rattle.abs_parser.proofs.reader.StepLemmas.{HasRead, inside_alone, left_whole, opens, over_part, all_read, refused_inside, refused_after, refused_alike, refused_shut}
 use Rattle.abs_parser.proofs.grammar.NonterminalLemmas.{part_shut, part_begun, repeated_opened, repeated_ends}
 
 -- The first token

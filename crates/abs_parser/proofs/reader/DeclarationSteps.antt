@@ -27,7 +27,8 @@ use Rattle.abs_parser.specs.Tokens.{Spot}
 use Rattle.abs_parser.specs.TreesOf.{names_maybe, constructor_types, constructor_in, more_constructors, decl_in, decl_by}
 use Rattle.abs_tree.specs.declared.source_error.SourceError.{SourceError}
 use Rattle.abs_parser.proofs.grammar.NameLemmas.{goes_on_further}
-use Rattle.abs_parser.proofs.reader.StepLemmas.{HasRead, is_name, opens, over_token, over_name, over_part, all_read, refused_inside, fits_next, found_goes_on, symbol_kept}
+use Rattle.abs_parser.proofs.reader.FoundLemmas.{is_name, found_goes_on, symbol_kept}
+use Rattle.abs_parser.proofs.reader.StepLemmas.{HasRead, opens, over_token, over_name, over_part, all_read, refused_inside, fits_next}
 use Rattle.abs_parser.proofs.grammar.NonterminalLemmas.{begins_with_token, part_shut, part_begun, part_opened, repeated_opened, repeated_ends}
 use Rattle.abs_parser.proofs.reader.PatternSteps.{next_taken, nothing_found}
 use Rattle.abs_parser.proofs.reader.RepeatSteps.{in_front, over_one_more, refused_up_to, ends_at}

@@ -24,7 +24,8 @@ use Rattle.abs_parser.specs.Tokens.{Spot}
 use Rattle.abs_parser.specs.TreesOf.{type_in, expr_in, or_in}
 use Rattle.abs_tree.specs.declared.source_error.SourceError.{SourceError}
 use Rattle.abs_parser.proofs.grammar.NameLemmas.{goes_on_further, goes_on_all}
-use Rattle.abs_parser.proofs.reader.StepLemmas.{HasRead, opens, over_token, over_name, over_part, all_read, found_goes_on, symbol_kept}
+use Rattle.abs_parser.proofs.reader.FoundLemmas.{found_goes_on, symbol_kept}
+use Rattle.abs_parser.proofs.reader.StepLemmas.{HasRead, opens, over_token, over_name, over_part, all_read}
 use Rattle.abs_parser.proofs.grammar.NonterminalLemmas.{part_begun}
 use Rattle.abs_parser.proofs.reader.InFrontSteps.{refused_in_front}
 use Rattle.abs_parser.proofs.reader.KeywordSteps.{keyword_read}
@@ -214,8 +215,8 @@ let_tree place name_place type name value body = rw (type, name, value, body) re
 pub let_found : {token paren name close equals in_token : Lexed}
     {from open_at type_at name_at close_at equals_at value_at in_at body_at end : Spot} {depth : ℕ}
     {old one two three new : List (List ℕ)}
-    {value body : Expr} (type_term : TypeTerm) (symbol : Symbol) (held_value held_body : Expr)
-    → held_value ≡ value → held_body ≡ body → TakesKind (lexeme.Keyword keyword.Let) token from open_at
+    {type_term : TypeTerm} {value body : Expr} (held_type : TypeTerm) (symbol : Symbol) (held_value held_body : Expr)
+    → held_type ≡ type_term → held_value ≡ value → held_body ≡ body → TakesKind (lexeme.Keyword keyword.Let) token from open_at
     → TakesKind (lexeme.Punctuator punctuator.OpenParen) paren open_at type_at
     → FoundAs (One Type') (depth + 1) old one type_at name_at
     (λ names inside. type_tree names type_term ≡ type_in inside)
@@ -227,14 +228,15 @@ pub let_found : {token paren name close equals in_token : Lexed}
     → TakesKind (lexeme.Keyword keyword.In) in_token in_at body_at
     → FoundAs (One ExprSymbol) (depth + 1) three new body_at end (IsExpression body) → depth + 1 ≤ limit
     → FoundAs (One ExprSymbol) depth old new from end
-    (λ names inside. LetIn token.place (type_tree names type_term) name.place (Unresolved (name_of names symbol))
+    (λ names inside. LetIn token.place (type_tree names held_type) name.place (Unresolved (name_of names symbol))
     (phrase names held_value) (phrase names held_body) ≡ expr_in inside)
-let_found {token = token} {name = name_token} {one = one} type_term symbol held_value held_body same_value same_body
+let_found {token = token} {name = name_token} {one = one} held_type symbol held_value held_body same_type same_value same_body
     takes paren type name number is close equals value in_token body within =
     let named = let_named takes paren type name is within in
     all_read (over_part (let_valued (let_assigned named close equals within) value in_token within) body) (λ names more.
     let after = goes_on_further (found_goes_on body) more in
     let since = goes_on_further (found_goes_on value) after in
-    let_tree token.place name_token.place (type.is names (goes_on_further (goes_on_name one name_token.bytes is) since))
+    let_tree token.place name_token.place
+    (ap (type_tree names) same_type ∙ type.is names (goes_on_further (goes_on_name one name_token.bytes is) since))
     (symbol_kept one symbol number is names since)
     (ap (phrase names) same_value ∙ value.is names after) (ap (phrase names) same_body ∙ body.is names more))

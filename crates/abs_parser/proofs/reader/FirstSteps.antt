@@ -36,7 +36,8 @@ use Rattle.abs_parser.proofs.reader.InFrontSteps.{refused_in_front}
 use Rattle.abs_parser.proofs.grammar.NameLemmas.{goes_on_further}
 use Rattle.abs_parser.proofs.reader.PatternSteps.{next_taken}
 use Rattle.abs_parser.proofs.reader.RestSteps.{MayHaveRead, may_open, over_left_out, refused_left_out, refused_either_way, refused_there, has_read}
-use Rattle.abs_parser.proofs.reader.StepLemmas.{HasRead, opens, over_token, over_name, over_part, into_last, all_read, refused_inside, refused_alike, fits_next, found_goes_on, symbol_kept}
+use Rattle.abs_parser.proofs.reader.FoundLemmas.{found_goes_on, symbol_kept}
+use Rattle.abs_parser.proofs.reader.StepLemmas.{HasRead, opens, over_token, over_name, over_part, into_last, all_read, refused_inside, refused_alike, fits_next}
 use Rattle.abs_parser.proofs.grammar.NonterminalLemmas.{part_begun, part_shut, optional_left_out}
 
 -- The trees

@@ -21,7 +21,8 @@ use Rattle.abs_parser.proofs.grammar.FirstPlaceLemmas.{first_place_found}
 use Rattle.abs_parser.proofs.reader.InFrontSteps.{refused_in_front}
 use Rattle.abs_parser.proofs.grammar.NameLemmas.{goes_on_further}
 use Rattle.abs_parser.proofs.reader.PatternSteps.{nothing_found}
-use Rattle.abs_parser.proofs.reader.StepLemmas.{opens, over_token, over_part, into_last, all_read, fits_next, found_weaker, found_goes_on}
+use Rattle.abs_parser.proofs.reader.FoundLemmas.{found_weaker, found_goes_on}
+use Rattle.abs_parser.proofs.reader.StepLemmas.{opens, over_token, over_part, into_last, all_read, fits_next}
 use Rattle.abs_parser.proofs.grammar.NonterminalLemmas.{begins_with_token, begins_with_part, part_shut, part_begun, part_opened, optional_opened, optional_left_out}
 
 -- where a value may begin, a test opens to the value and an optional `?`

@@ -25,7 +25,8 @@ use Rattle.abs_parser.specs.Tokens.{Spot}
 use Rattle.abs_parser.specs.TreesOf.{statement_in, statement_by, guard_in}
 use Rattle.abs_tree.specs.declared.source_error.SourceError.{SourceError}
 use Rattle.abs_parser.proofs.reader.ExpressionSteps.{IsExpression}
-use Rattle.abs_parser.proofs.reader.StepLemmas.{HasRead, opens, over_token, over_part, all_read, refused_inside, refused_row, found_weaker}
+use Rattle.abs_parser.proofs.reader.FoundLemmas.{found_weaker}
+use Rattle.abs_parser.proofs.reader.StepLemmas.{HasRead, opens, over_token, over_part, all_read, refused_inside, refused_row}
 use Rattle.abs_parser.proofs.reader.KeywordSteps.{keyword_read}
 use Rattle.abs_parser.proofs.reader.ParenthesisSteps.{over_parentheses}
 

@@ -18,7 +18,8 @@ use Rattle.abs_parser.specs.Tokens.{Spot}
 use Rattle.abs_tree.specs.declared.source_error.SourceError.{SourceError}
 use Rattle.abs_parser.proofs.grammar.NameLemmas.{goes_on_further}
 use Rattle.abs_parser.proofs.reader.PatternSteps.{next_taken, nothing_found, refused_unfit}
-use Rattle.abs_parser.proofs.reader.StepLemmas.{HasRead, opens, over_token, over_part, into_last, all_read, refused_inside, fits_next, found_goes_on}
+use Rattle.abs_parser.proofs.reader.FoundLemmas.{found_goes_on}
+use Rattle.abs_parser.proofs.reader.StepLemmas.{HasRead, opens, over_token, over_part, into_last, all_read, refused_inside, fits_next}
 use Rattle.abs_parser.proofs.reader.InFrontSteps.{refused_in_front}
 use Rattle.abs_parser.proofs.grammar.NonterminalLemmas.{begins_with_token, begins_with_part, part_shut, part_begun, part_opened, optional_opened, optional_left_out, repeated_opened, repeated_ends}
 

@@ -22,7 +22,8 @@ use Rattle.abs_parser.specs.TreesOf.{type_in, rhs_in, initial_in, statement_in}
 use Rattle.abs_parser.proofs.reader.ExpressionSteps.{goes_on_name}
 use Rattle.abs_parser.proofs.grammar.FirstPlaceLemmas.{first_place_found}
 use Rattle.abs_parser.proofs.grammar.NameLemmas.{goes_on_further}
-use Rattle.abs_parser.proofs.reader.StepLemmas.{HasRead, opens, over_token, over_name, over_part, into_last, all_read, fits_next, found_goes_on, symbol_kept}
+use Rattle.abs_parser.proofs.reader.FoundLemmas.{found_goes_on, symbol_kept}
+use Rattle.abs_parser.proofs.reader.StepLemmas.{HasRead, opens, over_token, over_name, over_part, into_last, all_read, fits_next}
 use Rattle.abs_parser.proofs.grammar.NonterminalLemmas.{begins_with_token, part_opened, optional_opened, optional_left_out}
 
 -- What follows the name

@@ -29,7 +29,8 @@ use Rattle.abs_parser.specs.declared.names.Heading.TheVariants as heading
 use Rattle.abs_tree.specs.declared.source_error.SourceError.{SourceError}
 use Rattle.abs_parser.proofs.grammar.NameLemmas.{goes_on_further, few_more}
 use Rattle.abs_parser.proofs.reader.PatternSteps.{nothing_found}
-use Rattle.abs_parser.proofs.reader.StepLemmas.{HasRead, is_name, opens, over_token, over_name, over_part, into_last, all_read, refused_inside, fits_next, found_weaker, found_goes_on, symbol_kept, token_shorter}
+use Rattle.abs_parser.proofs.reader.FoundLemmas.{is_name, found_weaker, found_goes_on, symbol_kept, token_shorter}
+use Rattle.abs_parser.proofs.reader.StepLemmas.{HasRead, opens, over_token, over_name, over_part, into_last, all_read, refused_inside, fits_next}
 use Rattle.abs_parser.proofs.grammar.NonterminalLemmas.{begins_with_token, part_opened, optional_opened, optional_left_out, repeated_opened, repeated_ends}
 
 -- a name that was added to a table has the same tree in each table that extends it

@@ -26,7 +26,8 @@ use Rattle.abs_parser.proofs.reader.InFrontSteps.{refused_in_front}
 use Rattle.abs_parser.proofs.reader.ListLemmas.{list_of_types}
 use Rattle.abs_parser.proofs.reader.ListSteps.{SeparatedList, ListTrees, InParentheses}
 use Rattle.abs_parser.proofs.grammar.NameLemmas.{goes_on_further}
-use Rattle.abs_parser.proofs.reader.StepLemmas.{HasRead, opens, over_name, over_part, all_read, found_weaker, symbol_kept}
+use Rattle.abs_parser.proofs.reader.FoundLemmas.{found_weaker, symbol_kept}
+use Rattle.abs_parser.proofs.reader.StepLemmas.{HasRead, opens, over_name, over_part, all_read}
 use Rattle.abs_parser.proofs.grammar.NonterminalLemmas.{begins_with_token, begins_with_part, part_begun, part_opened, part_shut}
 
 -- One parameter

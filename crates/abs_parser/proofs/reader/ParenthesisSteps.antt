@@ -10,7 +10,8 @@ use Rattle.abs_parser.specs.Readings.{Goal, One, Wanted, Terminal, Subgoal, Fore
 use Rattle.abs_parser.specs.ReaderAnswers.{TakesKind, FoundAs, FoundInParentheses}
 use Rattle.abs_parser.specs.Stops.{limit}
 use Rattle.abs_parser.specs.Tokens.{Spot}
-use Rattle.abs_parser.proofs.reader.StepLemmas.{HasRead, over_token, over_part, token_shorter, found_shorter, found_few}
+use Rattle.abs_parser.proofs.reader.FoundLemmas.{token_shorter, found_shorter, found_few}
+use Rattle.abs_parser.proofs.reader.StepLemmas.{HasRead, over_token, over_part}
 
 -- an expression in parentheses is found
 pub between_parentheses : {opening closing : Lexed} {from expr_at closing_at to : Spot} {depth : ℕ}

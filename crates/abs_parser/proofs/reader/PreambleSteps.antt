@@ -22,7 +22,8 @@ use Rattle.abs_parser.proofs.reader.NameListSteps.{JoinsName, joint_begins, join
 use Rattle.abs_parser.proofs.reader.PatternSteps.{nothing_found}
 use Rattle.abs_parser.proofs.reader.RepeatSteps.{over_one_more}
 use Rattle.abs_parser.proofs.reader.RightSideSteps.{maybe_read}
-use Rattle.abs_parser.proofs.reader.StepLemmas.{HasRead, is_name, opens, over_token, over_name, over_fixed, over_part, all_read, refused_inside, fits_next, found_weaker, refused_first_token}
+use Rattle.abs_parser.proofs.reader.FoundLemmas.{is_name, found_weaker}
+use Rattle.abs_parser.proofs.reader.StepLemmas.{HasRead, opens, over_token, over_name, over_fixed, over_part, all_read, refused_inside, fits_next, refused_first_token}
 use Rattle.abs_parser.proofs.grammar.NonterminalLemmas.{begins_with_token, part_shut, part_opened, optional_left_out, repeated_opened, repeated_ends}
 
 -- A part of the preamble was read up to here, whatever its tree is, and these items are left.

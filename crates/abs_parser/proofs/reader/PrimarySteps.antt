@@ -26,7 +26,8 @@ use Rattle.abs_tree.specs.declared.source_error.SourceError.{SourceError}
 use Rattle.abs_tree.specs.declared.source_error.SourceError.TheVariants.{Refused}
 use Rattle.abs_parser.proofs.grammar.FirstTokens.{begins_by_kind}
 use Rattle.abs_parser.proofs.grammar.NameLemmas.{goes_on_further}
-use Rattle.abs_parser.proofs.reader.StepLemmas.{HasRead, opens, over_token, over_name, over_part, into_last, all_read, refused_inside, refused_first_token, refused_shut, next_is, is_name, found_goes_on, symbol_kept, fits_next}
+use Rattle.abs_parser.proofs.reader.FoundLemmas.{is_name, found_goes_on, symbol_kept}
+use Rattle.abs_parser.proofs.reader.StepLemmas.{HasRead, opens, over_token, over_name, over_part, into_last, all_read, refused_inside, refused_first_token, refused_shut, next_is, fits_next}
 use Rattle.abs_lexer.specs.declared.lexeme.Keyword.{Keyword}
 use Rattle.abs_lexer.specs.declared.lexeme.Punctuator.{Punctuator}
 use Rattle.abs_parser.proofs.grammar.AskedLemmas.{punctuator_fits}

@@ -15,7 +15,8 @@ use Rattle.abs_parser.proofs.reader.PatternSteps.{nothing_found, refused_unfit}
 use Rattle.abs_parser.proofs.grammar.NonterminalLemmas.{part_shut, repeated_opened, repeated_ends}
 use Rattle.abs_parser.proofs.stop.MoveLemmas.{refuses_after, within_first, within_second}
 use Rattle.abs_parser.proofs.grammar.NameLemmas.{goes_on_further}
-use Rattle.abs_parser.proofs.reader.StepLemmas.{HasRead, opens, over_part, refused_inside, within_both, table_of_both, found_goes_on, found_few, found_shorter}
+use Rattle.abs_parser.proofs.reader.FoundLemmas.{within_both, table_of_both, found_goes_on, found_few, found_shorter}
+use Rattle.abs_parser.proofs.reader.StepLemmas.{HasRead, opens, over_part, refused_inside}
 
 -- the forest of one part and of the further ones, followed by what comes after them
 abbrev pub in_front : Nonterminal → Forest → Forest → Forest

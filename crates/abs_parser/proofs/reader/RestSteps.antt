@@ -26,7 +26,8 @@ use Rattle.abs_parser.specs.declared.operators.Precedence.TheVariants as precede
 use Rattle.abs_tree.specs.declared.source_error.SourceError.{SourceError}
 use Rattle.abs_tree.specs.declared.source_error.SourceError.TheVariants.{Refused, Memory}
 use Rattle.abs_parser.proofs.grammar.NameLemmas.{goes_on_further}
-use Rattle.abs_parser.proofs.reader.StepLemmas.{HasRead, opens, over_token, over_part, all_read, refused_inside, refused_row, refused_other, fits_next, found_goes_on}
+use Rattle.abs_parser.proofs.reader.FoundLemmas.{found_goes_on}
+use Rattle.abs_parser.proofs.reader.StepLemmas.{HasRead, opens, over_token, over_part, all_read, refused_inside, refused_row, refused_other, fits_next}
 use Rattle.abs_parser.proofs.grammar.NonterminalLemmas.{begins_by, part_opened, part_shut, optional_left_out}
 
 -- What was left out

@@ -31,7 +31,8 @@ use Rattle.abs_parser.proofs.grammar.FirstPlaceLemmas.{first_place_found}
 use Rattle.abs_parser.proofs.reader.InFrontSteps.{refused_in_front}
 use Rattle.abs_parser.proofs.grammar.NameLemmas.{goes_on_itself, goes_on_further}
 use Rattle.abs_parser.proofs.reader.PatternSteps.{next_taken}
-use Rattle.abs_parser.proofs.reader.StepLemmas.{HasRead, opens, over_token, over_name, over_fixed, over_part, into_last, all_read, refused_first_token, fits_next, next_fixed, found_goes_on, found_weaker, symbol_kept}
+use Rattle.abs_parser.proofs.reader.FoundLemmas.{found_goes_on, found_weaker, symbol_kept}
+use Rattle.abs_parser.proofs.reader.StepLemmas.{HasRead, opens, over_token, over_name, over_fixed, over_part, into_last, all_read, refused_first_token, fits_next, next_fixed}
 use Rattle.abs_parser.proofs.grammar.NonterminalLemmas.{part_begun, optional_opened, optional_left_out}
 
 -- what was read of a nonterminal was also read of the optional nonterminal

@@ -34,7 +34,8 @@ use Rattle.abs_parser.proofs.reader.ExpressionSteps.{goes_on_name}
 use Rattle.abs_parser.proofs.reader.InFrontSteps.{refused_in_front}
 use Rattle.abs_parser.proofs.grammar.NameLemmas.{goes_on_further}
 use Rattle.abs_parser.proofs.reader.RepeatSteps.{ends_at}
-use Rattle.abs_parser.proofs.reader.StepLemmas.{HasRead, opens, over_token, over_name, over_part, all_read, found_goes_on, symbol_kept}
+use Rattle.abs_parser.proofs.reader.FoundLemmas.{found_goes_on, symbol_kept}
+use Rattle.abs_parser.proofs.reader.StepLemmas.{HasRead, opens, over_token, over_name, over_part, all_read}
 use Rattle.abs_parser.proofs.grammar.NonterminalLemmas.{begins_with_part, part_shut, part_begun, part_opened}
 
 -- Methods of an interface

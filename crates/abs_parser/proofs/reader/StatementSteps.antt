@@ -36,7 +36,8 @@ use Rattle.abs_parser.proofs.reader.PatternSteps.{next_end, nothing_found}
 use Rattle.abs_parser.proofs.reader.KeywordSteps.{keyword_read}
 use Rattle.abs_parser.proofs.reader.ParenthesisSteps.{over_parentheses}
 use Rattle.abs_parser.proofs.reader.KeywordStatementSteps.{statement_by_keyword}
-use Rattle.abs_parser.proofs.reader.StepLemmas.{HasRead, opens, over_token, over_part, into_last, all_read, refused_shut, refused_row, fits_next, found_goes_on, found_weaker}
+use Rattle.abs_parser.proofs.reader.FoundLemmas.{found_goes_on, found_weaker}
+use Rattle.abs_parser.proofs.reader.StepLemmas.{HasRead, opens, over_token, over_part, into_last, all_read, refused_shut, refused_row, fits_next}
 use Rattle.abs_parser.proofs.grammar.NonterminalLemmas.{begins_with_token, part_shut, part_opened, optional_opened, optional_left_out}
 
 -- this statement was read, from its first index

@@ -36,7 +36,8 @@ use Rattle.abs_parser.proofs.sizes.LeafLemmas.{leaves, leaves_taken}
 use Rattle.abs_parser.proofs.grammar.NameLemmas.{goes_on_itself}
 use Rattle.abs_parser.proofs.grammar.ReadingLemmas.{a_program}
 use Rattle.abs_parser.proofs.reader.RestSteps.{MayHaveRead, may_open, over_left_out, has_read, refused_left_out, refused_either_way, refused_there, refused_both_either_way}
-use Rattle.abs_parser.proofs.reader.StepLemmas.{HasRead, left_length, within_both, over_part, found_shorter, found_goes_on, refused_alike}
+use Rattle.abs_parser.proofs.reader.FoundLemmas.{left_length, within_both, found_shorter, found_goes_on}
+use Rattle.abs_parser.proofs.reader.StepLemmas.{HasRead, over_part, refused_alike}
 use Rattle.abs_parser.proofs.stop.StopLemmas.{accepted, stopped}
 use Rattle.abs_parser.proofs.grammar.NonterminalLemmas.{begins_by, part_begun, part_opened, part_shut, optional_left_out, repeated_ends}
 use Rattle.abs_parser.proofs.reader.WrittenLemmas.{table_written}

@@ -9,7 +9,6 @@ use Rattle.std.specs.List.{list_any, list_all, find}
 use Rattle.std.specs.Str.{bytes_eq}
 use Rattle.std.proofs.Math.Bool.{or-false}
 use Rattle.std.proofs.lemmas.Bool.{and_parts, or_parts, not-true}
-use Rattle.std.proofs.lemmas.List.{append_assoc}
 use Rattle.std.proofs.lemmas.List.Folds.{list_any-append}
 use Rattle.std.proofs.lemmas.Slice.Eq.{bytes_eq-Decides}
 use Rattle.abs_tree.specs.Places.{start}
@@ -20,8 +19,8 @@ use Rattle.abs_lexer.specs.declared.lexeme.Punctuator.TheVariants as punctuator
 use Rattle.abs_lexer.specs.Words.{spelling, punctuator_bytes}
 use Rattle.abs_parser.specs.TokenKinds.{Mark, Token, TextEnd, TokenKind, LowerName, LocalName, UpperName, AbsName, StdLibName, Number, Text, KeywordKind, Foreign, PunctuatorKind, End, token_kind, fits, next}
 use Rattle.abs_parser.specs.Productions.{Nonterminal, Program, Path, Constructor, NextConstructor, Params, Extends, Implements, Type', Types, CommaType, Stmt, Else, Initial, Guard, AndTest, Test, Rhs, Args, CommaExpr, Expr, Or, OrTail, And, AndTail, Equal, EqualTail, Compare, CompareTail, Sum, SumTail, Mul, MulTail, Unary, Primary, ThisTail, Pattern, Patterns, CommaPattern, Item, Of, Part, Opt, Many, Inside, rule, items_begin, begins_within, begins, chosen}
-use Rattle.abs_parser.specs.Readings.{Goal, One, Optional, Repeated, Wanted, Terminal, Subgoal, place_item, place, inner_depth, opened, Empty, Nothing}
-use Rattle.abs_parser.proofs.grammar.ReadingLemmas.{a_program, WholeReading, part_closed, token_put}
+use Rattle.abs_parser.specs.Readings.{Goal, One, Optional, Repeated, Wanted, Terminal, Subgoal, place_item, place, inner_depth, opened}
+use Rattle.abs_parser.proofs.grammar.ReadingLemmas.{a_program}
 use Rattle.abs_parser.proofs.stop.MoveLemmas.{Moves, Stays, Takes, Opens}
 
 -- a token at the start of the source
@@ -48,13 +47,13 @@ first_alternative [] = []
 first_alternative (items ∷ others) = items
 
 -- the simplest alternative of a nonterminal: its first one, unless that leads back to the nonterminal
-abbrev simplest : Nonterminal → List Item
+abbrev pub simplest : Nonterminal → List Item
 simplest Expr = Part Or ∷ []
 simplest Unary = Part Primary ∷ []
 simplest nonterminal = first_alternative (rule nonterminal)
 
 -- the tokens of an item, given those of each nonterminal; optional and repeated parts have none
-abbrev item_tokens : (Nonterminal → List Mark) → Item → List Mark
+abbrev pub item_tokens : (Nonterminal → List Mark) → Item → List Mark
 item_tokens tokens (Of kind) = sample kind ∷ []
 item_tokens tokens (Part nonterminal) = tokens nonterminal
 item_tokens tokens (Opt nonterminal) = []
@@ -62,7 +61,7 @@ item_tokens tokens (Many nonterminal) = []
 item_tokens tokens (Inside more item) = item_tokens tokens item
 
 -- the tokens of the items of an alternative, one after the other
-abbrev items_tokens : (Nonterminal → List Mark) → List Item → List Mark
+abbrev pub items_tokens : (Nonterminal → List Mark) → List Item → List Mark
 items_tokens tokens [] = []
 items_tokens tokens (item ∷ others) = item_tokens tokens item ++ items_tokens tokens others
 
@@ -76,7 +75,7 @@ unfoldable pub short : Nonterminal → List Mark
 short nonterminal = short_within 12 nonterminal
 
 -- a short token list for a part: that of its nonterminal, and none if it is optional or repeated
-abbrev goal_tokens : Goal → List Mark
+abbrev pub goal_tokens : Goal → List Mark
 goal_tokens (One nonterminal) = short nonterminal
 goal_tokens (Optional nonterminal) = []
 goal_tokens (Repeated nonterminal) = []
@@ -154,7 +153,7 @@ abbrev after_rhs : List TokenKind
 after_rhs = PunctuatorKind punctuator.Not ∷ after_expr
 
 -- the token kinds that each nonterminal may continue with where it could end
-abbrev continues : Nonterminal → List TokenKind
+abbrev pub continues : Nonterminal → List TokenKind
 continues Path = PunctuatorKind punctuator.Dot ∷ []
 continues Constructor = PunctuatorKind punctuator.OpenParen ∷ []
 continues NextConstructor = PunctuatorKind punctuator.OpenParen ∷ []
@@ -215,7 +214,7 @@ pub fine_start : Fine a_program
 fine_start = (refl, tt)
 
 -- Fine items stay fine without the first one.
-fine_tail : (item : Wanted) (items : List Wanted) → Fine (item ∷ items) → Fine items
+pub fine_tail : (item : Wanted) (items : List Wanted) → Fine (item ∷ items) → Fine items
 fine_tail (Terminal kind depth) items fine = fine.1
 fine_tail (Subgoal goal depth) items fine = fine.1
 
@@ -283,7 +282,7 @@ unfolding begins starts
 starts_tell nonterminal kind = rounds_tell 12 nonterminal kind
 
 -- A nonterminal does not begin with a token kind that neither starts nor continues it.
-begins_not : (nonterminal : Nonterminal) (kind : TokenKind)
+pub begins_not : (nonterminal : Nonterminal) (kind : TokenKind)
     → meets (starts nonterminal ++ continues nonterminal) kind ≡ false → begins nonterminal kind ≡ false
 begins_not nonterminal kind e =
     starts_tell nonterminal kind ∙ (meets_neither (starts nonterminal) (continues nonterminal) kind e).0
@@ -339,7 +338,7 @@ table_is_fine Program = refl
 table_is_fine _ = refl
 
 -- The first token of a nonterminal's short list chooses the simplest alternative.
-chosen_shortly : (nonterminal : Nonterminal) (ts : List Mark)
+pub chosen_shortly : (nonterminal : Nonterminal) (ts : List Mark)
     → chosen nonterminal (next (short nonterminal ++ ts)) ≡ Some (simplest nonterminal)
 unfolding short short_within chosen begins begins_within
 chosen_shortly Program ts = refl
@@ -352,7 +351,7 @@ next_shortly Program ts = refl
 next_shortly _ ts = refl
 
 -- The tokens of the simplest alternative are the nonterminal's short list.
-tokens_shortly : (nonterminal : Nonterminal) → items_tokens short (simplest nonterminal) ≡ short nonterminal
+pub tokens_shortly : (nonterminal : Nonterminal) → items_tokens short (simplest nonterminal) ≡ short nonterminal
 unfolding short short_within
 tokens_shortly Program = refl
 tokens_shortly _ = refl
@@ -420,7 +419,7 @@ item_fine (Many nonterminal) after depth items e others fine = (others _ e, fine
 item_fine (Inside more item) after depth items e others fine = item_fine item after (depth + more) items e others fine
 
 -- An alternative that passes the test is fine before others.
-items_fine : (last : List TokenKind) (others : List Item) (depth : ℕ) (items : List Wanted)
+pub items_fine : (last : List TokenKind) (others : List Item) (depth : ℕ) (items : List Wanted)
     → items_are_fine last others ≡ true
     → meets last (next (finish items)) ≡ false → Fine items → Fine (place depth others ++ items)
 items_fine last [] depth items e none fine = fine
@@ -446,7 +445,7 @@ found_passes wanted test (x ∷ xs) found is e =
     go false is passes further = further is
 
 -- The chosen alternative passes the test.
-chosen_is_fine : (nonterminal : Nonterminal) (kind : TokenKind) (items : List Item)
+pub chosen_is_fine : (nonterminal : Nonterminal) (kind : TokenKind) (items : List Item)
     → chosen nonterminal kind ≡ Some items → items_are_fine (continues nonterminal) items ≡ true
 unfolding chosen
 chosen_is_fine nonterminal kind items e =
@@ -508,151 +507,3 @@ fine_moves Stays fine = fine
 fine_moves (Takes e within moves) fine = fine_moves moves fine.1
 fine_moves (Opens {goal = goal} {depth = depth} {inner = inner} {items = items} {ts = ts} e moves) fine =
     fine_moves moves (opened_fine goal (next ts) depth inner items e fine)
-
--- the items are read from their completion, to its end
-pub record Finishes (items : List Wanted) : Type 0 where
-  pub depths : List ℕ
-  pub whole : WholeReading items (finish items) depths
-
--- A token is read, followed by items that are read to the end.
-token_finishes : (kind : TokenKind) (depth : ℕ) (items : List Wanted) → Fine (Terminal kind depth ∷ items)
-    → Finishes items → Finishes (Terminal kind depth ∷ items)
-token_finishes kind depth items fine rest = record {
-  depths = depth ∷ rest.depths;
-  whole = token_put fine.0 rest.whole;
-}
-
--- A part that opens to nothing is left out, followed by items that are read to the end.
-left_out : (goal : Goal) (depth : ℕ) (items : List Wanted) → goal_tokens goal ≡ []
-    → opened goal (next (finish items)) depth ≡ Some [] → Finishes items
-    → Finishes (Subgoal goal depth ∷ items)
-left_out goal depth items none e rest = record {
-  depths = rest.depths;
-  whole = subst (λ (ts : List Mark). WholeReading (Subgoal goal depth ∷ items) (ts ++ finish items) rest.depths)
-      (sym none)
-      (part_closed e rest.whole);
-}
-
--- A fine optional part is left out.
-optional_finishes : (nonterminal : Nonterminal) (depth : ℕ) (items : List Wanted)
-    → Fine (Subgoal (Optional nonterminal) depth ∷ items) → Finishes items
-    → Finishes (Subgoal (Optional nonterminal) depth ∷ items)
-optional_finishes nonterminal depth items fine rest =
-    left_out (Optional nonterminal) depth items refl
-    (ap (λ b. if b then Some (Subgoal (One nonterminal) depth ∷ []) else Some []) (begins_not nonterminal _ fine.0))
-    rest
-
--- A fine repeated part is left out.
-repeated_finishes : (nonterminal : Nonterminal) (depth : ℕ) (items : List Wanted)
-    → Fine (Subgoal (Repeated nonterminal) depth ∷ items) → Finishes items
-    → Finishes (Subgoal (Repeated nonterminal) depth ∷ items)
-repeated_finishes nonterminal depth items fine rest =
-    left_out (Repeated nonterminal) depth items refl
-    (ap (λ b. if b then Some (Subgoal (One nonterminal) depth ∷ Subgoal (Repeated nonterminal) depth ∷ []) else Some [])
-    (begins_not nonterminal _ fine.0)) rest
-
--- whether an item that is a nonterminal passes a test; other items pass
-abbrev item_passes : (Nonterminal → Bool) → Item → Bool
-item_passes test (Part nonterminal) = test nonterminal
-item_passes test (Inside more item) = item_passes test item
-item_passes test item = true
-
--- whether this many rounds are enough for the short list of a nonterminal
-unfoldable enough : ℕ → Nonterminal → Bool
-enough zero nonterminal = false
-enough (suc rounds) nonterminal = list_all (λ (item : Item). item_passes (enough rounds) item) (simplest nonterminal)
-
--- 12 rounds are enough for each nonterminal.
-twelve_are_enough : (nonterminal : Nonterminal) → enough 12 nonterminal ≡ true
-unfolding enough
-twelve_are_enough Program = refl
-twelve_are_enough _ = refl
-
--- a nonterminal is read to the end, followed by items that are
-abbrev Completes : Nonterminal → Type 0
-Completes nonterminal = (depth : ℕ) (items : List Wanted) → Fine (Subgoal (One nonterminal) depth ∷ items)
-    → Finishes items → Finishes (Subgoal (One nonterminal) depth ∷ items)
-
--- An item is read to the end if its nonterminal is.
-item_finishes : (test : Nonterminal → Bool)
-    → ((nonterminal : Nonterminal) → test nonterminal ≡ true → Completes nonterminal) → (item : Item)
-    → item_passes test item ≡ true
-    → (depth : ℕ) (items : List Wanted) → Fine (place_item depth item ∷ items) → Finishes items
-    → Finishes (place_item depth item ∷ items)
-item_finishes test complete (Of kind) e depth items fine rest = token_finishes kind depth items fine rest
-item_finishes test complete (Part nonterminal) e depth items fine rest = complete nonterminal e depth items fine rest
-item_finishes test complete (Opt nonterminal) e depth items fine rest =
-    optional_finishes nonterminal depth items fine rest
-item_finishes test complete (Many nonterminal) e depth items fine rest =
-    repeated_finishes nonterminal depth items fine rest
-item_finishes test complete (Inside more item) e depth items fine rest =
-    item_finishes test complete item e (depth + more) items fine rest
-
--- An alternative is read to the end if its nonterminals are.
-items_finish : (test : Nonterminal → Bool)
-    → ((nonterminal : Nonterminal) → test nonterminal ≡ true → Completes nonterminal)
-    → (others : List Item) → list_all (λ (item : Item). item_passes test item) others ≡ true
-    → (depth : ℕ) (items : List Wanted) → Fine (place depth others ++ items) → Finishes items
-    → Finishes (place depth others ++ items)
-items_finish test complete [] e depth items fine rest = rest
-items_finish test complete (item ∷ others) e depth items fine rest =
-    let parts = and_parts _ _ e in
-    item_finishes test complete item parts.0 depth (place depth others ++ items) fine
-    (items_finish test complete others parts.1 depth items (fine_tail _ _ fine) rest)
-
--- The completion of an item, followed by others, is the item's tokens followed by the completion of the others.
-item_completed : (item : Item) (depth : ℕ) (items : List Wanted)
-    → finish (place_item depth item ∷ items) ≡ item_tokens short item ++ finish items
-item_completed (Inside more item) depth items = item_completed item (depth + more) items
-item_completed _ depth items = refl
-
--- The completion of an alternative, followed by others, is its tokens followed by the completion of the others.
-items_completed : (others : List Item) (depth : ℕ) (items : List Wanted)
-    → finish (place depth others ++ items) ≡ items_tokens short others ++ finish items
-items_completed [] depth items = refl
-items_completed (item ∷ others) depth items =
-    item_completed item depth (place depth others ++ items)
-    ∙ (ap (λ (l : List Mark). item_tokens short item ++ l) (items_completed others depth items)
-    ∙ sym (append_assoc (item_tokens short item) (items_tokens short others) (finish items)))
-
--- A nonterminal is read to the end if its simplest alternative is.
-symbol_finishes : (nonterminal : Nonterminal) (depth : ℕ) (items : List Wanted)
-    → Finishes (place (inner_depth nonterminal depth) (simplest nonterminal) ++ items)
-    → Finishes (Subgoal (One nonterminal) depth ∷ items)
-symbol_finishes nonterminal depth items inside =
-    let same : finish (place (inner_depth nonterminal depth) (simplest nonterminal) ++ items) ≡ short nonterminal
-    ++ finish items =
-    items_completed (simplest nonterminal) (inner_depth nonterminal depth) items
-    ∙ ap (λ (l : List Mark). l ++ finish items) (tokens_shortly nonterminal) in
-    record {
-      depths = inside.depths;
-      whole = part_closed
-          (ap (λ (o : Option (List Item)). option_map (place (inner_depth nonterminal depth)) o)
-          (chosen_shortly nonterminal (finish items)))
-          (subst (λ (ts : List Mark). WholeReading
-          (place (inner_depth nonterminal depth) (simplest nonterminal) ++ items) ts inside.depths) same inside.whole);
-    }
-
--- Each nonterminal for which this many rounds are enough is read to the end.
-completes : (rounds : ℕ) (nonterminal : Nonterminal) → enough rounds nonterminal ≡ true → Completes nonterminal
-unfolding enough
-completes zero nonterminal e depth items fine rest = absurd cc
-completes (suc rounds) nonterminal e depth items fine rest =
-    let inside : Fine (place (inner_depth nonterminal depth) (simplest nonterminal) ++ items) =
-    items_fine (continues nonterminal) (simplest nonterminal) (inner_depth nonterminal depth) items
-    (chosen_is_fine nonterminal (next (short nonterminal ++ [])) (simplest nonterminal) (chosen_shortly nonterminal []))
-    fine.0 fine.1 in
-    symbol_finishes nonterminal depth items
-    (items_finish (enough rounds) (λ inner e. completes rounds inner e) (simplest nonterminal) e
-    (inner_depth nonterminal depth) items inside rest)
-
--- Fine items are read from their completion, to its end.
-pub finishes : (items : List Wanted) → Fine items → Finishes items
-finishes [] fine = record { depths = []; whole = record { forest = Empty; reads = Nothing; are = refl } }
-finishes (Terminal kind depth ∷ items) fine = token_finishes kind depth items fine (finishes items fine.1)
-finishes (Subgoal (One nonterminal) depth ∷ items) fine =
-    completes 12 nonterminal (twelve_are_enough nonterminal) depth items fine (finishes items fine.1)
-finishes (Subgoal (Optional nonterminal) depth ∷ items) fine =
-    optional_finishes nonterminal depth items fine (finishes items fine.1)
-finishes (Subgoal (Repeated nonterminal) depth ∷ items) fine =
-    repeated_finishes nonterminal depth items fine (finishes items fine.1)

@@ -11,7 +11,8 @@ use Rattle.abs_parser.specs.Readings.{Wanted, Terminal, Forest, Reads, depths}
 use Rattle.abs_parser.specs.Refusing.{AllWithin}
 use Rattle.abs_parser.specs.Stops.{limit, IsDeep, IsWrong, RefusedBy, StopsAt, IsAccepted}
 use Rattle.abs_parser.specs.Stops.RefusedBy.{deep, wrong}
-use Rattle.abs_parser.proofs.stop.CompletionLemmas.{Fine, finish, fine_start, fine_after, fine_moves, finishes}
+use Rattle.abs_parser.proofs.stop.FinishLemmas.{finishes}
+use Rattle.abs_parser.proofs.stop.CompletionLemmas.{Fine, finish, fine_start, fine_after, fine_moves}
 use Rattle.abs_parser.proofs.stop.MoveLemmas.{Stays, Blocks, Unread, TooDeep, Blocked, passes, read_ahead, read_back, MovesUpTo, moves_up_to, MovesOver, moves_over}
 use Rattle.abs_parser.proofs.grammar.ReadingLemmas.{a_program, WholeReading, token_put}
 

@@ -55,10 +55,11 @@ pub enum Prefix {
 #[derive(Drop)]
 #[cycle(syntax_expressions)]
 pub enum Expr {
-    /// `let (T x) = e in e`, with the place of the variable.
+    /// `let (T x) = e in e`, with the place of the variable. The type is boxed: in place it would make each expression
+    /// larger.
     Let {
         place: Place,
-        type_of: TypeTerm,
+        type_of: Box<TypeTerm>,
         variable_place: Place,
         variable: Variable,
         value: Box<Expr>,

@@ -3,7 +3,8 @@ use Rattle.std.proofs.lemmas.Result.{IfOk-weaker}
 use Rattle.abs_parser.specs.Views.{spot}
 use Rattle.abs_parser.proofs.reader.MemberSteps.{refused_type, member_typed, member_named, member_found}
 use Rattle.abs_parser.proofs.reader.ResultLemmas.{parses_further, passed_on}
-use Rattle.abs_parser.proofs.reader.StepLemmas.{refused_inside, found_few}
+use Rattle.abs_parser.proofs.reader.FoundLemmas.{found_few}
+use Rattle.abs_parser.proofs.reader.StepLemmas.{refused_inside}
 use Rattle.abs_parser.proofs.classes.member.Goals as goal
 
 pub returns-in_err-type_of-clause-parses : goal.returns-in_err-type_of-clause-parses

@@ -3,7 +3,8 @@ use Rattle.abs_tree.specs.declared.syntax.declaration.Signature.{Signature}
 use Rattle.abs_parser.specs.Views.{spot}
 use Rattle.abs_parser.proofs.reader.MemberSteps.{value_opened, method_opened, refused_tail, tail_begun, field_found, field_with_value_found, method_read, method_found}
 use Rattle.abs_parser.proofs.reader.ResultLemmas.{passed_on}
-use Rattle.abs_parser.proofs.reader.StepLemmas.{over_part, refused_inside, found_shorter, token_shorter}
+use Rattle.abs_parser.proofs.reader.FoundLemmas.{found_shorter, token_shorter}
+use Rattle.abs_parser.proofs.reader.StepLemmas.{over_part, refused_inside}
 use Rattle.abs_parser.proofs.classes.member_tail.Goals as goal
 
 pub returns-in-Some-clause-parses : goal.returns-in-Some-clause-parses

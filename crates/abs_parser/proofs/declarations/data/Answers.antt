@@ -5,7 +5,8 @@ use Rattle.abs_parser.specs.Views.{spot}
 use Rattle.abs_parser.proofs.reader.KeywordSteps.{keyword_read, keyword_refused}
 use Rattle.abs_parser.proofs.reader.DeclarationSteps.{heading_read, data_opened, data_assigned, first_constructor, next_constructor, next_constructor_begins, refused_constructor, refused_closing, all_parts}
 use Rattle.abs_parser.proofs.reader.ResultLemmas.{passed_on}
-use Rattle.abs_parser.proofs.reader.StepLemmas.{found_weaker, over_part, refused_inside, token_shorter, found_shorter}
+use Rattle.abs_parser.proofs.reader.FoundLemmas.{found_weaker, token_shorter, found_shorter}
+use Rattle.abs_parser.proofs.reader.StepLemmas.{over_part, refused_inside}
 use Rattle.abs_parser.proofs.declarations.data.Goals as goal
 
 pub returns-in_err-token-clause-parses : goal.returns-in_err-token-clause-parses

@@ -7,7 +7,8 @@ use Rattle.abs_parser.specs.Views.{spot}
 use Rattle.abs_parser.proofs.reader.KeywordSteps.{keyword_read, keyword_refused}
 use Rattle.abs_parser.proofs.reader.SignatureSteps.{parameters_read, function_opened, function_named, function_assigned, function_found}
 use Rattle.abs_parser.proofs.reader.ResultLemmas.{passed_on}
-use Rattle.abs_parser.proofs.reader.StepLemmas.{over_token, over_part, refused_inside, found_few, token_shorter}
+use Rattle.abs_parser.proofs.reader.FoundLemmas.{found_few, token_shorter}
+use Rattle.abs_parser.proofs.reader.StepLemmas.{over_token, over_part, refused_inside}
 use Rattle.abs_parser.proofs.declarations.function.Goals as goal
 
 pub returns-in_err-token-clause-parses : goal.returns-in_err-token-clause-parses

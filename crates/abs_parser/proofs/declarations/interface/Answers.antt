@@ -7,7 +7,8 @@ use Rattle.abs_parser.proofs.reader.KeywordSteps.{keyword_read, keyword_refused}
 use Rattle.abs_parser.proofs.reader.DeclarationSteps.{heading_read, refused_part, refused_closing, all_parts}
 use Rattle.abs_parser.proofs.reader.SignatureSteps.{signatures_of, interface_opened, first_signature, next_signature}
 use Rattle.abs_parser.proofs.reader.ResultLemmas.{passed_on}
-use Rattle.abs_parser.proofs.reader.StepLemmas.{found_weaker, over_part, refused_inside}
+use Rattle.abs_parser.proofs.reader.FoundLemmas.{found_weaker}
+use Rattle.abs_parser.proofs.reader.StepLemmas.{over_part, refused_inside}
 use Rattle.abs_parser.proofs.declarations.interface.Goals as goal
 
 pub returns-in_err-token-clause-parses : goal.returns-in_err-token-clause-parses

@@ -5,7 +5,8 @@ use Rattle.abs_lexer.specs.declared.lexeme.Punctuator.TheVariants as punctuator
 use Rattle.abs_parser.specs.Views.{spot}
 use Rattle.abs_parser.proofs.reader.SignatureSteps.{refused_result, result_read, signature_named, parameters_read, signature_found}
 use Rattle.abs_parser.proofs.reader.ResultLemmas.{passed_on}
-use Rattle.abs_parser.proofs.reader.StepLemmas.{over_token, over_part, refused_inside, found_few, token_shorter}
+use Rattle.abs_parser.proofs.reader.FoundLemmas.{found_few, token_shorter}
+use Rattle.abs_parser.proofs.reader.StepLemmas.{over_token, over_part, refused_inside}
 use Rattle.abs_parser.proofs.declarations.signature.Goals as goal
 
 pub returns-in_err-result : goal.returns-in_err-result

@@ -4,7 +4,7 @@ use Rattle.abs_parser.proofs.reader.GuardSteps.{one_test}
 use Rattle.abs_parser.proofs.reader.ListLemmas.{list_of_tests, trees_of_tests}
 use Rattle.abs_parser.proofs.reader.ListSteps.{first_so_far, next_so_far, all_so_far, refused_first, refused_next}
 use Rattle.abs_parser.proofs.reader.ResultLemmas.{passed_on}
-use Rattle.abs_parser.proofs.reader.StepLemmas.{token_shorter, found_shorter}
+use Rattle.abs_parser.proofs.reader.FoundLemmas.{token_shorter, found_shorter}
 use Rattle.abs_parser.proofs.guards.guard.Goals as goal
 
 pub returns-in_err-first : goal.returns-in_err-first

@@ -2,7 +2,7 @@ use Rattle.std.proofs.Common.{arith}
 use Rattle.abs_parser.specs.Views.{spot}
 use Rattle.abs_parser.proofs.reader.NameListSteps.{first_name_so_far, next_name_so_far, refused_next_name, all_names_found}
 use Rattle.abs_parser.proofs.reader.ResultLemmas.{passed_on}
-use Rattle.abs_parser.proofs.reader.StepLemmas.{token_shorter}
+use Rattle.abs_parser.proofs.reader.FoundLemmas.{token_shorter}
 use Rattle.abs_parser.proofs.names.more_names.Goals as goal
 
 pub loop-name_at-init : goal.loop-name_at-init

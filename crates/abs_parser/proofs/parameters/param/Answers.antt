@@ -2,7 +2,8 @@ use Rattle.std.proofs.Common.{arith}
 use Rattle.abs_parser.specs.Views.{spot}
 use Rattle.abs_parser.proofs.reader.ParameterSteps.{refused_param, param_typed, param_found}
 use Rattle.abs_parser.proofs.reader.ResultLemmas.{passed_on}
-use Rattle.abs_parser.proofs.reader.StepLemmas.{refused_inside, found_few}
+use Rattle.abs_parser.proofs.reader.FoundLemmas.{found_few}
+use Rattle.abs_parser.proofs.reader.StepLemmas.{refused_inside}
 use Rattle.abs_parser.proofs.parameters.param.Goals as goal
 
 pub returns-in_err-type_of : goal.returns-in_err-type_of

@@ -3,7 +3,7 @@ use Rattle.abs_parser.specs.Views.{spot}
 use Rattle.abs_parser.proofs.reader.ListSteps.{first_so_far, next_so_far, all_so_far, refused_first, refused_next}
 use Rattle.abs_parser.proofs.reader.ParameterSteps.{list_of_params, trees_of_params, param_in_front}
 use Rattle.abs_parser.proofs.reader.ResultLemmas.{passed_on}
-use Rattle.abs_parser.proofs.reader.StepLemmas.{token_shorter, found_shorter}
+use Rattle.abs_parser.proofs.reader.FoundLemmas.{token_shorter, found_shorter}
 use Rattle.abs_parser.proofs.parameters.params.Goals as goal
 
 pub returns-in_err-first : goal.returns-in_err-first

@@ -7,7 +7,8 @@ use Rattle.abs_parser.specs.Views.{spot}
 use Rattle.abs_parser.proofs.reader.ListSteps.{maybe_found}
 use Rattle.abs_parser.proofs.reader.ParameterSteps.{list_of_params, params_begin}
 use Rattle.abs_parser.proofs.reader.ResultLemmas.{parses_further}
-use Rattle.abs_parser.proofs.reader.StepLemmas.{opens, all_read, refused_inside, found_weaker}
+use Rattle.abs_parser.proofs.reader.FoundLemmas.{found_weaker}
+use Rattle.abs_parser.proofs.reader.StepLemmas.{opens, all_read, refused_inside}
 use Rattle.abs_parser.proofs.grammar.NonterminalLemmas.{optional_opened, optional_left_out}
 use Rattle.abs_parser.proofs.parameters.params_maybe.Goals as goal
 

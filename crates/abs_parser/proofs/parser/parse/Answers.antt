@@ -4,7 +4,8 @@ use Rattle.abs_tree.specs.SourceNumbers.{IsNumberedWhole}
 use Rattle.abs_parser.proofs.sizes.NumberLemmas.{tree_is_numbered}
 use Rattle.abs_parser.specs.Views.{spot}
 use Rattle.abs_parser.proofs.reader.ResultLemmas.{error_passed_on}
-use Rattle.abs_parser.proofs.reader.StepLemmas.{found_few, refused_inside}
+use Rattle.abs_parser.proofs.reader.FoundLemmas.{found_few}
+use Rattle.abs_parser.proofs.reader.StepLemmas.{refused_inside}
 use Rattle.abs_parser.proofs.reader.WholeSteps.{program_begins, over_heading, over_import, over_declarations, over_block, heading_refused, import_refused, declarations_refused, block_refused, stops_from, ProgramFound, program_found, text_found, names_found, variables_found, bodies_found, fields_found, statements_found, few_at, few_tokens}
 use Rattle.abs_parser.proofs.parser.parse.Goals as goal
 

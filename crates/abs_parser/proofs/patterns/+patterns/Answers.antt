@@ -13,7 +13,8 @@ use Rattle.abs_parser.proofs.grammar.DigitLemmas.{number_digits, number_fits, na
 use Rattle.abs_parser.proofs.reader.ListLemmas.{list_of_patterns, trees_of_patterns, pattern_arguments}
 use Rattle.abs_parser.proofs.reader.ListSteps.{first_so_far, next_so_far, all_so_far, refused_first, refused_next, maybe_found, refused_between, parentheses_left_out, parenthesis_read_maybe, nothing_between}
 use Rattle.abs_parser.proofs.reader.ResultLemmas.{passed_on}
-use Rattle.abs_parser.proofs.reader.StepLemmas.{opens, over_token, over_name, over_part, all_read, refused_inside, token_shorter, found_shorter, found_goes_on, symbol_kept}
+use Rattle.abs_parser.proofs.reader.FoundLemmas.{token_shorter, found_shorter, found_goes_on, symbol_kept}
+use Rattle.abs_parser.proofs.reader.StepLemmas.{opens, over_token, over_name, over_part, all_read, refused_inside}
 use Rattle.abs_parser.proofs.grammar.NameLemmas.{goes_on_further}
 use Rattle.abs_tree.proofs.SyntaxLemmas.{pattern_tree-built}
 use Rattle.abs_parser.proofs.grammar.PatternLemmas.{constructor_opened, binds_tree, built_tree, number_tree, text_tree}

@@ -2,7 +2,7 @@ use Rattle.std.proofs.Common.{arith}
 use Rattle.abs_parser.specs.Views.{spot}
 use Rattle.abs_parser.proofs.reader.PreambleSteps.{refused_path, path_begins, refused_dot_name, path_goes_on, path_found}
 use Rattle.abs_parser.proofs.reader.ResultLemmas.{passed_on}
-use Rattle.abs_parser.proofs.reader.StepLemmas.{token_shorter}
+use Rattle.abs_parser.proofs.reader.FoundLemmas.{token_shorter}
 use Rattle.abs_parser.proofs.preamble.path.Goals as goal
 
 pub returns-in_err-first : goal.returns-in_err-first

@@ -2,7 +2,7 @@ use Rattle.std.proofs.Common.{arith}
 use Rattle.abs_parser.specs.Views.{spot}
 use Rattle.abs_parser.proofs.reader.DeclarationListSteps.{refused_no_declaration, no_declaration_at_end, no_declaration_kind, no_declaration_keyword}
 use Rattle.abs_parser.proofs.reader.ResultLemmas.{passed_on}
-use Rattle.abs_parser.proofs.reader.StepLemmas.{found_shorter, found_weaker}
+use Rattle.abs_parser.proofs.reader.FoundLemmas.{found_shorter, found_weaker}
 use Rattle.abs_parser.proofs.programs.declaration.Goals.{in-Data+in_ok-data-in-Data, in-Def+in_ok-function-in-Def, in-Interface+in_ok-decl-in-Interface}
 use Rattle.abs_parser.proofs.programs.declaration.Goals as goal
 

@@ -3,7 +3,8 @@ use Rattle.abs_parser.specs.Views.{spot}
 use Rattle.abs_parser.proofs.grammar.FirstPlaceLemmas.{found_within}
 use Rattle.abs_parser.proofs.reader.RightSideSteps.{refused_rhs, rhs_begins, rhs_found}
 use Rattle.abs_parser.proofs.reader.ResultLemmas.{parses_further, passed_on}
-use Rattle.abs_parser.proofs.reader.StepLemmas.{found_few, refused_inside}
+use Rattle.abs_parser.proofs.reader.FoundLemmas.{found_few}
+use Rattle.abs_parser.proofs.reader.StepLemmas.{refused_inside}
 use Rattle.abs_parser.proofs.right_sides.right_side.Goals as goal
 
 pub returns-in_err-first : goal.returns-in_err-first

@@ -2,7 +2,8 @@ use Rattle.std.proofs.Common.{arith}
 use Rattle.abs_parser.specs.Views.{spot}
 use Rattle.abs_parser.proofs.reader.FirstSteps.{assign_begins, assign_found, arguments_refused, rest_refused, side_found}
 use Rattle.abs_parser.proofs.reader.ResultLemmas.{passed_on}
-use Rattle.abs_parser.proofs.reader.StepLemmas.{over_part, refused_inside, found_few}
+use Rattle.abs_parser.proofs.reader.FoundLemmas.{found_few}
+use Rattle.abs_parser.proofs.reader.StepLemmas.{over_part, refused_inside}
 use Rattle.abs_parser.proofs.simple_statements.after_name.Goals as goal
 
 pub returns-in_err-side-clause-parses : goal.returns-in_err-side-clause-parses

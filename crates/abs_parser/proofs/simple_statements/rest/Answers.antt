@@ -3,7 +3,7 @@ use Rattle.abs_parser.specs.Views.{spot}
 use Rattle.abs_parser.specs.declared.operators.Precedence.TheVariants as precedence
 use Rattle.abs_parser.proofs.reader.RestSteps.{rest_begins, over_precedence, precedence_refused, over_tail, tail_refused, semicolon_refused, rest_found}
 use Rattle.abs_parser.proofs.reader.ResultLemmas.{passed_on}
-use Rattle.abs_parser.proofs.reader.StepLemmas.{found_few}
+use Rattle.abs_parser.proofs.reader.FoundLemmas.{found_few}
 use Rattle.abs_parser.proofs.simple_statements.rest.Goals as goal
 
 pub returns-in_err-product : goal.returns-in_err-product

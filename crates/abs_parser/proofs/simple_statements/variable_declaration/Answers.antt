@@ -2,7 +2,8 @@ use Rattle.std.proofs.Common.{arith}
 use Rattle.abs_parser.specs.Views.{spot}
 use Rattle.abs_parser.proofs.reader.LocalSteps.{local_begins, local_typed, local_named, local_found}
 use Rattle.abs_parser.proofs.reader.ResultLemmas.{passed_on}
-use Rattle.abs_parser.proofs.reader.StepLemmas.{over_part, refused_inside, found_few}
+use Rattle.abs_parser.proofs.reader.FoundLemmas.{found_few}
+use Rattle.abs_parser.proofs.reader.StepLemmas.{over_part, refused_inside}
 use Rattle.abs_parser.proofs.simple_statements.variable_declaration.Goals as goal
 
 pub returns-in_err-type_of-clause-parses : goal.returns-in_err-type_of-clause-parses

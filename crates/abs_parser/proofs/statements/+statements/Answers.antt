@@ -17,7 +17,8 @@ use Rattle.abs_parser.proofs.reader.KeywordSteps.{keyword_refused}
 use Rattle.abs_parser.proofs.reader.StatementSteps.{block_shut, block_opened, nested_begins, nested_found, test_read, refused_test, while_opened, while_found, if_opened, if_chosen, if_found, else_read, else_found, else_left_out, statement_refused_at_end}
 use Rattle.abs_parser.proofs.reader.ParenthesisSteps.{parentheses_few, parentheses_shorter}
 use Rattle.abs_parser.proofs.reader.ResultLemmas.{passed_on}
-use Rattle.abs_parser.proofs.reader.StepLemmas.{refused_inside, refused_first_token, token_shorter, found_few, found_shorter, fits_next}
+use Rattle.abs_parser.proofs.reader.FoundLemmas.{token_shorter, found_few, found_shorter}
+use Rattle.abs_parser.proofs.reader.StepLemmas.{refused_inside, refused_first_token, fits_next}
 use Rattle.abs_parser.proofs.statements.+statements.Goals.{statement-in-UpperName+in_ok-variable_declaration-in-UpperName, statement-in-LowerName+in_ok-variable_statement-in-LowerName, statement-in-Punctuator+else-eq+in_ok-right_side_statement-in-Punctuator, statement-in-Number+in_ok-stmt-in-Number, keyword_statement-in-This+in_ok-this_statement-in-This, keyword_statement-in-Skip+in_ok-simple_statement-in-Skip, keyword_statement-in_default+in_ok-stmt-in_default}
 use Rattle.abs_parser.proofs.statements.+statements.Goals as goal
 

@@ -10,7 +10,8 @@ use Rattle.abs_parser.proofs.reader.ListLemmas.{list_of_types, trees_of_types}
 use Rattle.abs_parser.proofs.reader.ListSteps.{first_so_far, next_so_far, all_so_far, refused_first, refused_next}
 use Rattle.abs_parser.proofs.grammar.NameLemmas.{goes_on_further}
 use Rattle.abs_parser.proofs.reader.ResultLemmas.{passed_on}
-use Rattle.abs_parser.proofs.reader.StepLemmas.{opens, over_token, over_name, over_part, into_last, all_read, refused_inside, refused_first_token, fits_next, token_shorter, found_shorter, found_goes_on, symbol_kept}
+use Rattle.abs_parser.proofs.reader.FoundLemmas.{token_shorter, found_shorter, found_goes_on, symbol_kept}
+use Rattle.abs_parser.proofs.reader.StepLemmas.{opens, over_token, over_name, over_part, into_last, all_read, refused_inside, refused_first_token, fits_next}
 use Rattle.abs_parser.proofs.grammar.TypeLemmas.{type_opened, type_shut, arguments_follow, no_arguments, arguments_opened, type_named}
 use Rattle.abs_parser.proofs.types.+types.Goals as goal
 
