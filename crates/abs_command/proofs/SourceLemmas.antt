@@ -1,8 +1,8 @@
 -- A source has at most one program, and at most one refusal, and not both.
-use Rattle.std.proofs.Common.{◌≡◌, ℕ, List, [], ◌++◌, Ok, Err, sym, ap, ◌∙◌, arith, length, subst}
+use Rattle.std.proofs.Common.{◌≡◌, ℕ, List, [], ◌++◌, Ok, Err, sym, ap, ◌∙◌, subst}
 use Rattle.std.proofs.lemmas.List.Elements.{All-weaker, All-contains}
 use Rattle.std.specs.List.{All}
-use Rattle.std.specs.Prelude.{Contains}
+use Rattle.std.specs.Prelude.{Option, Some, unwrap_or}
 use Rattle.abs_tree.specs.Names.{by_first_appearance}
 use Rattle.abs_tree.specs.Syntax.{Name, SourceTree}
 use Rattle.abs_tree.specs.declared.place.Place.{Place}
@@ -10,10 +10,10 @@ use Rattle.abs_tree.specs.declared.refusal.Code.{Code}
 use Rattle.abs_tree.specs.declared.refusal.Code.TheVariants.{S1}
 use Rattle.abs_tree.specs.declared.refusal.Offence.{Offence}
 use Rattle.abs_tree.specs.declared.refusal.Refusal.{Refusal}
+use Rattle.abs_tree.specs.Offences.{first_offence}
 use Rattle.abs_tree.specs.Refusals.{refusal_of}
 use Rattle.abs_tree.specs.Trees.{ProgramTree, NamedTree}
 use Rattle.abs_lexer.proofs.LawLemmas.{list_once, first_once, list_or_first}
-use Rattle.abs_lexer.proofs.LeadLemmas.{rising}
 use Rattle.abs_lexer.specs.Answers.{RefusesLexing}
 use Rattle.abs_lexer.specs.Tokens.{Lexed, TokenList, TokensOf, IsPieceAt}
 use Rattle.abs_parser.proofs.grammar.ReadingLemmas.{one_reading}
@@ -27,7 +27,6 @@ use Rattle.abs_parser.specs.TreesOf.{tree_of}
 use Rattle.abs_names.specs.Answers.{RefusesFirst}
 use Rattle.abs_names.specs.NameOffences.{name_offences}
 use Rattle.abs_names.specs.Resolution.{resolved}
-use Rattle.abs_command.proofs.PlaceLemmas.{one_first}
 use Rattle.abs_command.proofs.RunnableLemmas.{same_made, same_place}
 use Rattle.abs_command.specs.Runnable.{runnable}
 use Rattle.abs_command.specs.Sources.{IsTree, IsProgramOf, IsPiece, FirstOffence, HasOneFirstOffence}
@@ -84,9 +83,9 @@ one_place x y waits also =
 pub one_program : {text : List ℕ} {p q : NamedTree} → IsProgramOf text p → IsProgramOf text q → p ≡ q
 one_program x y = x.is ∙ (ap resolved (one_part x.read y.read x.runs y.runs) ∙ sym y.is)
 
--- An empty list has no element.
-none_of : (offences : List Offence) (offence : Offence) → offences ≡ [] → Contains offences offence → ⊥
-none_of offences offence e h = let few : length offences ≡ 0 = ap length e in omega (arith, h.1)
+-- Of no offences none is the first.
+none_first : (offences : List Offence) (first : Offence) → offences ≡ [] → first_offence offences ≡ Some first → ⊥
+none_first offences first e is = cc (sym is ∙ ap first_offence e)
 
 -- the parser does not fail on an accepted source
 no_stop : {text : List ℕ} {names : List Name} {tree : SourceTree} {list : TokenList} {refusal : Refusal}
@@ -102,8 +101,8 @@ no_offence accepted (unlexed lexing) = list_or_first accepted.read.tokens lexing
 no_offence accepted (unread list tokens stops) = no_stop accepted.read tokens stops
 no_offence accepted (not_yet names tree place read waits is) = not_both accepted.read read accepted.runs waits
 no_offence accepted (misnamed names tree part read runs first) =
-    none_of (name_offences part) first.first
-    (ap name_offences (one_part read accepted.read runs accepted.runs) ∙ accepted.no_offence) first.is_first.among
+    none_first (name_offences part) first.first
+    (ap name_offences (one_part read accepted.read runs accepted.runs) ∙ accepted.no_offence) first.is_first
 
 -- Two refusals for the first lexical offence are equal.
 one_lexical : {text : List ℕ} {one other : Refusal} → RefusesLexing text one → RefusesLexing text other → one ≡ other
@@ -116,6 +115,9 @@ one_stopped x y =
     let at : Code → Mark → Refusal = λ code mark. refusal_of (record { code = code; place = place_of_mark mark }) in
     x.refusal_is ∙ (sym (ap (λ (code : Code). at code y.mark) once.2 ∙ ap (at x.code) once.1) ∙ sym y.refusal_is)
 
+same_first : (one other : Offence) → Some one ≡ Some other → one ≡ other
+same_first one other e = ap (λ (first : Option Offence). unwrap_or first one) e
+
 -- and two for the first name offence of a source
 one_misnamed : {text : List ℕ} {names others : List Name} {tree next : SourceTree} {part other_part : ProgramTree}
     (one other : Refusal)
@@ -126,8 +128,7 @@ one_misnamed {names = names} {tree = tree} {part = part} one other read reads ru
     let later = subst (λ (p : ProgramTree). RefusesFirst (name_offences p) other) (one_part reads read goes runs) second
     in
     first.refusal_is
-    ∙ (ap refusal_of (one_first read.list names tree part (rising read.tokens) read.is runs first.first later.first
-    first.is_first later.is_first) ∙ sym later.refusal_is)
+    ∙ (ap refusal_of (same_first first.first later.first (sym first.is_first ∙ later.is_first)) ∙ sym later.refusal_is)
 
 -- A source is refused for at most one offence.
 pub one_first_offence : (text : List ℕ) → HasOneFirstOffence text

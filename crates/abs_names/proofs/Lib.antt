@@ -1,4 +1,3 @@
 pub mod ScopeLemmas
 pub mod TreeLemmas
-pub mod OffenceLemmas
 pub mod SlotLemmas

@@ -15,7 +15,7 @@ use Rattle.abs_tree.specs.declared.refusal.Offence.{Offence}
 use Rattle.abs_tree.specs.Trees.{ExprTree, ExprTrees, OperandTrees, StmtTree, Apply, NoMore, More, Operators, NoOperand, Then, expr_tree, trees_of, operands_of}
 use Rattle.abs_tree.proofs.EntryLemmas.{drop_item}
 use Rattle.abs_tree.proofs.TreeLemmas.{expr_tree-apply, expr_tree-operators}
-use Rattle.abs_names.specs.Answers.{earlier}
+use Rattle.abs_tree.specs.Offences.{earlier}
 use Rattle.abs_names.specs.NameOffences.{unknown_in, unknown_in_all, unknown_in_operands}
 use Rattle.abs_names.specs.Resolution.{resolved_expr, resolved_exprs, resolved_operands, resolved_from}
 use Rattle.abs_names.specs.Scopes.{scope_after_statement}

@@ -1,7 +1,8 @@
 //! Resolves the names of a program: gives each local its slot, or finds the first name offence.
 ghost use Rattle.std.specs.Prelude.{◌≡◌, ◌≤◌, ◌<◌, ◌+◌, ◌^◌, [], length, fold, map, IfOk, IfErr, OnOk};
 ghost use Rattle.abs_tree.specs.Trees.{ProgramTree, expr_tree, trees_of, operands_of, stmt_tree, program_tree, named_tree};
-ghost use Rattle.abs_names.specs.Answers.{earlier, Refuses};
+ghost use Rattle.abs_tree.specs.Offences.{earlier};
+ghost use Rattle.abs_names.specs.Answers.{Refuses};
 ghost use Rattle.abs_names.specs.NameOffences.{unknown_in, unknown_in_all, unknown_in_operands, offences_of, offences_from, name_offences};
 ghost use Rattle.abs_names.specs.Resolution.{resolved_expr, resolved_exprs, resolved_operands, resolved_stmt, resolved_from, resolved};
 ghost use Rattle.abs_names.specs.Scopes.{scope_after_statement, scope_after};

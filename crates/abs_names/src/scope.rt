@@ -1,6 +1,6 @@
 //! The names that are declared so far, with their slots, and the first offence so far.
 ghost use Rattle.std.specs.Prelude.{◌≡◌, ◌<◌, ◌^◌, [], length, fold, IfOk, OnOk};
-ghost use Rattle.abs_names.specs.Answers.{earlier};
+ghost use Rattle.abs_tree.specs.Offences.{earlier};
 ghost use Rattle.abs_names.specs.NameOffences.{unknown_name, repeated_declaration};
 ghost use Rattle.abs_names.specs.Resolution.{resolved_variable};
 ghost use Rattle.abs_names.specs.Scopes.{with_variable};
@@ -54,7 +54,8 @@ impl Scope {
         match self.symbols.get_index_of(&symbol.0) {
             Some(slot) => Variable::Slot(slot as u32),
             None => {
-                note(first, Code::N2, place);
+                let code = Code::N2;
+                Offence { place, code }.note(first);
                 Variable::Slot(self.symbols.len() as u32)
             }
         }
@@ -68,7 +69,8 @@ impl Scope {
             return;
         };
         if self.symbols.contains(&symbol.0) {
-            note(first, Code::N1, place);
+            let code = Code::N1;
+            Offence { place, code }.note(first);
         }
     }
 
@@ -86,18 +88,5 @@ impl Scope {
         };
         let (slot, _) = self.symbols.insert_full(symbol.0)?;
         Ok(Variable::Slot(slot as u32))
-    }
-}
-
-/// Notes an offence, unless one is noted that comes before it in the source or at the same place.
-fn note(first: &mut Option<Offence>, code: Code, place: Place)
-    ensures { first.new ≡ earlier first.old (record { code = code; place = place }) }
-{
-    let comes_first = match first {
-        Some(noted) => place.offset < noted.place.offset,
-        None => true,
-    };
-    if comes_first {
-        *first = Some(Offence { code, place });
     }
 }

@@ -1,8 +1,7 @@
 pub mod TableLemmas
 pub mod NumberLemmas
 pub mod TreeLemmas
-pub mod RuleLemmas
 pub mod SyntaxLemmas
 pub mod StatementLemmas
 pub mod EntryLemmas
-pub mod Subsequences
+pub mod OffenceLemmas

@@ -5,8 +5,8 @@ pub mod Trees
 pub mod Values
 pub mod Numbers
 pub mod Evaluation
-pub mod Rules
 pub mod Refusals
+pub mod Offences
 pub mod SourceErrors
 pub mod Faults
 pub mod Syntax

@@ -1,9 +1,8 @@
--- Offences and refusals.
+-- Refusals.
 --
---   `IsFirst`                      an offence is the first one of these
 --   `refusal_of`                   the refusal for an offence
 --   `code_name`, `code_words`      the name of a code, and the offence in words
-use Rattle.std.specs.Prelude.{ℕ, ◌≤◌, List, codes, All, Contains}
+use Rattle.std.specs.Prelude.{ℕ, List, codes}
 use Rattle.abs_tree.specs.declared.refusal.Code.{Code}
 use Rattle.abs_tree.specs.declared.refusal.Code.TheVariants as code
 use Rattle.abs_tree.specs.declared.refusal.Offence.{Offence}
@@ -12,11 +11,6 @@ use Rattle.abs_tree.specs.declared.refusal.Refusal.{Refusal}
 -- the refusal for an offence: its code, with the line and column of its place
 abbrev pub refusal_of : Offence → Refusal
 refusal_of offence = record { code = offence.code; line = offence.place.line; column = offence.place.column }
-
--- The offence is one of these, and none of them comes before it in the source.
-pub record IsFirst (offences : List Offence) (offence : Offence) : Type 0 where
-  pub among : Contains offences offence
-  pub least : All (λ (other : Offence). offence.place.offset ≤ other.place.offset) offences
 
 -- the name of a code
 abbrev pub code_name : Code → List ℕ

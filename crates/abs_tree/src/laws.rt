@@ -1,16 +1,17 @@
 //! Laws of the definitions, which hold whatever the code does.
-ghost use Rattle.std.specs.Prelude.{◌≡◌, ◌↔◌, ℕ, List};
-ghost use Rattle.abs_tree.specs.declared.value.Value.{Value as Item};
+ghost use Rattle.std.specs.Prelude.{◌≡◌, ◌↔◌, List, Some};
+ghost use Rattle.abs_tree.specs.declared.refusal.Offence.{Offence as OffenceAt};
 ghost use Rattle.abs_tree.specs.Names.{number_of_name};
-ghost use Rattle.abs_tree.specs.Rules.{HasOneOutcome};
-ghost use Rattle.abs_tree.specs.Trees.{ExprTree, name_of};
+ghost use Rattle.abs_tree.specs.Offences.{first_offence, IsFirst};
+ghost use Rattle.abs_tree.specs.Trees.{name_of};
 
 use crate::{Symbol, Symbols};
 
-/// The rules of evaluation give each expression exactly one outcome, and the function of evaluation returns it.
-pub fn one_outcome()
-    ensures { (names : List (List ℕ)) (slots : List Item) (left : ℕ) (expr : ExprTree) (made : ℕ)
-        → HasOneOutcome names slots left expr made }
+/// The first one of several offences is one of them, and none of them comes before it. No other one of them is like
+/// that, so the order of a list of offences does not matter.
+pub fn first_is_least()
+    ensures { (offences : List OffenceAt) (offence : OffenceAt)
+        → (first_offence offences ≡ Some offence) ↔ IsFirst offences offence }
 {}
 
 /// Two symbols have the same number in a table exactly where they have the same name there. A symbol that the table

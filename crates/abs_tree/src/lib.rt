@@ -14,7 +14,7 @@ pub mod syntax;
 pub mod text;
 pub mod value;
 
-pub use laws::{numbers_tell_names, one_outcome};
+pub use laws::{first_is_least, numbers_tell_names};
 pub use operator::{Operator, negated};
 pub use place::Place;
 pub use program::{Expr, Named, Operand, Program, Stmt, Variable};

@@ -1,5 +1,7 @@
 //! Why and where a source is refused.
 ghost use Rattle.std.specs.Prelude.{◌≡◌, Some};
+ghost use Rattle.std.specs.Ordering.{is_lt};
+ghost use Rattle.abs_tree.specs.Offences.{earlier, offence_cmp};
 ghost use Rattle.abs_tree.specs.Refusals.{code_name, code_words, refusal_of};
 
 use crate::Place;
@@ -7,7 +9,7 @@ use std::fmt;
 
 /// The offence for which a source is refused. The letter says what it offends: tokens (L), the grammar (S), names (N),
 /// types (T) or the profile of the language (P). They are checked in this order.
-#[derive(Clone, Copy, Debug, PartialEq, Eq)]
+#[derive(Clone, Copy, Debug, PartialEq, Eq, PartialOrd, Ord)]
 pub enum Code {
     /// A byte outside the alphabet.
     L1,
@@ -115,14 +117,34 @@ impl fmt::Display for Code {
     }
 }
 
-/// An offence of a source, and its place.
-#[derive(Clone, Copy, Debug, PartialEq, Eq)]
+/// An offence of a source, and its place. Offences are ordered by place, and at one place by code.
+#[derive(Clone, Copy, Debug, PartialEq, Eq, PartialOrd, Ord)]
 pub struct Offence {
-    pub code: Code,
     pub place: Place,
+    pub code: Code,
 }
 
 impl Offence {
+    /// Whether this offence comes before another.
+    pub fn comes_before(self, other: Offence) -> bool
+        ensures { result ≡ is_lt (offence_cmp self other) }
+    {
+        self < other
+    }
+
+    /// Notes this offence, if it comes before the one that was noted, or none was.
+    pub fn note(self, first: &mut Option<Offence>)
+        ensures { first.new ≡ earlier first.old self }
+    {
+        let comes_first = match first {
+            Some(noted) => self.comes_before(*noted),
+            None => true,
+        };
+        if comes_first {
+            *first = Some(self);
+        }
+    }
+
     /// The refusal of a source for this offence.
     pub fn refusal(self) -> Refusal
         ensures { result ≡ refusal_of self }

@@ -1,6 +1,6 @@
 -- The step that reads one more of the parts that repeat, where something follows them. The forest of this part comes
 -- before that of the further ones.
-use Rattle.std.proofs.Common.{◌≡◌, ℕ, ◌+◌, Bool, true, false, List, [], ◌∷◌, ◌++◌, Some, refl, sym, ap, ◌∙◌, fold, arith}
+use Rattle.std.proofs.Common.{◌≡◌, ℕ, Bool, true, false, List, [], ◌∷◌, ◌++◌, Some, refl, sym, ap, ◌∙◌, fold, arith}
 use Rattle.abs_tree.specs.Names.{with_name}
 use Rattle.abs_parser.specs.TokenKinds.{Mark, TokenKind, PunctuatorKind, fits, next}
 use Rattle.abs_parser.specs.Productions.{Nonterminal, begins}

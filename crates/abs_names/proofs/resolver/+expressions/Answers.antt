@@ -6,7 +6,7 @@ use Rattle.abs_tree.specs.declared.program.Expr.{Expr}
 use Rattle.abs_tree.specs.declared.refusal.Offence.{Offence}
 use Rattle.abs_tree.specs.declared.program.Operand.{Operand}
 use Rattle.abs_tree.specs.Trees.{expr_tree, trees_of, operands_of}
-use Rattle.abs_names.specs.Answers.{earlier}
+use Rattle.abs_tree.specs.Offences.{earlier}
 use Rattle.abs_names.specs.NameOffences.{unknown_in, unknown_in_operands}
 use Rattle.abs_names.specs.Resolution.{resolved_expr, resolved_exprs, resolved_operands}
 use Rattle.abs_names.proofs.TreeLemmas.{resolved_apply, unknown_apply, exprs_found, exprs_noted, in_front, in_front_all, resolved_operators, unknown_operators, operands_found, operands_noted, operands_in_front, operands_in_front_all}

@@ -1,6 +1,6 @@
 use Rattle.std.proofs.Common.{◌≡◌, drop, fold}
 use Rattle.abs_tree.specs.Trees.{trees_of, operands_of}
-use Rattle.abs_names.specs.Answers.{earlier}
+use Rattle.abs_tree.specs.Offences.{earlier}
 use Rattle.abs_names.specs.NameOffences.{unknown_in_all, unknown_in_operands}
 use Rattle.abs_names.specs.Resolution.{resolved_exprs, resolved_operands}
 use Rattle.abs_names.proofs.TreeLemmas.{in_front, operands_in_front}

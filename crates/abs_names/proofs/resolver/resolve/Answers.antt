@@ -2,9 +2,9 @@ use Rattle.std.proofs.Common.{◌≡◌, sym, ap, ◌∙◌, refl, arith, fold, 
 use Rattle.std.specs.Prelude.{None}
 use Rattle.std.proofs.lemmas.List.{length-map}
 use Rattle.abs_tree.specs.Trees.{stmt_tree, program_tree}
-use Rattle.abs_names.specs.Answers.{earlier}
+use Rattle.abs_tree.specs.Offences.{earlier}
 use Rattle.abs_names.specs.NameOffences.{name_offences}
-use Rattle.abs_names.proofs.OffenceLemmas.{first_noted, none_noted}
+use Rattle.abs_tree.proofs.OffenceLemmas.{no_offence}
 use Rattle.abs_names.proofs.TreeLemmas.{resolved_length}
 use Rattle.abs_names.proofs.resolver.resolve.Goals as goal
 
@@ -14,7 +14,7 @@ returns-in-Some-clause-refused c =
     c.in_ok-main.ensures.noted ∙ rw (c.new-scope.ensures, c.as_slice.ensures.value) refl in
     record {
       first = c.in-Some.offence;
-      is_first = first_noted _ _ (sym noted ∙ c.in-Some.is);
+      is_first = sym noted ∙ c.in-Some.is;
       refusal_is = c.refusal.ensures;
     }
 
@@ -22,7 +22,7 @@ pub returns-clause-accepted : goal.returns-clause-accepted
 returns-clause-accepted c =
     let noted : c.statements.new.first ≡ fold earlier None (name_offences (program_tree c.args.program)) =
     c.in_ok-main.ensures.noted ∙ rw (c.new-scope.ensures, c.as_slice.ensures.value) refl in
-    none_noted _ (sym noted ∙ c.in-None.is)
+    no_offence _ (sym noted ∙ c.in-None.is)
 
 pub invariant_of-result : goal.invariant_of-result
 invariant_of-result c =

@@ -1,6 +1,6 @@
 use Rattle.std.proofs.Common.{◌≡◌, ◌≤◌, ◌+◌, ◌++◌, drop, fold, map, length}
 use Rattle.abs_tree.specs.Trees.{stmt_tree}
-use Rattle.abs_names.specs.Answers.{earlier}
+use Rattle.abs_tree.specs.Offences.{earlier}
 use Rattle.abs_names.specs.NameOffences.{offences_from}
 use Rattle.abs_names.specs.Resolution.{resolved_from}
 use Rattle.abs_names.specs.Scopes.{scope_after}
