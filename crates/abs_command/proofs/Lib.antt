@@ -3,7 +3,10 @@ pub mod ByteLemmas
 pub mod ProgressLemmas
 pub mod AnswerLemmas
 pub mod SourceLemmas
+pub mod UnsupportedLemmas
 pub mod PromiseLemmas
 pub mod ResultLemmas
 pub mod TakingLemmas
-pub mod RunnableLemmas
+pub mod BlockLemmas
+pub mod MachineLemmas
+pub mod StepLemmas

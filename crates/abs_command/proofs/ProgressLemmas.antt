@@ -6,25 +6,24 @@ use Rattle.abs_tree.specs.declared.value.Evaluated.{Evaluated}
 use Rattle.abs_tree.specs.declared.value.Evaluated.TheVariants.{Good, Bad}
 use Rattle.abs_tree.specs.declared.value.Value.{Value}
 use Rattle.abs_tree.specs.declared.value.Value.TheVariants.{Int, Text, Null}
-use Rattle.abs_tree.specs.declared.program.Variable.{Variable}
-use Rattle.abs_tree.specs.declared.program.Variable.TheVariants.{Named, Slot}
 use Rattle.abs_tree.specs.declared.value.Fault.TheVariants as fault
-use Rattle.abs_tree.specs.Trees.{NamedTree, StmtTree, Declare, Assign, Print}
+use Rattle.abs_tree.specs.Slots.{body_slots}
+use Rattle.abs_tree.specs.Syntax.{VariableTree, Unresolved, AtSlot, AtBound, AtField, ValueOf, ToVariable, SomeSide, Statement, PrintOf, DeclareOf, AssignOf, SourceTree}
 use Rattle.abs_tree.specs.Evaluation.{result_of}
 use Rattle.abs_command.specs.declared.runtime.config.Config.{Config}
 use Rattle.abs_command.specs.declared.runtime.config.State.TheVariants.{Ready, Running}
 use Rattle.std.specs.Option.{option_map}
 use Rattle.abs_command.specs.declared.runtime.config.TaskCell.{TaskCell}
-use Rattle.abs_command.specs.Events.{Change, Step, event_of, statement_after, ended_change, continued_change, assign_change, print_change, statement_change, step_of, configuration_after}
+use Rattle.abs_command.specs.Events.{Change, Step, listed, event_of, statement_after, ended_change, continued_change, assign_change, print_change, statement_change, step_of, configuration_after}
 use Rattle.abs_command.specs.Runs.{Ran, first, first_statement, run_after_event, run_with_step, IsOpen, HasStep, NeverStuck}
 
 -- the statement exists, or none is left
-abbrev IsThere : NamedTree → Option ℕ → Type 0
+abbrev IsThere : SourceTree → Option ℕ → Type 0
 IsThere program None = ⊤
-IsThere program (Some statement) = statement < length program.main
+IsThere program (Some statement) = statement < length (listed program.main)
 
 -- the one task waits for its cog, is at its body, or has ended
-data Shape (program : NamedTree) : Config → Type 0 where
+data Shape (program : SourceTree) : Config → Type 0 where
   waits : (next : Option ℕ) (slots : List Value) → IsThere program next → Shape program (record {
     cogs = record { holder = None } ∷ [];
     tasks = record { cog = 0; frames = record { next = next; slots = slots } ∷ []; state = Ready; outcome = None } ∷ [];
@@ -39,22 +38,29 @@ data Shape (program : NamedTree) : Config → Type 0 where
     tasks = record { cog = 0; frames = []; state = Ready; outcome = Some outcome } ∷ [];
   })
 
-first_there : (program : NamedTree) (statements : List StmtTree) → statements ≡ program.main
+-- the first statement of the main block exists, or the block has none
+first_there : (program : SourceTree) (statements : List Statement) → statements ≡ listed program.main
     → IsThere program (first_statement statements)
 first_there program [] e = tt
 first_there program (s ∷ ss) e = omega (arith, ap length e)
 
-following_by : (program : NamedTree) (statement : ℕ) (b : Bool) → nat_lt (statement + 1) (length program.main) ≡ b
+-- if the test for a next statement gives `b`, the statement that follows exists, or none is left
+following_by : (program : SourceTree) (statement : ℕ) (b : Bool)
+    → nat_lt (statement + 1) (length (listed program.main)) ≡ b
     → IsThere program (cond b (Some (statement + 1)) None)
 following_by program statement true e = grind (arith, nat_tests)
 following_by program statement false e = tt
 
-following_there : (program : NamedTree) (statement : ℕ) → IsThere program (statement_after program statement)
-following_there program statement = following_by program statement (nat_lt (statement + 1) (length program.main)) refl
+-- the statement after another exists, or none is left
+following_there : (program : SourceTree) (statement : ℕ) → IsThere program (statement_after program statement)
+following_there program statement =
+    following_by program statement (nat_lt (statement + 1) (length (listed program.main))) refl
 
-shape_first : (program : NamedTree) → Shape program (first program)
-shape_first program = waits (first_statement program.main) (replicate program.slots Null)
-    (first_there program program.main refl)
+-- in the first configuration the task waits
+shape_first : (program : SourceTree) → Shape program (first program)
+shape_first program =
+    waits (first_statement (listed program.main)) (replicate (length (body_slots 0 program.main)) Null)
+    (first_there program (listed program.main) refl)
 
 -- the task at work on a body
 abbrev working : Option ℕ → List Value → TaskCell
@@ -66,15 +72,17 @@ working next slots = record {
       None;
 }
 
+-- the configuration whose task is at work on a body
 abbrev at_work : Option ℕ → List Value → Config
 at_work next slots = record { cogs = record { holder = Some 0 } ∷ []; tasks = working next slots ∷ [] }
 
 -- a step that equals another leads to a configuration of the same shape
-same_shape : (program : NamedTree) (found step : Step) → Some found ≡ Some step → Shape program found.config
+same_shape : (program : SourceTree) (found step : Step) → Some found ≡ Some step → Shape program found.config
     → Shape program step.config
 same_shape program found step e h = let same : found ≡ step = cc in subst (λ (s : Step). Shape program s.config) same h
 
-shape_prints : (program : NamedTree) (statement : ℕ) (slots : List Value) (found : Evaluated)
+-- a print keeps the shape
+shape_prints : (program : SourceTree) (statement : ℕ) (slots : List Value) (found : Evaluated)
     → Shape program (configuration_after (at_work (Some statement) slots) 0
     (print_change program 0 (working (Some statement) slots) statement slots found))
 shape_prints program statement slots (Good (Int number)) = ended (Bad fault.Mistyped)
@@ -84,76 +92,94 @@ shape_prints program statement slots (Good Null) = ended (Bad fault.Mistyped)
 shape_prints program statement slots (Bad cause) = ended (Bad cause)
 
 -- a choice between two changes has a shape that both have
-shape_either : (program : NamedTree) (config : Config) (one other : Change) (b : Bool)
+shape_either : (program : SourceTree) (config : Config) (one other : Change) (b : Bool)
     → Shape program (configuration_after config 0 one) → Shape program (configuration_after config 0 other)
     → Shape program (configuration_after config 0 (cond b one other))
 shape_either program config one other true h k = h
 shape_either program config one other false h k = k
 
-shape_assigns : (program : NamedTree) (statement : ℕ) (slots : List Value) (target : Variable) (found : Evaluated)
+-- an assignment keeps the shape
+shape_assigns : (program : SourceTree) (statement : ℕ) (slots : List Value) (target : VariableTree) (found : Evaluated)
     → Shape program (configuration_after (at_work (Some statement) slots) 0
     (assign_change program 0 (working (Some statement) slots) statement slots target found))
-shape_assigns program statement slots (Slot slot) (Good value) =
+shape_assigns program statement slots (AtSlot slot) (Good value) =
     shape_either program (at_work (Some statement) slots)
     (continued_change program 0 (working (Some statement) slots) statement (set slots slot value) [])
     (ended_change (working (Some statement) slots) (Bad fault.Mistyped)) (nat_lt slot (length slots))
     (works (statement_after program statement) (set slots slot value) (following_there program statement))
     (ended (Bad fault.Mistyped))
-shape_assigns program statement slots (Named symbol) (Good value) = ended (Bad fault.Mistyped)
+shape_assigns program statement slots (Unresolved name) (Good value) = ended (Bad fault.Mistyped)
+shape_assigns program statement slots (AtBound depth) (Good value) = ended (Bad fault.Mistyped)
+shape_assigns program statement slots (AtField field) (Good value) = ended (Bad fault.Mistyped)
 shape_assigns program statement slots target (Bad cause) = ended (Bad cause)
 
-shape_executes : (program : NamedTree) (statement : ℕ) (slots : List Value) (found : Option StmtTree) (step : Step)
+-- the end of the task keeps the shape
+shape_ends : (program : SourceTree) (statement : ℕ) (slots : List Value) (step : Step)
+    → option_map (step_of (at_work (Some statement) slots) 0)
+    (Some (ended_change (working (Some statement) slots) (Bad fault.Mistyped))) ≡ Some step
+    → Shape program step.config
+shape_ends program statement slots step e = same_shape program _ step e (ended (Bad fault.Mistyped))
+
+-- a statement that is executed keeps the shape
+shape_executes : (program : SourceTree) (statement : ℕ) (slots : List Value) (found : Option Statement) (step : Step)
     → option_map (step_of (at_work (Some statement) slots) 0)
     (statement_change program 0 (working (Some statement) slots) statement slots found) ≡ Some step
     → Shape program step.config
 shape_executes program statement slots None step e = absurd (cc)
-shape_executes program statement slots (Some (Declare place name target value)) step e =
-    same_shape program _ step e (shape_assigns program statement slots target (result_of program.names slots value))
-shape_executes program statement slots (Some (Assign place target value)) step e =
-    same_shape program _ step e (shape_assigns program statement slots target (result_of program.names slots value))
-shape_executes program statement slots (Some (Print place text)) step e =
-    same_shape program _ step e (shape_prints program statement slots (result_of program.names slots text))
+shape_executes program statement slots
+    (Some (DeclareOf index place type at target (SomeSide (ValueOf begin value)))) step e =
+    same_shape program _ step e (shape_assigns program statement slots target (result_of slots value))
+shape_executes program statement slots
+    (Some (AssignOf index place (ToVariable at target) (ValueOf begin value))) step e =
+    same_shape program _ step e (shape_assigns program statement slots target (result_of slots value))
+shape_executes program statement slots (Some (PrintOf index place text)) step e =
+    same_shape program _ step e (shape_prints program statement slots (result_of slots text))
+shape_executes program statement slots (Some _) step e = shape_ends program statement slots step e
 
 -- each event keeps the shape
-shape_step : (program : NamedTree) (config : Config) (task : ℕ) (step : Step) → Shape program config
+shape_step : (program : SourceTree) (config : Config) (task : ℕ) (step : Step) → Shape program config
     → event_of program config task ≡ Some step → Shape program step.config
 shape_step program _ zero step (waits next slots there) event = same_shape program _ step event (works next slots there)
 shape_step program _ (suc task) step (waits next slots there) event = absurd (cc)
 shape_step program _ zero step (works None slots there) event = same_shape program _ step event (ended (Good Null))
 shape_step program _ zero step (works (Some statement) slots there) event =
-    shape_executes program statement slots (slice_get program.main statement) step event
+    shape_executes program statement slots (slice_get (listed program.main) statement) step event
 shape_step program _ (suc task) step (works next slots there) event = absurd (cc)
 shape_step program _ zero step (ended outcome) event = absurd (cc)
 shape_step program _ (suc task) step (ended outcome) event = absurd (cc)
 
+-- a list has an element at each index below its length
 is_there : {A : Type 0} (xs : List A) (i : ℕ) → i < length xs → IsSome (slice_get xs i)
 is_there [] i h = absurd (omega arith)
 is_there (x ∷ xs) zero h = refl
 is_there (x ∷ xs) (suc i) h = is_there xs i (omega arith)
 
-executes_some : (program : NamedTree) (statement : ℕ) (slots : List Value) (found : Option StmtTree) → IsSome found
+-- a statement that exists has an event
+executes_some : (program : SourceTree) (statement : ℕ) (slots : List Value) (found : Option Statement) → IsSome found
     → IsSome (option_map (step_of (at_work (Some statement) slots) 0)
     (statement_change program 0 (working (Some statement) slots) statement slots found))
 executes_some program statement slots None h = h
-executes_some program statement slots (Some (Declare place name target value)) h = h
-executes_some program statement slots (Some (Assign place target value)) h = h
-executes_some program statement slots (Some (Print place text)) h = h
+executes_some program statement slots
+    (Some (DeclareOf index place type at target (SomeSide (ValueOf begin value)))) h = h
+executes_some program statement slots (Some (AssignOf index place (ToVariable at target) (ValueOf begin value))) h = h
+executes_some program statement slots (Some (PrintOf index place text)) h = h
+executes_some program statement slots (Some _) h = h
 
 -- each configuration with an unfinished task has a step
-progress : (program : NamedTree) (config : Config) → Shape program config → IsOpen config → HasStep program config
+progress : (program : SourceTree) (config : Config) → Shape program config → IsOpen config → HasStep program config
 progress program _ (waits next slots there) unfinished = (0, refl)
 progress program _ (works None slots there) unfinished = (0, refl)
 progress program _ (works (Some statement) slots there) unfinished = (
   0,
-  executes_some program statement slots (slice_get program.main statement)
-      (is_there program.main statement there),
+  executes_some program statement slots (slice_get (listed program.main) statement)
+      (is_there (listed program.main) statement there),
 )
 progress program _ (ended outcome) (zero, unfinished) = let there = unfinished.there in let still =
     unfinished.open_still in absurd (cc)
 progress program _ (ended outcome) (suc number, unfinished) = let there = unfinished.there in absurd (cc)
 
--- an event after others
-shape_goes : (program : NamedTree) (ran : Ran) (task : ℕ) (found : Option Step)
+-- an event after others keeps the shape
+shape_goes : (program : SourceTree) (ran : Ran) (task : ℕ) (found : Option Step)
     → event_of program ran.config task ≡ found → Shape program ran.config → (end : Ran)
     → run_with_step ran found ≡ Some end → Shape program end.config
 shape_goes program ran task None e shape end went = absurd (cc)
@@ -161,7 +187,8 @@ shape_goes program ran task (Some step) e shape end went =
     let same : record { config = step.config; lines = ran.lines ++ step.lines } ≡ end = cc in
     subst (λ (r : Ran). Shape program r.config) same (shape_step program ran.config task step shape e)
 
-shape_run : (program : NamedTree) (history : List ℕ) (from : Option Ran) (end : Ran)
+-- the events of a history keep the shape
+shape_run : (program : SourceTree) (history : List ℕ) (from : Option Ran) (end : Ran)
     → ((ran : Ran) → from ≡ Some ran → Shape program ran.config)
     → fold (run_after_event program) from history ≡ Some end → Shape program end.config
 shape_run program [] from end shape e = shape end e
@@ -170,7 +197,8 @@ shape_run program (task ∷ history) (Some ran) end shape e =
     shape_run program history (run_with_step ran (event_of program ran.config task)) end
     (λ next went. shape_goes program ran task (event_of program ran.config task) refl (shape ran refl) next went) e
 
-pub never_stuck : (program : NamedTree) → NeverStuck program
+-- no legal history of a program leads to a configuration in which it is stuck
+pub never_stuck : (program : SourceTree) → NeverStuck program
 never_stuck program history ran e unfinished =
     progress program ran.config (shape_run program history (Some (record { config = first program; lines = [] })) ran
     (λ start same. let is : record { config = first program; lines = [] } ≡ start =

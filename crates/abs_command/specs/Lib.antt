@@ -2,10 +2,9 @@ pub mod Analysis
 pub mod Bytes
 pub mod Events
 pub mod Machine
-pub mod NotYet
 pub mod Promises
 pub mod Recorded
-pub mod Runnable
+pub mod Unsupported
 pub mod Runs
 pub mod Sources
 pub mod Statuses

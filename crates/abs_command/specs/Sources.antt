@@ -1,25 +1,24 @@
--- When a source has a program with resolved names, and when it is refused for its first offence. In these definitions
--- `text` is the bytes of the source.
+-- When a source has a program, and when it is refused for its first offence. In these definitions `text` is the bytes of
+-- the source.
 --
 --   `IsProgramOf`                                      the program of a source
 --   `FirstOffence`, `HasOffence`                       the refusal of a source
 --   `IsTree`                                           the tree of an accepted source, and its names
 --   `HasOneFirstOffence`                               that a source is refused for at most one offence
 --   `IsPiece`                                          a piece of a source
-use Rattle.std.specs.Prelude.{◌≡◌, ℕ, List, [], ◌++◌, Ok, Err}
+use Rattle.std.specs.Prelude.{◌≡◌, ℕ, List, [], ◌++◌, Some, None}
+use Rattle.abs_tree.specs.Refusals.{refusal_of}
 use Rattle.abs_tree.specs.Syntax.{Name, SourceTree}
 use Rattle.abs_tree.specs.declared.place.Place.{Place}
-use Rattle.abs_tree.specs.declared.refusal.Refusal.{Refusal}
 use Rattle.abs_tree.specs.declared.refusal.Code.TheVariants.{S1}
-use Rattle.abs_tree.specs.Refusals.{refusal_of}
-use Rattle.abs_tree.specs.Trees.{ProgramTree, NamedTree}
+use Rattle.abs_tree.specs.declared.refusal.Refusal.{Refusal}
 use Rattle.abs_lexer.specs.Answers.{RefusesLexing}
 use Rattle.abs_lexer.specs.Tokens.{TokenList, TokensOf}
 use Rattle.abs_parser.specs.Texts.{IsTextOf, StopsWith}
 use Rattle.abs_names.specs.Answers.{RefusesFirst}
 use Rattle.abs_names.specs.NameOffences.{name_offences}
 use Rattle.abs_names.specs.Resolution.{resolved}
-use Rattle.abs_command.specs.Runnable.{runnable}
+use Rattle.abs_command.specs.Unsupported.{unsupported}
 
 -- The source has tokens and is accepted; these are its names and its tree.
 pub record IsTree (text : List ℕ) (names : List Name) (tree : SourceTree) : Type 0 where
@@ -27,28 +26,27 @@ pub record IsTree (text : List ℕ) (names : List Name) (tree : SourceTree) : Ty
   pub tokens : TokensOf text list
   pub is : IsTextOf list names tree
 
--- The source has a tree, which is supported and has no name offence; this is its program with resolved names.
-pub record IsProgramOf (text : List ℕ) (program : NamedTree) : Type 0 where
+-- The source has a tree in which no name offends; this is its program, whose variables are resolved and all of which
+-- runs.
+pub record IsProgramOf (text : List ℕ) (program : SourceTree) : Type 0 where
   pub names : List Name
   pub tree : SourceTree
   pub read : IsTree text names tree
-  pub part : ProgramTree
-  pub runs : runnable names tree ≡ Ok part
-  pub no_offence : name_offences part ≡ []
-  pub is : program ≡ resolved part
+  pub no_offence : name_offences tree ≡ []
+  pub is : program ≡ resolved tree
+  pub runs : unsupported program ≡ None
 
 -- The source is refused for its first offence, in one of four ways. It has a lexical offence, and this is the first. It
--- has tokens, and the parser fails at one of them or at the end. It has a tree, and its first unsupported part begins
--- here. It has a supported tree, and this is the first of its name offences.
+-- has tokens, and the parser fails at one of them or at the end. It has a tree, and this is the first of its name
+-- offences. It has a tree without name offences, and its first unsupported part begins here.
 pub data FirstOffence (text : List ℕ) (refusal : Refusal) : Type 0 where
   unlexed : RefusesLexing text refusal → FirstOffence text refusal
   unread : (list : TokenList) → TokensOf text list → StopsWith list refusal → FirstOffence text refusal
+  misnamed : (names : List Name) (tree : SourceTree) → IsTree text names tree
+      → RefusesFirst (name_offences tree) refusal → FirstOffence text refusal
   not_yet : (names : List Name) (tree : SourceTree) (place : Place) → IsTree text names tree
-      → runnable names tree ≡ Err place
-      → refusal ≡ refusal_of (record { code = S1; place = place }) → FirstOffence text refusal
-  misnamed : (names : List Name) (tree : SourceTree) (part : ProgramTree) → IsTree text names tree
-      → runnable names tree ≡ Ok part
-      → RefusesFirst (name_offences part) refusal → FirstOffence text refusal
+      → name_offences tree ≡ [] → unsupported (resolved tree) ≡ Some place
+      → refusal ≡ refusal_of (record { place = place; code = S1 }) → FirstOffence text refusal
 
 -- the source has an offence
 abbrev pub HasOffence : List ℕ → Type 0

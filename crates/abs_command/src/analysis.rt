@@ -1,6 +1,6 @@
 //! What is known of a program before any run.
 ghost use Rattle.std.specs.Prelude.{◌≡◌};
-ghost use Rattle.abs_tree.specs.Trees.{named_tree};
+ghost use Rattle.abs_tree.specs.SourceViews.{named_tree};
 ghost use Rattle.abs_command.specs.Analysis.{facts_of, pairs_of, report_of};
 
 pub mod report;

@@ -1,7 +1,7 @@
 //! The command: from its words and a source to what is written and to a status.
 ghost use Rattle.std.specs.Prelude.{◌≡◌, ◌≢◌, ◌≤◌, Option, ℕ, List, [], None, Some, length, IfOk, IfSome, IfNone, OnOk, OnErr, IsErrOf};
 ghost use Rattle.std.specs.Io.KnownBytes.{Appends};
-ghost use Rattle.abs_tree.specs.Trees.{named_tree};
+ghost use Rattle.abs_tree.specs.SourceViews.{named_tree};
 ghost use Rattle.abs_outside.specs.Counts.{Rose};
 ghost use Rattle.abs_tree.specs.Limits.{source_limit};
 ghost use Rattle.abs_command.specs.Promises.{Promises, SourceView, source_view, sink_view, Answer, WrittenBefore, IsAccepted};

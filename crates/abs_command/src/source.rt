@@ -2,19 +2,19 @@
 ghost use Rattle.std.specs.Prelude.{◌≤◌, ℕ, List, length, All, IfOk, IfErr};
 ghost use Rattle.abs_tree.specs.Limits.{source_limit};
 ghost use Rattle.abs_tree.specs.SourceErrors.{HasCause};
-ghost use Rattle.abs_tree.specs.Trees.{named_tree};
+ghost use Rattle.abs_tree.specs.SourceViews.{named_tree};
 ghost use Rattle.abs_command.specs.Sources.{IsProgramOf, FirstOffence, IsPiece, HasOneFirstOffence};
 
-pub mod runnable;
+pub mod unsupported;
 
-use crate::source::runnable::{RunnableError, runnable};
+use crate::source::unsupported::unsupported;
 use abs_lexer::lexer::tokens;
 use abs_names::resolve;
 use abs_parser::parse;
 use abs_tree::{Code, Named, Offence, SourceError};
 use std::alloc::Global;
 
-/// The program of a source, with its names resolved.
+/// The program of a source, with its variables resolved.
 ///
 /// # Errors
 /// [`SourceError::Refused`] if the source has an offence, with the refusal for the first one.
@@ -27,15 +27,14 @@ pub fn program_of<'a>(alloc: Global, text: &'a [u8]) -> Result<Named<'a>, Source
 {
     let list = tokens(alloc, text)?;
     let tree = parse(alloc, &list)?;
-    let program = match runnable(alloc, tree) {
-        Ok(program) => program,
-        Err(RunnableError::NotYet(place)) => {
+    let program = resolve(alloc, tree)?;
+    match unsupported(&program) {
+        Some(place) => {
             let code = Code::S1;
-            return Err(SourceError::Refused(Offence { code, place }.refusal()));
+            Err(SourceError::Refused(Offence { place, code }.refusal()))
         }
-        Err(RunnableError::Memory) => return Err(SourceError::Memory),
-    };
-    resolve(alloc, program)
+        None => Ok(program),
+    }
 }
 
 /// A source is refused for at most one offence.

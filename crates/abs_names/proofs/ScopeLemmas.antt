@@ -1,15 +1,129 @@
--- The index of a name in a scope.
-use Rattle.std.proofs.Common.{◌≡◌, Bool, true, false, List, length, cond, refl, nat_lt, arith}
-use Rattle.std.specs.Prelude.{Some, None}
-use Rattle.std.specs.List.{position, position_or_len}
+-- Meanings by name and by number are the same, where each number is that of its name.
+use Rattle.std.proofs.Common.{◌≡◌, ℕ, zero, suc, ◌+◌, ◌-◌, Bool, true, false, List, [], ◌∷◌, ◌++◌, Ok, Err, refl, sym, ap, ◌∙◌, subst, cond, nat_eq, length, drop, arith}
+use Rattle.std.specs.Prelude.{Option, Some, None, option_map, Result, OnOk, OnErr}
+use Rattle.std.specs.Str.{bytes_eq}
 use Rattle.std.proofs.lemmas.Bool.Decides.{nat_tests}
-use Rattle.std.proofs.lemmas.List.Sums.{prefix_len-le-length}
+use Rattle.std.proofs.lemmas.List.{length-append, length-map, drop_at, drop-map}
+use Rattle.std.proofs.lemmas.Slice.Eq.{bytes_eq-Decides}
+use Rattle.abs_tree.specs.Names.{number_of_name, name_of}
+use Rattle.abs_tree.specs.Syntax.{Name}
+use Rattle.abs_tree.specs.SyntaxViews.{variable_tree}
+use Rattle.abs_tree.specs.declared.symbol.Symbol.{Symbol}
+use Rattle.abs_tree.specs.declared.syntax.variable.Variable.{Variable}
+use Rattle.abs_tree.specs.declared.syntax.variable.Variable.TheVariants as variable
+use Rattle.abs_tree.proofs.NumberLemmas.{numbers_tell_names, name_of_number}
+use Rattle.abs_names.specs.Numbered.{looked_up, is_bound, bound_in, EndsIn}
+use Rattle.abs_names.specs.Scopes.{Meanings, Scope, meaning_of, visible_field, field_of, or_field, use_of, bound_count}
+use Rattle.abs_names.specs.Visible.{name_at, named, ProperNumbers}
 
--- a name that is not found has the length of the scope as its index
-pub not_found : {X : Type 0} (p : X → Bool) (xs : List X) → position p xs ≡ None → position_or_len p xs ≡ length xs
-not_found p xs e = by (nat_lt (position_or_len p xs) (length xs)) refl e
-  where
-    by : (b : Bool) → nat_lt (position_or_len p xs) (length xs) ≡ b → cond b (Some (position_or_len p xs)) None ≡ None
-        → position_or_len p xs ≡ length xs
-    by true lt found = absurd (cc)
-    by false lt found = grind (arith, nat_tests, prefix_len-le-length)
+-- two tests that imply each other are the same
+same_test : (b c : Bool) → (b ≡ true → c ≡ true) → (c ≡ true → b ≡ true) → b ≡ c
+same_test true c there back = sym (there refl)
+same_test false true there back = back refl
+same_test false false there back = refl
+
+-- the number of a name is compared where the name is
+number_or_name : (names : List Name) (number : ℕ) (symbol : Symbol)
+    → number_of_name names (name_at names number) ≡ number
+    → nat_eq number (number_of_name names (name_of names symbol)) ≡ bytes_eq (name_at names number)
+    (name_of names symbol)
+number_or_name names number symbol proper =
+    let one : Symbol = record { 0 = number } in
+    let laws = numbers_tell_names names one symbol in
+    same_test (nat_eq number (number_of_name names (name_of names symbol)))
+    (bytes_eq (name_at names number) (name_of names symbol))
+    (λ e. (bytes_eq-Decides (name_at names number) (name_of names symbol)).1 (laws.0 (proper ∙ grind
+    (arith, nat_tests))))
+    (λ e. let same = ap (number_of_name names) ((bytes_eq-Decides (name_at names number) (name_of names symbol)).0 e) in
+    let equal : number ≡ number_of_name names (name_of names symbol) = sym proper ∙ same in
+    grind (arith, nat_tests))
+
+-- what a name means, by its number
+meaning_by : {A B : Type 0} (f : A → B) (b c : Bool) (one : A) (other : Option A) (last : Option B) → b ≡ c
+    → option_map f other ≡ last → option_map f (cond b (Some one) other) ≡ cond c (Some (f one)) last
+meaning_by f true true one other last e same = refl
+meaning_by f true false one other last e same = absurd (cc)
+meaning_by f false true one other last e same = absurd (cc)
+meaning_by f false false one other last e same = same
+
+pub looked_up-named : (names : List Name) (known : List (ℕ × Variable)) (symbol : Symbol) → ProperNumbers names known
+    → option_map (variable_tree names) (looked_up known (number_of_name names (name_of names symbol)))
+    ≡ meaning_of (named names known) (name_of names symbol)
+looked_up-named names [] symbol proper = refl
+looked_up-named names (one ∷ others) symbol proper =
+    meaning_by (variable_tree names) (nat_eq one.0 (number_of_name names (name_of names symbol)))
+    (bytes_eq (name_at names one.0) (name_of names symbol)) one.1
+    (looked_up others (number_of_name names (name_of names symbol)))
+    (meaning_of (named names others) (name_of names symbol)) (number_or_name names one.0 symbol proper.0)
+    (looked_up-named names others symbol proper.1)
+
+-- there are as many bound variables
+bound_by : (names : List Name) (name : Name) (meaning : Variable) (n : ℕ) (others : Meanings) → n ≡ bound_count others
+    → is_bound meaning + n ≡ bound_count ((name, variable_tree names meaning) ∷ others)
+bound_by names name (variable.Unresolved symbol) n others same = omega (arith, same)
+bound_by names name (variable.Slot slot) n others same = omega (arith, same)
+bound_by names name (variable.Bound depth) n others same = omega (arith, same)
+bound_by names name (variable.Field field) n others same = omega (arith, same)
+
+pub bound_in-named : (names : List Name) (known : List (ℕ × Variable)) → bound_in known ≡ bound_count
+    (named names known)
+bound_in-named names [] = refl
+bound_in-named names (one ∷ others) =
+    bound_by names (name_at names one.0) one.1 (bound_in others) (named names others) (bound_in-named names others)
+
+-- the number of the name of a symbol is proper, and has that name
+proper_number : (names : List Name) (number : ℕ) (symbol : Symbol)
+    → number ≡ number_of_name names (name_of names symbol) → number_of_name names (name_at names number) ≡ number
+proper_number names number symbol is =
+    ap (λ (n : ℕ). number_of_name names (name_at names n)) is
+    ∙ (ap (number_of_name names) (name_of_number names symbol) ∙ sym is)
+
+-- names that were added, or were not, have proper numbers
+pub proper_added : {E : Type 0} (names : List Name) (known now : List (ℕ × Variable)) (number : ℕ) (symbol : Symbol)
+    (meaning : Variable) (result : Result Unit E) → OnOk result (now ≡ (number, meaning) ∷ known)
+    → OnErr result (now ≡ known) → number ≡ number_of_name names (name_of names symbol)
+    → ProperNumbers names known → ProperNumbers names now
+proper_added names known now number symbol meaning (Ok x) added err is proper =
+    subst (ProperNumbers names) (sym added) (proper_number names number symbol is, proper)
+proper_added names known now number symbol meaning (Err e) added err is proper =
+    subst (ProperNumbers names) (sym err) proper
+
+-- a name that was added is the newest one
+pub named_added : {E : Type 0} (names : List Name) (known now : List (ℕ × Variable)) (number : ℕ) (symbol : Symbol)
+    (meaning : Variable) (result : Result Unit E) → OnOk result (now ≡ (number, meaning) ∷ known)
+    → number ≡ number_of_name names (name_of names symbol)
+    → OnOk result (named names now ≡ (name_of names symbol, variable_tree names meaning) ∷ named names known)
+named_added names known now number symbol meaning (Ok x) added is =
+    ap (named names) added
+    ∙ ap (λ (name : Name). (name, variable_tree names meaning) ∷ named names known)
+    (ap (name_at names) is ∙ name_of_number names symbol)
+named_added names known now number symbol meaning (Err e) added is = tt
+
+-- the older names have proper numbers too
+pub proper_older : (names : List Name) (count : ℕ) (known : List (ℕ × Variable)) → ProperNumbers names known
+    → ProperNumbers names (drop count known)
+proper_older names zero known proper = proper
+proper_older names (suc count) [] proper = tt
+proper_older names (suc count) (one ∷ others) proper = proper_older names count others proper.1
+
+-- what is left after the newest entries of a list are dropped
+pub rest_is : {A : Type 0} (items older : List A) (count : ℕ) → EndsIn items older → length older ≡ count
+    → drop (length items - count) items ≡ older
+rest_is items older count ends is =
+    ap (λ (xs : List _). drop (length xs - count) xs) ends.is
+    ∙ drop_at ends.newer older (length (ends.newer ++ older) - count)
+    (omega (arith, length-append ends.newer older, is))
+
+-- and of the names of numbers
+pub named_rest : (names : List Name) (known : List (ℕ × Variable)) (older : Meanings) (count : ℕ)
+    → EndsIn (named names known) older → length older ≡ count
+    → named names (drop (length known - count) known) ≡ older
+named_rest names known older count ends is =
+    sym (drop-map _ (length known - count) known)
+    ∙ (ap (λ (n : ℕ). drop (n - count) (named names known)) (sym (length-map known _))
+    ∙ rest_is (named names known) older count ends is)
+
+-- what the use of a name stands for that means no variable
+pub use_of_field : (scope : Scope) (name : Name) → meaning_of scope.variables name ≡ None
+    → use_of scope name ≡ visible_field scope.routine (field_of scope name)
+use_of_field scope name none = ap (or_field scope name) none

@@ -1,95 +1,115 @@
--- In a program without name offences, each declaration makes the next slot.
-use Rattle.std.proofs.Common.{◌≡◌, ℕ, suc, ◌+◌, Bool, true, false, not, ◌||◌, cond, List, [], ◌∷◌, ◌++◌, refl, sym, ap, ◌∙◌, length, nat_eq, arith, length-append}
-use Rattle.std.specs.List.{list_any, position_or_len, range_with_len}
-use Rattle.std.proofs.lemmas.Bool.Decides.{nat_tests}
-use Rattle.abs_tree.specs.declared.program.Variable.TheVariants.{Named, Slot}
-use Rattle.abs_tree.specs.declared.symbol.Symbol.{Symbol}
+-- Resolving keeps the slots of statements: each local and each hidden slot is still there.
+use Rattle.std.proofs.Common.{◌≡◌, ◌≤◌, ℕ, ◌+◌, Bool, List, [], ◌∷◌, ◌++◌, refl, sym, ap, ◌∙◌, cond, length, map}
+use Rattle.std.specs.Prelude.{Option, Some, None}
+use Rattle.std.proofs.lemmas.List.{length-map}
+use Rattle.abs_tree.specs.Limits.{table_limit}
+use Rattle.abs_tree.specs.SlotViews.{BodyHasSlots}
+use Rattle.abs_tree.specs.Slots.{is_this, side_slots, maybe_side_slots, statement_slots, else_slots, statements_slots, param_slots, body_slots}
+use Rattle.abs_tree.specs.SyntaxViews.{param_tree, statements}
+use Rattle.abs_tree.specs.declared.syntax.declaration.Body.{Body}
+use Rattle.abs_tree.specs.declared.syntax.declaration.Param.{Param}
+use Rattle.abs_names.proofs.ParamLemmas.{params_length}
+use Rattle.abs_tree.specs.Syntax.{Name, VariableTree, AtSlot, Phrase, LetIn, IfElse, OperatorsOf, Prefixed, NumberOf, StringOf, NullOf, DestinyOf, ThisOf, FieldOf, OwnCallOf, VariableOf, ApplyOf, BuildOf, CaseOf, NoPhrase, NextPhrase, SideTree, NewOf, ValueOf, SendOf, GetOf, CallOf, MaybeSide, NoSide, SomeSide, Statement, BlockOf, SkipOf, SuspendOf, AwaitOf, ReturnOf, PrintOf, IfOf, WhileOf, DeclareOf, AssignOf, DoOf, MaybeStatements, NoElse, Else, Statements, NoStatement, NextStatement}
 use Rattle.abs_tree.specs.declared.place.Place.{Place}
-use Rattle.abs_tree.specs.Trees.{StmtTree, ProgramTree, Declare, Assign, Print}
-use Rattle.abs_tree.specs.declared.refusal.Code.TheVariants.{N1}
-use Rattle.abs_tree.specs.declared.refusal.Offence.{Offence}
-use Rattle.abs_names.specs.NameOffences.{unknown_in, repeated_declaration, offences_from}
-use Rattle.abs_names.specs.Resolution.{resolved_from}
-use Rattle.abs_names.specs.Scopes.{is_declared, slot_of, with_symbol, scope_after}
-use Rattle.abs_names.specs.Slots.{declared_slots, HasOwnSlots}
+use Rattle.abs_tree.specs.declared.syntax.slot.Slot.{Slot}
+use Rattle.abs_tree.specs.declared.syntax.slot.Slot.TheVariants.{Local, Hidden}
+use Rattle.abs_names.specs.Resolution.{field_phrase, resolved_params, resolved_phrase, resolved_side, resolved_maybe_side, resolved_statement, resolved_else, resolved_statements}
+use Rattle.abs_names.specs.Scopes.{Scope, field_of, statement_scope}
 
--- if two lists together are empty, each of them is empty
-nothing_left : {X : Type 0} (xs ys : List X) → xs ++ ys ≡ [] → xs ≡ []
-nothing_left [] ys e = refl
-nothing_left (x ∷ xs) ys e = absurd (cc)
+-- a field is not `this`
+field_is_not : (place name_place : Place) (name : Name) (field : Option VariableTree)
+    → is_this (field_phrase place name_place name field) ≡ is_this (FieldOf place name_place name)
+field_is_not place name_place name (Some variable) = refl
+field_is_not place name_place name None = refl
 
-nothing_right : {X : Type 0} (xs ys : List X) → xs ++ ys ≡ [] → ys ≡ []
-nothing_right [] ys e = e
-nothing_right (x ∷ xs) ys e = absurd (cc)
+-- an expression is `this` where the resolved one is
+this_kept : (scope : Scope) (phrase : Phrase) → is_this (resolved_phrase scope phrase) ≡ is_this phrase
+this_kept scope (LetIn place type variable_place variable value body) = refl
+this_kept scope (IfElse place condition first second) = refl
+this_kept scope (OperatorsOf place first operands) = refl
+this_kept scope (Prefixed place prefix operand) = refl
+this_kept scope (NumberOf place number) = refl
+this_kept scope (StringOf place string) = refl
+this_kept scope (NullOf place) = refl
+this_kept scope (DestinyOf place) = refl
+this_kept scope (ThisOf place) = refl
+this_kept scope (FieldOf place name_place name) = field_is_not place name_place name (field_of scope name)
+this_kept scope (OwnCallOf place method arguments) = refl
+this_kept scope (VariableOf place variable) = refl
+this_kept scope (ApplyOf place function arguments) = refl
+this_kept scope (BuildOf place constructor arguments) = refl
+this_kept scope (CaseOf place subject branches) = refl
 
--- the index of the first element that passes, after elements that do not pass
-after_by : (here after : Bool) (k m : ℕ) → (after ≡ false → k ≡ m) → (here || after) ≡ false
-    → cond (not here) (1 + k) 0 ≡ 1 + m
-after_by true after k m same none = cc
-after_by false after k m same none = ap (λ (n : ℕ). 1 + n) (same none)
+-- a right side has the same hidden slot
+side_kept : (scope : Scope) (next index : ℕ) (side : SideTree)
+    → side_slots index (resolved_side scope next side) ≡ side_slots index side
+side_kept scope next index (NewOf place mode class_place class arguments) = refl
+side_kept scope next index (ValueOf place value) = refl
+side_kept scope next index (SendOf place method row) = refl
+side_kept scope next index (GetOf place get_place future) = refl
+side_kept scope next index (CallOf place method NoPhrase slot) = refl
+side_kept scope next index (CallOf place method (NextPhrase receiver arguments) slot) =
+    ap (λ (b : Bool). cond b [] (Hidden index ∷ [])) (this_kept scope receiver)
 
-first_by : (here : Bool) (k : ℕ) → here ≡ true → cond (not here) (1 + k) 0 ≡ 0
-first_by true k passes = refl
-first_by false k passes = cc
+maybe_side_kept : (scope : Scope) (next index : ℕ) (side : MaybeSide)
+    → maybe_side_slots index (resolved_maybe_side scope next side) ≡ maybe_side_slots index side
+maybe_side_kept scope next index NoSide = refl
+maybe_side_kept scope next index (SomeSide side) = side_kept scope next index side
 
-place_at_end : (p : ℕ → Bool) (xs : List ℕ) (y : ℕ) → list_any p xs ≡ false → p y ≡ true
-    → position_or_len p (xs ++ y ∷ []) ≡ length xs
-place_at_end p [] y none passes = first_by (p y) 0 passes
-place_at_end p (x ∷ xs) y none passes =
-    after_by (p x) (list_any p xs) _ (length xs) (λ rest. place_at_end p xs y rest passes) none ∙ omega arith
+mutual
+  -- a statement has the same slots
+  pub statement_kept : (scope : Scope) (next : ℕ) (tree : Statement)
+      → statement_slots (resolved_statement scope next tree) ≡ statement_slots tree
+  statement_kept scope next (BlockOf place block) = statements_kept scope next block
+  statement_kept scope next (SkipOf index place) = refl
+  statement_kept scope next (SuspendOf index place) = refl
+  statement_kept scope next (AwaitOf index place guard) = refl
+  statement_kept scope next (ReturnOf index place value) = refl
+  statement_kept scope next (PrintOf index place value) = refl
+  statement_kept scope next (IfOf index place condition first second) =
+      let after = next + length (statements_slots first) in
+      ap (λ (slots : List Slot). slots ++ else_slots (resolved_else scope after second))
+      (statements_kept scope next first)
+      ∙ ap (λ (slots : List Slot). statements_slots first ++ slots) (else_kept scope after second)
+  statement_kept scope next (WhileOf index place condition body) = statements_kept scope next body
+  statement_kept scope next (DeclareOf index place type variable_place variable initial) =
+      ap (λ (slots : List Slot). slots ++ Local index ∷ []) (maybe_side_kept scope next index initial)
+  statement_kept scope next (AssignOf index place target side) = side_kept scope next index side
+  statement_kept scope next (DoOf index place side) = side_kept scope next index side
 
--- What a declaration without offence makes of a scope: the scope is longer by one, and the new name has the last slot.
-record IsNext (scope : List ℕ) (symbol : Symbol) : Type 0 where
-  longer : length (with_symbol scope symbol) ≡ length scope + 1
-  slot : slot_of (with_symbol scope symbol) symbol ≡ length scope
+  pub else_kept : (scope : Scope) (next : ℕ) (branch : MaybeStatements)
+      → else_slots (resolved_else scope next branch) ≡ else_slots branch
+  else_kept scope next NoElse = refl
+  else_kept scope next (Else branch) = statements_kept scope next branch
 
-same_number : (n : ℕ) → nat_eq n n ≡ true
-same_number n = grind (arith, nat_tests)
+  -- so have statements
+  pub statements_kept : (scope : Scope) (next : ℕ) (trees : Statements)
+      → statements_slots (resolved_statements scope next trees) ≡ statements_slots trees
+  statements_kept scope next NoStatement = refl
+  statements_kept scope next (NextStatement first others) =
+      let later = statement_scope scope next first in
+      let after = next + length (statement_slots first) in
+      ap (λ (slots : List Slot). slots ++ statements_slots (resolved_statements later after others))
+      (statement_kept scope next first)
+      ∙ ap (λ (slots : List Slot). statement_slots first ++ slots) (statements_kept later after others)
 
-next_by : (scope : List ℕ) (symbol : Symbol) (place : Place) (b : Bool) → is_declared scope symbol ≡ b
-    → repeated_declaration scope place (Named symbol) ≡ [] → IsNext scope symbol
-next_by scope symbol place true known none =
-    let offence : Offence = record { code = N1; place = place } in
-    let found : offence ∷ [] ≡ [] = rw known at none in absurd (cc)
-next_by scope symbol place false new none = record {
-  longer = rw new (length-append scope (symbol.0 ∷ []));
-  slot = rw new (place_at_end (nat_eq symbol.0) scope symbol.0 new (same_number symbol.0));
-}
-
--- the slots of the declarations of some statements, and the scope after them
-record Make (scope : List ℕ) (stmts : List StmtTree) : Type 0 where
-  count : ℕ
-  slots : declared_slots (resolved_from scope stmts) ≡ range_with_len (length scope) count
-  longer : length (scope_after scope stmts) ≡ length scope + count
-
-made : (scope : List ℕ) (stmts : List StmtTree) → declared_slots stmts ≡ [] → offences_from scope stmts ≡ []
-    → Make scope stmts
-made scope [] written none = record { count = 0; slots = refl; longer = omega arith }
-made scope (Declare place name (Slot slot) value ∷ stmts) written none = absurd (cc)
-made scope (Declare place name (Named symbol) value ∷ stmts) written none =
-    let here = nothing_left (repeated_declaration scope name (Named symbol) ++ unknown_in scope value)
-    (offences_from (with_symbol scope symbol) stmts) none in
-    let next = next_by scope symbol name (is_declared scope symbol) refl
-    (nothing_left (repeated_declaration scope name (Named symbol)) (unknown_in scope value) here) in
-    let rest = made (with_symbol scope symbol) stmts written
-    (nothing_right (repeated_declaration scope name (Named symbol) ++ unknown_in scope value)
-    (offences_from (with_symbol scope symbol) stmts) none) in
+-- a method whose parameters and statements were resolved has its slots
+pub method_has_slots : (names : List Name) (params now : List Param) (old body : Body) (scope : Scope) (next : ℕ)
+    → map (param_tree names) now ≡ resolved_params AtSlot 0 (map (param_tree names) params)
+    → statements names body.statements.items ≡ resolved_statements scope next (statements names old.statements.items)
+    → body.slots.items ≡ body_slots (length params) (statements names old.statements.items)
+    → length body.slots.items ≤ table_limit → BodyHasSlots names (length now) body
+method_has_slots names params now old body scope next made found are few =
+    let tree = param_tree names in
+    let trees = statements names old.statements.items in
+    let count : length now ≡ length params =
+    sym (length-map now tree)
+    ∙ (ap length made ∙ (params_length AtSlot 0 (map tree params) ∙ length-map params tree)) in
+    let kept : statements_slots (statements names body.statements.items) ≡ statements_slots trees =
+    ap statements_slots found ∙ statements_kept scope next trees in
     record {
-      count = suc rest.count;
-      slots = ap (λ (n : ℕ). n ∷ declared_slots (resolved_from (with_symbol scope symbol) stmts)) next.slot
-          ∙ ap (λ (ns : List ℕ). length scope ∷ ns)
-          (rest.slots ∙ ap (λ (n : ℕ). range_with_len n rest.count) next.longer);
-      longer = omega (arith, rest.longer, next.longer);
+      are = are
+          ∙ (ap (λ (n : ℕ). param_slots n ++ statements_slots trees) (sym count)
+          ∙ ap (λ (slots : List Slot). param_slots (length now) ++ slots) (sym kept));
+      few = few;
     }
-made scope (Assign place variable value ∷ stmts) written none =
-    let rest = made scope stmts written (nothing_right _ (offences_from scope stmts) none) in
-    record { count = rest.count; slots = rest.slots; longer = rest.longer }
-made scope (Print place text ∷ stmts) written none =
-    let rest = made scope stmts written (nothing_right _ (offences_from scope stmts) none) in
-    record { count = rest.count; slots = rest.slots; longer = rest.longer }
-
-pub own_slots : (program : ProgramTree) → HasOwnSlots program
-own_slots program written none =
-    let all = made [] program.main written none in
-    let slots : length (scope_after [] program.main) ≡ all.count = omega (arith, all.longer) in
-    all.slots ∙ ap (λ (n : ℕ). range_with_len 0 n) (sym slots)

@@ -1,154 +1,145 @@
--- Lists of expressions and of operands of which a prefix was resolved; and resolution keeps the number of statements.
-use Rattle.std.proofs.Common.{◌≡◌, ℕ, suc, ◌+◌, ◌<◌, List, [], ◌∷◌, ◌++◌, refl, sym, ap, ◌∙◌, length, get_or, drop, fold}
-use Rattle.std.specs.Prelude.{Option}
-use Rattle.std.proofs.lemmas.List.Sums.{fold-append}
-use Rattle.std.specs.declared.alloc.Global.{Global}
-use Rattle.std.specs.declared.boxed.Box.{Box}
-use Rattle.std.specs.declared.vec.Vec.{Vec}
-use Rattle.abs_tree.specs.declared.place.Place.{Place}
-use Rattle.abs_tree.specs.declared.symbol.Symbol.{Symbol}
-use Rattle.abs_tree.specs.declared.program.Expr as code
-use Rattle.abs_tree.specs.declared.program.Expr.{Expr}
-use Rattle.abs_tree.specs.declared.program.Operand.{Operand}
-use Rattle.abs_tree.specs.declared.operator.Operator.{Operator}
-use Rattle.abs_tree.specs.declared.refusal.Offence.{Offence}
-use Rattle.abs_tree.specs.Trees.{ExprTree, ExprTrees, OperandTrees, StmtTree, Apply, NoMore, More, Operators, NoOperand, Then, expr_tree, trees_of, operands_of}
+-- Lists of trees of which a prefix was made: trees before trees, and one more of them.
+use Rattle.std.proofs.Common.{◌≡◌, ℕ, ◌+◌, ◌<◌, List, [], ◌∷◌, ◌++◌, refl, sym, ap, ◌∙◌, length, get_or, drop}
+use Rattle.abs_tree.specs.Syntax.{Name, TypeTrees, NoType, NextType, PatternTrees, NoPattern, NextPattern, Phrases, NoPhrase, NextPhrase, Operands, NoOperands, NextOperand, Branches, NoBranch, NextBranch, Tests, NoTest, NextTest, Statements, NoStatement, NextStatement}
+use Rattle.abs_tree.specs.SyntaxViews.{type_tree, type_trees, pattern_tree, pattern_trees, phrase, phrases, operand_trees, branches, tests, statement, statements}
 use Rattle.abs_tree.proofs.EntryLemmas.{drop_item}
-use Rattle.abs_tree.proofs.TreeLemmas.{expr_tree-apply, expr_tree-operators}
-use Rattle.abs_tree.specs.Offences.{earlier}
-use Rattle.abs_names.specs.NameOffences.{unknown_in, unknown_in_all, unknown_in_operands}
-use Rattle.abs_names.specs.Resolution.{resolved_expr, resolved_exprs, resolved_operands, resolved_from}
-use Rattle.abs_names.specs.Scopes.{scope_after_statement}
+use Rattle.abs_tree.specs.declared.syntax.types.TypeTerm.{TypeTerm}
+use Rattle.abs_tree.specs.declared.syntax.pattern.Pattern.{Pattern}
+use Rattle.abs_tree.specs.declared.syntax.expression.Expr.{Expr}
+use Rattle.abs_tree.specs.declared.syntax.expression.Operand.{Operand}
+use Rattle.abs_tree.specs.declared.syntax.expression.Branch.{Branch}
+use Rattle.abs_tree.specs.declared.syntax.statement.Test.{Test}
+use Rattle.abs_tree.specs.declared.syntax.statement.Stmt.{Stmt}
 
--- expressions before trees
-abbrev pub in_front : List Expr → ExprTrees → ExprTrees
-in_front [] trees = trees
-in_front (expr ∷ exprs) trees = More (expr_tree expr) (in_front exprs trees)
+-- types before types
+abbrev pub types_before : List Name → List TypeTerm → TypeTrees → TypeTrees
+types_before names [] trees = trees
+types_before names (type ∷ others) trees = NextType (type_tree names type) (types_before names others trees)
 
-in_front_more : (exprs : List Expr) (expr : Expr) (trees : ExprTrees)
-    → in_front (exprs ++ expr ∷ []) trees ≡ in_front exprs (More (expr_tree expr) trees)
-in_front_more [] expr trees = refl
-in_front_more (e ∷ es) expr trees = ap (More (expr_tree e)) (in_front_more es expr trees)
+pub types_more : (names : List Name) (types : List TypeTerm) (type : TypeTerm) (trees : TypeTrees)
+    → types_before names (types ++ type ∷ []) trees ≡ types_before names types (NextType (type_tree names type) trees)
+types_more names [] type trees = refl
+types_more names (one ∷ others) type trees = ap (NextType (type_tree names one)) (types_more names others type trees)
 
-pub in_front_all : (exprs : List Expr) → in_front exprs NoMore ≡ trees_of exprs
-in_front_all [] = refl
-in_front_all (e ∷ es) = ap (More (expr_tree e)) (in_front_all es)
+pub types_all : (names : List Name) (types : List TypeTerm) → types_before names types NoType ≡ type_trees names types
+types_all names [] = refl
+types_all names (one ∷ others) = ap (NextType (type_tree names one)) (types_all names others)
 
--- an application with resolved arguments
-pub resolved_apply : (scope : List ℕ) (expr : Expr) (place : Place) (function : Symbol) (before found : Vec Expr Global)
-    (exprs : List Expr)
-    → expr ≡ code.Apply place function before → exprs ≡ before.items
-    → trees_of found.items ≡ resolved_exprs scope (trees_of exprs)
-    → expr_tree (code.Apply place function found) ≡ resolved_expr scope (expr_tree expr)
-resolved_apply scope expr place function before found exprs expr_is exprs_is resolved =
-    expr_tree-apply place function found
-    ∙ (ap (Apply place function) (resolved ∙ ap (λ (es : List Expr). resolved_exprs scope (trees_of es)) exprs_is)
-    ∙ sym (ap (resolved_expr scope) (ap expr_tree expr_is ∙ expr_tree-apply place function before)))
+pub types_step : (names : List Name) (terms found now : List TypeTerm) (index : ℕ) (item one : TypeTerm)
+    → index < length terms → item ≡ get_or terms index item → type_tree names one ≡ type_tree names item
+    → now ≡ found ++ one ∷ []
+    → types_before names now (type_trees names (drop (index + 1) terms))
+    ≡ types_before names found (type_trees names (drop index terms))
+types_step names terms found now index item one there is made added =
+    let rest = type_trees names (drop (index + 1) terms) in
+    ap (λ (types : List TypeTerm). types_before names types rest) added
+    ∙ (types_more names found one rest
+    ∙ (ap (λ type. types_before names found (NextType type rest)) made
+    ∙ ap (λ (types : List TypeTerm). types_before names found (type_trees names types))
+    (sym (drop_item terms index item there is))))
 
--- an application has the offences of its arguments
-pub unknown_apply : (scope : List ℕ) (expr : Expr) (place : Place) (function : Symbol) (before : Vec Expr Global)
-    (exprs : List Expr)
-    → expr ≡ code.Apply place function before → exprs ≡ before.items
-    → unknown_in_all scope (trees_of exprs) ≡ unknown_in scope (expr_tree expr)
-unknown_apply scope expr place function before exprs expr_is exprs_is =
-    ap (λ (es : List Expr). unknown_in_all scope (trees_of es)) exprs_is
-    ∙ sym (ap (unknown_in scope) (ap expr_tree expr_is ∙ expr_tree-apply place function before))
+-- patterns before patterns
+abbrev pub patterns_before : List Name → List Pattern → PatternTrees → PatternTrees
+patterns_before names [] trees = trees
+patterns_before names (pattern ∷ others) trees =
+    NextPattern (pattern_tree names pattern) (patterns_before names others trees)
 
--- one more expression was resolved
-pub exprs_found : (scope : List ℕ) (exprs found : List Expr) (i : ℕ) (expr one : Expr) → i < length exprs
-    → expr ≡ get_or exprs i expr
-    → expr_tree one ≡ resolved_expr scope (expr_tree expr)
-    → in_front (found ++ one ∷ []) (resolved_exprs scope (trees_of (drop (i + 1) exprs)))
-    ≡ in_front found (resolved_exprs scope (trees_of (drop i exprs)))
-exprs_found scope exprs found i expr one there is resolved =
-    in_front_more found one (resolved_exprs scope (trees_of (drop (i + 1) exprs)))
-    ∙ (ap (λ (t : ExprTree). in_front found (More t (resolved_exprs scope (trees_of (drop (i + 1) exprs))))) resolved
-    ∙ ap (λ (es : List Expr). in_front found (resolved_exprs scope (trees_of es)))
-    (sym (drop_item exprs i expr there is)))
+pub patterns_more : (names : List Name) (patterns : List Pattern) (pattern : Pattern) (trees : PatternTrees)
+    → patterns_before names (patterns ++ pattern ∷ []) trees
+    ≡ patterns_before names patterns (NextPattern (pattern_tree names pattern) trees)
+patterns_more names [] pattern trees = refl
+patterns_more names (one ∷ others) pattern trees =
+    ap (NextPattern (pattern_tree names one)) (patterns_more names others pattern trees)
 
--- and its offences were noted
-pub exprs_noted : (scope : List ℕ) (exprs : List Expr) (i : ℕ) (expr : Expr) (first now : Option Offence)
-    → i < length exprs → expr ≡ get_or exprs i expr
-    → now ≡ fold earlier first (unknown_in scope (expr_tree expr))
-    → fold earlier now (unknown_in_all scope (trees_of (drop (i + 1) exprs)))
-    ≡ fold earlier first (unknown_in_all scope (trees_of (drop i exprs)))
-exprs_noted scope exprs i expr first now there is noted =
-    let rest = unknown_in_all scope (trees_of (drop (i + 1) exprs)) in
-    ap (λ (o : Option Offence). fold earlier o rest) noted
-    ∙ (sym (fold-append earlier first (unknown_in scope (expr_tree expr)) rest)
-    ∙ ap (λ (es : List Expr). fold earlier first (unknown_in_all scope (trees_of es)))
-    (sym (drop_item exprs i expr there is)))
+pub patterns_all : (names : List Name) (patterns : List Pattern)
+    → patterns_before names patterns NoPattern ≡ pattern_trees names patterns
+patterns_all names [] = refl
+patterns_all names (one ∷ others) = ap (NextPattern (pattern_tree names one)) (patterns_all names others)
 
--- operators with their right operands before trees
-abbrev pub operands_in_front : List Operand → OperandTrees → OperandTrees
-operands_in_front [] trees = trees
-operands_in_front (operand ∷ operands) trees =
-    Then operand.operator (expr_tree operand.right) (operands_in_front operands trees)
+-- expressions before expressions
+abbrev pub phrases_before : List Name → List Expr → Phrases → Phrases
+phrases_before names [] trees = trees
+phrases_before names (expr ∷ others) trees = NextPhrase (phrase names expr) (phrases_before names others trees)
 
-operands_in_front_more : (operands : List Operand) (operand : Operand) (trees : OperandTrees)
-    → operands_in_front (operands ++ operand ∷ []) trees
-    ≡ operands_in_front operands (Then operand.operator (expr_tree operand.right) trees)
-operands_in_front_more [] operand trees = refl
-operands_in_front_more (l ∷ ls) operand trees =
-    ap (Then l.operator (expr_tree l.right)) (operands_in_front_more ls operand trees)
+pub phrases_more : (names : List Name) (exprs : List Expr) (expr : Expr) (trees : Phrases)
+    → phrases_before names (exprs ++ expr ∷ []) trees ≡ phrases_before names exprs (NextPhrase
+    (phrase names expr) trees)
+phrases_more names [] expr trees = refl
+phrases_more names (one ∷ others) expr trees = ap (NextPhrase (phrase names one)) (phrases_more names others expr trees)
 
-pub operands_in_front_all : (operands : List Operand) → operands_in_front operands NoOperand ≡ operands_of operands
-operands_in_front_all [] = refl
-operands_in_front_all (l ∷ ls) = ap (Then l.operator (expr_tree l.right)) (operands_in_front_all ls)
+pub phrases_all : (names : List Name) (exprs : List Expr) → phrases_before names exprs NoPhrase ≡ phrases names exprs
+phrases_all names [] = refl
+phrases_all names (one ∷ others) = ap (NextPhrase (phrase names one)) (phrases_all names others)
 
--- an operator list with resolved operands
-pub resolved_operators : (scope : List ℕ) (expr : Expr) (place : Place) (left made : Box Expr Global)
-    (before found : Vec Operand Global) (operands : List Operand)
-    → expr ≡ code.Operators place left before → operands ≡ before.items
-    → expr_tree made.value ≡ resolved_expr scope (expr_tree left.value)
-    → operands_of found.items ≡ resolved_operands scope (operands_of operands)
-    → expr_tree (code.Operators place made found) ≡ resolved_expr scope (expr_tree expr)
-resolved_operators scope expr place left made before found operands expr_is operands_is first resolved =
-    expr_tree-operators place made found
-    ∙ (ap (λ (t : ExprTree). Operators place t (operands_of found.items)) first
-    ∙ (ap (Operators place (resolved_expr scope (expr_tree left.value)))
-    (resolved ∙ ap (λ (ls : List Operand). resolved_operands scope (operands_of ls)) operands_is)
-    ∙ sym (ap (resolved_expr scope) (ap expr_tree expr_is ∙ expr_tree-operators place left before))))
+-- operands before operands
+abbrev pub operands_before : List Name → List Operand → Operands → Operands
+operands_before names [] trees = trees
+operands_before names (operand ∷ others) trees =
+    NextOperand operand.operator (phrase names operand.right) (operands_before names others trees)
 
--- an operator list has the offences of its operands, from the left
-pub unknown_operators : (scope : List ℕ) (expr : Expr) (place : Place) (left : Box Expr Global)
-    (before : Vec Operand Global) (operands : List Operand)
-    → expr ≡ code.Operators place left before → operands ≡ before.items
-    → unknown_in scope (expr_tree left.value) ++ unknown_in_operands scope (operands_of operands)
-    ≡ unknown_in scope (expr_tree expr)
-unknown_operators scope expr place left before operands expr_is operands_is =
-    ap (λ (ls : List Operand). unknown_in scope (expr_tree left.value) ++ unknown_in_operands scope (operands_of ls))
-    operands_is
-    ∙ sym (ap (unknown_in scope) (ap expr_tree expr_is ∙ expr_tree-operators place left before))
+pub operands_more : (names : List Name) (operands : List Operand) (operand : Operand) (trees : Operands)
+    → operands_before names (operands ++ operand ∷ []) trees
+    ≡ operands_before names operands (NextOperand operand.operator (phrase names operand.right) trees)
+operands_more names [] operand trees = refl
+operands_more names (one ∷ others) operand trees =
+    ap (NextOperand one.operator (phrase names one.right)) (operands_more names others operand trees)
 
--- one more operand was resolved
-pub operands_found : (scope : List ℕ) (operands found : List Operand) (i : ℕ) (operand one : Operand)
-    → i < length operands → operand ≡ get_or operands i operand
-    → one.operator ≡ operand.operator → expr_tree one.right ≡ resolved_expr scope (expr_tree operand.right)
-    → operands_in_front (found ++ one ∷ []) (resolved_operands scope (operands_of (drop (i + 1) operands)))
-    ≡ operands_in_front found (resolved_operands scope (operands_of (drop i operands)))
-operands_found scope operands found i operand one there is same resolved =
-    let rest = resolved_operands scope (operands_of (drop (i + 1) operands)) in
-    operands_in_front_more found one rest
-    ∙ (ap (λ (o : Operator). operands_in_front found (Then o (expr_tree one.right) rest)) same
-    ∙ (ap (λ (t : ExprTree). operands_in_front found (Then operand.operator t rest)) resolved
-    ∙ ap (λ (ls : List Operand). operands_in_front found (resolved_operands scope (operands_of ls)))
-    (sym (drop_item operands i operand there is))))
+pub operands_all : (names : List Name) (operands : List Operand)
+    → operands_before names operands NoOperands ≡ operand_trees names operands
+operands_all names [] = refl
+operands_all names (one ∷ others) = ap (NextOperand one.operator (phrase names one.right)) (operands_all names others)
 
--- and its offences were noted
-pub operands_noted : (scope : List ℕ) (operands : List Operand) (i : ℕ) (operand : Operand) (first now : Option Offence)
-    → i < length operands → operand ≡ get_or operands i operand
-    → now ≡ fold earlier first (unknown_in scope (expr_tree operand.right))
-    → fold earlier now (unknown_in_operands scope (operands_of (drop (i + 1) operands)))
-    ≡ fold earlier first (unknown_in_operands scope (operands_of (drop i operands)))
-operands_noted scope operands i operand first now there is noted =
-    let rest = unknown_in_operands scope (operands_of (drop (i + 1) operands)) in
-    ap (λ (o : Option Offence). fold earlier o rest) noted
-    ∙ (sym (fold-append earlier first (unknown_in scope (expr_tree operand.right)) rest)
-    ∙ ap (λ (ls : List Operand). fold earlier first (unknown_in_operands scope (operands_of ls)))
-    (sym (drop_item operands i operand there is)))
+-- branches before branches
+abbrev pub branches_before : List Name → List Branch → Branches → Branches
+branches_before names [] trees = trees
+branches_before names (branch ∷ others) trees =
+    NextBranch (pattern_tree names branch.pattern) (phrase names branch.value) (branches_before names others trees)
 
--- each statement is resolved to one statement
-pub resolved_length : (scope : List ℕ) (stmts : List StmtTree) → length (resolved_from scope stmts) ≡ length stmts
-resolved_length scope [] = refl
-resolved_length scope (stmt ∷ stmts) = ap (λ (n : ℕ). suc n) (resolved_length (scope_after_statement scope stmt) stmts)
+pub branches_more : (names : List Name) (arms : List Branch) (branch : Branch) (trees : Branches)
+    → branches_before names (arms ++ branch ∷ []) trees
+    ≡ branches_before names arms (NextBranch (pattern_tree names branch.pattern) (phrase names branch.value) trees)
+branches_more names [] branch trees = refl
+branches_more names (one ∷ others) branch trees =
+    ap (NextBranch (pattern_tree names one.pattern) (phrase names one.value)) (branches_more names others branch trees)
+
+pub branches_all : (names : List Name) (arms : List Branch)
+    → branches_before names arms NoBranch ≡ branches names arms
+branches_all names [] = refl
+branches_all names (one ∷ others) =
+    ap (NextBranch (pattern_tree names one.pattern) (phrase names one.value)) (branches_all names others)
+
+-- tests before tests
+abbrev pub tests_before : List Name → List Test → Tests → Tests
+tests_before names [] trees = trees
+tests_before names (test ∷ others) trees =
+    NextTest test.place (phrase names test.value.value) test.asks (tests_before names others trees)
+
+pub tests_more : (names : List Name) (items : List Test) (test : Test) (trees : Tests)
+    → tests_before names (items ++ test ∷ []) trees
+    ≡ tests_before names items (NextTest test.place (phrase names test.value.value) test.asks trees)
+tests_more names [] test trees = refl
+tests_more names (one ∷ others) test trees =
+    ap (NextTest one.place (phrase names one.value.value) one.asks) (tests_more names others test trees)
+
+pub tests_all : (names : List Name) (items : List Test) → tests_before names items NoTest ≡ tests names items
+tests_all names [] = refl
+tests_all names (one ∷ others) = ap (NextTest one.place (phrase names one.value.value) one.asks)
+    (tests_all names others)
+
+-- statements before statements
+abbrev pub statements_before : List Name → List Stmt → Statements → Statements
+statements_before names [] trees = trees
+statements_before names (stmt ∷ others) trees = NextStatement (statement names stmt)
+    (statements_before names others trees)
+
+pub statements_more : (names : List Name) (stmts : List Stmt) (stmt : Stmt) (trees : Statements)
+    → statements_before names (stmts ++ stmt ∷ []) trees
+    ≡ statements_before names stmts (NextStatement (statement names stmt) trees)
+statements_more names [] stmt trees = refl
+statements_more names (one ∷ others) stmt trees =
+    ap (NextStatement (statement names one)) (statements_more names others stmt trees)
+
+pub statements_all : (names : List Name) (stmts : List Stmt)
+    → statements_before names stmts NoStatement ≡ statements names stmts
+statements_all names [] = refl
+statements_all names (one ∷ others) = ap (NextStatement (statement names one)) (statements_all names others)

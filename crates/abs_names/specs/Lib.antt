@@ -1,5 +1,9 @@
+pub mod Numbered
+pub mod Linked
 pub mod Scopes
+pub mod Visible
 pub mod NameOffences
 pub mod Resolution
-pub mod Slots
 pub mod Answers
+pub mod OwnSlots
+pub mod Newest

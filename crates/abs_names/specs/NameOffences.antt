@@ -1,60 +1,198 @@
--- The name offences of a program, in the order of its source. A local that is declared twice offends at the later name.
--- A local that no earlier statement declares offends at its use.
+-- The name offences of a source: variables that are declared twice (N1), and variables, fields, `this` and `destiny`
+-- that are used where they are not visible (N2). The order of a list means nothing; the first offence is the one of
+-- least place.
 --
---   `name_offences`                            those of a program
---   `offences_of`, `offences_from`             those of a statement, and of a list of statements
---   `unknown_in`, ..                           those of an expression, for names that are not declared
---   `unknown_name`, `repeated_declaration`     the offence of one name
-use Rattle.std.specs.Prelude.{ℕ, List, [], ◌∷◌, ◌++◌, if◌then◌else◌}
+--   `name_offences`                                    those of a source
+--   `declaration_offences`, `members_offences`         those of a declaration, of the members of a class
+--   `statement_offences`, `side_offences`, ..          those of statements, right sides, guards
+--   `phrase_offences`, `pattern_offences`, ..          those of expressions and patterns
+--   `unknown`, `twice`, `use_offences`, ..             those of one name
+use Rattle.std.specs.Prelude.{ℕ, ◌+◌, Bool, List, [], ◌∷◌, ◌++◌, length, is_some, if◌then◌else◌}
+use Rattle.abs_tree.specs.Slots.{statement_slots, statements_slots}
+use Rattle.abs_tree.specs.Syntax.{Name, VariableTree, Unresolved, AtSlot, AtBound, AtField, PatternTree, AnyValue, Binds, SameNumber, SameString, Built, PatternTrees, NoPattern, NextPattern, Phrase, LetIn, IfElse, OperatorsOf, Prefixed, NumberOf, StringOf, NullOf, DestinyOf, ThisOf, FieldOf, OwnCallOf, VariableOf, ApplyOf, BuildOf, CaseOf, Phrases, NoPhrase, NextPhrase, Operands, NoOperands, NextOperand, Branches, NoBranch, NextBranch, SideTree, NewOf, ValueOf, SendOf, GetOf, CallOf, Tests, NoTest, NextTest, TargetTree, ToVariable, ToField, MaybeSide, NoSide, SomeSide, Statement, BlockOf, SkipOf, SuspendOf, AwaitOf, ReturnOf, PrintOf, IfOf, WhileOf, DeclareOf, AssignOf, DoOf, MaybeStatements, NoElse, Else, Statements, NoStatement, NextStatement, MaybePhrase, NoValue, Value, MemberTree, FieldTree, MethodTree, DeclTree, DataTree, FunctionTree, InterfaceTree, ClassTree, SourceTree}
 use Rattle.abs_tree.specs.declared.place.Place.{Place}
-use Rattle.abs_tree.specs.declared.program.Variable.{Variable}
-use Rattle.abs_tree.specs.declared.program.Variable.TheVariants.{Named, Slot}
 use Rattle.abs_tree.specs.declared.refusal.Offence.{Offence}
 use Rattle.abs_tree.specs.declared.refusal.Code.TheVariants.{N1, N2}
-use Rattle.abs_tree.specs.Trees.{ExprTree, ExprTrees, OperandTrees, StmtTree, ProgramTree, Number, Local, Apply, NoMore, More, Negate, Operators, NoOperand, Then, Declare, Assign, Print}
-use Rattle.abs_names.specs.Scopes.{is_declared, scope_after_statement}
+use Rattle.abs_names.specs.declared.scope.Routine.TheVariants.{Main, Method, Function, Initial}
+use Rattle.abs_names.specs.Scopes.{Meanings, Scope, meaning_of, has_this, has_task, field_of, use_of, is_taken, with_bound, pattern_scope, statement_scope, body_scope, class_fields, fields_after}
 
--- the offence of the use of a name, if the name is not declared
-abbrev pub unknown_name : List ℕ → Place → Variable → List Offence
-unknown_name scope place (Named symbol) =
-    if is_declared scope symbol then [] else record { code = N2; place = place } ∷ []
-unknown_name scope place (Slot slot) = []
+-- the offence of a name at this place that is unknown, unless it is known
+abbrev pub unknown : Bool → Place → List Offence
+unknown known place = if known then [] else record { place = place; code = N2 } ∷ []
 
--- the offence of the declaration of a name, if the name is declared already
-abbrev pub repeated_declaration : List ℕ → Place → Variable → List Offence
-repeated_declaration scope place (Named symbol) =
-    if is_declared scope symbol then record { code = N1; place = place } ∷ [] else []
-repeated_declaration scope place (Slot slot) = []
+-- the offence of a declaration at this place, if its name is declared already
+abbrev pub twice : Bool → Place → List Offence
+twice taken place = if taken then record { place = place; code = N1 } ∷ [] else []
+
+-- the use of a variable
+abbrev pub use_offences : Scope → Place → VariableTree → List Offence
+use_offences scope place (Unresolved name) = unknown (is_some (use_of scope name)) place
+use_offences scope place (AtSlot slot) = []
+use_offences scope place (AtBound depth) = []
+use_offences scope place (AtField field) = []
+
+-- a variable that a pattern or a `let` binds
+abbrev pub bind_offences : Scope → Place → VariableTree → List Offence
+bind_offences scope place (Unresolved name) = twice (is_taken scope name) place
+bind_offences scope place (AtSlot slot) = []
+bind_offences scope place (AtBound depth) = []
+bind_offences scope place (AtField field) = []
+
+-- a local that a statement declares; it may have the name of a field
+abbrev pub local_offences : Scope → Place → VariableTree → List Offence
+local_offences scope place (Unresolved name) = twice (is_some (meaning_of scope.variables name)) place
+local_offences scope place (AtSlot slot) = []
+local_offences scope place (AtBound depth) = []
+local_offences scope place (AtField field) = []
+
+-- `this`, and a field of it
+abbrev pub this_offences : Scope → Place → List Offence
+this_offences scope place = unknown (has_this scope.routine) place
+
+abbrev pub field_offences : Scope → Place → Place → Name → List Offence
+field_offences scope place name_place name =
+    if has_this scope.routine then unknown (is_some (field_of scope name)) name_place
+    else record { place = place; code = N2 } ∷ []
 
 abbrev mutual
-  -- the offences of an expression: one for each use of a name that is not declared
-  pub unknown_in : List ℕ → ExprTree → List Offence
-  unknown_in scope (Number place number) = []
-  unknown_in scope (Local place variable) = unknown_name scope place variable
-  unknown_in scope (Apply place function arguments) = unknown_in_all scope arguments
-  unknown_in scope (Negate place expr) = unknown_in scope expr
-  unknown_in scope (Operators place first operands) = unknown_in scope first ++ unknown_in_operands scope operands
+  -- a pattern; the variables before one in the same pattern are visible to it
+  pub pattern_offences : Scope → PatternTree → List Offence
+  pattern_offences scope (AnyValue place) = []
+  pattern_offences scope (Binds place variable) = bind_offences scope place variable
+  pattern_offences scope (SameNumber place number) = []
+  pattern_offences scope (SameString place string) = []
+  pattern_offences scope (Built place constructor arguments) = patterns_offences scope arguments
 
-  pub unknown_in_all : List ℕ → ExprTrees → List Offence
-  unknown_in_all scope NoMore = []
-  unknown_in_all scope (More expr rest) = unknown_in scope expr ++ unknown_in_all scope rest
+  pub patterns_offences : Scope → PatternTrees → List Offence
+  patterns_offences scope NoPattern = []
+  patterns_offences scope (NextPattern first others) =
+      pattern_offences scope first ++ patterns_offences (pattern_scope scope first) others
 
-  pub unknown_in_operands : List ℕ → OperandTrees → List Offence
-  unknown_in_operands scope NoOperand = []
-  unknown_in_operands scope (Then operator right rest) = unknown_in scope right ++ unknown_in_operands scope rest
+abbrev mutual
+  -- an expression
+  pub phrase_offences : Scope → Phrase → List Offence
+  phrase_offences scope (LetIn place type variable_place variable value body) =
+      phrase_offences scope value
+      ++ (bind_offences scope variable_place variable ++ phrase_offences (with_bound scope variable) body)
+  phrase_offences scope (IfElse place condition first second) =
+      phrase_offences scope condition ++ (phrase_offences scope first ++ phrase_offences scope second)
+  phrase_offences scope (OperatorsOf place first operands) =
+      phrase_offences scope first ++ operands_offences scope operands
+  phrase_offences scope (Prefixed place prefix operand) = phrase_offences scope operand
+  phrase_offences scope (NumberOf place number) = []
+  phrase_offences scope (StringOf place string) = []
+  phrase_offences scope (NullOf place) = []
+  phrase_offences scope (DestinyOf place) = unknown (has_task scope.routine) place
+  phrase_offences scope (ThisOf place) = this_offences scope place
+  phrase_offences scope (FieldOf place name_place name) = field_offences scope place name_place name
+  phrase_offences scope (OwnCallOf place method arguments) =
+      this_offences scope place ++ phrases_offences scope arguments
+  phrase_offences scope (VariableOf place variable) = use_offences scope place variable
+  phrase_offences scope (ApplyOf place function arguments) = phrases_offences scope arguments
+  phrase_offences scope (BuildOf place constructor arguments) = phrases_offences scope arguments
+  phrase_offences scope (CaseOf place subject branches) =
+      phrase_offences scope subject ++ branches_offences scope branches
 
--- the offences of a statement; the scope has the names that the statements before it declare
-abbrev pub offences_of : List ℕ → StmtTree → List Offence
-offences_of scope (Declare place name variable value) =
-    repeated_declaration scope name variable ++ unknown_in scope value
-offences_of scope (Assign place variable value) = unknown_name scope place variable ++ unknown_in scope value
-offences_of scope (Print place text) = unknown_in scope text
+  pub phrases_offences : Scope → Phrases → List Offence
+  phrases_offences scope NoPhrase = []
+  phrases_offences scope (NextPhrase first others) = phrase_offences scope first ++ phrases_offences scope others
 
--- the offences of statements in order
-abbrev pub offences_from : List ℕ → List StmtTree → List Offence
-offences_from scope [] = []
-offences_from scope (stmt ∷ stmts) = offences_of scope stmt ++ offences_from (scope_after_statement scope stmt) stmts
+  pub operands_offences : Scope → Operands → List Offence
+  operands_offences scope NoOperands = []
+  operands_offences scope (NextOperand operator right others) =
+      phrase_offences scope right ++ operands_offences scope others
 
--- the offences of a program
-abbrev pub name_offences : ProgramTree → List Offence
-name_offences program = offences_from [] program.main
+  pub branches_offences : Scope → Branches → List Offence
+  branches_offences scope NoBranch = []
+  branches_offences scope (NextBranch pattern value others) =
+      pattern_offences scope pattern
+      ++ (phrase_offences (pattern_scope scope pattern) value ++ branches_offences scope others)
+
+-- a right side
+abbrev pub side_offences : Scope → SideTree → List Offence
+side_offences scope (NewOf place mode class_place class arguments) = phrases_offences scope arguments
+side_offences scope (ValueOf place value) = phrase_offences scope value
+side_offences scope (SendOf place method row) = phrases_offences scope row
+side_offences scope (GetOf place get_place future) = phrase_offences scope future
+side_offences scope (CallOf place method row slot) = phrases_offences scope row
+
+abbrev pub maybe_side_offences : Scope → MaybeSide → List Offence
+maybe_side_offences scope NoSide = []
+maybe_side_offences scope (SomeSide side) = side_offences scope side
+
+-- a guard
+abbrev pub tests_offences : Scope → Tests → List Offence
+tests_offences scope NoTest = []
+tests_offences scope (NextTest place value asks others) = phrase_offences scope value ++ tests_offences scope others
+
+-- a target
+abbrev pub target_offences : Scope → TargetTree → List Offence
+target_offences scope (ToVariable place variable) = use_offences scope place variable
+target_offences scope (ToField place name_place name) = field_offences scope place name_place name
+
+abbrev mutual
+  -- a statement, where `next` is the first free slot
+  pub statement_offences : Scope → ℕ → Statement → List Offence
+  statement_offences scope next (BlockOf place block) = statements_offences scope next block
+  statement_offences scope next (SkipOf index place) = []
+  statement_offences scope next (SuspendOf index place) = []
+  statement_offences scope next (AwaitOf index place guard) = tests_offences scope guard
+  statement_offences scope next (ReturnOf index place value) = phrase_offences scope value
+  statement_offences scope next (PrintOf index place value) = phrase_offences scope value
+  statement_offences scope next (IfOf index place condition first second) =
+      phrase_offences scope condition
+      ++ (statements_offences scope next first
+      ++ else_offences scope (next + length (statements_slots first)) second)
+  statement_offences scope next (WhileOf index place condition body) =
+      phrase_offences scope condition ++ statements_offences scope next body
+  statement_offences scope next (DeclareOf index place type variable_place variable initial) =
+      maybe_side_offences scope initial ++ local_offences scope variable_place variable
+  statement_offences scope next (AssignOf index place target side) =
+      target_offences scope target ++ side_offences scope side
+  statement_offences scope next (DoOf index place side) = side_offences scope side
+
+  pub else_offences : Scope → ℕ → MaybeStatements → List Offence
+  else_offences scope next NoElse = []
+  else_offences scope next (Else branch) = statements_offences scope next branch
+
+  -- statements in order, each in the scope after the one before it
+  pub statements_offences : Scope → ℕ → Statements → List Offence
+  statements_offences scope next NoStatement = []
+  statements_offences scope next (NextStatement first others) =
+      statement_offences scope next first
+      ++ statements_offences (statement_scope scope next first) (next + length (statement_slots first)) others
+
+-- an initial value, if there is one
+abbrev pub maybe_phrase_offences : Scope → MaybePhrase → List Offence
+maybe_phrase_offences scope NoValue = []
+maybe_phrase_offences scope (Value value) = phrase_offences scope value
+
+-- a member of a class with these fields, where `earlier` of the fields come before it
+abbrev pub member_offences : Meanings → ℕ → MemberTree → List Offence
+member_offences fields earlier (FieldTree type name initial) =
+    maybe_phrase_offences (body_scope (Initial earlier) fields []) initial
+member_offences fields earlier (MethodTree signature end body) =
+    statements_offences (body_scope Method fields signature.params) (length signature.params) body
+
+abbrev pub members_offences : Meanings → ℕ → List MemberTree → List Offence
+members_offences fields earlier [] = []
+members_offences fields earlier (member ∷ others) =
+    member_offences fields earlier member ++ members_offences fields (fields_after earlier member) others
+
+-- a declaration
+abbrev pub declaration_offences : DeclTree → List Offence
+declaration_offences (DataTree place name type_params constructors) = []
+declaration_offences (FunctionTree place result name type_params params value) =
+    phrase_offences (body_scope Function [] params) value
+declaration_offences (InterfaceTree place name extended signatures) = []
+declaration_offences (ClassTree place name params implemented members) =
+    members_offences (class_fields params members) (length params) members
+
+abbrev pub declarations_offences : List DeclTree → List Offence
+declarations_offences [] = []
+declarations_offences (declaration ∷ others) = declaration_offences declaration ++ declarations_offences others
+
+-- a source
+abbrev pub name_offences : SourceTree → List Offence
+name_offences source =
+    declarations_offences source.declarations ++ statements_offences (body_scope Main [] []) 0 source.main

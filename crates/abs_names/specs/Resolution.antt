@@ -1,57 +1,212 @@
--- The resolved program: each local is its slot.
+-- The resolved tree of a source: each variable that is used or declared is a slot, a bound variable or a field.
 --
---   `resolved`                                 that of a program
---   `resolved_stmt`, `resolved_from`           that of a statement, and of a list of statements
---   `resolved_expr`, ..                        that of an expression
---   `resolved_variable`                        the slot of a local
-use Rattle.std.specs.Prelude.{ℕ, List, [], ◌∷◌, length}
-use Rattle.abs_tree.specs.declared.program.Variable.{Variable}
-use Rattle.abs_tree.specs.declared.program.Variable.TheVariants.{Named, Slot}
-use Rattle.abs_tree.specs.Trees.{ExprTree, ExprTrees, OperandTrees, StmtTree, ProgramTree, NamedTree, Number, Local, Apply, NoMore, More, Negate, Operators, NoOperand, Then, Declare, Assign, Print}
-use Rattle.abs_names.specs.Scopes.{slot_of, with_variable, scope_after_statement, scope_after}
+--   `resolved`                                         that of a source
+--   `resolved_declaration`, `resolved_members`, ..     that of a declaration, of the members of a class
+--   `resolved_statement`, `resolved_side`, ..          that of statements, right sides, guards
+--   `resolved_phrase`, `resolved_pattern`, ..          that of expressions and patterns
+--   `resolved_use`, `resolved_field`                   that of the use of a name
+use Rattle.std.specs.Prelude.{ℕ, ◌+◌, List, [], ◌∷◌, length, Option, Some, None, if◌then◌else◌}
+use Rattle.abs_tree.specs.Slots.{is_this, statement_slots, statements_slots}
+use Rattle.abs_tree.specs.Syntax.{Name, VariableTree, Unresolved, AtSlot, AtBound, AtField, PatternTree, AnyValue, Binds, SameNumber, SameString, Built, PatternTrees, NoPattern, NextPattern, Phrase, LetIn, IfElse, OperatorsOf, Prefixed, NumberOf, StringOf, NullOf, DestinyOf, ThisOf, FieldOf, OwnCallOf, VariableOf, ApplyOf, BuildOf, CaseOf, Phrases, NoPhrase, NextPhrase, Operands, NoOperands, NextOperand, Branches, NoBranch, NextBranch, SideTree, NewOf, ValueOf, SendOf, GetOf, CallOf, Tests, NoTest, NextTest, TargetTree, ToVariable, ToField, MaybeSide, NoSide, SomeSide, Statement, BlockOf, SkipOf, SuspendOf, AwaitOf, ReturnOf, PrintOf, IfOf, WhileOf, DeclareOf, AssignOf, DoOf, MaybeStatements, NoElse, Else, Statements, NoStatement, NextStatement, ParamTree, SignatureTree, MaybePhrase, NoValue, Value, MemberTree, FieldTree, MethodTree, DeclTree, DataTree, FunctionTree, InterfaceTree, ClassTree, SourceTree}
+use Rattle.abs_tree.specs.declared.place.Place.{Place}
+use Rattle.abs_names.specs.declared.scope.Routine.TheVariants.{Main, Method, Function, Initial}
+use Rattle.abs_names.specs.Scopes.{Meanings, Scope, field_of, use_of, next_bound, with_bound, pattern_scope, local_slot, statement_scope, body_scope, class_fields, fields_after}
 
--- the slot of a local in a scope
-abbrev pub resolved_variable : List ℕ → Variable → Variable
-resolved_variable scope (Named symbol) = Slot (slot_of scope symbol)
-resolved_variable scope (Slot slot) = Slot slot
+-- the use of a variable; one that is unknown stays as it is
+abbrev pub found_or : VariableTree → Option VariableTree → VariableTree
+found_or variable (Some meaning) = meaning
+found_or variable None = variable
+
+abbrev pub resolved_use : Scope → VariableTree → VariableTree
+resolved_use scope (Unresolved name) = found_or (Unresolved name) (use_of scope name)
+resolved_use scope (AtSlot slot) = AtSlot slot
+resolved_use scope (AtBound depth) = AtBound depth
+resolved_use scope (AtField field) = AtField field
+
+-- a field of `this`, which is a variable like others; one that is unknown stays as it is
+abbrev pub field_phrase : Place → Place → Name → Option VariableTree → Phrase
+field_phrase place name_place name (Some field) = VariableOf place field
+field_phrase place name_place name None = FieldOf place name_place name
+
+abbrev pub field_target : Place → Place → Name → Option VariableTree → TargetTree
+field_target place name_place name (Some field) = ToVariable place field
+field_target place name_place name None = ToField place name_place name
 
 abbrev mutual
-  -- a resolved expression: each local is its slot
-  pub resolved_expr : List ℕ → ExprTree → ExprTree
-  resolved_expr scope (Number place number) = Number place number
-  resolved_expr scope (Local place variable) = Local place (resolved_variable scope variable)
-  resolved_expr scope (Apply place function arguments) = Apply place function (resolved_exprs scope arguments)
-  resolved_expr scope (Negate place expr) = Negate place (resolved_expr scope expr)
-  resolved_expr scope (Operators place first operands) =
-      Operators place (resolved_expr scope first) (resolved_operands scope operands)
+  -- a pattern
+  pub resolved_pattern : Scope → PatternTree → PatternTree
+  resolved_pattern scope (AnyValue place) = AnyValue place
+  resolved_pattern scope (Binds place variable) = Binds place (next_bound scope)
+  resolved_pattern scope (SameNumber place number) = SameNumber place number
+  resolved_pattern scope (SameString place string) = SameString place string
+  resolved_pattern scope (Built place constructor arguments) =
+      Built place constructor (resolved_patterns scope arguments)
 
-  pub resolved_exprs : List ℕ → ExprTrees → ExprTrees
-  resolved_exprs scope NoMore = NoMore
-  resolved_exprs scope (More expr rest) = More (resolved_expr scope expr) (resolved_exprs scope rest)
+  pub resolved_patterns : Scope → PatternTrees → PatternTrees
+  resolved_patterns scope NoPattern = NoPattern
+  resolved_patterns scope (NextPattern first others) =
+      NextPattern (resolved_pattern scope first) (resolved_patterns (pattern_scope scope first) others)
 
-  pub resolved_operands : List ℕ → OperandTrees → OperandTrees
-  resolved_operands scope NoOperand = NoOperand
-  resolved_operands scope (Then operator right rest) =
-      Then operator (resolved_expr scope right) (resolved_operands scope rest)
+abbrev mutual
+  -- an expression
+  pub resolved_phrase : Scope → Phrase → Phrase
+  resolved_phrase scope (LetIn place type variable_place variable value body) =
+      LetIn place type variable_place (next_bound scope) (resolved_phrase scope value)
+      (resolved_phrase (with_bound scope variable) body)
+  resolved_phrase scope (IfElse place condition first second) =
+      IfElse place (resolved_phrase scope condition) (resolved_phrase scope first) (resolved_phrase scope second)
+  resolved_phrase scope (OperatorsOf place first operands) =
+      OperatorsOf place (resolved_phrase scope first) (resolved_operands scope operands)
+  resolved_phrase scope (Prefixed place prefix operand) = Prefixed place prefix (resolved_phrase scope operand)
+  resolved_phrase scope (NumberOf place number) = NumberOf place number
+  resolved_phrase scope (StringOf place string) = StringOf place string
+  resolved_phrase scope (NullOf place) = NullOf place
+  resolved_phrase scope (DestinyOf place) = DestinyOf place
+  resolved_phrase scope (ThisOf place) = ThisOf place
+  resolved_phrase scope (FieldOf place name_place name) = field_phrase place name_place name (field_of scope name)
+  resolved_phrase scope (OwnCallOf place method arguments) =
+      OwnCallOf place method (resolved_phrases scope arguments)
+  resolved_phrase scope (VariableOf place variable) = VariableOf place (resolved_use scope variable)
+  resolved_phrase scope (ApplyOf place function arguments) = ApplyOf place function (resolved_phrases scope arguments)
+  resolved_phrase scope (BuildOf place constructor arguments) =
+      BuildOf place constructor (resolved_phrases scope arguments)
+  resolved_phrase scope (CaseOf place subject branches) =
+      CaseOf place (resolved_phrase scope subject) (resolved_branches scope branches)
 
--- a resolved statement; the scope has the names that the statements before it declare. The value of a declaration does
--- not see the name that is declared
-abbrev pub resolved_stmt : List ℕ → StmtTree → StmtTree
-resolved_stmt scope (Declare place name variable value) =
-    Declare place name (resolved_variable (with_variable scope variable) variable) (resolved_expr scope value)
-resolved_stmt scope (Assign place variable value) =
-    Assign place (resolved_variable scope variable) (resolved_expr scope value)
-resolved_stmt scope (Print place text) = Print place (resolved_expr scope text)
+  pub resolved_phrases : Scope → Phrases → Phrases
+  resolved_phrases scope NoPhrase = NoPhrase
+  resolved_phrases scope (NextPhrase first others) =
+      NextPhrase (resolved_phrase scope first) (resolved_phrases scope others)
 
--- resolved statements, in order
-abbrev pub resolved_from : List ℕ → List StmtTree → List StmtTree
-resolved_from scope [] = []
-resolved_from scope (stmt ∷ stmts) = resolved_stmt scope stmt ∷ resolved_from (scope_after_statement scope stmt) stmts
+  pub resolved_operands : Scope → Operands → Operands
+  resolved_operands scope NoOperands = NoOperands
+  resolved_operands scope (NextOperand operator right others) =
+      NextOperand operator (resolved_phrase scope right) (resolved_operands scope others)
 
--- a resolved program, with a slot for each name that it declares
-abbrev pub resolved : ProgramTree → NamedTree
-resolved program = record {
-  names = program.names;
-  main = resolved_from [] program.main;
-  slots = length (scope_after [] program.main);
+  pub resolved_branches : Scope → Branches → Branches
+  resolved_branches scope NoBranch = NoBranch
+  resolved_branches scope (NextBranch pattern value others) =
+      NextBranch (resolved_pattern scope pattern) (resolved_phrase (pattern_scope scope pattern) value)
+      (resolved_branches scope others)
+
+-- a right side, where `next` is the first free slot: it is that of the result of a call by "." on another object
+abbrev pub hidden_slot : ℕ → Phrases → Option ℕ
+hidden_slot next NoPhrase = None
+hidden_slot next (NextPhrase receiver arguments) = if is_this receiver then None else Some next
+
+abbrev pub resolved_side : Scope → ℕ → SideTree → SideTree
+resolved_side scope next (NewOf place mode class_place class arguments) =
+    NewOf place mode class_place class (resolved_phrases scope arguments)
+resolved_side scope next (ValueOf place value) = ValueOf place (resolved_phrase scope value)
+resolved_side scope next (SendOf place method row) = SendOf place method (resolved_phrases scope row)
+resolved_side scope next (GetOf place get_place future) = GetOf place get_place (resolved_phrase scope future)
+resolved_side scope next (CallOf place method row slot) =
+    CallOf place method (resolved_phrases scope row) (hidden_slot next row)
+
+abbrev pub resolved_maybe_side : Scope → ℕ → MaybeSide → MaybeSide
+resolved_maybe_side scope next NoSide = NoSide
+resolved_maybe_side scope next (SomeSide side) = SomeSide (resolved_side scope next side)
+
+-- a guard
+abbrev pub resolved_tests : Scope → Tests → Tests
+resolved_tests scope NoTest = NoTest
+resolved_tests scope (NextTest place value asks others) =
+    NextTest place (resolved_phrase scope value) asks (resolved_tests scope others)
+
+-- a target
+abbrev pub resolved_target : Scope → TargetTree → TargetTree
+resolved_target scope (ToVariable place variable) = ToVariable place (resolved_use scope variable)
+resolved_target scope (ToField place name_place name) = field_target place name_place name (field_of scope name)
+
+abbrev mutual
+  -- a statement, where `next` is the first free slot
+  pub resolved_statement : Scope → ℕ → Statement → Statement
+  resolved_statement scope next (BlockOf place block) = BlockOf place (resolved_statements scope next block)
+  resolved_statement scope next (SkipOf index place) = SkipOf index place
+  resolved_statement scope next (SuspendOf index place) = SuspendOf index place
+  resolved_statement scope next (AwaitOf index place guard) = AwaitOf index place (resolved_tests scope guard)
+  resolved_statement scope next (ReturnOf index place value) = ReturnOf index place (resolved_phrase scope value)
+  resolved_statement scope next (PrintOf index place value) = PrintOf index place (resolved_phrase scope value)
+  resolved_statement scope next (IfOf index place condition first second) =
+      IfOf index place (resolved_phrase scope condition) (resolved_statements scope next first)
+      (resolved_else scope (next + length (statements_slots first)) second)
+  resolved_statement scope next (WhileOf index place condition body) =
+      WhileOf index place (resolved_phrase scope condition) (resolved_statements scope next body)
+  resolved_statement scope next (DeclareOf index place type variable_place variable initial) =
+      DeclareOf index place type variable_place (local_slot next index initial)
+      (resolved_maybe_side scope next initial)
+  resolved_statement scope next (AssignOf index place target side) =
+      AssignOf index place (resolved_target scope target) (resolved_side scope next side)
+  resolved_statement scope next (DoOf index place side) = DoOf index place (resolved_side scope next side)
+
+  pub resolved_else : Scope → ℕ → MaybeStatements → MaybeStatements
+  resolved_else scope next NoElse = NoElse
+  resolved_else scope next (Else branch) = Else (resolved_statements scope next branch)
+
+  -- statements in order, each in the scope after the one before it
+  pub resolved_statements : Scope → ℕ → Statements → Statements
+  resolved_statements scope next NoStatement = NoStatement
+  resolved_statements scope next (NextStatement first others) =
+      NextStatement (resolved_statement scope next first)
+      (resolved_statements (statement_scope scope next first) (next + length (statement_slots first)) others)
+
+-- parameters, which are slots of a body or fields of a class, from this index on
+abbrev pub resolved_params : (ℕ → VariableTree) → ℕ → List ParamTree → List ParamTree
+resolved_params make index [] = []
+resolved_params make index (param ∷ others) =
+    record { type_of = param.type_of; place = param.place; variable = make index }
+    ∷ resolved_params make (index + 1) others
+
+-- the head of a method
+abbrev pub resolved_signature : SignatureTree → SignatureTree
+resolved_signature signature = record {
+  result = signature.result;
+  name = signature.name;
+  params = resolved_params AtSlot 0 signature.params;
+}
+
+abbrev pub resolved_signatures : List SignatureTree → List SignatureTree
+resolved_signatures [] = []
+resolved_signatures (signature ∷ others) = resolved_signature signature ∷ resolved_signatures others
+
+-- an initial value, if there is one
+abbrev pub resolved_maybe_phrase : Scope → MaybePhrase → MaybePhrase
+resolved_maybe_phrase scope NoValue = NoValue
+resolved_maybe_phrase scope (Value value) = Value (resolved_phrase scope value)
+
+-- a member of a class with these fields, where `earlier` of the fields come before it
+abbrev pub resolved_member : Meanings → ℕ → MemberTree → MemberTree
+resolved_member fields earlier (FieldTree type name initial) =
+    FieldTree type name (resolved_maybe_phrase (body_scope (Initial earlier) fields []) initial)
+resolved_member fields earlier (MethodTree signature end body) =
+    MethodTree (resolved_signature signature) end
+    (resolved_statements (body_scope Method fields signature.params) (length signature.params) body)
+
+abbrev pub resolved_members : Meanings → ℕ → List MemberTree → List MemberTree
+resolved_members fields earlier [] = []
+resolved_members fields earlier (member ∷ others) =
+    resolved_member fields earlier member ∷ resolved_members fields (fields_after earlier member) others
+
+-- a declaration
+abbrev pub resolved_declaration : DeclTree → DeclTree
+resolved_declaration (DataTree place name type_params constructors) = DataTree place name type_params constructors
+resolved_declaration (FunctionTree place result name type_params params value) =
+    FunctionTree place result name type_params (resolved_params AtSlot 0 params)
+    (resolved_phrase (body_scope Function [] params) value)
+resolved_declaration (InterfaceTree place name extended signatures) =
+    InterfaceTree place name extended (resolved_signatures signatures)
+resolved_declaration (ClassTree place name params implemented members) =
+    ClassTree place name (resolved_params AtField 0 params) implemented
+    (resolved_members (class_fields params members) (length params) members)
+
+abbrev pub resolved_declarations : List DeclTree → List DeclTree
+resolved_declarations [] = []
+resolved_declarations (declaration ∷ others) = resolved_declaration declaration ∷ resolved_declarations others
+
+-- a source
+abbrev pub resolved : SourceTree → SourceTree
+resolved source = record {
+  declarations = resolved_declarations source.declarations;
+  main = resolved_statements (body_scope Main [] []) 0 source.main;
+  end = source.end;
 }

@@ -1,38 +1,164 @@
--- Scopes: the names that are declared at a statement of the main block. A scope has the numbers of the declared
--- symbols, each once, in the order of their declarations. The index of a symbol in it is the slot of its local.
+-- Scopes: what a name means where it is used as a variable.
 --
---   `is_declared`, `slot_of`                   whether a symbol is declared, and its slot
---   `with_symbol`, `with_variable`             the scope after a declaration
---   `scope_after_statement`, `scope_after`     the scope after one statement, and after several
-use Rattle.std.specs.Prelude.{ℕ, Bool, List, [], ◌∷◌, ◌++◌, fold, nat_eq, if◌then◌else◌}
-use Rattle.std.specs.List.{list_any, position_or_len}
-use Rattle.abs_tree.specs.declared.symbol.Symbol.{Symbol}
-use Rattle.abs_tree.specs.declared.program.Variable.{Variable}
-use Rattle.abs_tree.specs.declared.program.Variable.TheVariants.{Named, Slot}
-use Rattle.abs_tree.specs.Trees.{StmtTree, Declare, Assign, Print}
+--   `Meanings`, `meaning_of`                   names with what they mean, and what they say of a name
+--   `Scope`                                    what is visible at a place
+--   `use_of`, `field_of`, `is_taken`           the use of a name, a field of `this`, a name that may not be bound
+--   `with_bound`, `with_local`                 the scope after a variable is bound, and after a local is declared
+--   `pattern_scope`, `statement_scope`         the scope after a pattern, and after a statement
+--   `body_scope`, `class_fields`               the scope at the beginning of a body, the fields of a class
+use Rattle.std.specs.Prelude.{ℕ, ◌+◌, Bool, true, false, ◌||◌, List, [], ◌∷◌, length, Option, Some, None, is_some, nat_lt, if◌then◌else◌}
+use Rattle.std.specs.Str.{bytes_eq}
+use Rattle.abs_tree.specs.Syntax.{Name, VariableTree, Unresolved, AtSlot, AtBound, AtField, PatternTree, AnyValue, Binds, SameNumber, SameString, Built, PatternTrees, NoPattern, NextPattern, MaybeSide, Statement, BlockOf, SkipOf, SuspendOf, AwaitOf, ReturnOf, PrintOf, IfOf, WhileOf, DeclareOf, AssignOf, DoOf, ParamTree, MemberTree, FieldTree, MethodTree}
+use Rattle.abs_tree.specs.Slots.{maybe_side_slots}
+use Rattle.abs_names.specs.declared.scope.Routine.{Routine}
+use Rattle.abs_names.specs.declared.scope.Routine.TheVariants.{Main, Method, Function, Initial}
 
--- whether a symbol is declared
-abbrev pub is_declared : List ℕ → Symbol → Bool
-is_declared scope symbol = list_any (nat_eq symbol.0) scope
+-- names with what they mean, the newest first
+abbrev pub Meanings : Type 0
+Meanings = List (Name × VariableTree)
 
--- the slot of a symbol; for one that is not declared, the slot that it would get
-abbrev pub slot_of : List ℕ → Symbol → ℕ
-slot_of scope symbol = position_or_len (nat_eq symbol.0) scope
+-- what the newest of these says of a name
+abbrev pub meaning_of : Meanings → Name → Option VariableTree
+meaning_of [] name = None
+meaning_of (known ∷ others) name = if bytes_eq known.0 name then Some known.1 else meaning_of others name
 
--- the scope after a declaration
-abbrev pub with_symbol : List ℕ → Symbol → List ℕ
-with_symbol scope symbol = if is_declared scope symbol then scope else scope ++ symbol.0 ∷ []
+-- the meanings with a new one; a variable that is resolved already has no name
+abbrev pub with_meaning : Meanings → VariableTree → VariableTree → Meanings
+with_meaning known (Unresolved name) meaning = (name, meaning) ∷ known
+with_meaning known _ meaning = known
 
-abbrev pub with_variable : List ℕ → Variable → List ℕ
-with_variable scope (Named symbol) = with_symbol scope symbol
-with_variable scope (Slot slot) = scope
+-- What is visible at a place: in which routine it is, the fields of the class, and the parameters, locals and bound
+-- variables.
+pub record Scope : Type 0 where
+  pub routine : Routine
+  pub fields : Meanings
+  pub variables : Meanings
 
--- the scope after a statement
-abbrev pub scope_after_statement : List ℕ → StmtTree → List ℕ
-scope_after_statement scope (Declare place name variable value) = with_variable scope variable
-scope_after_statement scope (Assign place variable value) = scope
-scope_after_statement scope (Print place text) = scope
+-- whether there is `this`, and whether there is a task
+abbrev pub has_this : Routine → Bool
+has_this Main = false
+has_this Method = true
+has_this Function = false
+has_this (Initial earlier) = false
 
--- the scope after statements
-abbrev pub scope_after : List ℕ → List StmtTree → List ℕ
-scope_after scope stmts = fold scope_after_statement scope stmts
+abbrev pub has_task : Routine → Bool
+has_task Main = true
+has_task Method = true
+has_task Function = false
+has_task (Initial earlier) = false
+
+-- the field of the class with this name
+abbrev pub field_of : Scope → Name → Option VariableTree
+field_of scope name = meaning_of scope.fields name
+
+-- what the use of a field by its name alone stands for: a method sees all fields, and an initial value the earlier
+-- ones, as slots
+abbrev pub visible_field : Routine → Option VariableTree → Option VariableTree
+visible_field Method field = field
+visible_field (Initial earlier) (Some (AtField field)) = if nat_lt field earlier then Some (AtSlot field) else None
+visible_field _ field = None
+
+-- what the use of a name stands for: a variable that is visible, or else a field
+abbrev pub or_field : Scope → Name → Option VariableTree → Option VariableTree
+or_field scope name (Some variable) = Some variable
+or_field scope name None = visible_field scope.routine (field_of scope name)
+
+abbrev pub use_of : Scope → Name → Option VariableTree
+use_of scope name = or_field scope name (meaning_of scope.variables name)
+
+-- whether a pattern or a `let` may not bind a name, since it is that of a visible variable or of any field
+abbrev pub is_taken : Scope → Name → Bool
+is_taken scope name = is_some (meaning_of scope.variables name) || is_some (field_of scope name)
+
+-- how many variables of patterns and of `let` are visible
+abbrev pub bound_count : Meanings → ℕ
+bound_count [] = 0
+bound_count ((_, AtBound _) ∷ others) = 1 + bound_count others
+bound_count (_ ∷ others) = bound_count others
+
+-- the next variable that a pattern or a `let` binds, and the scope after that
+abbrev pub next_bound : Scope → VariableTree
+next_bound scope = AtBound (bound_count scope.variables)
+
+abbrev pub with_variable : Scope → VariableTree → VariableTree → Scope
+with_variable scope variable meaning = record {
+  routine = scope.routine;
+  fields = scope.fields;
+  variables = with_meaning scope.variables variable meaning;
+}
+
+abbrev pub with_bound : Scope → VariableTree → Scope
+with_bound scope variable = with_variable scope variable (next_bound scope)
+
+abbrev mutual
+  -- the scope after the variables of a pattern are bound
+  pub pattern_scope : Scope → PatternTree → Scope
+  pattern_scope scope (AnyValue place) = scope
+  pattern_scope scope (Binds place variable) = with_bound scope variable
+  pattern_scope scope (SameNumber place number) = scope
+  pattern_scope scope (SameString place string) = scope
+  pattern_scope scope (Built place constructor arguments) = patterns_scope scope arguments
+
+  pub patterns_scope : Scope → PatternTrees → Scope
+  patterns_scope scope NoPattern = scope
+  patterns_scope scope (NextPattern first others) = patterns_scope (pattern_scope scope first) others
+
+-- the slot of the local that a statement declares, where `next` is the first free slot; the slot of a call on its right
+-- side comes before it
+abbrev pub local_slot : ℕ → ℕ → MaybeSide → VariableTree
+local_slot next index initial = AtSlot (next + length (maybe_side_slots index initial))
+
+-- the scope after a statement; no local of a block, a branch or a loop is left
+abbrev pub statement_scope : Scope → ℕ → Statement → Scope
+statement_scope scope next (DeclareOf index place type variable_place variable initial) =
+    with_variable scope variable (local_slot next index initial)
+statement_scope scope next (BlockOf place block) = scope
+statement_scope scope next (SkipOf index place) = scope
+statement_scope scope next (SuspendOf index place) = scope
+statement_scope scope next (AwaitOf index place guard) = scope
+statement_scope scope next (ReturnOf index place value) = scope
+statement_scope scope next (PrintOf index place value) = scope
+statement_scope scope next (IfOf index place condition first second) = scope
+statement_scope scope next (WhileOf index place condition body) = scope
+statement_scope scope next (AssignOf index place target side) = scope
+statement_scope scope next (DoOf index place side) = scope
+
+-- the meanings of parameters, each the slot of its index
+abbrev pub with_params : Meanings → ℕ → List ParamTree → Meanings
+with_params known index [] = known
+with_params known index (param ∷ others) =
+    with_params (with_meaning known param.variable (AtSlot index)) (index + 1) others
+
+-- the scope at the beginning of a body, which sees its parameters
+abbrev pub body_scope : Routine → Meanings → List ParamTree → Scope
+body_scope routine fields params =
+    record { routine = routine; fields = fields; variables = with_params [] 0 params }
+
+-- the fields with one more; the first field of a name counts
+abbrev pub with_field : Meanings → VariableTree → ℕ → Meanings
+with_field known (Unresolved name) index =
+    if is_some (meaning_of known name) then known else (name, AtField index) ∷ known
+with_field known _ index = known
+
+-- the fields of a class: its parameters, and the fields among its members
+abbrev pub with_param_fields : Meanings → ℕ → List ParamTree → Meanings
+with_param_fields known index [] = known
+with_param_fields known index (param ∷ others) =
+    with_param_fields (with_field known param.variable index) (index + 1) others
+
+abbrev pub with_member : Meanings → ℕ → MemberTree → Meanings
+with_member known index (FieldTree type name initial) = with_field known (Unresolved name.name) index
+with_member known index (MethodTree signature end body) = known
+
+-- how many fields there are up to a member, given how many come before it
+abbrev pub fields_after : ℕ → MemberTree → ℕ
+fields_after earlier (FieldTree type name initial) = earlier + 1
+fields_after earlier (MethodTree signature end body) = earlier
+
+abbrev pub with_member_fields : Meanings → ℕ → List MemberTree → Meanings
+with_member_fields known index [] = known
+with_member_fields known index (member ∷ others) =
+    with_member_fields (with_member known index member) (fields_after index member) others
+
+abbrev pub class_fields : List ParamTree → List MemberTree → Meanings
+class_fields params members = with_member_fields (with_param_fields [] 0 params) (length params) members

@@ -1,8 +1,21 @@
-//! The names of a program: the name offences, and the local that each name denotes.
+//! The names of a source: which variable each name stands for, and the first name offence.
 #![tactic(auto)]
 
+mod bodies;
+mod classes;
+mod declarations;
+mod expressions;
+mod laws;
+mod meanings;
+mod patterns;
 pub mod resolver;
+mod right_sides;
 mod scope;
+mod slots;
+mod statements;
+mod types;
+mod walk;
 
 pub use abs_tree::SourceError as NameError;
-pub use resolver::{own_slots, resolve};
+pub use laws::{newest_declaration, own_slots};
+pub use resolver::resolve;

@@ -1,176 +1,64 @@
-//! Resolves the names of a program: gives each local its slot, or finds the first name offence.
-ghost use Rattle.std.specs.Prelude.{◌≡◌, ◌≤◌, ◌<◌, ◌+◌, ◌^◌, [], length, fold, map, IfOk, IfErr, OnOk};
-ghost use Rattle.abs_tree.specs.Trees.{ProgramTree, expr_tree, trees_of, operands_of, stmt_tree, program_tree, named_tree};
-ghost use Rattle.abs_tree.specs.Offences.{earlier};
+//! Resolves the variables of a source, or finds its first name offence.
+ghost use Rattle.std.specs.Prelude.{◌≡◌, [], All, IfOk, IfErr, OnOk};
+ghost use Rattle.abs_tree.specs.Offences.{first_offence};
+ghost use Rattle.abs_tree.specs.SlotViews.{BodyHasSlots, DeclHasSlots};
+ghost use Rattle.abs_tree.specs.SourceViews.{source_tree, named_tree};
+ghost use Rattle.abs_tree.specs.SyntaxViews.{tree_of_parts};
 ghost use Rattle.abs_names.specs.Answers.{Refuses};
-ghost use Rattle.abs_names.specs.NameOffences.{unknown_in, unknown_in_all, unknown_in_operands, offences_of, offences_from, name_offences};
-ghost use Rattle.abs_names.specs.Resolution.{resolved_expr, resolved_exprs, resolved_operands, resolved_stmt, resolved_from, resolved};
-ghost use Rattle.abs_names.specs.Scopes.{scope_after_statement, scope_after};
-ghost use Rattle.abs_names.specs.Slots.{HasOwnSlots};
+ghost use Rattle.abs_names.specs.NameOffences.{name_offences};
+ghost use Rattle.abs_names.specs.Resolution.{resolved};
 
 use crate::NameError;
-use crate::scope::Scope;
-use abs_tree::{Expr, Named, Offence, Operand, Program, Stmt};
+use crate::scope::Routine;
+use crate::walk::Walk;
+use abs_tree::{Body, Decl, Named, Offence, Program, Symbols};
 use std::alloc::{AllocError, Global};
-use std::sync::Arc;
 
-/// The resolved program: it has a slot for each local that it declares, and each use of a local is its slot.
+/// The source with its variables resolved.
 ///
 /// # Errors
-/// [`NameError::Refused`] if the program has a name offence, for the first one; [`NameError::Memory`] if an allocation
-/// fails.
+/// [`NameError::Refused`] if a name offends, for the first offence; [`NameError::Memory`] if an allocation fails, or if
+/// a body has too many slots or a class too many fields.
 pub fn resolve<'a>(alloc: Global, program: Program<'a>) -> Result<Named<'a>, NameError>
-    ensures found { IfOk result (λ named. named_tree named ≡ resolved (program_tree program.entry)) }
-    ensures accepted { OnOk result (name_offences (program_tree program.entry) ≡ []) }
-    ensures refused { IfErr result (λ error. Refuses error (name_offences (program_tree program.entry))) }
+    ensures found { IfOk result (λ named. named_tree named ≡ resolved (source_tree program.entry)) }
+    ensures names { IfOk result (λ named. named.symbols ≡ program.entry.symbols) }
+    ensures accepted { OnOk result (name_offences (source_tree program.entry) ≡ []) }
+    ensures refused { IfErr result (λ error. Refuses error (name_offences (source_tree program.entry))) }
 {
-    let Program { symbols, main } = program;
-    let mut scope = Scope::new(alloc);
-    let mut first = None;
-    let main = statements(alloc, &mut scope, &mut first, main.as_slice())?;
-    match first {
+    let Program {
+        symbols,
+        mut declarations,
+        mut main,
+    } = program;
+    match resolve_parts(alloc, &symbols, &mut declarations, &mut main)? {
         Some(offence) => Err(NameError::Refused(offence.refusal())),
         None => Ok(Named {
             symbols,
+            declarations,
             main,
-            slots: scope.len() as u32,
         }),
     }
 }
 
-/// Resolves statements in order. The scope is then the one after them.
-fn statements(
+/// Resolves declarations and a main block in place, and returns the first name offence in them.
+///
+/// # Errors
+/// [`AllocError`] if an allocation fails, or if a body has too many slots or a class too many fields.
+fn resolve_parts(
     alloc: Global,
-    scope: &mut Scope,
-    first: &mut Option<Offence>,
-    stmts: &[Stmt],
-) -> Result<Vec<Stmt>, AllocError>
-    requires { length scope.old + length stmts.now < 2 ^ 31 }
-    ensures found { IfOk result
-        (λ found. map stmt_tree found.items ≡ resolved_from scope.old (map stmt_tree stmts.now)) }
-    ensures after { OnOk result (scope.new ≡ scope_after scope.old (map stmt_tree stmts.now)) }
-    ensures noted { OnOk result
-        (first.new ≡ fold earlier first.old (offences_from scope.old (map stmt_tree stmts.now))) }
-    ensures few { OnOk result (length scope.new ≤ length scope.old + length stmts.now) }
+    symbols: &Symbols<'_>,
+    declarations: &mut Vec<Decl>,
+    main: &mut Body,
+) -> Result<Option<Offence>, AllocError>
+    ensures first { IfOk result
+        (λ first. first ≡ first_offence (name_offences (tree_of_parts symbols.now declarations.old.items main.old))) }
+    ensures found { OnOk result (tree_of_parts symbols.now declarations.new.items main.new
+        ≡ resolved (tree_of_parts symbols.now declarations.old.items main.old)) }
+    ensures main_has_slots { OnOk result (BodyHasSlots symbols.now 0 main.new) }
+    ensures methods_have_slots { OnOk result (All (DeclHasSlots symbols.now) declarations.new.items) }
 {
-    let mut found = Vec::with_capacity(alloc, stmts.len())?;
-    for stmt in stmts {
-        found.push(statement(alloc, scope, first, stmt)?)?;
-    }
-    Ok(found)
+    let mut walk = Walk::new(alloc, symbols);
+    walk.declarations(declarations)?;
+    walk.body(Routine::Main, &[], main)?;
+    Ok(walk.first)
 }
-
-/// Resolves a statement. The scope is then the one after it.
-fn statement(
-    alloc: Global,
-    scope: &mut Scope,
-    first: &mut Option<Offence>,
-    stmt: &Stmt,
-) -> Result<Stmt, AllocError>
-    requires { length scope.old < 2 ^ 31 }
-    ensures found { IfOk result (λ found. stmt_tree found ≡ resolved_stmt scope.old (stmt_tree stmt.now)) }
-    ensures after { OnOk result (scope.new ≡ scope_after_statement scope.old (stmt_tree stmt.now)) }
-    ensures noted { OnOk result (first.new ≡ fold earlier first.old (offences_of scope.old (stmt_tree stmt.now))) }
-{
-    match stmt {
-        Stmt::Declare(place, name, variable, value) => {
-            scope.note_if_declared(first, *name, *variable);
-            // the value is resolved before its name is declared
-            let value = Arc::new(alloc, expression(alloc, scope, first, value)?)?;
-            let variable = scope.declare(*variable)?;
-            Ok(Stmt::Declare(*place, *name, variable, value))
-        }
-        Stmt::Assign(place, variable, value) => {
-            let variable = scope.look_up(first, *place, *variable);
-            let value = Arc::new(alloc, expression(alloc, scope, first, value)?)?;
-            Ok(Stmt::Assign(*place, variable, value))
-        }
-        Stmt::Print(place, text) => {
-            let text = Arc::new(alloc, expression(alloc, scope, first, text)?)?;
-            Ok(Stmt::Print(*place, text))
-        }
-    }
-}
-
-/// Resolves an expression.
-#[cycle(expressions)]
-fn expression(
-    alloc: Global,
-    scope: &Scope,
-    first: &mut Option<Offence>,
-    expr: &Expr,
-) -> Result<Expr, AllocError>
-    requires { length scope.now < 2 ^ 32 }
-    ensures found { IfOk result (λ found. expr_tree found ≡ resolved_expr scope.now (expr_tree expr.now)) }
-    ensures noted { OnOk result (first.new ≡ fold earlier first.old (unknown_in scope.now (expr_tree expr.now))) }
-{
-    match expr {
-        Expr::Number(place, number) => Ok(Expr::Number(*place, *number)),
-        Expr::Local(place, variable) => {
-            let variable = scope.look_up(first, *place, *variable);
-            Ok(Expr::Local(*place, variable))
-        }
-        Expr::Apply(place, function, arguments) => {
-            let arguments = expressions(alloc, scope, first, arguments)?;
-            Ok(Expr::Apply(*place, *function, arguments))
-        }
-        Expr::Negate(place, operand) => {
-            let operand = expression(alloc, scope, first, operand)?;
-            Ok(Expr::Negate(*place, Box::new(alloc, operand)?))
-        }
-        Expr::Operators(place, left, rest) => {
-            let left = Box::new(alloc, expression(alloc, scope, first, left)?)?;
-            let rest = operands(alloc, scope, first, rest)?;
-            Ok(Expr::Operators(*place, left, rest))
-        }
-    }
-}
-
-/// Resolves the expressions of a list.
-#[cycle(expressions)]
-fn expressions(
-    alloc: Global,
-    scope: &Scope,
-    first: &mut Option<Offence>,
-    exprs: &[Expr],
-) -> Result<Vec<Expr>, AllocError>
-    requires { length scope.now < 2 ^ 32 }
-    ensures found { IfOk result (λ found. trees_of found.items ≡ resolved_exprs scope.now (trees_of exprs.now)) }
-    ensures noted { OnOk result (first.new ≡ fold earlier first.old (unknown_in_all scope.now (trees_of exprs.now))) }
-{
-    let mut found = Vec::with_capacity(alloc, exprs.len())?;
-    for expr in exprs {
-        found.push(expression(alloc, scope, first, expr)?)?;
-    }
-    Ok(found)
-}
-
-/// Resolves the right operands of an operator list.
-#[cycle(expressions)]
-fn operands(
-    alloc: Global,
-    scope: &Scope,
-    first: &mut Option<Offence>,
-    operands: &[Operand],
-) -> Result<Vec<Operand>, AllocError>
-    requires { length scope.now < 2 ^ 32 }
-    ensures found { IfOk result
-        (λ found. operands_of found.items ≡ resolved_operands scope.now (operands_of operands.now)) }
-    ensures noted { OnOk result
-        (first.new ≡ fold earlier first.old (unknown_in_operands scope.now (operands_of operands.now))) }
-{
-    let mut found = Vec::with_capacity(alloc, operands.len())?;
-    for operand in operands {
-        let right = expression(alloc, scope, first, &operand.right)?;
-        found.push(Operand {
-            operator: operand.operator,
-            right,
-        })?;
-    }
-    Ok(found)
-}
-
-/// A program without a name offence has one slot for each declaration, numbered from 0 in the order of the source.
-pub fn own_slots()
-    ensures { (program : ProgramTree) → HasOwnSlots program }
-{}

@@ -6,7 +6,7 @@ ghost use Rattle.abs_lexer.specs.declared.lexeme.Lexeme.TheVariants as lexeme;
 ghost use Rattle.abs_tree.specs.declared.syntax.expression.Prefix as prefix_type;
 ghost use Rattle.abs_tree.specs.Syntax.{Name};
 ghost use Rattle.abs_tree.specs.SyntaxViews.{phrase};
-ghost use Rattle.abs_tree.specs.Trees.{name_of};
+ghost use Rattle.abs_tree.specs.Names.{name_of};
 ghost use Rattle.abs_parser.specs.TokenKinds.{LowerName, UpperName, KeywordKind, PunctuatorKind, fits, next, token_kind_of};
 ghost use Rattle.abs_parser.specs.Precedences.{prefix_punctuator};
 ghost use Rattle.abs_parser.specs.Productions.{begins, Unary, Primary};

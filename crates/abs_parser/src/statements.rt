@@ -254,6 +254,7 @@ pub(crate) fn block<'a, 'b>(
     let body = Body {
         statements,
         end: close.place,
+        slots: Vec::new(alloc),
     };
     Ok((body, free, end))
 }

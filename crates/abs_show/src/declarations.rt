@@ -1,16 +1,20 @@
 //! Prints declarations, and a program as a whole.
 use crate::printer::Printer;
-use abs_tree::syntax::{Body, Constructor, Decl, Declared, Member, Param, Program, Signature};
+use abs_tree::{Body, Constructor, Decl, Declared, Member, Param, Signature, Slot};
 use std::alloc::AllocError;
 
 impl Printer<'_, '_> {
     /// A program: its declarations, each before a semicolon, and its main block.
-    pub(crate) fn program(&mut self, program: &Program<'_>) -> Result<(), AllocError> {
-        for decl in program.declarations.iter() {
+    pub(crate) fn program(
+        &mut self,
+        declarations: &Vec<Decl>,
+        main: &Body,
+    ) -> Result<(), AllocError> {
+        for decl in declarations.iter() {
             self.decl(decl)?;
             self.push("; ")?;
         }
-        self.body(&program.main)
+        self.body(main)
     }
 
     /// A declaration: its word, its name, and its parts, with a bar before each constructor, signature or member.
@@ -173,12 +177,25 @@ impl Printer<'_, '_> {
         }
     }
 
-    /// The statements of a body, and the place of the brace that closes it.
+    /// The statements of a body, the place of the brace that closes it, and its slots.
     fn body(&mut self, body: &Body) -> Result<(), AllocError> {
         self.push("{")?;
         self.stmts(&body.statements)?;
         self.push(" ")?;
         self.place(body.end)?;
-        self.push("}")
+        self.push("}")?;
+        self.slots(&body.slots)
+    }
+
+    /// Slots between brackets, each after a space; nothing for no slots, so for no body whose names are unresolved.
+    fn slots(&mut self, slots: &Vec<Slot>) -> Result<(), AllocError> {
+        if slots.is_empty() {
+            return Ok(());
+        }
+        self.push("[")?;
+        for slot in slots.iter() {
+            self.slot(*slot)?;
+        }
+        self.push("]")
     }
 }

@@ -1,7 +1,6 @@
 //! Prints expressions and right sides.
 use crate::printer::Printer;
-use abs_tree::Symbol;
-use abs_tree::syntax::{Branch, Expr, Operand, RightSide};
+use abs_tree::{Branch, Expr, Operand, RightSide, Symbol};
 use std::alloc::AllocError;
 
 impl Printer<'_, '_> {
@@ -169,7 +168,15 @@ impl Printer<'_, '_> {
                 self.word_at(*get_place, "get")?;
             }
             RightSide::Send { method, row, .. } => self.called("send(", *method, row)?,
-            RightSide::Call { method, row, .. } => self.called("call(", *method, row)?,
+            RightSide::Call {
+                method,
+                row,
+                slot,
+                ..
+            } => {
+                self.called("call(", *method, row)?;
+                self.into_slot(*slot)?;
+            }
         }
         self.push(")")
     }

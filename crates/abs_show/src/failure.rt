@@ -8,11 +8,11 @@ use thiserror::Error;
 /// Why nothing is shown. Its text is a line for the user.
 #[derive(Clone, Copy, Debug, PartialEq, Eq, Error)]
 pub(crate) enum Failure {
-    /// The lexer or the parser refuses the source.
+    /// The lexer, the parser or the resolver refuses the source.
     #[error("refused: {0} at {1}:{2}")]
     Refused(Code, u32, u32),
     /// The words are not of this program.
-    #[error("usage: abs_show (tree | names | tokens) FILE")]
+    #[error("usage: abs_show (tree | resolved | names | tokens) FILE")]
     Usage,
     /// The source has more bytes than a source may have.
     #[error("the source has too many bytes")]

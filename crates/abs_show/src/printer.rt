@@ -1,7 +1,6 @@
 //! The printer of trees: appends to one string, and prints a line number only where a place is on another line than
 //! the place printed before it.
-use abs_tree::syntax::{Declared, Mode, Operator, Prefix, Variable};
-use abs_tree::{Place, Symbol, Symbols, Text};
+use abs_tree::{Declared, Mode, Operator, Place, Prefix, Slot, Symbol, Symbols, Text, Variable};
 use std::alloc::{AllocError, Global};
 
 /// What was printed so far, and what the rest is printed with. Each method appends one part of the tree.
@@ -90,6 +89,23 @@ impl<'s, 'a> Printer<'s, 'a> {
             Variable::Slot(slot) => write!(self.out, "slot {slot}"),
             Variable::Bound(depth) => write!(self.out, "bound {depth}"),
             Variable::Field(field) => write!(self.out, "field {field}"),
+        }
+    }
+
+    /// A slot of a body, after a space: what it is of, and the index of that.
+    pub(crate) fn slot(&mut self, slot: Slot) -> Result<(), AllocError> {
+        match slot {
+            Slot::Parameter(index) => write!(self.out, " parameter {index}"),
+            Slot::Local(index) => write!(self.out, " local {index}"),
+            Slot::Hidden(index) => write!(self.out, " hidden {index}"),
+        }
+    }
+
+    /// The hidden slot of a call, where it has one.
+    pub(crate) fn into_slot(&mut self, slot: Option<u32>) -> Result<(), AllocError> {
+        match slot {
+            Some(slot) => write!(self.out, " into slot {slot}"),
+            None => Ok(()),
         }
     }
 

@@ -1,4 +1,4 @@
-//! What is shown of a source: its tree, its names or its tokens, as text.
+//! What is shown of a source, as text: its tree, its tree with its variables resolved, its names, or its tokens.
 ghost use Rattle.std.specs.Prelude.{◌≤◌, length};
 ghost use Rattle.abs_tree.specs.Limits.{source_limit};
 
@@ -6,8 +6,9 @@ use crate::failure::Failure;
 use crate::printer::Printer;
 use abs_lexer::lexer::tokens;
 use abs_lexer::token::Tokens;
+use abs_names::resolve;
 use abs_parser::parse;
-use abs_tree::{Symbol, Symbols};
+use abs_tree::{Body, Decl, Symbol, Symbols};
 use std::alloc::{AllocError, Global};
 
 /// What is shown of a source.
@@ -15,6 +16,8 @@ use std::alloc::{AllocError, Global};
 pub(crate) enum What {
     /// The tree.
     Tree,
+    /// The tree with its variables resolved.
+    Resolved,
     /// The table of names, in the order of their symbols.
     Names,
     /// The tokens, and the place after the last byte.
@@ -26,6 +29,7 @@ impl What {
     pub(crate) fn named(word: &str) -> Option<What> {
         match word {
             "tree" => Some(What::Tree),
+            "resolved" => Some(What::Resolved),
             "names" => Some(What::Names),
             "tokens" => Some(What::Tokens),
             _ => None,
@@ -36,8 +40,8 @@ impl What {
 /// What is asked for of a source, as whole lines.
 ///
 /// # Errors
-/// [`Failure::Refused`] where the lexer refuses the source, or the parser where its tree or its names are asked for;
-/// [`Failure::Memory`] where memory runs out.
+/// [`Failure::Refused`] where the lexer refuses the source, or the parser where more than its tokens are asked for, or
+/// the resolver where its resolved tree is; [`Failure::Memory`] where memory runs out.
 pub(crate) fn show(alloc: Global, what: What, source: &[u8]) -> Result<String, Failure>
     requires { length source.now ≤ source_limit }
 {
@@ -48,12 +52,31 @@ pub(crate) fn show(alloc: Global, what: What, source: &[u8]) -> Result<String, F
     let program = parse(alloc, &list)?;
     match what {
         What::Names => Ok(name_lines(alloc, &program.symbols)?),
+        What::Resolved => {
+            let named = resolve(alloc, program)?;
+            Ok(tree_line(alloc, &named.symbols, &named.declarations, &named.main)?)
+        }
         What::Tree | What::Tokens => {
-            let mut printer = Printer::new(alloc, &program.symbols);
-            printer.program(&program)?;
-            Ok(printer.finish()?)
+            Ok(tree_line(
+                alloc,
+                &program.symbols,
+                &program.declarations,
+                &program.main,
+            )?)
         }
     }
+}
+
+/// A line with the tree of these parts.
+fn tree_line(
+    alloc: Global,
+    symbols: &Symbols<'_>,
+    declarations: &Vec<Decl>,
+    main: &Body,
+) -> Result<String, AllocError> {
+    let mut printer = Printer::new(alloc, symbols);
+    printer.program(declarations, main)?;
+    printer.finish()
 }
 
 /// A line for each token: its offset, its place, its kind and its bytes. The last line is the end of the source.

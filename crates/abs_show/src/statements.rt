@@ -1,6 +1,6 @@
 //! Prints guards and statements.
 use crate::printer::Printer;
-use abs_tree::syntax::{Stmt, Target, Test};
+use abs_tree::{Stmt, Target, Test};
 use std::alloc::AllocError;
 
 impl Printer<'_, '_> {

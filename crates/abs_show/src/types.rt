@@ -1,6 +1,6 @@
 //! Prints types and patterns.
 use crate::printer::Printer;
-use abs_tree::syntax::{Pattern, TypeTerm};
+use abs_tree::{Pattern, TypeTerm};
 use std::alloc::AllocError;
 
 impl Printer<'_, '_> {

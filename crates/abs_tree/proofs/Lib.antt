@@ -1,6 +1,5 @@
 pub mod TableLemmas
 pub mod NumberLemmas
-pub mod TreeLemmas
 pub mod SyntaxLemmas
 pub mod StatementLemmas
 pub mod EntryLemmas

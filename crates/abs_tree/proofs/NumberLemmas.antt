@@ -11,7 +11,7 @@ use Rattle.std.proofs.lemmas.Option.{slice_get_past, unwrap_or-slice_get}
 use Rattle.std.proofs.lemmas.Slice.Eq.{bytes_eq-Decides}
 use Rattle.abs_tree.specs.declared.symbol.Symbol.{Symbol}
 use Rattle.abs_tree.specs.Names.{number_of_name, symbol_in}
-use Rattle.abs_tree.specs.Trees.{name_of}
+use Rattle.abs_tree.specs.Names.{name_of}
 
 -- a fact of the image of each element is a fact of each element of the mapped list
 all-map : {A B : Type 0} (f : A → B) (P : B → Type 0) (xs : List A) → AllByRecursion (λ x. P (f x)) xs
@@ -95,3 +95,13 @@ pub numbers_tell_names : (names : List (List ℕ)) (one other : Symbol)
     → (number_of_name names (name_of names one) ≡ number_of_name names (name_of names other)) ↔
     (name_of names one ≡ name_of names other)
 numbers_tell_names names one other = (same_name names one other, ap (number_of_name names))
+
+-- the name of a symbol is the name of the number of that name
+pub name_of_number : (names : List (List ℕ)) (symbol : Symbol)
+    → name_of names (record { 0 = number_of_name names (name_of names symbol) }) ≡ name_of names symbol
+name_of_number names symbol = elim (leb_tells (length names) (number_of_name names (name_of names symbol))) [
+  | inl absent ↦ outside_name names (record { 0 = number_of_name names (name_of names symbol) }) absent.1
+      ∙ sym (name_without_number names symbol absent.1)
+  | inr there ↦ unwrap_or-slice_get names (number_of_name names (name_of names symbol)) []
+      ∙ sym (name_at_number names (name_of names symbol) there.1)
+]

@@ -6,7 +6,7 @@ use Rattle.std.specs.declared.vec.Vec.{Vec}
 use Rattle.abs_tree.specs.declared.place.Place.{Place}
 use Rattle.abs_tree.specs.declared.symbol.Symbol.{Symbol}
 use Rattle.abs_tree.specs.declared.syntax.types.TypeTerm as code_type
-use Rattle.abs_tree.specs.declared.syntax.types.TypeTerm.{TypeTerm, Unresolved', Row_of-TypeTerm, end_of-TypeTerm, more_of-TypeTerm, items-the_row-TypeTerm, items_hidden-the_row-TypeTerm-0}
+use Rattle.abs_tree.specs.declared.syntax.types.TypeTerm.{TypeTerm, Unresolved', Data', Row_of-TypeTerm, end_of-TypeTerm, more_of-TypeTerm, items-the_row-TypeTerm, items_hidden-the_row-TypeTerm-0}
 use Rattle.abs_tree.specs.declared.syntax.pattern.Pattern as code_pattern
 use Rattle.abs_tree.specs.declared.syntax.pattern.Pattern.{Pattern, Built', Row_of-Pattern, end_of-Pattern, more_of-Pattern, items-the_row-Pattern, items_hidden-the_row-Pattern-0}
 use Rattle.abs_tree.specs.declared.syntax.expression.Expr as code_expr
@@ -14,9 +14,9 @@ use Rattle.abs_tree.specs.declared.syntax.expression.Expr.{Expr, Operators', Own
 use Rattle.abs_tree.specs.declared.syntax.expression.Operand.{Operand}
 use Rattle.abs_tree.specs.declared.syntax.expression.Branch.{Branch}
 use Rattle.std.specs.declared.boxed.Box.{Box}
-use Rattle.abs_tree.specs.Syntax.{UnresolvedType, NextType, Built, NextPattern, OperatorsOf, OwnCallOf, ApplyOf, BuildOf, CaseOf, NextPhrase, NextOperand, NextBranch}
+use Rattle.abs_tree.specs.Syntax.{UnresolvedType, DataType, NextType, Built, NextPattern, OperatorsOf, OwnCallOf, ApplyOf, BuildOf, CaseOf, NextPhrase, NextOperand, NextBranch}
 use Rattle.abs_tree.specs.SyntaxViews.{type_tree, type_row, type_trees, pattern_tree, pattern_row, pattern_trees, phrase, phrase_row, phrases, operand_row, operand_trees, branch_row, branches}
-use Rattle.abs_tree.specs.Trees.{name_of}
+use Rattle.abs_tree.specs.Names.{name_of}
 use mathlib.Core.Former.{Count}
 
 -- the types in a row in memory
@@ -28,6 +28,7 @@ types_in_row names n (more_of-TypeTerm type others) = ap (NextType (type_tree na
 -- how many arguments a type has, and the row of them
 abbrev row_of : TypeTerm → (n : Count) × Row_of-TypeTerm n
 row_of (Unresolved' _ _ _ row) = (_, row)
+row_of (Data' _ _ _ row) = (_, row)
 row_of _ = (_, end_of-TypeTerm)
 
 -- the arguments of a type are those of its vector
@@ -37,6 +38,14 @@ pub type_tree-unresolved : (names : List (List ℕ)) (place : Place) (symbol : S
 type_tree-unresolved names place symbol arguments =
     let row = row_of (code_type.Unresolved place symbol arguments) in
     ap (UnresolvedType place (name_of names symbol))
+    (types_in_row names row.0 row.1 ∙ ap (type_trees names) (items_hidden-the_row-TypeTerm-0 arguments))
+
+pub type_tree-data : (names : List (List ℕ)) (place : Place) (symbol : Symbol) (arguments : Vec TypeTerm Global)
+    → type_tree names (code_type.Data place symbol arguments)
+    ≡ DataType place (name_of names symbol) (type_trees names arguments.items)
+type_tree-data names place symbol arguments =
+    let row = row_of (code_type.Data place symbol arguments) in
+    ap (DataType place (name_of names symbol))
     (types_in_row names row.0 row.1 ∙ ap (type_trees names) (items_hidden-the_row-TypeTerm-0 arguments))
 
 -- the patterns in a row in memory

@@ -1,7 +1,6 @@
 pub mod Limits
 pub mod Places
 pub mod Names
-pub mod Trees
 pub mod Values
 pub mod Numbers
 pub mod Evaluation
@@ -14,6 +13,8 @@ pub mod SyntaxViews
 pub mod SyntaxPlaces
 pub mod SyntaxSizes
 pub mod SyntaxNumbers
+pub mod Slots
+pub mod SlotViews
 pub mod SourceNumbers
 pub mod SourceSizes
 pub mod SourceViews

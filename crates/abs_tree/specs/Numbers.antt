@@ -2,10 +2,10 @@
 --
 --   `is_128_bit`           whether a number fits in 128 bits
 --   `number_result`        the result for a number: itself, or the fault Overflow
---   `operator_number`      the number that an operator gives for two numbers
+--   `operation_on_numbers` the result of an operator for two numbers
 use Rattle.std.specs.Prelude.{◌^◌, nat_lt, Bool, ℤ, pos, negsuc, ◌+ℤ◌, ◌-ℤ◌, ◌*ℤ◌, if◌then◌else◌}
-use Rattle.abs_tree.specs.declared.operator.Operator.{Operator}
-use Rattle.abs_tree.specs.declared.operator.Operator.TheVariants.{Plus, Minus, Times}
+use Rattle.abs_tree.specs.declared.syntax.expression.Operator.{Operator}
+use Rattle.abs_tree.specs.declared.syntax.expression.Operator.TheVariants as operator
 use Rattle.abs_tree.specs.declared.value.Evaluated.{Evaluated}
 use Rattle.abs_tree.specs.declared.value.Evaluated.TheVariants.{Good, Bad}
 use Rattle.abs_tree.specs.declared.value.Value.TheVariants.{Int}
@@ -20,8 +20,9 @@ is_128_bit (negsuc n) = nat_lt n (2 ^ 127)
 abbrev pub number_result : ℤ → Evaluated
 number_result number = if is_128_bit number then Good (Int number) else Bad fault.Overflow
 
--- the number that an operator gives for two numbers
-abbrev pub operator_number : Operator → ℤ → ℤ → ℤ
-operator_number Plus left right = left +ℤ right
-operator_number Minus left right = left -ℤ right
-operator_number Times left right = left *ℤ right
+-- the result of an operator for two numbers; an unsupported one is the fault Mistyped
+abbrev pub operation_on_numbers : Operator → ℤ → ℤ → Evaluated
+operation_on_numbers operator.Plus left right = number_result (left +ℤ right)
+operation_on_numbers operator.Minus left right = number_result (left -ℤ right)
+operation_on_numbers operator.Times left right = number_result (left *ℤ right)
+operation_on_numbers _ left right = Bad fault.Mistyped

@@ -1,9 +1,8 @@
 //! Laws of the definitions, which hold whatever the code does.
 ghost use Rattle.std.specs.Prelude.{◌≡◌, ◌↔◌, List, Some};
 ghost use Rattle.abs_tree.specs.declared.refusal.Offence.{Offence as OffenceAt};
-ghost use Rattle.abs_tree.specs.Names.{number_of_name};
 ghost use Rattle.abs_tree.specs.Offences.{first_offence, IsFirst};
-ghost use Rattle.abs_tree.specs.Trees.{name_of};
+ghost use Rattle.abs_tree.specs.Names.{number_of_name, name_of};
 
 use crate::{Symbol, Symbols};
 

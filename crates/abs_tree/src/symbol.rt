@@ -1,7 +1,6 @@
 //! Symbols: the names of a source as numbers.
 ghost use Rattle.std.specs.Prelude.{◌≡◌, ◌^◌, ◌<◌, ◌≤◌, [], length, IfOk, OnOk, OnErr};
-ghost use Rattle.abs_tree.specs.Names.{with_name, number_of_name, symbol_in};
-ghost use Rattle.abs_tree.specs.Trees.{name_of};
+ghost use Rattle.abs_tree.specs.Names.{with_name, number_of_name, symbol_in, name_of};
 
 use indexmap::IndexSet;
 use std::alloc::{AllocError, Global};

@@ -4,6 +4,7 @@
 pub mod declaration;
 pub mod expression;
 pub mod pattern;
+pub mod slot;
 pub mod statement;
 pub mod types;
 pub mod variable;
@@ -11,6 +12,7 @@ pub mod variable;
 pub use declaration::{Body, Constructor, Decl, Declared, Member, Param, Program, Signature};
 pub use expression::{Branch, Expr, Operand, Operator, Prefix};
 pub use pattern::Pattern;
+pub use slot::Slot;
 pub use statement::{Mode, RightSide, Stmt, Target, Test};
 pub use types::TypeTerm;
 pub use variable::Variable;

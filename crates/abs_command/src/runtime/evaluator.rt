@@ -1,12 +1,13 @@
 //! Evaluates expressions by recursion, in the same way as the definition of evaluation.
-ghost use Rattle.std.specs.Prelude.{◌≡◌, IfOk};
-ghost use Rattle.abs_tree.specs.Trees.{expr_tree, trees_of, operands_of};
-ghost use Rattle.abs_tree.specs.Evaluation.{evaluate as evaluated, local_result, negation_result, operator_result, operand_outcome, operators_outcome, outcomes_of, application_outcome, function_result, string_result, result_of};
+ghost use Rattle.std.specs.Prelude.{◌≡◌, List, IfOk};
+ghost use Rattle.abs_tree.specs.Syntax.{Name};
+ghost use Rattle.abs_tree.specs.SyntaxViews.{variable_tree, phrase, phrases, operand_trees};
+ghost use Rattle.abs_tree.specs.Evaluation.{evaluate as evaluated, variable_result, negation_result, operator_result, operand_outcome, operators_outcome, outcomes_of, application_outcome, function_result, string_result, result_of};
 
 use abs_tree::limits::{APPLICATION_LIMIT, LEVEL_LIMIT, STRING_LIMIT};
 use abs_tree::{
-    Evaluated, Expr, Fault, Operand, Operator, Output, Symbols, Text, Value, Values, Variable,
-    negated, value_text,
+    Evaluated, Expr, Fault, Operand, Operator, Output, Prefix, Symbols, Text, Value, Values,
+    Variable, negated, value_text,
 };
 use std::alloc::{AllocError, Global};
 
@@ -20,7 +21,7 @@ pub fn eval(
     slots: &[Value],
     expr: &Expr,
 ) -> Result<Evaluated, AllocError>
-    ensures { IfOk result (λ found. found ≡ result_of names.now slots.now (expr_tree expr.now)) }
+    ensures { IfOk result (λ found. found ≡ result_of slots.now (phrase names.now expr.now)) }
 {
     let mut made = 0;
     evaluate(alloc, names, slots, LEVEL_LIMIT, expr, &mut made)
@@ -37,7 +38,7 @@ fn evaluate(
     expr: &Expr,
     made: &mut u32,
 ) -> Result<Evaluated, AllocError>
-    ensures { IfOk result (λ found. evaluated names.now slots.now left (expr_tree expr.now) made.old
+    ensures { IfOk result (λ found. evaluated slots.now left (phrase names.now expr.now) made.old
         ≡ record { result = found; applications = made.new }) }
 {
     if left == 0 {
@@ -45,19 +46,32 @@ fn evaluate(
     }
     match expr {
         Expr::Number(_, number) => Ok(Evaluated::Good(Value::Int(*number))),
-        Expr::Local(_, variable) => local(slots, *variable),
-        Expr::Apply(_, function, arguments) => {
+        Expr::Variable(_, variable) => value_of(slots, *variable),
+        Expr::Apply {
+            function,
+            arguments,
+            ..
+        } => {
             let output = evaluate_all(alloc, names, slots, left - 1, arguments, made)?;
             apply(alloc, names.name(*function), output, made)
         }
-        Expr::Negate(_, operand) => {
+        Expr::Prefixed {
+            prefix: Prefix::Minus,
+            operand,
+            ..
+        } => {
             let found = evaluate(alloc, names, slots, left - 1, operand, made)?;
             Ok(negation(found))
         }
-        Expr::Operators(_, first, operands) => {
+        Expr::Operators {
+            first,
+            operands,
+            ..
+        } => {
             let first = evaluate(alloc, names, slots, left - 1, first, made)?;
             operators(alloc, names, slots, left - 1, first, operands, made)
         }
+        _ => Ok(Evaluated::Bad(Fault::Mistyped)),
     }
 }
 
@@ -72,8 +86,8 @@ fn operators(
     operands: &[Operand],
     made: &mut u32,
 ) -> Result<Evaluated, AllocError>
-    ensures { IfOk result (λ found. operators_outcome (evaluated names.now slots.now left)
-        (record { result = first; applications = made.old }) (operands_of operands.now)
+    ensures { IfOk result (λ found. operators_outcome (evaluated slots.now left)
+        (record { result = first; applications = made.old }) (operand_trees names.now operands.now)
         ≡ record { result = found; applications = made.new }) }
 {
     let mut so_far = first;
@@ -94,8 +108,8 @@ fn with_operand(
     operand: &Operand,
     made: &mut u32,
 ) -> Result<Evaluated, AllocError>
-    ensures { IfOk result (λ found. operand_outcome (evaluated names.now slots.now left) operand.now.operator
-        (expr_tree operand.now.right) so_far made.old ≡ record { result = found; applications = made.new }) }
+    ensures { IfOk result (λ found. operand_outcome (evaluated slots.now left) operand.now.operator
+        (phrase names.now operand.now.right) so_far made.old ≡ record { result = found; applications = made.new }) }
 {
     match so_far {
         Evaluated::Good(value) => {
@@ -131,9 +145,10 @@ fn negation(operand: Evaluated) -> Evaluated
     }
 }
 
-/// The result of a local: the value of its slot.
-fn local(slots: &[Value], variable: Variable) -> Result<Evaluated, AllocError>
-    ensures { IfOk result (λ found. found ≡ local_result slots.now variable) }
+/// The result of a variable: the value of its slot. One that is no slot is unsupported.
+fn value_of(slots: &[Value], variable: Variable) -> Result<Evaluated, AllocError>
+    ensures { (names : List Name) → IfOk result
+        (λ found. found ≡ variable_result slots.now (variable_tree names variable)) }
 {
     let Variable::Slot(slot) = variable else {
         return Ok(Evaluated::Bad(Fault::Mistyped));
@@ -154,7 +169,7 @@ fn evaluate_all(
     exprs: &[Expr],
     made: &mut u32,
 ) -> Result<Output, AllocError>
-    ensures { IfOk result (λ found. outcomes_of (evaluated names.now slots.now left) (trees_of exprs.now) made.old
+    ensures { IfOk result (λ found. outcomes_of (evaluated slots.now left) (phrases names.now exprs.now) made.old
         ≡ record { output = found; applications = made.new }) }
 {
     let mut values = Vec::new(alloc);

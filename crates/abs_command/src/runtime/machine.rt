@@ -1,6 +1,7 @@
 //! Runs a program: makes one event after the other, and records whose event it was.
 ghost use Rattle.std.specs.Prelude.{◌≡◌, ◌<◌, ℕ, List, IfOk, IfSome, IfNone, IsSome, MatchBool};
-ghost use Rattle.abs_tree.specs.Trees.{NamedTree, named_tree};
+ghost use Rattle.abs_tree.specs.SourceViews.{named_tree};
+ghost use Rattle.abs_tree.specs.Syntax.{SourceTree};
 ghost use Rattle.abs_command.specs.Events.{event_of};
 ghost use Rattle.abs_command.specs.Runs.{first as first_of, IsDone, IsOpen, HasStep, NeverStuck};
 ghost use Rattle.abs_command.specs.Machine.{IsRun, Settles};
@@ -71,14 +72,14 @@ pub fn run(alloc: Global, program: &Named<'_>, steps: u64) -> Result<Ran, AllocE
 fn first(alloc: Global, program: &Named<'_>) -> Result<Config, AllocError>
     ensures { IfOk result (λ config. config ≡ first_of (named_tree program.now)) }
 {
-    let next = if program.main.is_empty() {
+    let next = if program.main.statements.is_empty() {
         None
     } else {
         Some(0)
     };
     let frame = Frame {
         next,
-        slots: Values::nulls(alloc, program.slots as usize)?,
+        slots: Values::nulls(alloc, program.main.slots.len())?,
     };
     let main = TaskCell {
         cog: 0,
@@ -137,5 +138,5 @@ fn is_done(config: &Config) -> bool
 
 /// Whatever legal history comes, the configuration that it reaches has a step while a task in it is unfinished.
 pub fn never_stuck()
-    ensures { (program : NamedTree) → NeverStuck program }
+    ensures { (program : SourceTree) → NeverStuck program }
 {}

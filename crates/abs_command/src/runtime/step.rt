@@ -1,12 +1,15 @@
 //! The events of tasks: whether a task has one, and what it changes.
 ghost use Rattle.std.specs.Prelude.{◌≡◌, ◌<◌, ℕ, List, length, Option, slice_get, Some, None, IsTrue, IsSome, ◌↔◌, IfOk, OnOk, OnErr};
-ghost use Rattle.abs_tree.specs.Trees.{named_tree};
-ghost use Rattle.abs_command.specs.Events.{take_change, ended_change, assign_change, print_change, statement_change, slots_of, body_change, running_change, change_by_state, event_of, with_holder, statement_after, Steps, Makes};
+ghost use Rattle.abs_tree.specs.SourceViews.{named_tree};
+ghost use Rattle.abs_tree.specs.Syntax.{AssignOf, ToVariable};
+ghost use Rattle.abs_tree.specs.SyntaxViews.{side_tree, variable_tree};
+ghost use Rattle.abs_tree.specs.declared.place.Place.{Place};
+ghost use Rattle.abs_command.specs.Events.{listed, take_change, ended_change, assign_change, print_change, statement_change, slots_of, body_change, running_change, change_by_state, event_of, with_holder, statement_after, Steps, Makes};
 ghost use Rattle.abs_command.specs.declared.runtime.config.TaskCell.{TaskCell};
 
 use crate::runtime::config::{Cog, Config, Lines, State, TaskCell};
 use crate::runtime::evaluator;
-use abs_tree::{Evaluated, Fault, Named, Stmt, Text, Value, Variable};
+use abs_tree::{Evaluated, Fault, Named, RightSide, Stmt, Target, Text, Value, Variable};
 use std::alloc::{AllocError, Global};
 
 /// Whether a task has an event.
@@ -43,7 +46,7 @@ fn body_has_step(program: &Named<'_>, cell: &TaskCell) -> bool
 {
     match cell.frames.items.as_slice() {
         [frame] => match frame.next {
-            Some(statement) => (statement as usize) < program.main.len(),
+            Some(statement) => (statement as usize) < program.main.statements.len(),
             None => true,
         },
         _ => false,
@@ -129,22 +132,73 @@ fn execute(
     lines: &mut Lines,
 ) -> Result<Option<u32>, AllocError>
     requires body { length cell.old.frames ≡ 1 }
-    requires statement { statement < length program.now.main.items }
+    requires statement { statement < length program.now.main.statements.items }
     ensures ok { IfOk result (λ holder. Makes (statement_change (named_tree program.now) task cell.old statement
-        (slots_of cell.old.frames) (slice_get (named_tree program.now).main statement)) cell.new holder lines.old
-        lines.new) }
+        (slots_of cell.old.frames) (slice_get (listed (named_tree program.now).main) statement)) cell.new holder
+        lines.old lines.new) }
     ensures cell_err { OnErr result (cell.new ≡ cell.old) }
     ensures lines_err { OnErr result (lines.new ≡ lines.old) }
 {
-    let slots = cell.frames.items[0].slots.as_slice();
-    match &program.main[statement as usize] {
-        Stmt::Declare(_, _, target, value) | Stmt::Assign(_, target, value) => {
+    match &program.main.statements[statement as usize] {
+        Stmt::Declare {
+            variable,
+            initial,
+            ..
+        } => match initial {
+            Some(side) => store(alloc, program, task, cell, statement, *variable, side),
+            None => {
+                finish(cell, Evaluated::Bad(Fault::Mistyped));
+                Ok(None)
+            }
+        },
+        Stmt::Assign { target, side, .. } => match target {
+            Target::Variable(_, variable) => store(
+                alloc, program, task, cell, statement, *variable, side,
+            ),
+            Target::Field { .. } => {
+                finish(cell, Evaluated::Bad(Fault::Mistyped));
+                Ok(None)
+            }
+        },
+        Stmt::Print { value, .. } => {
+            let slots = cell.frames.items[0].slots.as_slice();
             let found = evaluator::eval(alloc, &program.symbols, slots, value)?;
-            assign(alloc, program, task, cell, statement, *target, found)
-        }
-        Stmt::Print(_, text) => {
-            let found = evaluator::eval(alloc, &program.symbols, slots, text)?;
             print(program, task, cell, statement, found, lines)
+        }
+        _ => {
+            finish(cell, Evaluated::Bad(Fault::Mistyped));
+            Ok(None)
+        }
+    }
+}
+
+/// The same for a task that assigns this right side to this variable. It prints nothing.
+fn store(
+    alloc: Global,
+    program: &Named<'_>,
+    task: u32,
+    cell: &mut TaskCell,
+    statement: u32,
+    target: Variable,
+    side: &RightSide,
+) -> Result<Option<u32>, AllocError>
+    requires body { length cell.old.frames ≡ 1 }
+    requires statement { statement < length program.now.main.statements.items }
+    ensures ok { IfOk result (λ holder. (index : ℕ) (place at : Place) (lines : List (List ℕ))
+        → Makes (statement_change (named_tree program.now) task cell.old statement (slots_of cell.old.frames)
+        (Some (AssignOf index place (ToVariable at (variable_tree program.now.symbols target))
+        (side_tree program.now.symbols side.now)))) cell.new holder lines lines) }
+    ensures cell_err { OnErr result (cell.new ≡ cell.old) }
+{
+    match side {
+        RightSide::Value(_, value) => {
+            let slots = cell.frames.items[0].slots.as_slice();
+            let found = evaluator::eval(alloc, &program.symbols, slots, value)?;
+            assign(alloc, program, task, cell, statement, target, found)
+        }
+        _ => {
+            finish(cell, Evaluated::Bad(Fault::Mistyped));
+            Ok(None)
         }
     }
 }
@@ -160,10 +214,10 @@ fn assign(
     found: Evaluated,
 ) -> Result<Option<u32>, AllocError>
     requires body { length cell.old.frames ≡ 1 }
-    requires statement { statement < length program.now.main.items }
+    requires statement { statement < length program.now.main.statements.items }
     ensures ok { IfOk result (λ holder. (lines : List (List ℕ))
         → Makes (Some (assign_change (named_tree program.now) task cell.old statement
-        (slots_of cell.old.frames) target found)) cell.new holder lines lines) }
+        (slots_of cell.old.frames) (variable_tree program.now.symbols target) found)) cell.new holder lines lines) }
     ensures cell_err { OnErr result (cell.new ≡ cell.old) }
 {
     let value = match found {
@@ -176,11 +230,12 @@ fn assign(
     let frame = &mut cell.frames.items[0];
     match target {
         Variable::Slot(slot) if (slot as usize) < frame.slots.len() => {
+            let next = following(program, statement)?;
             frame.slots.set(alloc, slot as usize, value)?;
-            frame.next = following(program, statement);
+            frame.next = next;
             Ok(Some(task))
         }
-        Variable::Slot(_) | Variable::Named(_) => {
+        _ => {
             finish(cell, Evaluated::Bad(Fault::Mistyped));
             Ok(None)
         }
@@ -197,7 +252,7 @@ fn print(
     lines: &mut Lines,
 ) -> Result<Option<u32>, AllocError>
     requires body { length cell.old.frames ≡ 1 }
-    requires statement { statement < length program.now.main.items }
+    requires statement { statement < length program.now.main.statements.items }
     ensures ok { IfOk result (λ holder. Makes (Some (print_change (named_tree program.now) task cell.old statement
         (slots_of cell.old.frames) found)) cell.new holder lines.old lines.new) }
     ensures cell_err { OnErr result (cell.new ≡ cell.old) }
@@ -205,8 +260,9 @@ fn print(
 {
     match found {
         Evaluated::Good(Value::Text(line)) => {
+            let next = following(program, statement)?;
             lines.items.push(line)?;
-            cell.frames.items[0].next = following(program, statement);
+            cell.frames.items[0].next = next;
             Ok(Some(task))
         }
         Evaluated::Good(Value::Int(_) | Value::Null) => {
@@ -221,12 +277,17 @@ fn print(
 }
 
 /// The index of the statement after one of the main block.
-fn following(program: &Named<'_>, statement: u32) -> Option<u32>
-    requires { statement < length program.now.main.items }
-    ensures { result ≡ statement_after (named_tree program.now) statement }
+///
+/// # Errors
+/// [`AllocError`] if no index is left.
+fn following(program: &Named<'_>, statement: u32) -> Result<Option<u32>, AllocError>
+    ensures { IfOk result (λ next. next ≡ statement_after (named_tree program.now) statement) }
 {
+    if statement == u32::MAX {
+        return Err(AllocError);
+    }
     let next = statement + 1;
-    ((next as usize) < program.main.len()).then_some(next)
+    Ok(((next as usize) < program.main.statements.len()).then_some(next))
 }
 
 /// Ends a task with this result.

@@ -23,7 +23,7 @@ use Rattle.abs_tree.specs.declared.syntax.expression.Prefix.{Prefix}
 use Rattle.abs_tree.specs.declared.syntax.expression.Prefix.TheVariants as prefix
 use Rattle.abs_tree.specs.Syntax.{Phrase, Phrases, Prefixed, ThisOf, BuildOf}
 use Rattle.abs_tree.specs.SyntaxViews.{phrase, phrases}
-use Rattle.abs_tree.specs.Trees.{name_of}
+use Rattle.abs_tree.specs.Names.{name_of}
 use Rattle.abs_tree.proofs.SyntaxLemmas.{phrase-build}
 use Rattle.abs_parser.specs.TokenKinds.{Mark, Token, TokenKind, token_kind_of, LowerName, LocalName, UpperName, AbsName, StdLibName, Number, Text, KeywordKind, PunctuatorKind, End, place_of_mark, fits}
 use Rattle.abs_parser.specs.Precedences.{prefix_punctuator}

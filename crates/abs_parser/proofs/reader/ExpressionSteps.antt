@@ -2,12 +2,11 @@
 -- an operator list. The tokens and parts of a `let` and of an `if` are read one by one, with the trees of what was
 -- read.
 use Rattle.std.proofs.Common.{◌≡◌, ◌≤◌, ℕ, ◌+◌, true, false, List, [], ◌∷◌, Some, None, refl, ap, ◌∙◌}
-use Rattle.abs_tree.specs.Names.{with_name, number_of_name}
+use Rattle.abs_tree.specs.Names.{with_name, number_of_name, name_of}
 use Rattle.abs_tree.specs.declared.place.Place.{Place}
 use Rattle.abs_tree.specs.Syntax.{Phrase, IfElse, LetIn, Unresolved, TypeTree}
 use Rattle.abs_tree.specs.SyntaxViews.{phrase, type_tree}
 use Rattle.abs_tree.specs.declared.symbol.Symbol.{Symbol}
-use Rattle.abs_tree.specs.Trees.{name_of}
 use Rattle.abs_tree.specs.declared.syntax.expression.Expr.{Expr}
 use Rattle.abs_tree.specs.declared.syntax.types.TypeTerm.{TypeTerm}
 use Rattle.abs_lexer.specs.declared.lexeme.Keyword.TheVariants as keyword

@@ -7,10 +7,9 @@ use Rattle.std.specs.Prelude.{codes}
 use Rattle.std.specs.Str.{bytes_eq}
 use Rattle.std.specs.declared.alloc.Global.{Global}
 use Rattle.std.specs.declared.vec.Vec.{Vec}
-use Rattle.abs_tree.specs.Names.{with_name, number_of_name}
+use Rattle.abs_tree.specs.Names.{with_name, number_of_name, name_of}
 use Rattle.abs_tree.specs.Syntax.{Name, AssignOf, DoOf, Statement, ThisOf}
 use Rattle.abs_tree.specs.SyntaxViews.{phrase, side_tree, target_tree}
-use Rattle.abs_tree.specs.Trees.{name_of}
 use Rattle.abs_tree.specs.declared.place.Place.{Place}
 use Rattle.abs_tree.specs.declared.symbol.Symbol as code_symbol
 use Rattle.abs_tree.specs.declared.syntax.expression.Expr as code_expr

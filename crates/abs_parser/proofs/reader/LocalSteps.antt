@@ -1,10 +1,9 @@
 -- The steps of the parsing functions of local variable declarations. A type begins such a statement, and its type and
 -- its name are read. The statement is found with what follows the name: perhaps "=" and a right side.
 use Rattle.std.proofs.Common.{◌≡◌, ◌≤◌, ℕ, ◌+◌, true, false, List, [], ◌∷◌, Option, Some, refl, sym, ap, ◌∙◌}
-use Rattle.abs_tree.specs.Names.{with_name, number_of_name}
+use Rattle.abs_tree.specs.Names.{with_name, number_of_name, name_of}
 use Rattle.abs_tree.specs.Syntax.{Name, TypeTree, Unresolved, NoSide, SomeSide, MaybeSide, DeclareOf}
 use Rattle.abs_tree.specs.SyntaxViews.{type_tree, side_tree, maybe_side}
-use Rattle.abs_tree.specs.Trees.{name_of}
 use Rattle.abs_tree.specs.declared.place.Place.{Place}
 use Rattle.abs_tree.specs.declared.symbol.Symbol.{Symbol as NameSymbol}
 use Rattle.abs_tree.specs.declared.syntax.statement.RightSide.{RightSide}

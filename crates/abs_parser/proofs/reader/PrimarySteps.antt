@@ -11,9 +11,8 @@ use Rattle.abs_lexer.specs.Tokens.{Lexed}
 use Rattle.abs_tree.specs.declared.symbol.Symbol.{Symbol}
 use Rattle.abs_tree.specs.declared.syntax.expression.Expr.{Expr}
 use Rattle.abs_tree.specs.declared.syntax.expression.Prefix.{Prefix}
-use Rattle.abs_tree.specs.Names.{with_name, number_of_name}
+use Rattle.abs_tree.specs.Names.{with_name, number_of_name, name_of}
 use Rattle.abs_tree.specs.SyntaxViews.{phrase}
-use Rattle.abs_tree.specs.Trees.{name_of}
 use Rattle.abs_parser.specs.TokenKinds.{Token, TokenKind, token_kind_of, LowerName, UpperName, KeywordKind, PunctuatorKind, fits, next}
 use Rattle.abs_parser.specs.Precedences.{prefix_punctuator}
 use Rattle.abs_parser.specs.Productions.{begins, Unary, Primary, ThisTail, Arguments}

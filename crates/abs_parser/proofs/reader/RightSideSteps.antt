@@ -4,10 +4,9 @@
 use Rattle.std.proofs.Common.{◌≡◌, ◌≤◌, ℕ, true, false, List, [], ◌∷◌, Some, None, refl, sym, ap, ◌∙◌}
 use Rattle.std.specs.declared.alloc.Global.{Global}
 use Rattle.std.specs.declared.vec.Vec.{Vec}
-use Rattle.abs_tree.specs.Names.{with_name, number_of_name}
+use Rattle.abs_tree.specs.Names.{with_name, number_of_name, name_of}
 use Rattle.abs_tree.specs.Syntax.{Name, Phrase, Phrases, SideTree, ValueOf, GetOf}
 use Rattle.abs_tree.specs.SyntaxViews.{phrase, phrases, side_tree}
-use Rattle.abs_tree.specs.Trees.{name_of}
 use Rattle.abs_tree.specs.declared.place.Place.{Place}
 use Rattle.abs_tree.specs.declared.symbol.Symbol as code_symbol
 use Rattle.abs_tree.specs.declared.syntax.expression.Expr as code_expr

@@ -6,7 +6,7 @@ ghost use Rattle.abs_tree.specs.SyntaxSizes.{all_statements, body_sizes, class_s
 ghost use Rattle.abs_tree.specs.SyntaxViews.{decl_tree, tree_of_parts};
 ghost use Rattle.abs_tree.specs.Limits.{table_limit};
 
-use crate::syntax::{Expr, Stmt, TypeTerm, Variable};
+use crate::syntax::{Expr, Slot, Stmt, TypeTerm, Variable};
 use crate::{Place, Symbol, Symbols};
 use std::sync::Arc;
 
@@ -40,11 +40,13 @@ pub struct Signature {
     pub params: Vec<Param>,
 }
 
-/// The statements of a method or of the main block, and the place of its closing brace.
+/// The statements of a method or of the main block, and the place of its closing brace. Once variables are resolved, it
+/// also has its slots.
 #[derive(Drop)]
 pub struct Body {
     pub statements: Vec<Stmt>,
     pub end: Place,
+    pub slots: Vec<Slot>,
 }
 
 /// A member of a class.

@@ -3,7 +3,7 @@ use Rattle.std.specs.declared.alloc.Global.{Global}
 use Rattle.std.specs.declared.vec.Vec.{Vec}
 use Rattle.abs_tree.specs.Syntax.{OwnCallOf}
 use Rattle.abs_tree.specs.SyntaxViews.{phrases}
-use Rattle.abs_tree.specs.Trees.{name_of}
+use Rattle.abs_tree.specs.Names.{name_of}
 use Rattle.abs_tree.specs.declared.syntax.expression.Expr.{Expr}
 use Rattle.abs_tree.proofs.SyntaxLemmas.{phrase-own_call}
 use Rattle.abs_parser.proofs.primaries.member.Goals as goal

@@ -3,7 +3,7 @@ use Rattle.std.specs.declared.alloc.Global.{Global}
 use Rattle.std.specs.declared.vec.Vec.{Vec}
 use Rattle.abs_tree.specs.Syntax.{Name, Phrases, SideTree, NewOf}
 use Rattle.abs_tree.specs.SyntaxViews.{phrases}
-use Rattle.abs_tree.specs.Trees.{name_of}
+use Rattle.abs_tree.specs.Names.{name_of}
 use Rattle.abs_tree.specs.declared.syntax.expression.Expr.{Expr}
 use Rattle.abs_parser.specs.Productions.{Rhs}
 use Rattle.abs_parser.specs.Readings.{One}

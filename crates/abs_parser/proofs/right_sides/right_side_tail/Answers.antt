@@ -1,6 +1,6 @@
 use Rattle.std.proofs.Common.{List, refl, ap, arith}
 use Rattle.abs_tree.specs.Syntax.{Name, Phrases, NextPhrase, SideTree, SendOf}
-use Rattle.abs_tree.specs.Trees.{name_of}
+use Rattle.abs_tree.specs.Names.{name_of}
 use Rattle.abs_tree.specs.SyntaxViews.{phrase}
 use Rattle.abs_parser.specs.TreesOf.{tail_in}
 use Rattle.abs_parser.specs.Views.{spot}

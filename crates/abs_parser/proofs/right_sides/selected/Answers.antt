@@ -1,6 +1,6 @@
 use Rattle.std.proofs.Common.{List, None, refl, ap}
 use Rattle.abs_tree.specs.Syntax.{Name, Phrases, NextPhrase, SideTree, GetOf, CallOf}
-use Rattle.abs_tree.specs.Trees.{name_of}
+use Rattle.abs_tree.specs.Names.{name_of}
 use Rattle.abs_tree.specs.declared.syntax.expression.Expr.{Expr}
 use Rattle.abs_tree.specs.SyntaxViews.{phrase}
 use Rattle.abs_parser.specs.TreesOf.{selected_in}

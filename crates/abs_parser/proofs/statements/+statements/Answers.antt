@@ -28,8 +28,8 @@ block-returns-in_err-here-clause-parses t c =
     (refused_first_token (PunctuatorKind punctuator.OpenBrace) c.args.depth (One Block) c.args.depth (spot c.args.from)
     _ (block_opened _ c.args.depth) (block_shut _ c.args.depth) c.in_err-here.ensures.refused)
 
-pub block-loop-alloc-init : goal.block-loop-alloc-init
-block-loop-alloc-init t c = record {
+pub block-loop-symbols-init : goal.block-loop-symbols-init
+block-loop-symbols-init t c = record {
   read = first_statement c.args.index c.args.symbols.now c.new-statements.ensures.items c.in_ok-here.ensures.found
       c.in_ok-here.ensures.within;
   free = λ names. rw c.new-statements.ensures.items (omega arith);
@@ -38,48 +38,49 @@ block-loop-alloc-init t c = record {
 
 pub block-statement-requires : goal.block-statement-requires
 block-statement-requires t c =
-    let few = c.loop-alloc.invariant.read.read.few in
-    let numbers = c.loop-alloc.invariant.few in
-    let shorter = c.loop-alloc.invariant.read.shorter in
+    let few = c.loop-symbols.invariant.read.read.few in
+    let numbers = c.loop-symbols.invariant.few in
+    let shorter = c.loop-symbols.invariant.read.shorter in
     (search rules, (omega arith, (omega arith, c.in_ok-here.ensures.within)))
 
 pub block-returns-in_err-next-clause-parses : goal.block-returns-in_err-next-clause-parses
 block-returns-in_err-next-clause-parses t c =
     passed_on _ _ c.from_residual-in_err-next.result c.from_residual-in_err-next.ensures.1
-    (refused_statement _ c.loop-alloc.invariant.read (sym c.is.ensures ∙ c.loop-alloc-test.true)
+    (refused_statement _ c.loop-symbols.invariant.read (sym c.is.ensures ∙ c.loop-symbols-test.true)
     c.in_err-next.ensures.parses)
 
-pub block-loop-alloc-smaller : goal.block-loop-alloc-smaller
-block-loop-alloc-smaller t c =
+pub block-loop-symbols-smaller : goal.block-loop-symbols-smaller
+block-loop-symbols-smaller t c =
     let fewer = found_fewer c.in_ok-next.ensures.parses in
     omega arith
 
-pub block-loop-alloc-preserved : goal.block-loop-alloc-preserved
-block-loop-alloc-preserved t c = record {
-  read = next_statement c.in_ok-next.next c.in_ok-push.ensures.items c.loop-alloc.invariant.read
-      c.loop-alloc.invariant.free c.in_ok-next.ensures.parses;
-  free = next_free c.args.index c.loop-alloc.statements.items c.in_ok-next.next c.in_ok-push.ensures.items
-      c.loop-alloc.invariant.free c.in_ok-next.ensures.free;
-  few = omega (arith, c.loop-alloc.invariant.few, c.in_ok-next.ensures.few);
+pub block-loop-symbols-preserved : goal.block-loop-symbols-preserved
+block-loop-symbols-preserved t c = record {
+  read = next_statement c.in_ok-next.next c.in_ok-push.ensures.items c.loop-symbols.invariant.read
+      c.loop-symbols.invariant.free c.in_ok-next.ensures.parses;
+  free = next_free c.args.index c.loop-symbols.statements.items c.in_ok-next.next c.in_ok-push.ensures.items
+      c.loop-symbols.invariant.free c.in_ok-next.ensures.free;
+  few = omega (arith, c.loop-symbols.invariant.few, c.in_ok-next.ensures.few);
 }
 
 pub block-returns-in_err-close-clause-parses : goal.block-returns-in_err-close-clause-parses
 block-returns-in_err-close-clause-parses t c =
     passed_on _ _ c.from_residual-in_err-close.result c.from_residual-in_err-close.ensures.1
-    (refused_brace _ c.loop-alloc.invariant.read (sym c.is.ensures ∙ c.loop-alloc-test.false)
+    (refused_brace _ c.loop-symbols.invariant.read (sym c.is.ensures ∙ c.loop-symbols-test.false)
     c.in_err-close.ensures.refused)
 
 pub block-returns-clause-parses : goal.block-returns-clause-parses
 block-returns-clause-parses t c =
-    let body : Body = record { statements = c.loop-alloc.statements; end = c.in_ok-close.close.place } in
-    block_found body refl c.loop-alloc.invariant.read c.in_ok-close.ensures.found c.in_ok-close.ensures.within
+    let body : Body =
+    record { statements = c.loop-symbols.statements; end = c.in_ok-close.close.place; slots = c.new.result } in
+    block_found body refl c.loop-symbols.invariant.read c.in_ok-close.ensures.found c.in_ok-close.ensures.within
 
 pub block-returns-clause-free : goal.block-returns-clause-free
-block-returns-clause-free t c = c.loop-alloc.invariant.free
+block-returns-clause-free t c = c.loop-symbols.invariant.free
 
 pub block-returns-clause-few : goal.block-returns-clause-few
 block-returns-clause-few t c =
-    let numbers = c.loop-alloc.invariant.few in
+    let numbers = c.loop-symbols.invariant.few in
     let brace = token_shorter c.in_ok-close.ensures.found.takes in
     omega arith
 

@@ -29,12 +29,12 @@ abbrev pub decreases-block : goal.decreases-block
 decreases-block l = 4 * length (spot l.from).rest
 
 -- what was read so far
-abbrev pub invariant-block-loop-alloc : goal.invariant-block-loop-alloc
-invariant-block-loop-alloc l = record {
+abbrev pub invariant-block-loop-symbols : goal.invariant-block-loop-symbols
+invariant-block-loop-symbols l = record {
   read : ReadsBlock l.index l.depth l.fn.symbols l.symbols (spot l.from) (spot l.here) l.statements.items;
   free : (names : List Name) → l.free ≡ l.index + statement_count (statements names l.statements.items);
   few : l.free + length (spot l.here).rest ≤ l.index + length (spot l.from).rest;
 }
 
-abbrev pub decreases-block-loop-alloc : goal.decreases-block-loop-alloc
-decreases-block-loop-alloc l = length (spot l.here).rest
+abbrev pub decreases-block-loop-symbols : goal.decreases-block-loop-symbols
+decreases-block-loop-symbols l = length (spot l.here).rest

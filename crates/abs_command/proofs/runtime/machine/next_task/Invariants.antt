@@ -1,6 +1,6 @@
 use Rattle.std.proofs.Common.{ℕ, ◌<◌}
 use Rattle.std.specs.Prelude.{IsSome}
-use Rattle.abs_tree.specs.Trees.{named_tree}
+use Rattle.abs_tree.specs.SourceViews.{named_tree}
 use Rattle.abs_command.specs.Events.{event_of}
 use Rattle.abs_command.proofs.runtime.machine.next_task.Given as goal
 

@@ -1,6 +1,6 @@
 use Rattle.std.proofs.Common.{◌≡◌, ◌+◌, ◌-◌, ◌≤◌, length}
 use Rattle.std.specs.Prelude.{Some}
-use Rattle.abs_tree.specs.Trees.{named_tree}
+use Rattle.abs_tree.specs.SourceViews.{named_tree}
 use Rattle.abs_command.specs.Runs.{run_of}
 use Rattle.abs_command.proofs.runtime.machine.run.Given as goal
 

@@ -1,0 +1,160 @@
+-- The table of what numbers mean, after a name is added and after the newest one is taken away.
+use Rattle.std.proofs.Common.{◌≡◌, ℕ, zero, suc, ◌+◌, ◌<◌, ◌≤◌, Bool, true, false, List, [], ◌∷◌, ◌++◌, inl, inr, refl, sym, ap, ◌∙◌, subst, length, set, get_or, fold, replicate, cond, nat_eq, arith}
+use Rattle.std.specs.Prelude.{Option, Some, None}
+use Rattle.std.proofs.lemmas.Bool.{cases_eq}
+use Rattle.std.proofs.lemmas.Bool.Decides.{nat_tests, leb_tells}
+use Rattle.std.proofs.lemmas.List.{length-append, length-set, get_or_append_left, get_or-append_right, get_or-set_same, get_or-set_other}
+use Rattle.std.proofs.lemmas.List.Sums.{fold-append}
+use Rattle.abs_tree.specs.declared.syntax.variable.Variable.{Variable}
+use Rattle.abs_tree.specs.declared.syntax.variable.Variable.TheVariants as variable
+use Rattle.abs_names.specs.declared.meanings.Entry.{Entry}
+use Rattle.abs_names.specs.Linked.{newest_first, pairs, pairs_of, EntriesAreLinked, AreLinked}
+use Rattle.abs_names.specs.Numbered.{looked_up, is_bound, bound_in, SaysTheSame}
+
+-- the newest entry comes first
+pub added_first : (entries : List Entry) (entry : Entry)
+    → newest_first (entries ++ entry ∷ []) ≡ entry ∷ newest_first entries
+added_first entries entry = fold-append (λ newer entry. entry ∷ newer) [] entries (entry ∷ [])
+
+-- there are as many names as entries
+turned_length : (newer entries : List Entry)
+    → length (fold (λ newer entry. entry ∷ newer) newer entries) ≡ length newer + length entries
+turned_length newer [] = omega arith
+turned_length newer (entry ∷ entries) = omega (arith, turned_length (entry ∷ newer) entries)
+
+length-pairs : (entries : List Entry) → length (pairs entries) ≡ length entries
+length-pairs [] = refl
+length-pairs (entry ∷ older) = ap (λ (n : ℕ). suc n) (length-pairs older)
+
+pub length-pairs_of : (entries : List Entry) → length (pairs_of entries) ≡ length entries
+length-pairs_of entries = omega (arith, length-pairs (newest_first entries), turned_length [] entries)
+
+-- no more of them are bound than there are
+pub is_one : (meaning : Variable) → is_bound meaning ≤ 1
+is_one (variable.Unresolved symbol) = omega arith
+is_one (variable.Slot slot) = omega arith
+is_one (variable.Bound depth) = omega arith
+is_one (variable.Field field) = omega arith
+
+pub bound_few : (known : List (ℕ × Variable)) → bound_in known ≤ length known
+bound_few [] = omega arith
+bound_few (one ∷ others) = omega (arith, is_one one.1, bound_few others)
+
+-- a longer table has the same numbers
+longer : (size more : ℕ) (entries : List Entry) → size ≤ more → EntriesAreLinked size entries
+    → EntriesAreLinked more entries
+longer size more [] few linked = tt
+longer size more (entry ∷ older) few linked =
+    (omega (arith, linked.0), linked.1, linked.2, longer size more older few linked.3)
+
+-- a number past the table means nothing, and so does each one of more room
+past : {A : Type 0} (items : List (Option A)) (number : ℕ) → length items ≤ number → get_or items number None ≡ None
+past [] number few = refl
+past (item ∷ items) zero few = absurd (omega arith)
+past (item ∷ items) (suc number) few = past items number (omega arith)
+
+filled : {A : Type 0} (item : A) (more number : ℕ) → get_or (replicate more item) number item ≡ item
+filled item zero number = refl
+filled item (suc more) zero = refl
+filled item (suc more) (suc number) = filled item more number
+
+same_number : {A : Type 0} (newest : List (Option A)) (more number : ℕ)
+    → get_or (newest ++ replicate more None) number None ≡ get_or newest number None
+same_number newest more number = elim (leb_tells (length newest) number) [
+  | inl outside ↦ get_or-append_right newest (replicate more None) (length newest) number None refl outside.1
+      ∙ (filled None more _ ∙ sym (past newest number outside.1))
+  | inr there ↦ get_or_append_left newest (replicate more None) None number there.1
+]
+
+-- a table with room for more numbers, which mean nothing, and one in which each number means the same
+pub with_room : (newest : List (Option Variable)) (more : ℕ) → SaysTheSame newest (newest ++ replicate more None)
+with_room newest more = record {
+  longer = omega (arith, length-append newest (replicate more None));
+  same = same_number newest more;
+}
+
+pub still_linked : (newest now : List (Option Variable)) (entries : List Entry) → SaysTheSame newest now
+    → AreLinked newest entries → AreLinked now entries
+still_linked newest now entries same linked = record {
+  are = longer (length newest) (length now) (newest_first entries) same.longer linked.are;
+  table = λ number. same.same number ∙ linked.table number;
+}
+
+-- what the newest entry says of its number, and of another one
+newest_says : (known : ℕ × Variable) (others : List (ℕ × Variable)) (number : ℕ) → known.0 ≡ number
+    → looked_up (known ∷ others) number ≡ Some known.1
+newest_says known others number same = by (nat_eq known.0 number) (grind (arith, nat_tests))
+  where
+    by : (b : Bool) → b ≡ true → cond b (Some known.1) (looked_up others number) ≡ Some known.1
+    by true e = refl
+    by false e = absurd (cc)
+
+others_say : (known : ℕ × Variable) (others : List (ℕ × Variable)) (number : ℕ) → (known.0 ≡ number → ⊥)
+    → looked_up (known ∷ others) number ≡ looked_up others number
+others_say known others number other = by (nat_eq known.0 number) (grind (arith, nat_tests))
+  where
+    by : (b : Bool) → b ≡ false → cond b (Some known.1) (looked_up others number) ≡ looked_up others number
+    by true e = absurd (cc)
+    by false e = refl
+
+-- the entries are those of a table of as many numbers
+of_size : (size many : ℕ) (entries : List Entry) → size ≡ many → EntriesAreLinked size entries
+    → EntriesAreLinked many entries
+of_size size many entries same linked = longer size many entries (omega (arith, same)) linked
+
+-- the table after a name is added
+added_table : (newest : List (Option Variable)) (known : List (ℕ × Variable)) (number : ℕ) (meaning : Variable) (n : ℕ)
+    → number < length newest → get_or newest n None ≡ looked_up known n
+    → get_or (set newest number (Some meaning)) n None ≡ looked_up ((number, meaning) ∷ known) n
+added_table newest known number meaning n there says = elim (cases_eq n number) [
+  | inl same ↦ ap (λ (m : ℕ). get_or (set newest number (Some meaning)) m None) same
+      ∙ (get_or-set_same newest number (Some meaning) None there
+      ∙ sym (newest_says (number, meaning) known n (sym same)))
+  | inr other ↦ get_or-set_other newest number n (Some meaning) None other
+      ∙ (says ∙ sym (others_say (number, meaning) known n (λ e. other (sym e))))
+]
+
+pub added : (newest : List (Option Variable)) (entries : List Entry) (entry : Entry) → AreLinked newest entries
+    → entry.number < length newest → entry.before ≡ looked_up (pairs_of entries) entry.number
+    → entry.bound ≡ is_bound entry.variable + bound_in (pairs_of entries)
+    → AreLinked (set newest entry.number (Some entry.variable)) (entries ++ entry ∷ [])
+added newest entries entry linked there before bound =
+    let table = set newest entry.number (Some entry.variable) in
+    let same = length-set newest entry.number (Some entry.variable) in
+    let are : EntriesAreLinked (length table) (entry ∷ newest_first entries) = (
+      omega (arith, same, there),
+      before,
+      bound,
+      of_size (length newest) (length table) (newest_first entries) (sym same) linked.are,
+    ) in
+    record {
+      are = subst (EntriesAreLinked (length table)) (sym (added_first entries entry)) are;
+      table = λ n. added_table newest (pairs_of entries) entry.number entry.variable n there (linked.table n)
+          ∙ ap (λ (es : List Entry). looked_up (pairs es) n) (sym (added_first entries entry));
+    }
+
+-- and after the newest name is taken away
+taken_table : (newest : List (Option Variable)) (known : List (ℕ × Variable)) (number : ℕ) (meaning : Variable)
+    (before : Option Variable) (n : ℕ)
+    → number < length newest → before ≡ looked_up known number
+    → get_or newest n None ≡ looked_up ((number, meaning) ∷ known) n
+    → get_or (set newest number before) n None ≡ looked_up known n
+taken_table newest known number meaning before n there was says = elim (cases_eq n number) [
+  | inl same ↦ ap (λ (m : ℕ). get_or (set newest number before) m None) same
+      ∙ (get_or-set_same newest number before None there
+      ∙ (was ∙ ap (looked_up known) (sym same)))
+  | inr other ↦ get_or-set_other newest number n before None other
+      ∙ (says ∙ others_say (number, meaning) known n (λ e. other (sym e)))
+]
+
+pub taken : (newest : List (Option Variable)) (entries : List Entry) (entry : Entry)
+    → AreLinked newest (entries ++ entry ∷ []) → AreLinked (set newest entry.number entry.before) entries
+taken newest entries entry linked =
+    let are : EntriesAreLinked (length newest) (entry ∷ newest_first entries) =
+    subst (EntriesAreLinked (length newest)) (added_first entries entry) linked.are in
+    record {
+      are = of_size (length newest) (length (set newest entry.number entry.before)) (newest_first entries)
+          (sym (length-set newest entry.number entry.before)) are.3;
+      table = λ n. taken_table newest (pairs_of entries) entry.number entry.variable entry.before n are.0 are.1
+          (linked.table n ∙ ap (λ (es : List Entry). looked_up (pairs es) n) (added_first entries entry));
+    }

@@ -1,0 +1,32 @@
+-- What the code's table of meanings keeps. It serves proofs only.
+--
+--   `pairs_of`             the numbers and their meanings, the newest first
+--   `AreLinked`            each entry has what its number meant before it, and the table has what each number means now
+use Rattle.std.specs.Prelude.{◌≡◌, ⊤, ℕ, ◌<◌, List, [], ◌∷◌, length, fold, get_or, Option, None}
+use Rattle.abs_tree.specs.declared.syntax.variable.Variable.{Variable}
+use Rattle.abs_names.specs.declared.meanings.Entry.{Entry}
+use Rattle.abs_names.specs.Numbered.{looked_up, bound_in}
+
+-- the entries, the newest first
+abbrev pub newest_first : List Entry → List Entry
+newest_first entries = fold (λ newer entry. entry ∷ newer) [] entries
+
+abbrev pub pairs : List Entry → List (ℕ × Variable)
+pairs [] = []
+pairs (entry ∷ older) = (entry.number, entry.variable) ∷ pairs older
+
+abbrev pub pairs_of : List Entry → List (ℕ × Variable)
+pairs_of entries = pairs (newest_first entries)
+
+-- each entry has what its number meant before it, and how many bound variables there are up to it; its number is one of
+-- the table
+abbrev pub EntriesAreLinked : ℕ → List Entry → Type 0
+EntriesAreLinked size [] = ⊤
+EntriesAreLinked size (entry ∷ older) =
+    (entry.number < size) × (entry.before ≡ looked_up (pairs older) entry.number)
+    × (entry.bound ≡ bound_in (pairs (entry ∷ older))) × EntriesAreLinked size older
+
+-- the table has what each number means
+pub record AreLinked (newest : List (Option Variable)) (entries : List Entry) : Type 0 where
+  pub are : EntriesAreLinked (length newest) (newest_first entries)
+  pub table : (number : ℕ) → get_or newest number None ≡ looked_up (pairs_of entries) number

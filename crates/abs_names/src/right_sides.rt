@@ -1,0 +1,155 @@
+//! Right sides: each call by `.` on another object than `this` gets a hidden slot.
+ghost use Rattle.std.specs.Prelude.{◌≡◌, ◌++◌, ℕ, List, Option, None, fold, length, IfOk, OnOk};
+ghost use Rattle.abs_tree.specs.Offences.{earlier};
+ghost use Rattle.abs_tree.specs.Slots.{side_slots, maybe_side_slots};
+ghost use Rattle.abs_tree.specs.Names.{name_of};
+ghost use Rattle.abs_tree.specs.Syntax.{Name, CallOf};
+ghost use Rattle.abs_tree.specs.declared.place.Place.{Place as PlaceAt};
+ghost use Rattle.abs_tree.specs.SyntaxViews.{phrases, side_tree, maybe_side};
+ghost use Rattle.abs_names.specs.NameOffences.{phrases_offences, side_offences, maybe_side_offences};
+ghost use Rattle.abs_names.specs.Resolution.{resolved_phrases, hidden_slot, resolved_side, resolved_maybe_side};
+
+use crate::slots::Slots;
+use crate::walk::Walk;
+use abs_tree::{Expr, Place, RightSide, Slot, Symbol};
+use std::alloc::AllocError;
+use std::sync::Arc;
+
+impl Walk<'_> {
+    /// Resolves a right side of the statement with this index, if there is one.
+    ///
+    /// # Errors
+    /// [`AllocError`] if an allocation fails.
+    pub fn maybe_side(
+        &mut self,
+        slots: &mut Slots,
+        index: u32,
+        side: &Option<RightSide>,
+    ) -> Result<Option<RightSide>, AllocError>
+        ensures found { IfOk result (λ found. maybe_side self.old.scope.names found
+            ≡ resolved_maybe_side self.old.scope.scope (length slots.old.items.items)
+            (maybe_side self.old.scope.names side.now)) }
+        ensures noted { OnOk result (self.new.first ≡ fold earlier self.old.first
+            (maybe_side_offences self.old.scope.scope (maybe_side self.old.scope.names side.now))) }
+        ensures slots { OnOk result (slots.new.items.items
+            ≡ slots.old.items.items ++ maybe_side_slots index (maybe_side self.old.scope.names side.now)) }
+        ensures scope { OnOk result (self.new.scope ≡ self.old.scope) }
+    {
+        match side {
+            Some(side) => Ok(Some(self.side(slots, index, side)?)),
+            None => Ok(None),
+        }
+    }
+
+    /// Resolves a right side of the statement with this index. A call by `.` on another object than `this` gets a slot.
+    ///
+    /// # Errors
+    /// [`AllocError`] if an allocation fails.
+    pub fn side(
+        &mut self,
+        slots: &mut Slots,
+        index: u32,
+        side: &RightSide,
+    ) -> Result<RightSide, AllocError>
+        ensures found { IfOk result (λ found. side_tree self.old.scope.names found
+            ≡ resolved_side self.old.scope.scope (length slots.old.items.items)
+            (side_tree self.old.scope.names side.now)) }
+        ensures noted { OnOk result (self.new.first ≡ fold earlier self.old.first
+            (side_offences self.old.scope.scope (side_tree self.old.scope.names side.now))) }
+        ensures slots { OnOk result (slots.new.items.items
+            ≡ slots.old.items.items ++ side_slots index (side_tree self.old.scope.names side.now)) }
+        ensures scope { OnOk result (self.new.scope ≡ self.old.scope) }
+    {
+        match side {
+            RightSide::New {
+                place,
+                mode,
+                class_place,
+                class,
+                arguments,
+            } => Ok(RightSide::New {
+                place: *place,
+                mode: *mode,
+                class_place: *class_place,
+                class: *class,
+                arguments: self.row(arguments)?,
+            }),
+            RightSide::Value(place, value) => Ok(RightSide::Value(*place, self.shared(value)?)),
+            RightSide::Send { place, method, row } => Ok(RightSide::Send {
+                place: *place,
+                method: *method,
+                row: self.row(row)?,
+            }),
+            RightSide::Get {
+                place,
+                get_place,
+                future,
+            } => Ok(RightSide::Get {
+                place: *place,
+                get_place: *get_place,
+                future: self.shared(future)?,
+            }),
+            RightSide::Call {
+                place,
+                method,
+                row,
+                ..
+            } => self.call(slots, index, *place, *method, row),
+        }
+    }
+
+    /// Resolves a call by `.` of the statement with this index, and gives it a slot unless its receiver is `this`.
+    fn call(
+        &mut self,
+        slots: &mut Slots,
+        index: u32,
+        place: Place,
+        method: Symbol,
+        row: &[Expr],
+    ) -> Result<RightSide, AllocError>
+        ensures found { IfOk result (λ found. side_tree self.old.scope.names found
+            ≡ resolved_side self.old.scope.scope (length slots.old.items.items)
+            (CallOf place (name_of self.old.scope.names method) (phrases self.old.scope.names row.now) None)) }
+        ensures noted { OnOk result (self.new.first ≡ fold earlier self.old.first
+            (side_offences self.old.scope.scope
+            (CallOf place (name_of self.old.scope.names method) (phrases self.old.scope.names row.now) None))) }
+        ensures slots { OnOk result (slots.new.items.items
+            ≡ slots.old.items.items ++ side_slots index
+            (CallOf place (name_of self.old.scope.names method) (phrases self.old.scope.names row.now) None)) }
+        ensures scope { OnOk result (self.new.scope ≡ self.old.scope) }
+    {
+        let slot = hidden(slots, index, row)?;
+        Ok(RightSide::Call {
+            place,
+            method,
+            row: self.row(row)?,
+            slot,
+        })
+    }
+
+    /// Resolves a row of expressions that is shared.
+    fn row(&mut self, exprs: &[Expr]) -> Result<Arc<Vec<Expr>>, AllocError>
+        ensures found { IfOk result (λ found. phrases self.old.scope.names found.value.items
+            ≡ resolved_phrases self.old.scope.scope (phrases self.old.scope.names exprs.now)) }
+        ensures noted { OnOk result (self.new.first ≡ fold earlier self.old.first
+            (phrases_offences self.old.scope.scope (phrases self.old.scope.names exprs.now))) }
+        ensures scope { OnOk result (self.new.scope ≡ self.old.scope) }
+    {
+        let found = self.expressions(exprs)?;
+        Ok(Arc::new(self.alloc, found)?)
+    }
+}
+
+/// The hidden slot of a call by `.` of the statement with this index, if its receiver is not `this`.
+fn hidden(slots: &mut Slots, index: u32, row: &[Expr]) -> Result<Option<u32>, AllocError>
+    ensures found { (names : List Name) → IfOk result
+        (λ found. found ≡ hidden_slot (length slots.old.items.items) (phrases names row.now)) }
+    ensures slots { (names : List Name) (place : PlaceAt) (method : Name) (slot : Option ℕ) → OnOk result
+        (slots.new.items.items ≡ slots.old.items.items
+        ++ side_slots index (CallOf place method (phrases names row.now) slot)) }
+{
+    match row.first() {
+        Some(Expr::This(_)) | None => Ok(None),
+        Some(_) => Ok(Some(slots.add(Slot::Hidden(index))?)),
+    }
+}
