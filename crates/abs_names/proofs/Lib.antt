@@ -1,5 +1,6 @@
 pub mod LinkLemmas
 pub mod ScopeLemmas
+pub mod RepeatLemmas
 pub mod TreeLemmas
 pub mod LoopLemmas
 pub mod PatternLemmas

@@ -17,7 +17,7 @@ use Rattle.abs_names.specs.Scopes.{Meanings, Scope, meaning_of, visible_field, f
 use Rattle.abs_names.specs.Visible.{name_at, named, ProperNumbers}
 
 -- two tests that imply each other are the same
-same_test : (b c : Bool) → (b ≡ true → c ≡ true) → (c ≡ true → b ≡ true) → b ≡ c
+pub same_test : (b c : Bool) → (b ≡ true → c ≡ true) → (c ≡ true → b ≡ true) → b ≡ c
 same_test true c there back = sym (there refl)
 same_test false true there back = back refl
 same_test false false there back = refl

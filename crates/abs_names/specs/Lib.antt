@@ -2,6 +2,8 @@ pub mod Numbered
 pub mod Linked
 pub mod Scopes
 pub mod Visible
+pub mod Single
+pub mod Repeats
 pub mod NameOffences
 pub mod Resolution
 pub mod Answers

@@ -1,28 +1,21 @@
--- The name offences of a source: variables that are declared twice (N1), and variables, fields, `this` and `destiny`
--- that are used where they are not visible (N2). The order of a list means nothing; the first offence is the one of
--- least place.
+-- The name offences of a source: what is declared twice (N1), and variables, fields, `this` and `destiny` that are used
+-- where they are not visible (N2). The order of a list means nothing; the first offence is the one of least place.
 --
 --   `name_offences`                                    those of a source
 --   `declaration_offences`, `members_offences`         those of a declaration, of the members of a class
 --   `statement_offences`, `side_offences`, ..          those of statements, right sides, guards
 --   `phrase_offences`, `pattern_offences`, ..          those of expressions and patterns
---   `unknown`, `twice`, `use_offences`, ..             those of one name
-use Rattle.std.specs.Prelude.{ℕ, ◌+◌, Bool, List, [], ◌∷◌, ◌++◌, length, is_some, if◌then◌else◌}
+--   `use_offences`, `bind_offences`, ..                those of one name
+use Rattle.std.specs.Prelude.{ℕ, ◌+◌, List, [], ◌∷◌, ◌++◌, length, is_some, if◌then◌else◌}
 use Rattle.abs_tree.specs.Slots.{statement_slots, statements_slots}
 use Rattle.abs_tree.specs.Syntax.{Name, VariableTree, Unresolved, AtSlot, AtBound, AtField, PatternTree, AnyValue, Binds, SameNumber, SameString, Built, PatternTrees, NoPattern, NextPattern, Phrase, LetIn, IfElse, OperatorsOf, Prefixed, NumberOf, StringOf, NullOf, DestinyOf, ThisOf, FieldOf, OwnCallOf, VariableOf, ApplyOf, BuildOf, CaseOf, Phrases, NoPhrase, NextPhrase, Operands, NoOperands, NextOperand, Branches, NoBranch, NextBranch, SideTree, NewOf, ValueOf, SendOf, GetOf, CallOf, Tests, NoTest, NextTest, TargetTree, ToVariable, ToField, MaybeSide, NoSide, SomeSide, Statement, BlockOf, SkipOf, SuspendOf, AwaitOf, ReturnOf, PrintOf, IfOf, WhileOf, DeclareOf, AssignOf, DoOf, MaybeStatements, NoElse, Else, Statements, NoStatement, NextStatement, MaybePhrase, NoValue, Value, MemberTree, FieldTree, MethodTree, DeclTree, DataTree, FunctionTree, InterfaceTree, ClassTree, SourceTree}
 use Rattle.abs_tree.specs.declared.place.Place.{Place}
 use Rattle.abs_tree.specs.declared.refusal.Offence.{Offence}
-use Rattle.abs_tree.specs.declared.refusal.Code.TheVariants.{N1, N2}
+use Rattle.abs_tree.specs.declared.refusal.Code.TheVariants.{N2}
 use Rattle.abs_names.specs.declared.scope.Routine.TheVariants.{Main, Method, Function, Initial}
+use Rattle.abs_names.specs.Repeats.{declarations_repeats}
+use Rattle.abs_names.specs.Single.{unknown, twice}
 use Rattle.abs_names.specs.Scopes.{Meanings, Scope, meaning_of, has_this, has_task, field_of, use_of, is_taken, with_bound, pattern_scope, statement_scope, body_scope, class_fields, fields_after}
-
--- the offence of a name at this place that is unknown, unless it is known
-abbrev pub unknown : Bool → Place → List Offence
-unknown known place = if known then [] else record { place = place; code = N2 } ∷ []
-
--- the offence of a declaration at this place, if its name is declared already
-abbrev pub twice : Bool → Place → List Offence
-twice taken place = if taken then record { place = place; code = N1 } ∷ [] else []
 
 -- the use of a variable
 abbrev pub use_offences : Scope → Place → VariableTree → List Offence
@@ -195,4 +188,5 @@ declarations_offences (declaration ∷ others) = declaration_offences declaratio
 -- a source
 abbrev pub name_offences : SourceTree → List Offence
 name_offences source =
-    declarations_offences source.declarations ++ statements_offences (body_scope Main [] []) 0 source.main
+    declarations_repeats source.declarations
+    ++ (declarations_offences source.declarations ++ statements_offences (body_scope Main [] []) 0 source.main)

@@ -8,6 +8,7 @@ mod expressions;
 mod laws;
 mod meanings;
 mod patterns;
+mod repeats;
 pub mod resolver;
 mod right_sides;
 mod scope;

@@ -58,6 +58,7 @@ fn resolve_parts(
     ensures methods_have_slots { OnOk result (All (DeclHasSlots symbols.now) declarations.new.items) }
 {
     let mut walk = Walk::new(alloc, symbols);
+    walk.note_declarations(declarations.as_slice())?;
     walk.declarations(declarations)?;
     walk.body(Routine::Main, &[], main)?;
     Ok(walk.first)

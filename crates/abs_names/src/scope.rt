@@ -2,7 +2,7 @@
 ghost use Rattle.std.specs.Prelude.{◌≡◌, [], ◌∷◌, List, length, is_some, option_map, OnOk, IfOk};
 ghost use Rattle.abs_tree.specs.Syntax.{Name, Unresolved};
 ghost use Rattle.abs_tree.specs.SyntaxViews.{variable_tree};
-ghost use Rattle.abs_tree.specs.Names.{name_of};
+ghost use Rattle.abs_tree.specs.Names.{number_of_name, name_of};
 ghost use Rattle.abs_names.specs.Numbered.{EndsIn};
 ghost use Rattle.abs_names.specs.Scopes.{Meanings as MeaningList, meaning_of, visible_field as field_seen, use_of, field_of, is_taken, has_this as is_with_this, has_task as is_with_task, next_bound, with_bound, with_variable, with_field};
 ghost use Rattle.abs_names.specs.Visible.{named, ProperNumbers};
@@ -113,6 +113,13 @@ impl<'s> Scope<'s> {
         ensures { result ≡ is_taken self.now.scope (name_of self.now.names name) }
     {
         self.is_variable(name) || self.field_of(name).is_some()
+    }
+
+    /// A number for a name, which is the same for equal names alone.
+    pub fn number(&self, name: Symbol) -> u32
+        ensures { result ≡ number_of_name self.now.names (name_of self.now.names name) }
+    {
+        self.symbols.number(name)
     }
 
     /// Whether there is `this`.
