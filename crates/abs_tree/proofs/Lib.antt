@@ -4,3 +4,4 @@ pub mod SyntaxLemmas
 pub mod StatementLemmas
 pub mod EntryLemmas
 pub mod OffenceLemmas
+pub mod LinkLemmas

@@ -9,6 +9,8 @@ pub mod Offences
 pub mod SourceErrors
 pub mod Faults
 pub mod Syntax
+pub mod Tables
+pub mod NameSpaces
 pub mod SyntaxViews
 pub mod SyntaxPlaces
 pub mod SyntaxSizes
@@ -18,3 +20,5 @@ pub mod SlotViews
 pub mod SourceNumbers
 pub mod SourceSizes
 pub mod SourceViews
+pub mod Numbered
+pub mod Linked

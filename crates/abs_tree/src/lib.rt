@@ -5,6 +5,8 @@
 pub mod arithmetic;
 pub mod laws;
 pub mod limits;
+pub mod meanings;
+pub mod name_spaces;
 pub mod named;
 pub mod place;
 pub mod refusal;
@@ -16,6 +18,8 @@ pub mod value;
 
 pub use arithmetic::negated;
 pub use laws::{first_is_least, numbers_tell_names};
+pub use meanings::Meanings;
+pub use name_spaces::{ConstructorMeaning, FunctionMeaning, NameSpaces, Taking, TypeMeaning};
 pub use named::Named;
 pub use place::Place;
 pub use refusal::{Code, Offence, Refusal};

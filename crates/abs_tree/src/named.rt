@@ -1,4 +1,4 @@
-//! A source whose variables are resolved.
+//! A source whose names are resolved.
 ghost use Rattle.std.specs.Prelude.{◌≤◌, All, length};
 ghost use Rattle.abs_tree.specs.Limits.{table_limit};
 ghost use Rattle.abs_tree.specs.SlotViews.{BodyHasSlots, DeclHasSlots};
@@ -8,9 +8,9 @@ ghost use Rattle.abs_tree.specs.SyntaxViews.{tree_of_parts};
 use crate::Symbols;
 use crate::syntax::{Body, Decl};
 
-/// A source in which each variable is resolved: a parameter or a local is a slot of its body, a variable of a pattern
-/// or of `let` is a bound variable, and a field of `this` is a field. In an initial value an earlier field is a slot.
-/// Each method, and the main block, has the slots of its body.
+/// A source in which each variable and each type is resolved, after the declarations of the prelude. A parameter or a
+/// local is a slot of its body, a variable of a pattern or of `let` is a bound variable, and a field of `this` is a
+/// field. In an initial value an earlier field is a slot. Each method, and the main block, has the slots of its body.
 #[derive(Drop)]
 pub struct Named<'a> {
     pub symbols: Symbols<'a>,
