@@ -18,3 +18,4 @@ pub mod DeclarationLemmas
 pub mod SourceSizeLemmas
 pub mod OwnSlotLemmas
 pub mod NewestLemmas
+pub mod PreludeLemmas

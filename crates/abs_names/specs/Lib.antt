@@ -9,3 +9,4 @@ pub mod Resolution
 pub mod Answers
 pub mod OwnSlots
 pub mod Newest
+pub mod Prelude

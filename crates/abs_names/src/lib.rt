@@ -8,6 +8,7 @@ mod expressions;
 mod laws;
 mod meanings;
 mod patterns;
+mod prelude;
 mod repeats;
 pub mod resolver;
 mod right_sides;
@@ -19,4 +20,7 @@ mod walk;
 
 pub use abs_tree::SourceError as NameError;
 pub use laws::{newest_declaration, own_slots};
+pub use prelude::{
+    DECLARATIONS as PRELUDE_DECLARATIONS, TEXT as PRELUDE_TEXT, declarations_are_counted,
+};
 pub use resolver::resolve;
