@@ -1,9 +1,9 @@
 -- A source has at most one program, and at most one refusal, and not both.
-use Rattle.std.proofs.Common.{◌≡◌, ℕ, List, [], ◌++◌, sym, ap, ◌∙◌, subst}
-use Rattle.std.proofs.lemmas.List.Elements.{All-weaker, All-contains}
-use Rattle.std.specs.List.{All}
+use Rattle.std.proofs.Common.{◌≡◌, ℕ, List, [], ◌++◌, sym, ap, ◌∙◌, subst, inl, inr, fold}
+use Rattle.std.proofs.lemmas.List.Elements.{All-weaker, All-contains, All-contains_itself}
+use Rattle.std.specs.List.{All, Contains}
 use Rattle.std.specs.Prelude.{Option, Some, None, unwrap_or}
-use Rattle.abs_tree.specs.Names.{by_first_appearance}
+use Rattle.abs_tree.specs.Names.{by_first_appearance, with_name}
 use Rattle.abs_tree.specs.Syntax.{Name, SourceTree}
 use Rattle.abs_tree.specs.declared.place.Place.{Place}
 use Rattle.abs_tree.specs.declared.refusal.Code.{Code}
@@ -15,6 +15,7 @@ use Rattle.abs_tree.specs.Refusals.{refusal_of}
 use Rattle.abs_lexer.proofs.LawLemmas.{list_once, first_once, list_or_first}
 use Rattle.abs_lexer.specs.Answers.{RefusesLexing}
 use Rattle.abs_lexer.specs.Tokens.{Lexed, TokenList, TokensOf, IsPieceAt}
+use Rattle.abs_parser.proofs.grammar.NameLemmas.{all_named}
 use Rattle.abs_parser.proofs.grammar.ReadingLemmas.{one_reading}
 use Rattle.abs_parser.proofs.stop.OutcomeLemmas.{one_stop}
 use Rattle.abs_parser.specs.Answers.{IsWritten}
@@ -25,9 +26,10 @@ use Rattle.abs_parser.specs.Texts.{IsTextOf, StopsWith}
 use Rattle.abs_parser.specs.TreesOf.{tree_of}
 use Rattle.abs_names.specs.Answers.{RefusesFirst}
 use Rattle.abs_names.specs.NameOffences.{name_offences}
+use Rattle.abs_names.specs.Prelude.{prelude_names}
 use Rattle.abs_names.specs.Resolution.{resolved}
-use Rattle.abs_command.specs.Sources.{IsTree, IsProgramOf, IsPiece, FirstOffence, HasOneFirstOffence}
-use Rattle.abs_command.specs.Sources.FirstOffence.{unlexed, unread, misnamed, not_yet}
+use Rattle.abs_command.specs.Sources.{IsTree, IsProgramOf, IsPiece, IsNameOf, FirstOffence, HasOneFirstOffence}
+use Rattle.abs_command.specs.Sources.FirstOffence.{unlexed, unread, misnamed, unsupported_part}
 use Rattle.abs_command.specs.Unsupported.{unsupported}
 
 -- the names of two trees are equal, and so are the trees
@@ -93,7 +95,7 @@ pub no_offence : {text : List ℕ} {program : SourceTree} {refusal : Refusal} �
 no_offence accepted (unlexed lexing) = list_or_first accepted.read.tokens lexing.is_first
 no_offence accepted (unread list tokens stops) = no_stop accepted.read tokens stops
 no_offence accepted (misnamed names tree read first) = not_misnamed accepted.read read accepted.no_offence first
-no_offence {program = program} accepted (not_yet names tree place read none waits is) =
+no_offence {program = program} accepted (unsupported_part names tree place read none waits is) =
     let same : program ≡ resolved tree = accepted.is ∙ one_of_tree resolved accepted.read read in
     let both : None ≡ Some place = sym accepted.runs ∙ (ap unsupported same ∙ waits) in
     cc both
@@ -129,14 +131,14 @@ one_first_offence text one other (unlexed x) (unlexed y) = one_lexical x y
 one_first_offence text one other (unlexed x) (unread list tokens stops) = absurd (list_or_first tokens x.is_first)
 one_first_offence text one other (unlexed x) (misnamed names tree read first) =
     absurd (list_or_first read.tokens x.is_first)
-one_first_offence text one other (unlexed x) (not_yet names tree place read none waits is) =
+one_first_offence text one other (unlexed x) (unsupported_part names tree place read none waits is) =
     absurd (list_or_first read.tokens x.is_first)
 one_first_offence text one other (unread list tokens stops) (unlexed y) = absurd (list_or_first tokens y.is_first)
 one_first_offence text one other (unread list tokens stops) (unread others other_tokens other_stops) =
     one_stopped stops (subst (λ (l : TokenList). StopsWith l other) (list_once other_tokens tokens) other_stops)
 one_first_offence text one other (unread list tokens stops) (misnamed names tree read first) =
     absurd (no_stop read tokens stops)
-one_first_offence text one other (unread list tokens stops) (not_yet names tree place read none waits is) =
+one_first_offence text one other (unread list tokens stops) (unsupported_part names tree place read none waits is) =
     absurd (no_stop read tokens stops)
 one_first_offence text one other (misnamed names tree read first) (unlexed y) =
     absurd (list_or_first read.tokens y.is_first)
@@ -144,21 +146,23 @@ one_first_offence text one other (misnamed names tree read first) (unread list t
     absurd (no_stop read tokens stops)
 one_first_offence text one other (misnamed names tree read first) (misnamed others next reads second) =
     one_misnamed one other read reads first second
-one_first_offence text one other (misnamed names tree read first) (not_yet others next place reads none waits is) =
+one_first_offence text one other (misnamed names tree read first)
+    (unsupported_part others next place reads none waits is) =
     absurd (not_misnamed reads read none first)
-one_first_offence text one other (not_yet names tree place read none waits is) (unlexed y) =
+one_first_offence text one other (unsupported_part names tree place read none waits is) (unlexed y) =
     absurd (list_or_first read.tokens y.is_first)
-one_first_offence text one other (not_yet names tree place read none waits is) (unread list tokens stops) =
+one_first_offence text one other (unsupported_part names tree place read none waits is) (unread list tokens stops) =
     absurd (no_stop read tokens stops)
-one_first_offence text one other (not_yet names tree place read none waits is) (misnamed others next reads first) =
+one_first_offence text one other (unsupported_part names tree place read none waits is)
+    (misnamed others next reads first) =
     absurd (not_misnamed read reads none first)
-one_first_offence text one other (not_yet names tree place read none waits is)
-    (not_yet others next at reads also_none also other_is) =
+one_first_offence text one other (unsupported_part names tree place read none waits is)
+    (unsupported_part others next at reads also_none also other_is) =
     is ∙ (ap (λ (begin : Place). refusal_of (record { place = begin; code = S1 }))
     (one_place place at read reads waits also) ∙ sym other_is)
 
 -- if tokens are pieces of a source, the names that they write are pieces of it too
-pub names_are_pieces : {text : List ℕ} (tokens : List Lexed) (names : List (List ℕ)) → All (IsPieceAt text) tokens
+names_are_pieces : {text : List ℕ} (tokens : List Lexed) (names : List (List ℕ)) → All (IsPieceAt text) tokens
     → All (IsWritten tokens) names → All (IsPiece text) names
 names_are_pieces {text} tokens names pieces written = All-weaker (IsWritten tokens) (IsPiece text) piece names written
   where
@@ -171,3 +175,14 @@ names_are_pieces {text} tokens names pieces written = All-weaker (IsWritten toke
           is =
               at.is ∙ ap (λ (bytes : List ℕ). at.front ++ (bytes ++ at.after)) (sym x.is);
         }
+
+-- each name of a program is a name that its tokens write, or one of the prelude
+pub program_names : {text : List ℕ} (tokens : List Lexed) (parsed names : List (List ℕ)) → All (IsPieceAt text) tokens
+    → All (IsWritten tokens) parsed → names ≡ fold with_name parsed prelude_names → All (IsNameOf text) names
+program_names {text} tokens parsed names pieces written are =
+    subst (All (IsNameOf text)) (sym are)
+    (all_named (IsNameOf text) parsed prelude_names
+    (All-weaker (IsPiece text) (IsNameOf text) (λ name piece. inl piece) parsed
+    (names_are_pieces tokens parsed pieces written))
+    (All-weaker (Contains prelude_names) (IsNameOf text) (λ name among. inr among) prelude_names
+    (All-contains_itself prelude_names)))

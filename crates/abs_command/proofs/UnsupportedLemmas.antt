@@ -1,25 +1,29 @@
 -- The first unsupported part, for trees in memory: lists that are read from their start, operators of one
--- precedence, the argument of a print, and the type `Int`.
-use Rattle.std.proofs.Common.{◌≡◌, ℕ, true, false, List, [], ◌∷◌, Some, None, refl, sym, ap, ◌∙◌, arith, vec_len, length, get_or}
-use Rattle.std.specs.Prelude.{◌==◌, Option, codes}
+-- precedence, the argument of a print, and the declarations after those of the prelude.
+use Rattle.std.proofs.Common.{◌≡◌, ◌<◌, ℕ, suc, true, false, List, [], ◌∷◌, Some, None, refl, sym, ap, ◌∙◌, arith, length, get_or, map, drop}
+use Rattle.std.specs.Prelude.{Option, codes}
 use Rattle.std.specs.Str.{bytes_eq}
-use Rattle.std.proofs.lemmas.Bool.{eqb-true}
+use Rattle.std.proofs.Math.Seq.{drop-cons}
+use Rattle.std.proofs.lemmas.List.{drop-map}
 use Rattle.std.specs.declared.alloc.Global.{Global}
 use Rattle.std.specs.declared.boxed.Box.{Box}
 use Rattle.std.specs.declared.vec.Vec.{Vec}
 use Rattle.abs_tree.specs.declared.place.Place.{Place}
 use Rattle.abs_tree.specs.declared.symbol.Symbol.{Symbol}
+use Rattle.abs_tree.specs.declared.syntax.declaration.Decl.{Decl}
 use Rattle.abs_tree.specs.declared.syntax.expression.Expr as code_expr
 use Rattle.abs_tree.specs.declared.syntax.expression.Expr.{Expr}
 use Rattle.abs_tree.specs.declared.syntax.expression.Operand.{Operand}
 use Rattle.abs_tree.specs.declared.syntax.statement.Stmt.{Stmt}
-use Rattle.abs_tree.specs.declared.syntax.types.TypeTerm as code_type
-use Rattle.abs_tree.specs.declared.syntax.types.TypeTerm.{TypeTerm}
 use Rattle.abs_tree.specs.Names.{name_of}
-use Rattle.abs_tree.specs.Syntax.{Name, UnresolvedType, ApplyOf, Phrases, NoPhrase, NextPhrase}
-use Rattle.abs_tree.specs.SyntaxViews.{type_tree, type_trees, phrase, phrases, operand_trees, statements}
-use Rattle.abs_tree.proofs.SyntaxLemmas.{type_tree-unresolved, phrase-operators, phrase-apply}
-use Rattle.abs_command.specs.Unsupported.{unsupported_phrase, unsupported_operands, unsupported_text, is_int, unsupported_statements}
+use Rattle.abs_tree.specs.Syntax.{Name, ApplyOf, Phrases, NoPhrase, NextPhrase, DeclTree}
+use Rattle.abs_tree.specs.declared.named.Named.{Named}
+use Rattle.abs_tree.specs.SourceViews.{named_tree}
+use Rattle.abs_tree.specs.SyntaxPlaces.{decl_place}
+use Rattle.abs_tree.specs.SyntaxViews.{phrase, phrases, operand_trees, statements, decl_tree}
+use Rattle.abs_tree.proofs.SyntaxLemmas.{phrase-operators, phrase-apply}
+use Rattle.abs_names.specs.Prelude.{prelude}
+use Rattle.abs_command.specs.Unsupported.{unsupported_phrase, unsupported_operands, unsupported_text, unsupported_statements, unsupported_main, unsupported}
 
 -- the first unsupported part of statements in memory
 abbrev pub statements_part : List Name → List Stmt → Option Place
@@ -92,45 +96,14 @@ pub several_values : (names : List Name) (text : Expr) (place : Place) (function
 several_values names text place function arguments is other = text_applied names text place function arguments is
     ∙ several_arguments names place (name_of names function) arguments.items other
 
--- the tree of a type without arguments is `Int` if that is its name
-int_without : (names : List Name) (place : Place) (name : Name) (arguments : List TypeTerm)
-    → (length arguments == 0) ≡ true
-    → is_int (UnresolvedType place name (type_trees names arguments)) ≡ bytes_eq name (codes "Int")
-int_without names place name [] none = refl
-int_without names place name (argument ∷ others) none =
-    absurd (omega (arith, eqb-true (length (argument ∷ others)) 0 none))
-
--- the tree of a type with arguments is not `Int`
-int_with : (names : List Name) (place : Place) (name : Name) (arguments : List TypeTerm)
-    → (length arguments == 0) ≡ false
-    → is_int (UnresolvedType place name (type_trees names arguments)) ≡ false
-int_with names place name [] some = absurd cc
-int_with names place name (argument ∷ others) some = refl
-
--- an unresolved type in memory is `Int` if its tree is
-named_type : (names : List Name) (type : TypeTerm) (place : Place) (symbol : Symbol) (arguments : Vec TypeTerm Global)
-    → type ≡ code_type.Unresolved place symbol arguments
-    → is_int (type_tree names type)
-    ≡ is_int (UnresolvedType place (name_of names symbol) (type_trees names arguments.items))
-named_type names type place symbol arguments is =
-    ap is_int (ap (type_tree names) is ∙ type_tree-unresolved names place symbol arguments)
-
--- an unresolved type in memory without arguments is `Int` if that is its name
-pub int_where_named : (names : List Name) (type : TypeTerm) (place : Place) (symbol : Symbol)
-    (arguments : Vec TypeTerm Global)
-    → type ≡ code_type.Unresolved place symbol arguments → (vec_len arguments == 0) ≡ true
-    → is_int (type_tree names type) ≡ bytes_eq (name_of names symbol) (codes "Int")
-int_where_named names type place symbol arguments is none =
-    named_type names type place symbol arguments is
-    ∙ int_without names place (name_of names symbol) arguments.items
-    (ap (λ (count : ℕ). count == 0) (sym arguments.ok.0) ∙ none)
-
--- an unresolved type in memory with arguments is not `Int`
-pub int_nowhere : (names : List Name) (type : TypeTerm) (place : Place) (symbol : Symbol)
-    (arguments : Vec TypeTerm Global)
-    → type ≡ code_type.Unresolved place symbol arguments → (vec_len arguments == 0) ≡ false
-    → is_int (type_tree names type) ≡ false
-int_nowhere names type place symbol arguments is some =
-    named_type names type place symbol arguments is
-    ∙ int_with names place (name_of names symbol) arguments.items
-    (ap (λ (count : ℕ). count == 0) (sym arguments.ok.0) ∙ some)
+-- a declaration after those of the prelude is the first unsupported part of a program in memory
+pub declared_part : (program : Named) (declarations : List Decl) (count : ℕ) (first : Decl) → count ≡ length prelude
+    → declarations ≡ program.declarations.items → count < length declarations → first ≡ get_or declarations count first
+    → unsupported (named_tree program) ≡ Some (decl_place (decl_tree program.symbols first))
+declared_part program declarations count first counted are there is =
+    let view = decl_tree program.symbols in
+    let rest : drop count declarations ≡ first ∷ drop (suc count) declarations =
+    drop-cons declarations count first there ∙ ap (λ (decl : Decl). decl ∷ drop (suc count) declarations) (sym is) in
+    rw (← counted, ← are)
+    (ap (λ (left : List DeclTree). unsupported_main left (statements program.symbols program.main.statements.items))
+    (drop-map view count declarations ∙ ap (map view) rest))

@@ -5,8 +5,8 @@
 --   `FirstOffence`, `HasOffence`                       the refusal of a source
 --   `IsTree`                                           the tree of an accepted source, and its names
 --   `HasOneFirstOffence`                               that a source is refused for at most one offence
---   `IsPiece`                                          a piece of a source
-use Rattle.std.specs.Prelude.{◌≡◌, ℕ, List, [], ◌++◌, Some, None}
+--   `IsPiece`, `IsNameOf`                              a piece of a source, a name of its program
+use Rattle.std.specs.Prelude.{◌≡◌, ◌⊎◌, ℕ, List, [], ◌++◌, Some, None, Contains}
 use Rattle.abs_tree.specs.Refusals.{refusal_of}
 use Rattle.abs_tree.specs.Syntax.{Name, SourceTree}
 use Rattle.abs_tree.specs.declared.place.Place.{Place}
@@ -17,6 +17,7 @@ use Rattle.abs_lexer.specs.Tokens.{TokenList, TokensOf}
 use Rattle.abs_parser.specs.Texts.{IsTextOf, StopsWith}
 use Rattle.abs_names.specs.Answers.{RefusesFirst}
 use Rattle.abs_names.specs.NameOffences.{name_offences}
+use Rattle.abs_names.specs.Prelude.{prelude_names}
 use Rattle.abs_names.specs.Resolution.{resolved}
 use Rattle.abs_command.specs.Unsupported.{unsupported}
 
@@ -26,8 +27,8 @@ pub record IsTree (text : List ℕ) (names : List Name) (tree : SourceTree) : Ty
   pub tokens : TokensOf text list
   pub is : IsTextOf list names tree
 
--- The source has a tree in which no name offends; this is its program, whose variables are resolved and all of which
--- runs.
+-- The source has a tree in which no name offends. This is its program, whose names are resolved and no part of which is
+-- unsupported.
 pub record IsProgramOf (text : List ℕ) (program : SourceTree) : Type 0 where
   pub names : List Name
   pub tree : SourceTree
@@ -44,7 +45,7 @@ pub data FirstOffence (text : List ℕ) (refusal : Refusal) : Type 0 where
   unread : (list : TokenList) → TokensOf text list → StopsWith list refusal → FirstOffence text refusal
   misnamed : (names : List Name) (tree : SourceTree) → IsTree text names tree
       → RefusesFirst (name_offences tree) refusal → FirstOffence text refusal
-  not_yet : (names : List Name) (tree : SourceTree) (place : Place) → IsTree text names tree
+  unsupported_part : (names : List Name) (tree : SourceTree) (place : Place) → IsTree text names tree
       → name_offences tree ≡ [] → unsupported (resolved tree) ≡ Some place
       → refusal ≡ refusal_of (record { place = place; code = S1 }) → FirstOffence text refusal
 
@@ -57,6 +58,10 @@ pub record IsPiece (text name : List ℕ) : Type 0 where
   pub front : List ℕ
   pub after : List ℕ
   pub is : text ≡ front ++ (name ++ after)
+
+-- the name is a piece of the source or a name of the prelude
+abbrev pub IsNameOf : List ℕ → List ℕ → Type 0
+IsNameOf text name = IsPiece text name ⊎ Contains prelude_names name
 
 -- A source is refused for at most one offence: any two refusals of it are equal.
 abbrev pub HasOneFirstOffence : List ℕ → Type 0

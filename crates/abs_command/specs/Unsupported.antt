@@ -1,6 +1,6 @@
 -- Where the first unsupported part of a source begins, if there is one. The source is resolved. What is supported is a
--- main block without declarations before it, with these statements: a local of type Int is declared with a value, a
--- value is assigned to a local, and `toString` of a value is printed. A value has numbers, locals, minus, sums,
+-- main block with no declaration before it but those of the prelude. A statement of it declares a local of type Int
+-- with a value, assigns a value to a local, or prints `toString` of a value. A value has numbers, locals, minus, sums,
 -- differences and products.
 --
 --   `unsupported`                                      a source
@@ -8,14 +8,15 @@
 --   `unsupported_side`, `unsupported_text`             the right side of a statement, the argument of a print
 --   `unsupported_phrase`, `unsupported_operands`       expressions
 --   `or_else`                                          the first of two places, if there are any
-use Rattle.std.specs.Prelude.{Bool, true, false, List, [], ◌∷◌, Option, Some, None, codes, if◌then◌else◌}
+use Rattle.std.specs.Prelude.{Bool, true, false, List, [], ◌∷◌, length, drop, Option, Some, None, codes, if◌then◌else◌}
 use Rattle.std.specs.Str.{bytes_eq}
-use Rattle.abs_tree.specs.Syntax.{AtSlot, TypeTree, UnresolvedType, NoType, Phrase, OperatorsOf, Prefixed, NumberOf, VariableOf, ApplyOf, NoPhrase, NextPhrase, Operands, NoOperands, NextOperand, SideTree, ValueOf, ToVariable, SomeSide, Statement, PrintOf, DeclareOf, AssignOf, Statements, NoStatement, NextStatement, DeclTree, SourceTree}
+use Rattle.abs_tree.specs.Syntax.{AtSlot, TypeTree, IntType, Phrase, OperatorsOf, Prefixed, NumberOf, VariableOf, ApplyOf, NoPhrase, NextPhrase, Operands, NoOperands, NextOperand, SideTree, ValueOf, ToVariable, SomeSide, Statement, PrintOf, DeclareOf, AssignOf, Statements, NoStatement, NextStatement, DeclTree, SourceTree}
 use Rattle.abs_tree.specs.SyntaxPlaces.{phrase_place, side_place, statement_place, decl_place}
 use Rattle.abs_tree.specs.declared.place.Place.{Place}
 use Rattle.abs_tree.specs.declared.syntax.expression.Operator.{Operator}
 use Rattle.abs_tree.specs.declared.syntax.expression.Operator.TheVariants as operator
 use Rattle.abs_tree.specs.declared.syntax.expression.Prefix.TheVariants as prefix
+use Rattle.abs_names.specs.Prelude.{prelude}
 
 -- the first place, or else the second one
 abbrev pub or_else : Option Place → Option Place → Option Place
@@ -59,7 +60,7 @@ unsupported_text other = Some (phrase_place other)
 
 -- the type Int
 abbrev pub is_int : TypeTree → Bool
-is_int (UnresolvedType place name NoType) = bytes_eq name (codes "Int")
+is_int (IntType place) = true
 is_int _ = false
 
 -- a declaration, an assignment, a print
@@ -75,10 +76,11 @@ unsupported_statements NoStatement = None
 unsupported_statements (NextStatement first others) =
     or_else (unsupported_statement first) (unsupported_statements others)
 
--- a source without declarations
+-- a main block after these declarations of the source
 abbrev pub unsupported_main : List DeclTree → Statements → Option Place
 unsupported_main [] main = unsupported_statements main
 unsupported_main (decl ∷ others) main = Some (decl_place decl)
 
+-- a source; the declarations of the prelude come first, and need not run
 abbrev pub unsupported : SourceTree → Option Place
-unsupported source = unsupported_main source.declarations source.main
+unsupported source = unsupported_main (drop (length prelude) source.declarations) source.main

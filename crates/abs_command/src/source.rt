@@ -3,7 +3,7 @@ ghost use Rattle.std.specs.Prelude.{◌≤◌, ℕ, List, length, All, IfOk, IfE
 ghost use Rattle.abs_tree.specs.Limits.{source_limit};
 ghost use Rattle.abs_tree.specs.SourceErrors.{HasCause};
 ghost use Rattle.abs_tree.specs.SourceViews.{named_tree};
-ghost use Rattle.abs_command.specs.Sources.{IsProgramOf, FirstOffence, IsPiece, HasOneFirstOffence};
+ghost use Rattle.abs_command.specs.Sources.{IsProgramOf, FirstOffence, IsNameOf, HasOneFirstOffence};
 
 pub mod unsupported;
 
@@ -14,7 +14,7 @@ use abs_parser::parse;
 use abs_tree::{Code, Named, Offence, SourceError};
 use std::alloc::Global;
 
-/// The program of a source, with its variables resolved.
+/// The program of a source, with its names resolved.
 ///
 /// # Errors
 /// [`SourceError::Refused`] if the source has an offence, with the refusal for the first one.
@@ -22,7 +22,7 @@ use std::alloc::Global;
 pub fn program_of<'a>(alloc: Global, text: &'a [u8]) -> Result<Named<'a>, SourceError>
     requires { length text.now ≤ source_limit }
     ensures found { IfOk result (λ program. IsProgramOf text.now (named_tree program)) }
-    ensures pieces { IfOk result (λ program. All (IsPiece text.now) program.symbols) }
+    ensures names { IfOk result (λ program. All (IsNameOf text.now) program.symbols) }
     ensures refused { IfErr result (HasCause (FirstOffence text.now)) }
 {
     let list = tokens(alloc, text)?;

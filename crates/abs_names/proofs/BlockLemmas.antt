@@ -8,7 +8,7 @@ use Rattle.std.proofs.lemmas.List.{length-append, append-nil, drop_all}
 use Rattle.abs_tree.proofs.EntryLemmas.{drop_item}
 use Rattle.abs_tree.specs.Offences.{earlier}
 use Rattle.abs_tree.specs.Slots.{statement_slots, statements_slots}
-use Rattle.abs_tree.specs.Syntax.{Name, Statement, BlockOf, SkipOf, SuspendOf, AwaitOf, ReturnOf, PrintOf, IfOf, WhileOf, DeclareOf, AssignOf, DoOf, Statements, NoStatement, NextStatement}
+use Rattle.abs_tree.specs.Syntax.{Statement, BlockOf, SkipOf, SuspendOf, AwaitOf, ReturnOf, PrintOf, IfOf, WhileOf, DeclareOf, AssignOf, DoOf, Statements, NoStatement, NextStatement}
 use Rattle.abs_tree.specs.SyntaxViews.{statement, statements}
 use Rattle.abs_tree.specs.declared.refusal.Offence.{Offence}
 use Rattle.abs_tree.specs.declared.syntax.slot.Slot.{Slot}
@@ -16,7 +16,7 @@ use Rattle.abs_tree.specs.declared.syntax.statement.Stmt.{Stmt, size-Stmt}
 use Rattle.abs_names.specs.NameOffences.{statement_offences, statements_offences}
 use Rattle.abs_names.specs.Resolution.{resolved_statement, resolved_statements}
 use Rattle.abs_names.specs.Scopes.{Scope, statement_scope, local_slot}
-use Rattle.abs_names.specs.Visible.{Visible}
+use Rattle.abs_names.specs.Visible.{Names, Visible}
 use Rattle.abs_names.proofs.LeaveLemmas.{Within, within_itself, within_both, within_variable}
 use Rattle.abs_names.proofs.LoopLemmas.{SoFar, one_more, Done, all_done}
 use Rattle.abs_names.proofs.TreeLemmas.{statements_before, statements_more, statements_all}
@@ -63,9 +63,9 @@ pub record BlockSoFar (start : Visible) (first : Option Offence) (slots : List S
     (found : List Stmt) (now : Visible) (noted : Option Offence) (slots_now : List Slot) : Type 0 where
   pub names_are : now.names ≡ start.names
   pub within : Within start.scope now.scope
-  pub slots_are : slots_now ++ statements_slots (statements start.names (drop index stmts))
-      ≡ slots ++ statements_slots (statements start.names stmts)
-  pub so_far : SoFar (statements start.names) (statements_before start.names) made_from met_from spot_after
+  pub slots_are : slots_now ++ statements_slots (statements start.names.before (drop index stmts))
+      ≡ slots ++ statements_slots (statements start.names.before stmts)
+  pub so_far : SoFar (statements start.names.before) (statements_before start.names.after) made_from met_from spot_after
       (start.scope, length slots) first stmts index found (now.scope, length slots_now) noted
 
 -- one more statement was resolved
@@ -74,26 +74,26 @@ pub block_step : {start : Visible} {first : Option Offence} {slots : List Slot} 
     {all : List Stmt} (item one : Stmt)
     → BlockSoFar start first slots stmts index found now noted slots_now → index < length stmts
     → item ≡ get_or stmts index item
-    → statement now.names one ≡ resolved_statement now.scope (length slots_now) (statement now.names item)
+    → statement now.names.after one ≡ resolved_statement now.scope (length slots_now) (statement now.names.before item)
     → after_noted
-    ≡ fold earlier noted (statement_offences now.scope (length slots_now) (statement now.names item))
-    → slots_after ≡ slots_now ++ statement_slots (statement now.names item)
+    ≡ fold earlier noted (statement_offences now.scope (length slots_now) (statement now.names.before item))
+    → slots_after ≡ slots_now ++ statement_slots (statement now.names.before item)
     → after.names ≡ now.names
-    → after.scope ≡ statement_scope now.scope (length slots_now) (statement now.names item)
+    → after.scope ≡ statement_scope now.scope (length slots_now) (statement now.names.before item)
     → all ≡ found ++ one ∷ [] → BlockSoFar start first slots stmts (index + 1) all after after_noted slots_after
 block_step {start} {first} {slots} {stmts} {index} {found} {now} {after} {noted} {after_noted} {slots_now}
     {slots_after} {all} item one h there is make note grow same move added =
     let names = start.names in
-    let tree = statement names item in
+    let tree = statement names.before item in
     let next = length slots_now in
-    let made = subst (λ (ns : List Name). statement ns one ≡ resolved_statement now.scope next (statement ns item))
-    h.names_are make in
-    let met = subst (λ (ns : List Name).
-    after_noted ≡ fold earlier noted (statement_offences now.scope next (statement ns item))) h.names_are note in
-    let grown = subst (λ (ns : List Name). slots_after ≡ slots_now ++ statement_slots (statement ns item)) h.names_are
-    grow in
-    let moved = subst (λ (ns : List Name). after.scope ≡ statement_scope now.scope next (statement ns item)) h.names_are
-    move in
+    let made = subst (λ (ns : Names). statement ns.after one ≡ resolved_statement now.scope next
+    (statement ns.before item)) h.names_are make in
+    let met = subst (λ (ns : Names).
+    after_noted ≡ fold earlier noted (statement_offences now.scope next (statement ns.before item))) h.names_are note in
+    let grown = subst (λ (ns : Names). slots_after ≡ slots_now ++ statement_slots
+    (statement ns.before item)) h.names_are grow in
+    let moved = subst (λ (ns : Names). after.scope ≡ statement_scope now.scope next
+    (statement ns.before item)) h.names_are move in
     let longer : length slots_after ≡ next + length (statement_slots tree) =
     ap length grown ∙ length-append slots_now (statement_slots tree) in
     let later : Spot = (statement_scope now.scope next tree, next + length (statement_slots tree)) in
@@ -105,20 +105,22 @@ block_step {start} {first} {slots} {stmts} {index} {found} {now} {after} {noted}
       names_are = same ∙ h.names_are;
       within = within_both h.within
           (subst (Within now.scope) (sym moved) (within_statement now.scope next tree));
-      slots_are = ap (λ (xs : List Slot). xs ++ statements_slots (statements names rest)) grown
-          ∙ (append_assoc slots_now (statement_slots tree) (statements_slots (statements names rest))
-          ∙ (ap (λ (xs : List Stmt). slots_now ++ statements_slots (statements names xs))
+      slots_are = ap (λ (xs : List Slot). xs ++ statements_slots (statements names.before rest)) grown
+          ∙ (append_assoc slots_now (statement_slots tree) (statements_slots (statements names.before rest))
+          ∙ (ap (λ (xs : List Stmt). slots_now ++ statements_slots (statements names.before xs))
           (sym (drop_item stmts index item there is))
           ∙ h.slots_are));
-      so_far = one_more all (after.scope, length slots_after) after_noted item (NextStatement (statement names one))
-          (statement_offences now.scope next tree) h.so_far there is
-          (λ others. ap (λ (t : Statement). NextStatement t (made_from later (statements names others))) (sym made)
-          ∙ ap (λ (s : Spot). NextStatement (statement names one) (made_from s (statements names others))) (sym spot))
+      so_far = one_more all (after.scope, length slots_after) after_noted item
+          (NextStatement (statement names.after one)) (statement_offences now.scope next tree) h.so_far there is
+          (λ others. ap (λ (t : Statement). NextStatement t
+          (made_from later (statements names.before others))) (sym made)
+          ∙ ap (λ (s : Spot). NextStatement (statement names.after one)
+          (made_from s (statements names.before others))) (sym spot))
           (λ others. ap (λ (s : Spot).
-          statement_offences now.scope next tree ++ met_from s (statements names others)) (sym spot))
-          (λ others. ap (λ (s : Spot). spot_after s (statements names others)) (sym spot))
-          (λ others. ap (λ (xs : List Stmt). statements_before names xs others) added
-          ∙ statements_more names found one others)
+          statement_offences now.scope next tree ++ met_from s (statements names.before others)) (sym spot))
+          (λ others. ap (λ (s : Spot). spot_after s (statements names.before others)) (sym spot))
+          (λ others. ap (λ (xs : List Stmt). statements_before names.after xs others) added
+          ∙ statements_more names.after found one others)
           met;
     }
 
@@ -126,16 +128,17 @@ block_step {start} {first} {slots} {stmts} {index} {found} {now} {after} {noted}
 pub block_done : {start : Visible} {first : Option Offence} {slots : List Slot} {stmts : List Stmt} {index : ℕ}
     {found : List Stmt} {now : Visible} {noted : Option Offence} {slots_now : List Slot}
     → BlockSoFar start first slots stmts index found now noted slots_now → length stmts ≤ index
-    → Done (statements start.names) made_from met_from spot_after (start.scope, length slots) first stmts found
-    (now.scope, length slots_now) noted
-block_done {start} {found = found} h over = all_done h.so_far over (sym (statements_all start.names found)) refl refl
+    → Done (statements start.names.before) made_from met_from spot_after (start.scope, length slots) first stmts
+    (statements start.names.after found) (now.scope, length slots_now) noted
+block_done {start} {found = found} h over = all_done h.so_far over
+    (sym (statements_all start.names.after found)) refl refl
 
 pub slots_done : {start : Visible} {first : Option Offence} {slots : List Slot} {stmts : List Stmt} {index : ℕ}
     {found : List Stmt} {now : Visible} {noted : Option Offence} {slots_now : List Slot}
     → BlockSoFar start first slots stmts index found now noted slots_now → length stmts ≤ index
-    → slots_now ≡ slots ++ statements_slots (statements start.names stmts)
+    → slots_now ≡ slots ++ statements_slots (statements start.names.before stmts)
 slots_done {start} {stmts = stmts} {index = index} {slots_now = slots_now} h over =
     sym (append-nil slots_now)
-    ∙ (ap (λ (xs : List Stmt). slots_now ++ statements_slots (statements start.names xs))
+    ∙ (ap (λ (xs : List Stmt). slots_now ++ statements_slots (statements start.names.before xs))
     (sym (drop_all index stmts over))
     ∙ h.slots_are)

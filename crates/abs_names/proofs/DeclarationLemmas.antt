@@ -1,123 +1,104 @@
--- Declarations, and heads of methods, of which a prefix was resolved.
-use Rattle.std.proofs.Common.{◌≡◌, ℕ, ◌+◌, ◌<◌, ◌≤◌, List, [], ◌∷◌, ◌++◌, refl, sym, ap, ◌∙◌, subst, length, get_or, take, drop, set, map, fold, arith}
-use Rattle.std.specs.Prelude.{Option, All}
-use Rattle.std.proofs.lemmas.List.{append-nil, take_all, drop_all}
-use Rattle.std.proofs.lemmas.List.Elements.{All-nil, All-cons, All-append}
-use Rattle.abs_tree.specs.Offences.{earlier}
-use Rattle.abs_tree.specs.SlotViews.{DeclHasSlots}
-use Rattle.abs_tree.specs.Syntax.{Name, DeclTree}
-use Rattle.abs_tree.specs.SyntaxViews.{signature_tree, decl_tree}
-use Rattle.abs_tree.specs.declared.refusal.Offence.{Offence}
+-- How declared names, constructors, heads of methods and declarations are resolved, each in a list.
+use Rattle.std.proofs.Common.{[], refl}
+use Rattle.abs_tree.specs.NameSpaces.{NameSpaces}
+use Rattle.abs_tree.specs.Syntax.{DeclaredTree, ConstructorTree, SignatureTree, DeclTree}
+use Rattle.abs_tree.specs.SyntaxViews.{declared, constructor_tree, signature_tree, decl_tree}
+use Rattle.abs_tree.specs.Tables.{meaning_of}
+use Rattle.abs_tree.specs.declared.syntax.declaration.Constructor.{Constructor}
 use Rattle.abs_tree.specs.declared.syntax.declaration.Decl.{Decl}
+use Rattle.abs_tree.specs.declared.syntax.declaration.Declared.{Declared}
 use Rattle.abs_tree.specs.declared.syntax.declaration.Signature.{Signature}
-use Rattle.abs_names.specs.NameOffences.{declaration_offences, declarations_offences}
-use Rattle.abs_names.specs.Resolution.{resolved_signature, resolved_signatures, resolved_declaration, resolved_declarations}
-use Rattle.abs_names.specs.Visible.{Visible}
-use Rattle.abs_names.proofs.InPlaceLemmas.{InPlace, one_changed}
-use Rattle.abs_names.proofs.LoopLemmas.{SoFar, one_more_left, Done, all_done}
-use Rattle.abs_names.proofs.MemberLemmas.{trees_before, one_more_before}
+use Rattle.abs_names.specs.NameOffences.{interfaces_offences, constructor_types_offences, signature_offences, signatures_offences, declaration_offences, declarations_offences}
+use Rattle.abs_names.specs.Resolution.{resolved_constructors, resolved_signature, resolved_signatures, resolved_declaration, resolved_declarations}
+use Rattle.abs_names.specs.Single.{unknown}
+use Rattle.abs_names.specs.TypeNames.{is_interface, types_offences, resolved_types}
+use Rattle.abs_names.specs.Visible.{Names, Visible}
+use Rattle.abs_names.proofs.InPlaceLemmas.{ItemResolution}
 
--- The heads before an index were resolved, and the others are as before.
-pub record SignaturesSoFar (signatures : List Signature) (index : ℕ) (now : List Signature) : Type 0 where
-  pub in_place : InPlace signatures index now
-  pub made : (names : List Name) → map (signature_tree names) (take index now)
-      ++ resolved_signatures (map (signature_tree names) (drop index signatures))
-      ≡ resolved_signatures (map (signature_tree names) signatures)
+-- declared names keep their trees
+abbrev pub kept_resolution : ItemResolution Declared DeclaredTree Names
+kept_resolution = record {
+  before = λ names. declared names.before;
+  after = λ names. declared names.after;
+  resolved = λ names count tree. tree;
+  all_resolved = λ names count trees. trees;
+  offences = λ names count tree. [];
+  all_offences = λ names count trees. [];
+  next = λ names count tree. count;
+  none_resolved = λ names count. refl;
+  more_resolved = λ names count tree trees. refl;
+  none_offend = λ names count. refl;
+  more_offend = λ names count tree trees. refl;
+}
 
--- one more head was resolved
-pub signatures_step : {signatures now after : List Signature} {index : ℕ} (item one : Signature)
-    → SignaturesSoFar signatures index now → index < length now → item ≡ get_or now index item
-    → after ≡ set now index one
-    → ((names : List Name) → signature_tree names one ≡ resolved_signature (signature_tree names item))
-    → SignaturesSoFar signatures (index + 1) after
-signatures_step {signatures} {now} {after} {index} item one h there is added make =
-    let step = one_changed item one h.in_place there is added in
-    record {
-      in_place = step.in_place;
-      made = λ names.
-          let tree = signature_tree names in
-          let rest = resolved_signatures (map tree (drop (index + 1) signatures)) in
-          one_more_before tree (take index now) step.changed (make names) rest
-          ∙ (ap (λ (ss : List Signature). map tree (take index now) ++ resolved_signatures (map tree ss))
-          (sym step.split)
-          ∙ h.made names);
-    }
+-- so do those after `extends` or `implements`, which offend unless they are those of interfaces
+abbrev pub interface_resolution : ItemResolution Declared DeclaredTree Visible
+interface_resolution = record {
+  before = λ v. declared v.names.before;
+  after = λ v. declared v.names.after;
+  resolved = λ v count tree. tree;
+  all_resolved = λ v count trees. trees;
+  offences = λ v count tree. unknown (is_interface (meaning_of v.scope.around.spaces.types tree.name)) tree.place;
+  all_offences = λ v count trees. interfaces_offences v.scope.around trees;
+  next = λ v count tree. count;
+  none_resolved = λ v count. refl;
+  more_resolved = λ v count tree trees. refl;
+  none_offend = λ v count. refl;
+  more_offend = λ v count tree trees. refl;
+}
 
--- all heads were resolved
-pub signatures_done : {signatures now : List Signature} {index : ℕ} (names : List Name)
-    → SignaturesSoFar signatures index now → length now ≤ index
-    → map (signature_tree names) now ≡ resolved_signatures (map (signature_tree names) signatures)
-signatures_done {signatures} {now} {index} names h over =
-    let tree = signature_tree names in
-    sym (append-nil (map tree now))
-    ∙ (ap (λ (xs : List Signature). map tree xs ++ []) (sym (take_all index now over))
-    ∙ (ap (λ (xs : List Signature). map tree (take index now) ++ resolved_signatures (map tree xs))
-    (sym (drop_all index signatures (omega (arith, h.in_place.same_length, over))))
-    ∙ h.made names))
+-- constructors
+abbrev pub constructor_resolution : ItemResolution Constructor ConstructorTree Visible
+constructor_resolution = record {
+  before = λ v. constructor_tree v.names.before;
+  after = λ v. constructor_tree v.names.after;
+  resolved = λ v count tree. record { name = tree.name; types = resolved_types v.scope.around tree.types };
+  all_resolved = λ v count trees. resolved_constructors v.scope.around trees;
+  offences = λ v count tree. types_offences v.scope.around tree.types;
+  all_offences = λ v count trees. constructor_types_offences v.scope.around trees;
+  next = λ v count tree. count;
+  none_resolved = λ v count. refl;
+  more_resolved = λ v count tree trees. refl;
+  none_offend = λ v count. refl;
+  more_offend = λ v count tree trees. refl;
+}
 
--- The declarations before an index were resolved, and the others are as before.
-pub record DeclarationsSoFar (start : Visible) (first : Option Offence) (items : List Decl) (index : ℕ)
-    (now : List Decl) (scope : Visible) (noted : Option Offence) : Type 0 where
-  pub in_place : InPlace items index now
-  pub names_are : scope.names ≡ start.names
-  pub no_fields : scope.scope.fields ≡ []
-  pub has_slots : All (DeclHasSlots start.names) (take index now)
-  pub so_far : SoFar (map (decl_tree start.names)) (trees_before (decl_tree start.names))
-      (λ (_ : List Name). resolved_declarations) (λ (_ : List Name). declarations_offences)
-      (λ (names : List Name) (_ : List DeclTree). names) start.names first items index
-      (take index now) start.names noted
+-- heads of methods
+abbrev pub signature_resolution : ItemResolution Signature SignatureTree Visible
+signature_resolution = record {
+  before = λ v. signature_tree v.names.before;
+  after = λ v. signature_tree v.names.after;
+  resolved = λ v count tree. resolved_signature v.scope.around tree;
+  all_resolved = λ v count trees. resolved_signatures v.scope.around trees;
+  offences = λ v count tree. signature_offences v.scope.around tree;
+  all_offences = λ v count trees. signatures_offences v.scope.around trees;
+  next = λ v count tree. count;
+  none_resolved = λ v count. refl;
+  more_resolved = λ v count tree trees. refl;
+  none_offend = λ v count. refl;
+  more_offend = λ v count tree trees. refl;
+}
 
--- one more declaration was resolved
-pub declarations_step : {start : Visible} {first : Option Offence} {items now after : List Decl} {index : ℕ}
-    {scope later : Visible} {noted after_noted : Option Offence} (item one : Decl)
-    → DeclarationsSoFar start first items index now scope noted → index < length now
-    → item ≡ get_or now index item → after ≡ set now index one
-    → decl_tree scope.names one ≡ resolved_declaration (decl_tree scope.names item)
-    → after_noted ≡ fold earlier noted (declaration_offences (decl_tree scope.names item))
-    → DeclHasSlots scope.names one → later.names ≡ scope.names → later.scope.fields ≡ []
-    → DeclarationsSoFar start first items (index + 1) after later after_noted
-declarations_step {start} {first} {items} {now} {after} {index} {scope} {later} {noted}
-    {after_noted} item one h there is
-    added make meet slots same fields =
-    let step = one_changed item one h.in_place there is added in
-    let tree = decl_tree start.names in
-    let made : tree one ≡ resolved_declaration (tree item) =
-    subst (λ (ns : List Name). decl_tree ns one ≡ resolved_declaration (decl_tree ns item)) h.names_are make in
-    let met : after_noted ≡ fold earlier noted (declaration_offences (tree item)) =
-    subst (λ (ns : List Name). after_noted ≡ fold earlier noted (declaration_offences (decl_tree ns item))) h.names_are
-    meet in
-    let has = subst (λ (ns : List Name). DeclHasSlots ns one) h.names_are slots in
-    record {
-      in_place = step.in_place;
-      names_are = same ∙ h.names_are;
-      no_fields = fields;
-      has_slots = subst (All (DeclHasSlots start.names)) (sym step.changed)
-          (All-append (DeclHasSlots start.names) (take index now) (one ∷ []) h.has_slots
-          (All-cons (DeclHasSlots start.names) one [] has (All-nil (DeclHasSlots start.names))));
-      so_far = one_more_left (take (index + 1) after) start.names after_noted item
-          (λ (rest : List DeclTree). resolved_declaration (tree item) ∷ rest) (declaration_offences
-          (tree item)) h.so_far
-          step.split (λ (others : List Decl). refl) (λ (others : List Decl). refl) (λ (others : List Decl). refl)
-          (λ (rest : List DeclTree). one_more_before tree (take index now) step.changed made rest) met;
-    }
+-- What stays the same from one declaration to the next: the names, and what is declared.
+pub record Declarations : Type 0 where
+  pub names : Names
+  pub spaces : NameSpaces
 
--- all declarations were resolved
-pub declarations_done : {start : Visible} {first : Option Offence} {items now : List Decl} {index : ℕ} {scope : Visible}
-    {noted : Option Offence} → DeclarationsSoFar start first items index now scope noted → length now ≤ index
-    → Done (map (decl_tree start.names)) (λ (_ : List Name). resolved_declarations)
-    (λ (_ : List Name). declarations_offences) (λ (names : List Name) (_ : List DeclTree). names) start.names first
-    items now start.names noted
-declarations_done {start} {first} {items} {now} {index} {scope} {noted} h over =
-    let tree = decl_tree start.names in
-    subst (λ (xs : List Decl). Done (map tree) (λ (_ : List Name). resolved_declarations)
-    (λ (_ : List Name). declarations_offences) (λ (names : List Name) (_ : List DeclTree). names) start.names first
-    items xs start.names noted) (take_all index now over)
-    (all_done h.so_far (omega (arith, h.in_place.same_length, over))
-    (sym (append-nil (map tree (take index now)))) refl refl)
+abbrev pub in_declarations : Visible → Declarations
+in_declarations v = record { names = v.names; spaces = v.scope.around.spaces }
 
--- each declaration has its slots
-pub declarations_have_slots : {start : Visible} {first : Option Offence} {items now : List Decl} {index : ℕ}
-    {scope : Visible} {noted : Option Offence} → DeclarationsSoFar start first items index now scope noted
-    → length now ≤ index → All (DeclHasSlots start.names) now
-declarations_have_slots {start} {first} {items} {now} {index} {scope} {noted} h over =
-    subst (All (DeclHasSlots start.names)) (take_all index now over) h.has_slots
+-- declarations
+abbrev pub declaration_resolution : ItemResolution Decl DeclTree Declarations
+declaration_resolution = record {
+  before = λ c. decl_tree c.names.before;
+  after = λ c. decl_tree c.names.after;
+  resolved = λ c count tree. resolved_declaration c.spaces tree;
+  all_resolved = λ c count trees. resolved_declarations c.spaces trees;
+  offences = λ c count tree. declaration_offences c.spaces tree;
+  all_offences = λ c count trees. declarations_offences c.spaces trees;
+  next = λ c count tree. count;
+  none_resolved = λ c count. refl;
+  more_resolved = λ c count tree trees. refl;
+  none_offend = λ c count. refl;
+  more_offend = λ c count tree trees. refl;
+}

@@ -1,5 +1,5 @@
 -- Expressions that hold a list: the tree of one from its parts, and the resolved one from theirs.
-use Rattle.std.proofs.Common.{◌≡◌, List, ◌++◌, sym, ap, ◌∙◌, subst, fold}
+use Rattle.std.proofs.Common.{◌≡◌, ℕ, List, [], ◌∷◌, ◌++◌, arith, refl, sym, ap, ◌∙◌, subst, length, fold}
 use Rattle.std.specs.Prelude.{Option}
 use Rattle.std.specs.declared.alloc.Global.{Global}
 use Rattle.std.specs.declared.boxed.Box.{Box}
@@ -18,14 +18,39 @@ use Rattle.abs_tree.specs.declared.syntax.expression.Expr as code
 use Rattle.abs_tree.specs.declared.syntax.expression.Expr.{Expr}
 use Rattle.abs_tree.specs.declared.syntax.expression.Operand.{Operand}
 use Rattle.abs_tree.specs.declared.syntax.expression.Branch.{Branch}
+use Rattle.abs_names.specs.NameOffences.{count_phrases, phrases_offences}
 use Rattle.abs_names.specs.Resolution.{resolved_phrases, resolved_operands, resolved_branches}
-use Rattle.abs_names.specs.Visible.{Visible}
+use Rattle.abs_names.specs.TypeNames.{Around, applied}
+use Rattle.abs_names.specs.Visible.{Names, Known, Visible}
 
 -- offences that were noted one list after the other were noted together
 pub both_noted : (first between after : Option Offence) (one other : List Offence) → between ≡ fold earlier first one
     → after ≡ fold earlier between other → after ≡ fold earlier first (one ++ other)
 both_noted first between after one other note noted =
     noted ∙ (ap (λ (o : Option Offence). fold earlier o other) note ∙ sym (fold-append earlier first one other))
+
+-- the offence of a name with its arguments was noted, and then those of the arguments
+pub applied_noted : (first between after : Option Offence) (taken known : Option ℕ) (given count : ℕ) (place : Place)
+    (others : List Offence) → taken ≡ known → count ≡ given → between ≡ fold earlier first (applied taken given place)
+    → after ≡ fold earlier between others → after ≡ fold earlier first (applied known count place ++ others)
+applied_noted first between after taken known given count place others is counted note noted =
+    both_noted first between after (applied known count place) others
+    (note ∙ (ap (λ (t : Option ℕ). fold earlier first (applied t given place)) is
+    ∙ ap (λ (n : ℕ). fold earlier first (applied known n place)) (sym counted)))
+    noted
+
+-- what depends on what is around, and on the names of what is read, is the same of a scope
+pub in_scope : {B : Type 0} (f : Around → List Name → B) (known : Known) (scope : Visible) → known.names ≡ scope.names
+    → known.around ≡ scope.scope.around → f known.around known.names.before ≡ f scope.scope.around scope.names.before
+in_scope f known scope names around =
+    ap (λ (ns : Names). f known.around ns.before) names ∙ ap (λ (a : Around). f a scope.names.before) around
+
+-- a symbol that was kept has the name of before, also among equal names
+pub kept_in : (known : Known) (names : Names) (kept name : Symbol)
+    → name_of known.names.after kept ≡ name_of known.names.before name → known.names ≡ names
+    → name_of names.after kept ≡ name_of names.before name
+kept_in known names kept name is same =
+    subst (λ (ns : Names). name_of ns.after kept ≡ name_of ns.before name) same is
 
 -- the tree of operators of one precedence
 pub operators_tree : (names : List Name) (expr : Expr) (place : Place) (first : Box Expr Global)
@@ -39,15 +64,16 @@ operators_tree names expr place first operands value items is value_is items_are
     ∙ ap (λ (os : List Operand). OperatorsOf place (phrase names value) (operand_trees names os)) (sym items_are)))
 
 pub operators_found : (start now : Visible) (place : Place) (made : Box Expr Global) (found : Vec Operand Global)
-    (first : Phrase) (items : List Operand) → now ≡ start → phrase start.names made.value ≡ first
-    → operand_trees now.names found.items ≡ resolved_operands now.scope (operand_trees now.names items)
-    → phrase start.names (code.Operators place made found)
-    ≡ OperatorsOf place first (resolved_operands start.scope (operand_trees start.names items))
+    (first : Phrase) (items : List Operand) → now ≡ start → phrase start.names.after made.value ≡ first
+    → operand_trees now.names.after found.items ≡ resolved_operands now.scope (operand_trees now.names.before items)
+    → phrase start.names.after (code.Operators place made found)
+    ≡ OperatorsOf place first (resolved_operands start.scope (operand_trees start.names.before items))
 operators_found start now place made found first items same one others =
-    phrase-operators start.names place made found
-    ∙ (ap (λ (p : Phrase). OperatorsOf place p (operand_trees start.names found.items)) one
+    phrase-operators start.names.after place made found
+    ∙ (ap (λ (p : Phrase). OperatorsOf place p (operand_trees start.names.after found.items)) one
     ∙ ap (OperatorsOf place first) (subst (λ (v : Visible).
-    operand_trees v.names found.items ≡ resolved_operands v.scope (operand_trees v.names items)) same others))
+    operand_trees v.names.after found.items ≡ resolved_operands v.scope (operand_trees v.names.before items))
+    same others))
 
 -- the tree of a `case`
 pub case_tree : (names : List Name) (expr : Expr) (place : Place) (subject : Box Expr Global) (arms : Vec Branch Global)
@@ -60,15 +86,15 @@ case_tree names expr place subject arms value items is value_is items_are =
     ∙ ap (λ (bs : List Branch). CaseOf place (phrase names value) (branches names bs)) (sym items_are)))
 
 pub case_found : (start now : Visible) (place : Place) (made : Box Expr Global) (found : Vec Branch Global)
-    (subject : Phrase) (items : List Branch) → now ≡ start → phrase start.names made.value ≡ subject
-    → branches now.names found.items ≡ resolved_branches now.scope (branches now.names items)
-    → phrase start.names (code.Case place made found)
-    ≡ CaseOf place subject (resolved_branches start.scope (branches start.names items))
+    (subject : Phrase) (items : List Branch) → now ≡ start → phrase start.names.after made.value ≡ subject
+    → branches now.names.after found.items ≡ resolved_branches now.scope (branches now.names.before items)
+    → phrase start.names.after (code.Case place made found)
+    ≡ CaseOf place subject (resolved_branches start.scope (branches start.names.before items))
 case_found start now place made found subject items same one others =
-    phrase-case start.names place made found
-    ∙ (ap (λ (p : Phrase). CaseOf place p (branches start.names found.items)) one
+    phrase-case start.names.after place made found
+    ∙ (ap (λ (p : Phrase). CaseOf place p (branches start.names.after found.items)) one
     ∙ ap (CaseOf place subject) (subst (λ (v : Visible).
-    branches v.names found.items ≡ resolved_branches v.scope (branches v.names items)) same others))
+    branches v.names.after found.items ≡ resolved_branches v.scope (branches v.names.before items)) same others))
 
 -- the trees of a call on `this`, of a function and of a constructor
 pub own_call_tree : (names : List Name) (expr : Expr) (place : Place) (method : Symbol)
@@ -95,15 +121,58 @@ build_tree names expr place constructor arguments items is items_are =
     ∙ (phrase-build names place constructor arguments
     ∙ ap (λ (es : List Expr). BuildOf place (name_of names constructor) (phrases names es)) (sym items_are))
 
--- a resolved call on `this`
-pub own_call_found : (start now : Visible) (place : Place) (method : Symbol) (made : Arc (Vec Expr Global) Global)
-    (found : Vec Expr Global) (items : List Expr) → now ≡ start → made.value ≡ found
-    → phrases now.names found.items ≡ resolved_phrases now.scope (phrases now.names items)
-    → phrase start.names (code.OwnCall place method made)
-    ≡ OwnCallOf place (name_of start.names method) (resolved_phrases start.scope (phrases start.names items))
-own_call_found start now place method made found items same shared resolved =
-    let name = name_of start.names method in
-    phrase-own_call start.names place method made
-    ∙ (ap (λ (v : Vec Expr Global). OwnCallOf place name (phrases start.names v.items)) shared
-    ∙ ap (OwnCallOf place name) (subst (λ (v : Visible).
-    phrases v.names found.items ≡ resolved_phrases v.scope (phrases v.names items)) same resolved))
+-- a resolved call on `this`, of a function and of a constructor
+pub own_call_found : (start now : Visible) (place : Place) (method : Name) (kept : Symbol)
+    (made : Arc (Vec Expr Global) Global) (found : Vec Expr Global) (items : List Expr) → now ≡ start
+    → name_of start.names.after kept ≡ method → made.value ≡ found
+    → phrases now.names.after found.items ≡ resolved_phrases now.scope (phrases now.names.before items)
+    → phrase start.names.after (code.OwnCall place kept made)
+    ≡ OwnCallOf place method (resolved_phrases start.scope (phrases start.names.before items))
+own_call_found start now place method kept made found items same name shared resolved =
+    phrase-own_call start.names.after place kept made
+    ∙ (ap (λ (v : Vec Expr Global). OwnCallOf place (name_of start.names.after kept)
+    (phrases start.names.after v.items)) shared
+    ∙ (ap (λ (n : Name). OwnCallOf place n (phrases start.names.after found.items)) name
+    ∙ ap (OwnCallOf place method) (subst (λ (v : Visible).
+    phrases v.names.after found.items ≡ resolved_phrases v.scope (phrases v.names.before items)) same resolved)))
+
+pub apply_found : (start now : Visible) (place : Place) (function : Name) (kept : Symbol) (found : Vec Expr Global)
+    (items : List Expr) → now ≡ start → name_of start.names.after kept ≡ function
+    → phrases now.names.after found.items ≡ resolved_phrases now.scope (phrases now.names.before items)
+    → phrase start.names.after (code.Apply place kept found)
+    ≡ ApplyOf place function (resolved_phrases start.scope (phrases start.names.before items))
+apply_found start now place function kept found items same name resolved =
+    phrase-apply start.names.after place kept found
+    ∙ (ap (λ (n : Name). ApplyOf place n (phrases start.names.after found.items)) name
+    ∙ ap (ApplyOf place function) (subst (λ (v : Visible).
+    phrases v.names.after found.items ≡ resolved_phrases v.scope (phrases v.names.before items)) same resolved))
+
+pub build_found : (start now : Visible) (place : Place) (constructor : Name) (kept : Symbol) (found : Vec Expr Global)
+    (items : List Expr) → now ≡ start → name_of start.names.after kept ≡ constructor
+    → phrases now.names.after found.items ≡ resolved_phrases now.scope (phrases now.names.before items)
+    → phrase start.names.after (code.Build place kept found)
+    ≡ BuildOf place constructor (resolved_phrases start.scope (phrases start.names.before items))
+build_found start now place constructor kept found items same name resolved =
+    phrase-build start.names.after place kept found
+    ∙ (ap (λ (n : Name). BuildOf place n (phrases start.names.after found.items)) name
+    ∙ ap (BuildOf place constructor) (subst (λ (v : Visible).
+    phrases v.names.after found.items ≡ resolved_phrases v.scope (phrases v.names.before items)) same resolved))
+
+-- a list has as many expressions as trees
+pub phrases_counted : (names : List Name) (exprs : List Expr) → count_phrases (phrases names exprs) ≡ length exprs
+phrases_counted names [] = refl
+phrases_counted names (one ∷ others) = omega (arith, phrases_counted names others)
+
+-- the offences of a name with its arguments, which are expressions
+pub phrases_noted : (start now : Visible) (place : Place) (items : List Expr) (taken known : Option ℕ)
+    (first between after : Option Offence) → now ≡ start → taken ≡ known
+    → between ≡ fold earlier first (applied taken (length items) place)
+    → after ≡ fold earlier between (phrases_offences now.scope (phrases now.names.before items))
+    → after ≡ fold earlier first (applied known (count_phrases (phrases start.names.before items)) place
+    ++ phrases_offences start.scope (phrases start.names.before items))
+phrases_noted start now place items taken known first between after same is note noted =
+    applied_noted first between after taken known (length items)
+    (count_phrases (phrases start.names.before items)) place
+    (phrases_offences start.scope (phrases start.names.before items)) is (phrases_counted start.names.before items) note
+    (subst (λ (v : Visible).
+    after ≡ fold earlier between (phrases_offences v.scope (phrases v.names.before items))) same noted)

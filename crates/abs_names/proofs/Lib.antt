@@ -1,11 +1,13 @@
-pub mod LinkLemmas
 pub mod ScopeLemmas
+pub mod PreludeLemmas
+pub mod SpaceLemmas
 pub mod RepeatLemmas
 pub mod TreeLemmas
 pub mod LoopLemmas
 pub mod PatternLemmas
 pub mod LeaveLemmas
 pub mod RowLemmas
+pub mod TypeLemmas
 pub mod FormLemmas
 pub mod BlockLemmas
 pub mod ControlLemmas
@@ -16,6 +18,6 @@ pub mod InPlaceLemmas
 pub mod MemberLemmas
 pub mod DeclarationLemmas
 pub mod SourceSizeLemmas
+pub mod BothLemmas
 pub mod OwnSlotLemmas
 pub mod NewestLemmas
-pub mod PreludeLemmas

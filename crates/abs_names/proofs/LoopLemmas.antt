@@ -63,20 +63,20 @@ one_more {A} {T} {S} {trees} {before} {made} {met} {last} {start} {first} {items
     one_more_left all later after item next offences so_far
     (drop_item items index item there is) make meet end added note
 
--- All items were resolved.
+-- All items were resolved, and this is the tree of what was found.
 pub record Done {A T S : Type 0} (trees : List A → T) (made : S → T → T) (met : S → T → List Offence)
-    (last : S → T → S) (start : S) (first : Option Offence) (items found : List A) (now : S) (noted : Option Offence)
-    : Type 0 where
-  pub resolved : trees found ≡ made start (trees items)
+    (last : S → T → S) (start : S) (first : Option Offence) (items : List A) (tree : T) (now : S)
+    (noted : Option Offence) : Type 0 where
+  pub resolved : tree ≡ made start (trees items)
   pub offences : noted ≡ fold earlier first (met start (trees items))
   pub ends : now ≡ last start (trees items)
 
 pub all_done : {A T S : Type 0} {trees : List A → T} {before : List A → T → T} {made : S → T → T}
     {met : S → T → List Offence} {last : S → T → S} {start : S} {first : Option Offence} {items : List A} {index : ℕ}
-    {found : List A} {now : S} {noted : Option Offence}
+    {found : List A} {now : S} {noted : Option Offence} {tree : T}
     → SoFar trees before made met last start first items index found now noted → length items ≤ index
-    → trees found ≡ before found (made now (trees [])) → met now (trees []) ≡ [] → now ≡ last now (trees [])
-    → Done trees made met last start first items found now noted
+    → tree ≡ before found (made now (trees [])) → met now (trees []) ≡ [] → now ≡ last now (trees [])
+    → Done trees made met last start first items tree now noted
 all_done {A} {T} {S} {trees} {before} {made} {met} {last} {start} {first} {items} {index} {found} {now} {noted} so_far
     over make meet end =
     let none = sym (drop_all index items over) in

@@ -7,8 +7,9 @@ use Rattle.std.proofs.lemmas.List.Elements.{All-nil, All-cons}
 use Rattle.std.proofs.lemmas.Option.{none-some, same_Some}
 use Rattle.std.proofs.lemmas.Slice.Eq.{bytes_eq-Decides}
 use Rattle.abs_tree.specs.Syntax.{Name, VariableTree}
+use Rattle.abs_tree.specs.Tables.{meaning_of}
 use Rattle.abs_names.specs.Newest.{SaysNothing, IsNewest, StandsFor}
-use Rattle.abs_names.specs.Scopes.{Meanings, Scope, meaning_of, or_field, use_of}
+use Rattle.abs_names.specs.Scopes.{Meanings, Scope, or_field, use_of}
 
 -- a meaning is not of this name
 abbrev is_other : Name → Name × VariableTree → Type 0

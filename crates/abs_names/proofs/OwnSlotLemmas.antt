@@ -9,8 +9,11 @@ use Rattle.abs_tree.specs.Syntax.{Name, VariableTree, AtSlot, Phrases, NoPhrase,
 use Rattle.abs_tree.specs.declared.place.Place.{Place}
 use Rattle.abs_tree.specs.declared.syntax.slot.Slot.{Slot}
 use Rattle.abs_tree.specs.declared.syntax.slot.Slot.TheVariants.{Parameter, Local, Hidden}
+use Rattle.abs_tree.specs.NameSpaces.{NameSpaces, spaces_of}
 use Rattle.abs_names.specs.OwnSlots.{Given, numbered, given_params, given_side, given_maybe_side, given_statement, given_else, given_statements, HasOwnSlots, MemberHasOwnSlots, DeclarationHasOwnSlots, AllHaveOwnSlots}
 use Rattle.abs_names.specs.Resolution.{resolved_phrases, resolved_side, resolved_maybe_side, resolved_statement, resolved_else, resolved_statements, resolved_params, resolved_members, resolved_declarations, resolved}
+use Rattle.abs_names.specs.Prelude.{prelude}
+use Rattle.abs_names.specs.TypeNames.{Around, around_of}
 use Rattle.abs_names.specs.Scopes.{Meanings, Scope, statement_scope, body_scope, class_fields}
 use Rattle.abs_names.specs.declared.scope.Routine.TheVariants.{Main, Method, Function}
 use Rattle.abs_names.proofs.SlotLemmas.{statements_kept}
@@ -33,12 +36,12 @@ both_given next slots others {given} {later} first second =
     ∙ (ap (λ (g : Given). numbered next slots ++ g) second ∙ sym (numbered-append next slots others))
 
 -- parameters have their slots
-params_given : (index : ℕ) (params : List ParamTree)
-    → given_params index (resolved_params AtSlot index params)
+params_given : (around : Around) (index : ℕ) (params : List ParamTree)
+    → given_params index (resolved_params around AtSlot index params)
     ≡ numbered index (map Parameter (range_with_len index (length params)))
-params_given index [] = refl
-params_given index (param ∷ others) =
-    ap (λ (given : Given). (Parameter index, AtSlot index) ∷ given) (params_given (index + 1) others)
+params_given around index [] = refl
+params_given around index (param ∷ others) =
+    ap (λ (given : Given). (Parameter index, AtSlot index) ∷ given) (params_given around (index + 1) others)
 
 -- a call has its slot, unless its receiver is `this`
 call_given : (next index : ℕ) (place : Place) (method : Name) (row : Phrases) (own : Bool)
@@ -96,51 +99,58 @@ mutual
       (statements_given (statement_scope scope next first) (next + length (statement_slots first)) others)
 
 -- a body has its own slots
-body_given : (scope : Scope) (params : List ParamTree) (body : Statements)
-    → HasOwnSlots (resolved_params AtSlot 0 params) (resolved_statements scope (length params) body)
-body_given scope params body =
+body_given : (around : Around) (scope : Scope) (params : List ParamTree) (body : Statements)
+    → HasOwnSlots (resolved_params around AtSlot 0 params) (resolved_statements scope (length params) body)
+body_given around scope params body =
     let count = length params in
     let after : count ≡ 0 + length (param_slots count) = omega (arith, length-map-range_with_len Parameter 0 count) in
     record {
-      in_order = both_given 0 (param_slots count) (statements_slots body) (params_given 0 params)
+      in_order = both_given 0 (param_slots count) (statements_slots body) (params_given around 0 params)
           (statements_given scope count body
           ∙ ap (λ (n : ℕ). numbered n (statements_slots body)) after)
-          ∙ (ap (λ (n : ℕ). numbered 0 (body_slots n body)) (sym (params_length AtSlot 0 params))
-          ∙ ap (λ (slots : List Slot). numbered 0 (param_slots (length (resolved_params AtSlot 0 params)) ++ slots))
+          ∙ (ap (λ (n : ℕ). numbered 0 (body_slots n body)) (sym (params_length around AtSlot 0 params))
+          ∙ ap (λ (slots : List Slot).
+          numbered 0 (param_slots (length (resolved_params around AtSlot 0 params)) ++ slots))
           (sym (statements_kept scope count body)));
     }
 
 -- so has each method of a class
-members_given : (fields : Meanings) (earlier : ℕ) (members : List MemberTree)
-    → All MemberHasOwnSlots (resolved_members fields earlier members)
-members_given fields earlier [] = All-nil MemberHasOwnSlots
-members_given fields earlier (FieldTree type name initial ∷ others) =
-    All-cons MemberHasOwnSlots _ _ tt (members_given fields (earlier + 1) others)
-members_given fields earlier (MethodTree signature end body ∷ others) =
-    All-cons MemberHasOwnSlots _ _ (body_given (body_scope Method fields signature.params) signature.params body)
-    (members_given fields earlier others)
+members_given : (around : Around) (fields : Meanings) (earlier : ℕ) (members : List MemberTree)
+    → All MemberHasOwnSlots (resolved_members around fields earlier members)
+members_given around fields earlier [] = All-nil MemberHasOwnSlots
+members_given around fields earlier (FieldTree type name initial ∷ others) =
+    All-cons MemberHasOwnSlots _ _ tt (members_given around fields (earlier + 1) others)
+members_given around fields earlier (MethodTree signature end body ∷ others) =
+    All-cons MemberHasOwnSlots _ _
+    (body_given around (body_scope around Method fields signature.params) signature.params body)
+    (members_given around fields earlier others)
 
 -- and each body of a declaration
-declarations_given : (declarations : List DeclTree)
-    → All DeclarationHasOwnSlots (resolved_declarations declarations)
-declarations_given [] = All-nil DeclarationHasOwnSlots
-declarations_given (DataTree place name type_params constructors ∷ others) =
-    All-cons DeclarationHasOwnSlots _ _ tt (declarations_given others)
-declarations_given (FunctionTree place result name type_params params value ∷ others) =
-    All-cons DeclarationHasOwnSlots _ _ (body_given (body_scope Function [] params) params NoStatement)
-    (declarations_given others)
-declarations_given (InterfaceTree place name extended signatures ∷ others) =
-    All-cons DeclarationHasOwnSlots _ _ tt (declarations_given others)
-declarations_given (ClassTree place name params implemented members ∷ others) =
-    All-cons DeclarationHasOwnSlots _ _ (members_given (class_fields params members) (length params) members)
-    (declarations_given others)
+declarations_given : (spaces : NameSpaces) (declarations : List DeclTree)
+    → All DeclarationHasOwnSlots (resolved_declarations spaces declarations)
+declarations_given spaces [] = All-nil DeclarationHasOwnSlots
+declarations_given spaces (DataTree place name type_params constructors ∷ others) =
+    All-cons DeclarationHasOwnSlots _ _ tt (declarations_given spaces others)
+declarations_given spaces (FunctionTree place result name type_params params value ∷ others) =
+    let around = around_of spaces type_params in
+    All-cons DeclarationHasOwnSlots _ _
+    (body_given around (body_scope around Function [] params) params NoStatement) (declarations_given spaces others)
+declarations_given spaces (InterfaceTree place name extended signatures ∷ others) =
+    All-cons DeclarationHasOwnSlots _ _ tt (declarations_given spaces others)
+declarations_given spaces (ClassTree place name params implemented members ∷ others) =
+    All-cons DeclarationHasOwnSlots _ _
+    (members_given (around_of spaces []) (class_fields params members) (length params) members)
+    (declarations_given spaces others)
 
 -- each body of a source has its own slots
 pub all_given : (source : SourceTree) → AllHaveOwnSlots (resolved source)
-all_given source = record {
-  declarations = declarations_given source.declarations;
-  main = body_given (body_scope Main [] []) [] source.main;
-}
+all_given source =
+    let spaces = spaces_of (prelude ++ source.declarations) in
+    let around = around_of spaces [] in
+    record {
+      declarations = declarations_given spaces (prelude ++ source.declarations);
+      main = body_given around (body_scope around Main [] []) [] source.main;
+    }
 
 -- the slot at an index has the next number but so many
 number_at : (next : ℕ) (slots : List Slot) (index : ℕ) (other : Slot × VariableTree) → index < length slots

@@ -1,5 +1,5 @@
 -- Names that were seen, by their numbers, and lists of names of which a part was collected.
-use Rattle.std.proofs.Common.{◌≡◌, ℕ, ◌+◌, ◌<◌, ◌≤◌, Bool, true, false, List, [], ◌∷◌, ◌++◌, ◌||◌, refl, sym, ap, ◌∙◌, cond, nat_eq, length, get_or, drop, map, fold, append_assoc, arith}
+use Rattle.std.proofs.Common.{◌≡◌, ℕ, ◌+◌, ◌<◌, ◌≤◌, Bool, true, false, List, [], ◌∷◌, ◌++◌, ◌||◌, sym, ap, ◌∙◌, subst, cond, nat_eq, length, get_or, drop, map, fold, append_assoc, arith}
 use Rattle.std.specs.Prelude.{Option}
 use Rattle.std.specs.List.{list_any}
 use Rattle.std.specs.Str.{bytes_eq}
@@ -20,7 +20,7 @@ use Rattle.abs_tree.specs.declared.symbol.Symbol.{Symbol}
 use Rattle.abs_tree.specs.declared.syntax.declaration.Declared.{Declared}
 use Rattle.abs_names.specs.Repeats.{repeated}
 use Rattle.abs_names.specs.Single.{twice}
-use Rattle.abs_names.specs.Visible.{Visible}
+use Rattle.abs_names.specs.Visible.{Names, Visible}
 use Rattle.abs_names.proofs.ScopeLemmas.{same_test}
 
 -- the numbers of two names are the same where the names are
@@ -72,39 +72,44 @@ pub record RepeatedSoFar (start : Visible) (first : Option Offence) (items : Lis
     (numbers : List ℕ) (now : Visible) (noted : Option Offence) : Type 0 where
   pub scope_is : now ≡ start
   pub known : List Name
-  pub are : AreNumbersOf start.names numbers known
-  pub offences : fold earlier noted (repeated known (map (declared start.names) (drop index items)))
-      ≡ fold earlier first (repeated [] (map (declared start.names) items))
+  pub are : AreNumbersOf start.names.after numbers known
+  pub offences : fold earlier noted (repeated known (map (declared start.names.before) (drop index items)))
+      ≡ fold earlier first (repeated [] (map (declared start.names.before) items))
 
--- one more declaration was looked at
+-- one more declaration was looked at, whose name this symbol has among the names of what is made
 pub repeated_step : {start : Visible} {first : Option Offence} {items : List Declared} {index : ℕ}
-    {numbers later_numbers : List ℕ} {now later : Visible} {noted later_noted : Option Offence} (item : Declared)
-    (taken : Bool) → RepeatedSoFar start first items index numbers now noted
+    {numbers later_numbers : List ℕ} {now later : Visible} {noted later_noted : Option Offence} {around : Names}
+    (item : Declared) (symbol : Symbol) (taken : Bool) → RepeatedSoFar start first items index numbers now noted
     → drop index items ≡ item ∷ drop (index + 1) items
-    → later_numbers ≡ insert_key nat_eq numbers (number_of_name now.names (name_of now.names item.name))
-    → taken ≡ list_any (nat_eq (number_of_name now.names (name_of now.names item.name))) numbers
+    → around ≡ now.names → name_of around.after symbol ≡ name_of around.before item.name
+    → later_numbers ≡ insert_key nat_eq numbers (number_of_name now.names.after (name_of now.names.after symbol))
+    → taken ≡ list_any (nat_eq (number_of_name now.names.after (name_of now.names.after symbol))) numbers
     → later_noted ≡ fold earlier noted (twice taken item.place) → later ≡ now
     → RepeatedSoFar start first items (index + 1) later_numbers later later_noted
-repeated_step {start} {first} {items} {index} {numbers} {later_numbers} {now} {later} {noted} {later_noted} item taken h
-    split insert found note same =
+repeated_step {start} {first} {items} {index} {numbers} {later_numbers} {now} {later} {noted} {later_noted} {around}
+    item symbol taken h split near kept insert found note same =
     let names = start.names in
-    let name = name_of names item.name in
-    let tree = declared names in
-    let rest = map tree (drop (index + 1) items) in
-    let inserted : later_numbers ≡ insert_key nat_eq numbers (number_of_name names name) =
-    insert ∙ ap (λ (v : Visible). insert_key nat_eq numbers (number_of_name v.names (name_of v.names item.name)))
-    h.scope_is in
+    let name = name_of names.before item.name in
+    let is : name_of names.after symbol ≡ name =
+    subst (λ (ns : Names). name_of ns.after symbol ≡ name_of ns.before item.name)
+    (near ∙ ap (λ (v : Visible). v.names) h.scope_is) kept in
+    let rest = map (declared names.before) (drop (index + 1) items) in
+    let inserted : later_numbers ≡ insert_key nat_eq numbers (number_of_name names.after (name_of names.after symbol)) =
+    insert ∙ ap (λ (v : Visible). insert_key nat_eq numbers
+    (number_of_name v.names.after (name_of v.names.after symbol))) h.scope_is in
     let is_taken : taken ≡ list_any (bytes_eq name) h.known =
-    found ∙ (ap (λ (v : Visible). list_any (nat_eq (number_of_name v.names (name_of v.names item.name))) numbers)
-    h.scope_is ∙ h.are item.name) in
+    found ∙ (ap (λ (v : Visible). list_any (nat_eq (number_of_name v.names.after (name_of v.names.after symbol)))
+    numbers) h.scope_is ∙ (h.are symbol ∙ ap (λ (n : Name). list_any (bytes_eq n) h.known) is)) in
     record {
       scope_is = same ∙ h.scope_is;
       known = with_name h.known name;
-      are = rw inserted (one_more_seen names numbers h.known item.name h.are);
+      are = subst (λ (n : Name). AreNumbersOf names.after later_numbers (with_name h.known n)) is
+          (rw inserted (one_more_seen names.after numbers h.known symbol h.are));
       offences = ap (λ (o : Option Offence). fold earlier o (repeated (with_name h.known name) rest)) note
           ∙ (sym (fold-append earlier noted (twice taken item.place) (repeated (with_name h.known name) rest))
-          ∙ (ap (λ (b : Bool). fold earlier noted (twice b item.place ++ repeated (with_name h.known name) rest)) is_taken
-          ∙ (ap (λ (xs : List Declared). fold earlier noted (repeated h.known (map tree xs)))
+          ∙ (ap (λ (b : Bool). fold earlier noted (twice b item.place ++ repeated (with_name h.known name) rest))
+          is_taken
+          ∙ (ap (λ (xs : List Declared). fold earlier noted (repeated h.known (map (declared names.before) xs)))
           (sym split) ∙ h.offences)));
     }
 
@@ -112,9 +117,9 @@ repeated_step {start} {first} {items} {index} {numbers} {later_numbers} {now} {l
 pub repeated_done : {start : Visible} {first : Option Offence} {items : List Declared} {index : ℕ} {numbers : List ℕ}
     {now : Visible} {noted : Option Offence} → RepeatedSoFar start first items index numbers now noted
     → length items ≤ index
-    → noted ≡ fold earlier first (repeated [] (map (declared start.names) items))
+    → noted ≡ fold earlier first (repeated [] (map (declared start.names.before) items))
 repeated_done {start} {first} {items} {index} {numbers} {now} {noted} h over =
-    ap (λ (xs : List Declared). fold earlier noted (repeated h.known (map (declared start.names) xs)))
+    ap (λ (xs : List Declared). fold earlier noted (repeated h.known (map (declared start.names.before) xs)))
     (sym (drop_all index items over)) ∙ h.offences
 
 -- The names before an index were collected: these, and those of the items that are left, are all.
@@ -127,7 +132,8 @@ pub collected_step : {A : Type 0} {rest : List Name → List A → List Declared
     {all : List Name → List DeclaredTree} {items : List A} {index : ℕ} {found after : List Declared} (item : A)
     (new : List Declared) → CollectedSoFar rest all items index found → index < length items
     → item ≡ get_or items index item → after ≡ found ++ new
-    → ((names : List Name) (others : List A) → rest names (item ∷ others) ≡ map (declared names) new ++ rest names others)
+    → ((names : List Name) (others : List A)
+    → rest names (item ∷ others) ≡ map (declared names) new ++ rest names others)
     → CollectedSoFar rest all items (index + 1) after
 collected_step {A} {rest} {all} {items} {index} {found} {after} item new h there is added gives = record {
   so_far = λ names.
@@ -156,23 +162,23 @@ collected_done {A} {rest} {all} {items} {index} {found} names h over none =
 pub record NotedSoFar {A T : Type 0} (tree : List Name → A → T) (all : List T → List Offence) (start : Visible)
     (first : Option Offence) (items : List A) (index : ℕ) (now : Visible) (noted : Option Offence) : Type 0 where
   pub scope_is : now ≡ start
-  pub offences : fold earlier noted (all (map (tree start.names) (drop index items)))
-      ≡ fold earlier first (all (map (tree start.names) items))
+  pub offences : fold earlier noted (all (map (tree start.names.before) (drop index items)))
+      ≡ fold earlier first (all (map (tree start.names.before) items))
 
 -- one more item was looked at
 pub noted_step : {A T : Type 0} {tree : List Name → A → T} {all : List T → List Offence} {start : Visible}
     {first : Option Offence} {items : List A} {index : ℕ} {now later : Visible} {noted later_noted : Option Offence}
     (item : A) (one : T → List Offence) → ((t : T) (ts : List T) → all (t ∷ ts) ≡ one t ++ all ts)
     → NotedSoFar tree all start first items index now noted → index < length items → item ≡ get_or items index item
-    → later_noted ≡ fold earlier noted (one (tree now.names item)) → later ≡ now
+    → later_noted ≡ fold earlier noted (one (tree now.names.before item)) → later ≡ now
     → NotedSoFar tree all start first items (index + 1) later later_noted
-noted_step {A} {T} {tree} {all} {start} {first} {items} {index} {now} {later} {noted} {later_noted} item one both h there
-    is note same =
-    let trees = map (tree start.names) in
-    let found = tree start.names item in
+noted_step {A} {T} {tree} {all} {start} {first} {items} {index} {now} {later} {noted} {later_noted} item one both h
+    there is note same =
+    let trees = map (tree start.names.before) in
+    let found = tree start.names.before item in
     let rest = trees (drop (index + 1) items) in
     let noted_now : later_noted ≡ fold earlier noted (one found) =
-    note ∙ ap (λ (v : Visible). fold earlier noted (one (tree v.names item))) h.scope_is in
+    note ∙ ap (λ (v : Visible). fold earlier noted (one (tree v.names.before item))) h.scope_is in
     record {
       scope_is = same ∙ h.scope_is;
       offences = ap (λ (o : Option Offence). fold earlier o (all rest)) noted_now
@@ -186,8 +192,9 @@ noted_step {A} {T} {tree} {all} {start} {first} {items} {index} {now} {later} {n
 pub noted_done : {A T : Type 0} {tree : List Name → A → T} {all : List T → List Offence} {start : Visible}
     {first : Option Offence} {items : List A} {index : ℕ} {now : Visible} {noted : Option Offence} → all [] ≡ []
     → NotedSoFar tree all start first items index now noted → length items ≤ index
-    → noted ≡ fold earlier first (all (map (tree start.names) items))
+    → noted ≡ fold earlier first (all (map (tree start.names.before) items))
 noted_done {A} {T} {tree} {all} {start} {first} {items} {index} {now} {noted} none h over =
     ap (fold earlier noted) (sym none)
-    ∙ (ap (λ (xs : List A). fold earlier noted (all (map (tree start.names) xs))) (sym (drop_all index items over))
+    ∙ (ap (λ (xs : List A). fold earlier noted (all (map (tree start.names.before) xs)))
+    (sym (drop_all index items over))
     ∙ h.offences)

@@ -25,8 +25,8 @@ pub record RowSoFar {A T : Type 0} (trees : List Name → List A → T) (before 
     (made : Scope → T → T) (met : Scope → T → List Offence) (start : Visible) (first : Option Offence) (items : List A)
     (index : ℕ) (found : List A) (now : Visible) (noted : Option Offence) : Type 0 where
   pub same : now ≡ start
-  pub so_far : SoFar (trees start.names) (before start.names) made met same_scope start.scope first items index found
-      start.scope noted
+  pub so_far : SoFar (trees start.names.before) (before start.names.after) made met same_scope start.scope first
+      items index found start.scope noted
 
 -- one more item was resolved
 pub row_step : {A T : Type 0} {trees : List Name → List A → T} {before : List Name → List A → T → T}
@@ -35,11 +35,11 @@ pub row_step : {A T : Type 0} {trees : List Name → List A → T} {before : Lis
     (next : T → T) (offences : List Offence)
     → RowSoFar trees before made met start first items index found now noted
     → index < length items → item ≡ get_or items index item
-    → ((others : List A) → made now.scope (trees now.names (item ∷ others)) ≡ next (made now.scope
-    (trees now.names others)))
-    → ((others : List A) → met now.scope (trees now.names (item ∷ others)) ≡ offences ++ met now.scope
-    (trees now.names others))
-    → ((rest : T) → before now.names all rest ≡ before now.names found (next rest))
+    → ((others : List A) → made now.scope (trees now.names.before (item ∷ others)) ≡ next (made now.scope
+    (trees now.names.before others)))
+    → ((others : List A) → met now.scope (trees now.names.before (item ∷ others)) ≡ offences ++ met now.scope
+    (trees now.names.before others))
+    → ((rest : T) → before now.names.after all rest ≡ before now.names.after found (next rest))
     → after_noted ≡ fold earlier noted offences → after ≡ now
     → RowSoFar trees before made met start first items (index + 1) all after after_noted
 row_step {A} {T} {trees} {before} {made} {met} {start} {first} {items} {index} {found} {now} {after} {noted}
@@ -48,11 +48,13 @@ row_step {A} {T} {trees} {before} {made} {met} {start} {first} {items} {index} {
       same = same ∙ h.same;
       so_far = one_more all start.scope after_noted item next offences h.so_far there is
           (subst (λ (v : Visible). (others : List A)
-          → made v.scope (trees v.names (item ∷ others)) ≡ next (made v.scope (trees v.names others))) h.same make)
+          → made v.scope (trees v.names.before (item ∷ others))
+          ≡ next (made v.scope (trees v.names.before others))) h.same make)
           (subst (λ (v : Visible). (others : List A)
-          → met v.scope (trees v.names (item ∷ others)) ≡ offences ++ met v.scope (trees v.names others)) h.same meet)
+          → met v.scope (trees v.names.before (item ∷ others))
+          ≡ offences ++ met v.scope (trees v.names.before others)) h.same meet)
           (λ others. refl)
-          (subst (λ (v : Visible). (rest : T) → before v.names all rest ≡ before v.names found
+          (subst (λ (v : Visible). (rest : T) → before v.names.after all rest ≡ before v.names.after found
           (next rest)) h.same added)
           note;
     }
@@ -72,14 +74,17 @@ BranchesSoFar = RowSoFar branches branches_before resolved_branches branches_off
 pub exprs_step : {start : Visible} {first : Option Offence} {exprs : List Expr} {index : ℕ} {found : List Expr}
     {now after : Visible} {noted after_noted : Option Offence} {all : List Expr} (item one : Expr)
     → ExprsSoFar start first exprs index found now noted → index < length exprs → item ≡ get_or exprs index item
-    → phrase now.names one ≡ resolved_phrase now.scope (phrase now.names item)
-    → after_noted ≡ fold earlier noted (phrase_offences now.scope (phrase now.names item)) → after ≡ now
+    → phrase now.names.after one ≡ resolved_phrase now.scope (phrase now.names.before item)
+    → after_noted ≡ fold earlier noted (phrase_offences now.scope (phrase now.names.before item)) → after ≡ now
     → all ≡ found ++ one ∷ [] → ExprsSoFar start first exprs (index + 1) all after after_noted
 exprs_step {found = found} {now = now} item one h there is made note same added =
-    row_step item (NextPhrase (phrase now.names one)) (phrase_offences now.scope (phrase now.names item)) h there is
-    (λ others. ap (λ (t : Phrase). NextPhrase t (resolved_phrases now.scope (phrases now.names others))) (sym made))
+    row_step item (NextPhrase (phrase now.names.after one))
+    (phrase_offences now.scope (phrase now.names.before item)) h there is
+    (λ others. ap (λ (t : Phrase).
+    NextPhrase t (resolved_phrases now.scope (phrases now.names.before others))) (sym made))
     (λ others. refl)
-    (λ rest. ap (λ (xs : List Expr). phrases_before now.names xs rest) added ∙ phrases_more now.names found one rest)
+    (λ rest. ap (λ (xs : List Expr). phrases_before now.names.after xs rest) added
+    ∙ phrases_more now.names.after found one rest)
     note same
 
 -- one more operand
@@ -88,43 +93,45 @@ pub operands_step : {start : Visible} {first : Option Offence} {operands : List 
     (item one : Operand)
     → OperandsSoFar start first operands index found now noted → index < length operands
     → item ≡ get_or operands index item → one.operator ≡ item.operator
-    → phrase now.names one.right ≡ resolved_phrase now.scope (phrase now.names item.right)
-    → after_noted ≡ fold earlier noted (phrase_offences now.scope (phrase now.names item.right)) → after ≡ now
+    → phrase now.names.after one.right ≡ resolved_phrase now.scope (phrase now.names.before item.right)
+    → after_noted ≡ fold earlier noted (phrase_offences now.scope (phrase now.names.before item.right)) → after ≡ now
     → all ≡ found ++ one ∷ [] → OperandsSoFar start first operands (index + 1) all after after_noted
 operands_step {found = found} {now = now} item one h there is operator made note same added =
-    row_step item (NextOperand one.operator (phrase now.names one.right))
-    (phrase_offences now.scope (phrase now.names item.right)) h there is
-    (λ others. let rest = resolved_operands now.scope (operand_trees now.names others) in
+    row_step item (NextOperand one.operator (phrase now.names.after one.right))
+    (phrase_offences now.scope (phrase now.names.before item.right)) h there is
+    (λ others. let rest = resolved_operands now.scope (operand_trees now.names.before others) in
     ap (λ (t : Phrase). NextOperand item.operator t rest) (sym made)
-    ∙ ap (λ o. NextOperand o (phrase now.names one.right) rest) (sym operator))
+    ∙ ap (λ o. NextOperand o (phrase now.names.after one.right) rest) (sym operator))
     (λ others. refl)
-    (λ rest. ap (λ (xs : List Operand). operands_before now.names xs rest) added
-    ∙ operands_more now.names found one rest)
+    (λ rest. ap (λ (xs : List Operand). operands_before now.names.after xs rest) added
+    ∙ operands_more now.names.after found one rest)
     note same
 
 -- one more branch
 pub branches_step : {start : Visible} {first : Option Offence} {arms : List Branch} {index : ℕ} {found : List Branch}
     {now after : Visible} {noted after_noted : Option Offence} {all : List Branch} (item one : Branch)
     → BranchesSoFar start first arms index found now noted → index < length arms → item ≡ get_or arms index item
-    → pattern_tree now.names one.pattern ≡ resolved_pattern now.scope (pattern_tree now.names item.pattern)
-    → phrase now.names one.value
-    ≡ resolved_phrase (pattern_scope now.scope (pattern_tree now.names item.pattern)) (phrase now.names item.value)
-    → after_noted ≡ fold earlier noted (pattern_offences now.scope (pattern_tree now.names item.pattern)
-    ++ phrase_offences (pattern_scope now.scope (pattern_tree now.names item.pattern)) (phrase now.names item.value))
+    → pattern_tree now.names.after one.pattern ≡ resolved_pattern now.scope (pattern_tree now.names.before item.pattern)
+    → phrase now.names.after one.value
+    ≡ resolved_phrase (pattern_scope now.scope (pattern_tree now.names.before item.pattern))
+    (phrase now.names.before item.value)
+    → after_noted ≡ fold earlier noted (pattern_offences now.scope (pattern_tree now.names.before item.pattern)
+    ++ phrase_offences (pattern_scope now.scope (pattern_tree now.names.before item.pattern))
+    (phrase now.names.before item.value))
     → after ≡ now → all ≡ found ++ one ∷ [] → BranchesSoFar start first arms (index + 1) all after after_noted
 branches_step {found = found} {now = now} item one h there is pattern value note same added =
-    let tree = pattern_tree now.names item.pattern in
+    let tree = pattern_tree now.names.before item.pattern in
     let inside = pattern_scope now.scope tree in
-    let body = phrase now.names item.value in
-    row_step item (NextBranch (pattern_tree now.names one.pattern) (phrase now.names one.value))
+    let body = phrase now.names.before item.value in
+    row_step item (NextBranch (pattern_tree now.names.after one.pattern) (phrase now.names.after one.value))
     (pattern_offences now.scope tree ++ phrase_offences inside body) h there is
-    (λ others. let rest = resolved_branches now.scope (branches now.names others) in
+    (λ others. let rest = resolved_branches now.scope (branches now.names.before others) in
     ap (λ (p : PatternTree). NextBranch p (resolved_phrase inside body) rest) (sym pattern)
-    ∙ ap (λ (t : Phrase). NextBranch (pattern_tree now.names one.pattern) t rest) (sym value))
+    ∙ ap (λ (t : Phrase). NextBranch (pattern_tree now.names.after one.pattern) t rest) (sym value))
     (λ others. sym (append_assoc (pattern_offences now.scope tree) (phrase_offences inside body)
-    (branches_offences now.scope (branches now.names others))))
-    (λ rest. ap (λ (xs : List Branch). branches_before now.names xs rest) added
-    ∙ branches_more now.names found one rest)
+    (branches_offences now.scope (branches now.names.before others))))
+    (λ rest. ap (λ (xs : List Branch). branches_before now.names.after xs rest) added
+    ∙ branches_more now.names.after found one rest)
     note same
 
 -- tests of which a prefix was resolved
@@ -136,16 +143,17 @@ pub tests_step : {start : Visible} {first : Option Offence} {items : List Test} 
     {now after : Visible} {noted after_noted : Option Offence} {all : List Test} (item one : Test)
     → TestsSoFar start first items index found now noted → index < length items → item ≡ get_or items index item
     → one.place ≡ item.place → one.asks ≡ item.asks
-    → phrase now.names one.value.value ≡ resolved_phrase now.scope (phrase now.names item.value.value)
-    → after_noted ≡ fold earlier noted (phrase_offences now.scope (phrase now.names item.value.value)) → after ≡ now
-    → all ≡ found ++ one ∷ [] → TestsSoFar start first items (index + 1) all after after_noted
+    → phrase now.names.after one.value.value ≡ resolved_phrase now.scope (phrase now.names.before item.value.value)
+    → after_noted ≡ fold earlier noted (phrase_offences now.scope (phrase now.names.before item.value.value))
+    → after ≡ now → all ≡ found ++ one ∷ [] → TestsSoFar start first items (index + 1) all after after_noted
 tests_step {found = found} {now = now} item one h there is place asks made note same added =
-    let value = phrase now.names one.value.value in
-    row_step item (NextTest one.place value one.asks) (phrase_offences now.scope (phrase now.names item.value.value)) h
-    there is
-    (λ others. let rest = resolved_tests now.scope (tests now.names others) in
+    let value = phrase now.names.after one.value.value in
+    row_step item (NextTest one.place value one.asks) (phrase_offences now.scope
+    (phrase now.names.before item.value.value)) h there is
+    (λ others. let rest = resolved_tests now.scope (tests now.names.before others) in
     ap (λ (t : Phrase). NextTest item.place t item.asks rest) (sym made)
     ∙ (ap (λ p. NextTest p value item.asks rest) (sym place) ∙ ap (λ a. NextTest one.place value a rest) (sym asks)))
     (λ others. refl)
-    (λ rest. ap (λ (xs : List Test). tests_before now.names xs rest) added ∙ tests_more now.names found one rest)
+    (λ rest. ap (λ (xs : List Test). tests_before now.names.after xs rest) added
+    ∙ tests_more now.names.after found one rest)
     note same

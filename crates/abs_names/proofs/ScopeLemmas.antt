@@ -12,9 +12,12 @@ use Rattle.abs_tree.specs.declared.symbol.Symbol.{Symbol}
 use Rattle.abs_tree.specs.declared.syntax.variable.Variable.{Variable}
 use Rattle.abs_tree.specs.declared.syntax.variable.Variable.TheVariants as variable
 use Rattle.abs_tree.proofs.NumberLemmas.{numbers_tell_names, name_of_number}
-use Rattle.abs_names.specs.Numbered.{looked_up, is_bound, bound_in, EndsIn}
-use Rattle.abs_names.specs.Scopes.{Meanings, Scope, meaning_of, visible_field, field_of, or_field, use_of, bound_count}
-use Rattle.abs_names.specs.Visible.{name_at, named, ProperNumbers}
+use Rattle.abs_tree.specs.Numbered.{looked_up}
+use Rattle.abs_tree.specs.Tables.{meaning_of}
+use Rattle.abs_names.specs.declared.scope.Binding.{Binding}
+use Rattle.abs_names.specs.Numbered.{is_bound, bound_up_to, AreCounted, EndsIn}
+use Rattle.abs_names.specs.Scopes.{Meanings, Scope, visible_field, field_of, or_field, use_of, bound_count}
+use Rattle.abs_names.specs.Visible.{name_at, named, ProperNumbers, binding_tree}
 
 -- two tests that imply each other are the same
 pub same_test : (b c : Bool) → (b ≡ true → c ≡ true) → (c ≡ true → b ≡ true) → b ≡ c
@@ -46,16 +49,29 @@ meaning_by f true false one other last e same = absurd (cc)
 meaning_by f false true one other last e same = absurd (cc)
 meaning_by f false false one other last e same = same
 
-pub looked_up-named : (names : List Name) (known : List (ℕ × Variable)) (symbol : Symbol) → ProperNumbers names known
-    → option_map (variable_tree names) (looked_up known (number_of_name names (name_of names symbol)))
-    ≡ meaning_of (named names known) (name_of names symbol)
-looked_up-named names [] symbol proper = refl
-looked_up-named names (one ∷ others) symbol proper =
-    meaning_by (variable_tree names) (nat_eq one.0 (number_of_name names (name_of names symbol)))
+pub looked_up-named : {A B : Type 0} (names : List Name) (tree : A → B) (known : List (ℕ × A)) (symbol : Symbol)
+    → ProperNumbers names known → option_map tree (looked_up known (number_of_name names (name_of names symbol)))
+    ≡ meaning_of (named names tree known) (name_of names symbol)
+looked_up-named names tree [] symbol proper = refl
+looked_up-named names tree (one ∷ others) symbol proper =
+    meaning_by tree (nat_eq one.0 (number_of_name names (name_of names symbol)))
     (bytes_eq (name_at names one.0) (name_of names symbol)) one.1
     (looked_up others (number_of_name names (name_of names symbol)))
-    (meaning_of (named names others) (name_of names symbol)) (number_or_name names one.0 symbol proper.0)
-    (looked_up-named names others symbol proper.1)
+    (meaning_of (named names tree others) (name_of names symbol)) (number_or_name names one.0 symbol proper.0)
+    (looked_up-named names tree others symbol proper.1)
+
+-- the same where a meaning is kept as it is
+same_option : {A : Type 0} (one : Option A) → one ≡ option_map (λ (x : A). x) one
+same_option None = refl
+same_option (Some x) = refl
+
+pub looked_up-known : {A : Type 0} (names : List Name) (known : List (ℕ × A)) (symbol : Symbol) (name : Name)
+    → ProperNumbers names known → name_of names symbol ≡ name
+    → looked_up known (number_of_name names (name_of names symbol)) ≡ meaning_of (named names (λ (x : A). x) known) name
+looked_up-known {A} names known symbol name proper is =
+    same_option (looked_up known (number_of_name names (name_of names symbol)))
+    ∙ (looked_up-named names (λ (x : A). x) known symbol proper
+    ∙ ap (meaning_of (named names (λ (x : A). x) known)) is)
 
 -- there are as many bound variables
 bound_by : (names : List Name) (name : Name) (meaning : Variable) (n : ℕ) (others : Meanings) → n ≡ bound_count others
@@ -65,22 +81,24 @@ bound_by names name (variable.Slot slot) n others same = omega (arith, same)
 bound_by names name (variable.Bound depth) n others same = omega (arith, same)
 bound_by names name (variable.Field field) n others same = omega (arith, same)
 
-pub bound_in-named : (names : List Name) (known : List (ℕ × Variable)) → bound_in known ≡ bound_count
-    (named names known)
-bound_in-named names [] = refl
-bound_in-named names (one ∷ others) =
-    bound_by names (name_at names one.0) one.1 (bound_in others) (named names others) (bound_in-named names others)
+pub bound_is_count : (names : List Name) (known : List (ℕ × Binding)) → AreCounted known
+    → bound_up_to known ≡ bound_count (named names (binding_tree names) known)
+bound_is_count names [] counted = refl
+bound_is_count names (one ∷ others) counted =
+    counted.0
+    ∙ bound_by names (name_at names one.0) one.1.variable (bound_up_to others)
+    (named names (binding_tree names) others) (bound_is_count names others counted.1)
 
 -- the number of the name of a symbol is proper, and has that name
-proper_number : (names : List Name) (number : ℕ) (symbol : Symbol)
+pub proper_number : (names : List Name) (number : ℕ) (symbol : Symbol)
     → number ≡ number_of_name names (name_of names symbol) → number_of_name names (name_at names number) ≡ number
 proper_number names number symbol is =
     ap (λ (n : ℕ). number_of_name names (name_at names n)) is
     ∙ (ap (number_of_name names) (name_of_number names symbol) ∙ sym is)
 
 -- names that were added, or were not, have proper numbers
-pub proper_added : {E : Type 0} (names : List Name) (known now : List (ℕ × Variable)) (number : ℕ) (symbol : Symbol)
-    (meaning : Variable) (result : Result Unit E) → OnOk result (now ≡ (number, meaning) ∷ known)
+pub proper_added : {A E : Type 0} (names : List Name) (known now : List (ℕ × A)) (number : ℕ) (symbol : Symbol)
+    (meaning : A) (result : Result Unit E) → OnOk result (now ≡ (number, meaning) ∷ known)
     → OnErr result (now ≡ known) → number ≡ number_of_name names (name_of names symbol)
     → ProperNumbers names known → ProperNumbers names now
 proper_added names known now number symbol meaning (Ok x) added err is proper =
@@ -88,23 +106,35 @@ proper_added names known now number symbol meaning (Ok x) added err is proper =
 proper_added names known now number symbol meaning (Err e) added err is proper =
     subst (ProperNumbers names) (sym err) proper
 
--- a name that was added is the newest one
-pub named_added : {E : Type 0} (names : List Name) (known now : List (ℕ × Variable)) (number : ℕ) (symbol : Symbol)
-    (meaning : Variable) (result : Result Unit E) → OnOk result (now ≡ (number, meaning) ∷ known)
-    → number ≡ number_of_name names (name_of names symbol)
-    → OnOk result (named names now ≡ (name_of names symbol, variable_tree names meaning) ∷ named names known)
-named_added names known now number symbol meaning (Ok x) added is =
-    ap (named names) added
-    ∙ ap (λ (name : Name). (name, variable_tree names meaning) ∷ named names known)
-    (ap (name_at names) is ∙ name_of_number names symbol)
-named_added names known now number symbol meaning (Err e) added is = tt
+-- a variable that was added, or was not, is counted
+pub counted_added : {E : Type 0} (known now : List (ℕ × Binding)) (number : ℕ) (binding : Binding)
+    (result : Result Unit E) → OnOk result (now ≡ (number, binding) ∷ known) → OnErr result (now ≡ known)
+    → binding.bound ≡ is_bound binding.variable + bound_up_to known → AreCounted known → AreCounted now
+counted_added known now number binding (Ok x) added err is counted = subst AreCounted (sym added) (is, counted)
+counted_added known now number binding (Err e) added err is counted = subst AreCounted (sym err) counted
 
--- the older names have proper numbers too
-pub proper_older : (names : List Name) (count : ℕ) (known : List (ℕ × Variable)) → ProperNumbers names known
+-- a name that was added is the newest one
+pub named_added : {A B E : Type 0} (names : List Name) (tree : A → B) (known now : List (ℕ × A)) (number : ℕ)
+    (symbol : Symbol) (meaning : A) (result : Result Unit E) → OnOk result (now ≡ (number, meaning) ∷ known)
+    → number ≡ number_of_name names (name_of names symbol)
+    → OnOk result (named names tree now ≡ (name_of names symbol, tree meaning) ∷ named names tree known)
+named_added names tree known now number symbol meaning (Ok x) added is =
+    ap (named names tree) added
+    ∙ ap (λ (name : Name). (name, tree meaning) ∷ named names tree known)
+    (ap (name_at names) is ∙ name_of_number names symbol)
+named_added names tree known now number symbol meaning (Err e) added is = tt
+
+-- the older names have proper numbers too, and are counted too
+pub proper_older : {A : Type 0} (names : List Name) (count : ℕ) (known : List (ℕ × A)) → ProperNumbers names known
     → ProperNumbers names (drop count known)
 proper_older names zero known proper = proper
 proper_older names (suc count) [] proper = tt
 proper_older names (suc count) (one ∷ others) proper = proper_older names count others proper.1
+
+pub counted_older : (count : ℕ) (known : List (ℕ × Binding)) → AreCounted known → AreCounted (drop count known)
+counted_older zero known counted = counted
+counted_older (suc count) [] counted = tt
+counted_older (suc count) (one ∷ others) counted = counted_older count others counted.1
 
 -- what is left after the newest entries of a list are dropped
 pub rest_is : {A : Type 0} (items older : List A) (count : ℕ) → EndsIn items older → length older ≡ count
@@ -115,13 +145,13 @@ rest_is items older count ends is =
     (omega (arith, length-append ends.newer older, is))
 
 -- and of the names of numbers
-pub named_rest : (names : List Name) (known : List (ℕ × Variable)) (older : Meanings) (count : ℕ)
-    → EndsIn (named names known) older → length older ≡ count
-    → named names (drop (length known - count) known) ≡ older
-named_rest names known older count ends is =
+pub named_rest : {A B : Type 0} (names : List Name) (tree : A → B) (known : List (ℕ × A)) (older : List (Name × B))
+    (count : ℕ) → EndsIn (named names tree known) older → length older ≡ count
+    → named names tree (drop (length known - count) known) ≡ older
+named_rest names tree known older count ends is =
     sym (drop-map _ (length known - count) known)
-    ∙ (ap (λ (n : ℕ). drop (n - count) (named names known)) (sym (length-map known _))
-    ∙ rest_is (named names known) older count ends is)
+    ∙ (ap (λ (n : ℕ). drop (n - count) (named names tree known)) (sym (length-map known _))
+    ∙ rest_is (named names tree known) older count ends is)
 
 -- what the use of a name stands for that means no variable
 pub use_of_field : (scope : Scope) (name : Name) → meaning_of scope.variables name ≡ None

@@ -1,19 +1,17 @@
 -- Resolving keeps the slots of statements: each local and each hidden slot is still there.
-use Rattle.std.proofs.Common.{◌≡◌, ◌≤◌, ℕ, ◌+◌, Bool, List, [], ◌∷◌, ◌++◌, refl, sym, ap, ◌∙◌, cond, length, map}
+use Rattle.std.proofs.Common.{◌≡◌, ◌≤◌, ℕ, ◌+◌, Bool, List, [], ◌∷◌, ◌++◌, refl, sym, ap, ◌∙◌, cond, length}
 use Rattle.std.specs.Prelude.{Option, Some, None}
-use Rattle.std.proofs.lemmas.List.{length-map}
 use Rattle.abs_tree.specs.Limits.{table_limit}
 use Rattle.abs_tree.specs.SlotViews.{BodyHasSlots}
 use Rattle.abs_tree.specs.Slots.{is_this, side_slots, maybe_side_slots, statement_slots, else_slots, statements_slots, param_slots, body_slots}
-use Rattle.abs_tree.specs.SyntaxViews.{param_tree, statements}
+use Rattle.abs_tree.specs.SyntaxViews.{statements}
 use Rattle.abs_tree.specs.declared.syntax.declaration.Body.{Body}
 use Rattle.abs_tree.specs.declared.syntax.declaration.Param.{Param}
-use Rattle.abs_names.proofs.ParamLemmas.{params_length}
-use Rattle.abs_tree.specs.Syntax.{Name, VariableTree, AtSlot, Phrase, LetIn, IfElse, OperatorsOf, Prefixed, NumberOf, StringOf, NullOf, DestinyOf, ThisOf, FieldOf, OwnCallOf, VariableOf, ApplyOf, BuildOf, CaseOf, NoPhrase, NextPhrase, SideTree, NewOf, ValueOf, SendOf, GetOf, CallOf, MaybeSide, NoSide, SomeSide, Statement, BlockOf, SkipOf, SuspendOf, AwaitOf, ReturnOf, PrintOf, IfOf, WhileOf, DeclareOf, AssignOf, DoOf, MaybeStatements, NoElse, Else, Statements, NoStatement, NextStatement}
+use Rattle.abs_tree.specs.Syntax.{Name, VariableTree, Phrase, LetIn, IfElse, OperatorsOf, Prefixed, NumberOf, StringOf, NullOf, DestinyOf, ThisOf, FieldOf, OwnCallOf, VariableOf, ApplyOf, BuildOf, CaseOf, NoPhrase, NextPhrase, SideTree, NewOf, ValueOf, SendOf, GetOf, CallOf, MaybeSide, NoSide, SomeSide, Statement, BlockOf, SkipOf, SuspendOf, AwaitOf, ReturnOf, PrintOf, IfOf, WhileOf, DeclareOf, AssignOf, DoOf, MaybeStatements, NoElse, Else, Statements, NoStatement, NextStatement}
 use Rattle.abs_tree.specs.declared.place.Place.{Place}
 use Rattle.abs_tree.specs.declared.syntax.slot.Slot.{Slot}
 use Rattle.abs_tree.specs.declared.syntax.slot.Slot.TheVariants.{Local, Hidden}
-use Rattle.abs_names.specs.Resolution.{field_phrase, resolved_params, resolved_phrase, resolved_side, resolved_maybe_side, resolved_statement, resolved_else, resolved_statements}
+use Rattle.abs_names.specs.Resolution.{field_phrase, resolved_phrase, resolved_side, resolved_maybe_side, resolved_statement, resolved_else, resolved_statements}
 use Rattle.abs_names.specs.Scopes.{Scope, field_of, statement_scope}
 
 -- a field is not `this`
@@ -94,18 +92,14 @@ mutual
       ∙ ap (λ (slots : List Slot). statement_slots first ++ slots) (statements_kept later after others)
 
 -- a method whose parameters and statements were resolved has its slots
-pub method_has_slots : (names : List Name) (params now : List Param) (old body : Body) (scope : Scope) (next : ℕ)
-    → map (param_tree names) now ≡ resolved_params AtSlot 0 (map (param_tree names) params)
-    → statements names body.statements.items ≡ resolved_statements scope next (statements names old.statements.items)
-    → body.slots.items ≡ body_slots (length params) (statements names old.statements.items)
-    → length body.slots.items ≤ table_limit → BodyHasSlots names (length now) body
-method_has_slots names params now old body scope next made found are few =
-    let tree = param_tree names in
-    let trees = statements names old.statements.items in
-    let count : length now ≡ length params =
-    sym (length-map now tree)
-    ∙ (ap length made ∙ (params_length AtSlot 0 (map tree params) ∙ length-map params tree)) in
-    let kept : statements_slots (statements names body.statements.items) ≡ statements_slots trees =
+pub method_has_slots : (before after : List Name) (params now : List Param) (old body : Body) (scope : Scope) (next : ℕ)
+    → length now ≡ length params → statements after body.statements.items
+    ≡ resolved_statements scope next (statements before old.statements.items)
+    → body.slots.items ≡ body_slots (length params) (statements before old.statements.items)
+    → length body.slots.items ≤ table_limit → BodyHasSlots after (length now) body
+method_has_slots before after params now old body scope next count found are few =
+    let trees = statements before old.statements.items in
+    let kept : statements_slots (statements after body.statements.items) ≡ statements_slots trees =
     ap statements_slots found ∙ statements_kept scope next trees in
     record {
       are = are

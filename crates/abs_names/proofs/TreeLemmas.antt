@@ -1,8 +1,7 @@
 -- Lists of trees of which a prefix was made: trees before trees, and one more of them.
-use Rattle.std.proofs.Common.{◌≡◌, ℕ, ◌+◌, ◌<◌, List, [], ◌∷◌, ◌++◌, refl, sym, ap, ◌∙◌, length, get_or, drop}
+use Rattle.std.proofs.Common.{◌≡◌, List, [], ◌∷◌, ◌++◌, refl, ap}
 use Rattle.abs_tree.specs.Syntax.{Name, TypeTrees, NoType, NextType, PatternTrees, NoPattern, NextPattern, Phrases, NoPhrase, NextPhrase, Operands, NoOperands, NextOperand, Branches, NoBranch, NextBranch, Tests, NoTest, NextTest, Statements, NoStatement, NextStatement}
 use Rattle.abs_tree.specs.SyntaxViews.{type_tree, type_trees, pattern_tree, pattern_trees, phrase, phrases, operand_trees, branches, tests, statement, statements}
-use Rattle.abs_tree.proofs.EntryLemmas.{drop_item}
 use Rattle.abs_tree.specs.declared.syntax.types.TypeTerm.{TypeTerm}
 use Rattle.abs_tree.specs.declared.syntax.pattern.Pattern.{Pattern}
 use Rattle.abs_tree.specs.declared.syntax.expression.Expr.{Expr}
@@ -24,19 +23,6 @@ types_more names (one ∷ others) type trees = ap (NextType (type_tree names one
 pub types_all : (names : List Name) (types : List TypeTerm) → types_before names types NoType ≡ type_trees names types
 types_all names [] = refl
 types_all names (one ∷ others) = ap (NextType (type_tree names one)) (types_all names others)
-
-pub types_step : (names : List Name) (terms found now : List TypeTerm) (index : ℕ) (item one : TypeTerm)
-    → index < length terms → item ≡ get_or terms index item → type_tree names one ≡ type_tree names item
-    → now ≡ found ++ one ∷ []
-    → types_before names now (type_trees names (drop (index + 1) terms))
-    ≡ types_before names found (type_trees names (drop index terms))
-types_step names terms found now index item one there is made added =
-    let rest = type_trees names (drop (index + 1) terms) in
-    ap (λ (types : List TypeTerm). types_before names types rest) added
-    ∙ (types_more names found one rest
-    ∙ (ap (λ type. types_before names found (NextType type rest)) made
-    ∙ ap (λ (types : List TypeTerm). types_before names found (type_trees names types))
-    (sym (drop_item terms index item there is))))
 
 -- patterns before patterns
 abbrev pub patterns_before : List Name → List Pattern → PatternTrees → PatternTrees

@@ -1,12 +1,13 @@
 pub mod Numbered
-pub mod Linked
 pub mod Scopes
 pub mod Visible
+pub mod Prelude
 pub mod Single
+pub mod TypeNames
+pub mod Spaces
 pub mod Repeats
 pub mod NameOffences
 pub mod Resolution
 pub mod Answers
 pub mod OwnSlots
 pub mod Newest
-pub mod Prelude

@@ -1,5 +1,6 @@
--- The name offences of a source: what is declared twice (N1), and variables, fields, `this` and `destiny` that are used
--- where they are not visible (N2). The order of a list means nothing; the first offence is the one of least place.
+-- The name offences of a source: what is declared twice (N1), what is used without a declaration or where it is not
+-- visible (N2), and what is used with another number of arguments than declared (N3). The order of a list means nothing;
+-- the first offence is the one of least place.
 --
 --   `name_offences`                                    those of a source
 --   `declaration_offences`, `members_offences`         those of a declaration, of the members of a class
@@ -8,14 +9,19 @@
 --   `use_offences`, `bind_offences`, ..                those of one name
 use Rattle.std.specs.Prelude.{ℕ, ◌+◌, List, [], ◌∷◌, ◌++◌, length, is_some, if◌then◌else◌}
 use Rattle.abs_tree.specs.Slots.{statement_slots, statements_slots}
-use Rattle.abs_tree.specs.Syntax.{Name, VariableTree, Unresolved, AtSlot, AtBound, AtField, PatternTree, AnyValue, Binds, SameNumber, SameString, Built, PatternTrees, NoPattern, NextPattern, Phrase, LetIn, IfElse, OperatorsOf, Prefixed, NumberOf, StringOf, NullOf, DestinyOf, ThisOf, FieldOf, OwnCallOf, VariableOf, ApplyOf, BuildOf, CaseOf, Phrases, NoPhrase, NextPhrase, Operands, NoOperands, NextOperand, Branches, NoBranch, NextBranch, SideTree, NewOf, ValueOf, SendOf, GetOf, CallOf, Tests, NoTest, NextTest, TargetTree, ToVariable, ToField, MaybeSide, NoSide, SomeSide, Statement, BlockOf, SkipOf, SuspendOf, AwaitOf, ReturnOf, PrintOf, IfOf, WhileOf, DeclareOf, AssignOf, DoOf, MaybeStatements, NoElse, Else, Statements, NoStatement, NextStatement, MaybePhrase, NoValue, Value, MemberTree, FieldTree, MethodTree, DeclTree, DataTree, FunctionTree, InterfaceTree, ClassTree, SourceTree}
+use Rattle.abs_tree.specs.Syntax.{Name, VariableTree, Unresolved, AtSlot, AtBound, AtField, PatternTree, AnyValue, Binds, SameNumber, SameString, Built, PatternTrees, NoPattern, NextPattern, Phrase, LetIn, IfElse, OperatorsOf, Prefixed, NumberOf, StringOf, NullOf, DestinyOf, ThisOf, FieldOf, OwnCallOf, VariableOf, ApplyOf, BuildOf, CaseOf, Phrases, NoPhrase, NextPhrase, Operands, NoOperands, NextOperand, Branches, NoBranch, NextBranch, SideTree, NewOf, ValueOf, SendOf, GetOf, CallOf, Tests, NoTest, NextTest, TargetTree, ToVariable, ToField, MaybeSide, NoSide, SomeSide, Statement, BlockOf, SkipOf, SuspendOf, AwaitOf, ReturnOf, PrintOf, IfOf, WhileOf, DeclareOf, AssignOf, DoOf, MaybeStatements, NoElse, Else, Statements, NoStatement, NextStatement, MaybePhrase, NoValue, Value, ParamTree, DeclaredTree, ConstructorTree, SignatureTree, MemberTree, FieldTree, MethodTree, DeclTree, DataTree, FunctionTree, InterfaceTree, ClassTree, SourceTree}
 use Rattle.abs_tree.specs.declared.place.Place.{Place}
 use Rattle.abs_tree.specs.declared.refusal.Offence.{Offence}
 use Rattle.abs_tree.specs.declared.refusal.Code.TheVariants.{N2}
 use Rattle.abs_names.specs.declared.scope.Routine.TheVariants.{Main, Method, Function, Initial}
 use Rattle.abs_names.specs.Repeats.{declarations_repeats}
+use Rattle.abs_names.specs.Prelude.{prelude}
 use Rattle.abs_names.specs.Single.{unknown, twice}
-use Rattle.abs_names.specs.Scopes.{Meanings, Scope, meaning_of, has_this, has_task, field_of, use_of, is_taken, with_bound, pattern_scope, statement_scope, body_scope, class_fields, fields_after}
+use Rattle.abs_names.specs.Spaces.{spaces_offences}
+use Rattle.abs_names.specs.TypeNames.{Around, around_of, applied, function_taking, constructor_taking, class_taking, is_interface, type_offences, types_offences}
+use Rattle.abs_tree.specs.NameSpaces.{NameSpaces, built_in, spaces_of}
+use Rattle.abs_tree.specs.Tables.{meaning_of}
+use Rattle.abs_names.specs.Scopes.{Meanings, Scope, has_this, has_task, field_of, use_of, is_taken, with_bound, pattern_scope, statement_scope, body_scope, class_fields, fields_after}
 
 -- the use of a variable
 abbrev pub use_offences : Scope → Place → VariableTree → List Offence
@@ -47,6 +53,15 @@ field_offences scope place name_place name =
     if has_this scope.routine then unknown (is_some (field_of scope name)) name_place
     else record { place = place; code = N2 } ∷ []
 
+-- how many patterns, and how many expressions there are
+abbrev pub count_patterns : PatternTrees → ℕ
+count_patterns NoPattern = 0
+count_patterns (NextPattern first others) = 1 + count_patterns others
+
+abbrev pub count_phrases : Phrases → ℕ
+count_phrases NoPhrase = 0
+count_phrases (NextPhrase first others) = 1 + count_phrases others
+
 abbrev mutual
   -- a pattern; the variables before one in the same pattern are visible to it
   pub pattern_offences : Scope → PatternTree → List Offence
@@ -54,7 +69,9 @@ abbrev mutual
   pattern_offences scope (Binds place variable) = bind_offences scope place variable
   pattern_offences scope (SameNumber place number) = []
   pattern_offences scope (SameString place string) = []
-  pattern_offences scope (Built place constructor arguments) = patterns_offences scope arguments
+  pattern_offences scope (Built place constructor arguments) =
+      applied (constructor_taking scope.around constructor) (count_patterns arguments) place
+      ++ patterns_offences scope arguments
 
   pub patterns_offences : Scope → PatternTrees → List Offence
   patterns_offences scope NoPattern = []
@@ -65,8 +82,9 @@ abbrev mutual
   -- an expression
   pub phrase_offences : Scope → Phrase → List Offence
   phrase_offences scope (LetIn place type variable_place variable value body) =
-      phrase_offences scope value
-      ++ (bind_offences scope variable_place variable ++ phrase_offences (with_bound scope variable) body)
+      type_offences scope.around type
+      ++ (phrase_offences scope value
+      ++ (bind_offences scope variable_place variable ++ phrase_offences (with_bound scope variable) body))
   phrase_offences scope (IfElse place condition first second) =
       phrase_offences scope condition ++ (phrase_offences scope first ++ phrase_offences scope second)
   phrase_offences scope (OperatorsOf place first operands) =
@@ -81,8 +99,12 @@ abbrev mutual
   phrase_offences scope (OwnCallOf place method arguments) =
       this_offences scope place ++ phrases_offences scope arguments
   phrase_offences scope (VariableOf place variable) = use_offences scope place variable
-  phrase_offences scope (ApplyOf place function arguments) = phrases_offences scope arguments
-  phrase_offences scope (BuildOf place constructor arguments) = phrases_offences scope arguments
+  phrase_offences scope (ApplyOf place function arguments) =
+      applied (function_taking scope.around function) (count_phrases arguments) place
+      ++ phrases_offences scope arguments
+  phrase_offences scope (BuildOf place constructor arguments) =
+      applied (constructor_taking scope.around constructor) (count_phrases arguments) place
+      ++ phrases_offences scope arguments
   phrase_offences scope (CaseOf place subject branches) =
       phrase_offences scope subject ++ branches_offences scope branches
 
@@ -103,7 +125,9 @@ abbrev mutual
 
 -- a right side
 abbrev pub side_offences : Scope → SideTree → List Offence
-side_offences scope (NewOf place mode class_place class arguments) = phrases_offences scope arguments
+side_offences scope (NewOf place mode class_place class arguments) =
+    applied (class_taking scope.around class) (count_phrases arguments) class_place
+    ++ phrases_offences scope arguments
 side_offences scope (ValueOf place value) = phrase_offences scope value
 side_offences scope (SendOf place method row) = phrases_offences scope row
 side_offences scope (GetOf place get_place future) = phrase_offences scope future
@@ -139,7 +163,8 @@ abbrev mutual
   statement_offences scope next (WhileOf index place condition body) =
       phrase_offences scope condition ++ statements_offences scope next body
   statement_offences scope next (DeclareOf index place type variable_place variable initial) =
-      maybe_side_offences scope initial ++ local_offences scope variable_place variable
+      type_offences scope.around type
+      ++ (maybe_side_offences scope initial ++ local_offences scope variable_place variable)
   statement_offences scope next (AssignOf index place target side) =
       target_offences scope target ++ side_offences scope side
   statement_offences scope next (DoOf index place side) = side_offences scope side
@@ -160,33 +185,78 @@ abbrev pub maybe_phrase_offences : Scope → MaybePhrase → List Offence
 maybe_phrase_offences scope NoValue = []
 maybe_phrase_offences scope (Value value) = phrase_offences scope value
 
--- a member of a class with these fields, where `earlier` of the fields come before it
-abbrev pub member_offences : Meanings → ℕ → MemberTree → List Offence
-member_offences fields earlier (FieldTree type name initial) =
-    maybe_phrase_offences (body_scope (Initial earlier) fields []) initial
-member_offences fields earlier (MethodTree signature end body) =
-    statements_offences (body_scope Method fields signature.params) (length signature.params) body
+-- the types of parameters
+abbrev pub params_offences : Around → List ParamTree → List Offence
+params_offences around [] = []
+params_offences around (param ∷ others) = type_offences around param.type_of ++ params_offences around others
 
-abbrev pub members_offences : Meanings → ℕ → List MemberTree → List Offence
-members_offences fields earlier [] = []
-members_offences fields earlier (member ∷ others) =
-    member_offences fields earlier member ++ members_offences fields (fields_after earlier member) others
+-- heads of methods
+abbrev pub signature_offences : Around → SignatureTree → List Offence
+signature_offences around signature =
+    type_offences around signature.result ++ params_offences around signature.params
+
+abbrev pub signatures_offences : Around → List SignatureTree → List Offence
+signatures_offences around [] = []
+signatures_offences around (signature ∷ others) =
+    signature_offences around signature ++ signatures_offences around others
+
+-- names after `extends` or `implements`, which must be those of interfaces
+abbrev pub interfaces_offences : Around → List DeclaredTree → List Offence
+interfaces_offences around [] = []
+interfaces_offences around (name ∷ others) =
+    unknown (is_interface (meaning_of around.spaces.types name.name)) name.place ++ interfaces_offences around others
+
+-- the types of constructors
+abbrev pub constructor_types_offences : Around → List ConstructorTree → List Offence
+constructor_types_offences around [] = []
+constructor_types_offences around (constructor ∷ others) =
+    types_offences around constructor.types ++ constructor_types_offences around others
+
+-- a member of a class with these fields, where `earlier` of the fields come before it
+abbrev pub member_offences : Around → Meanings → ℕ → MemberTree → List Offence
+member_offences around fields earlier (FieldTree type name initial) =
+    type_offences around type ++ maybe_phrase_offences (body_scope around (Initial earlier) fields []) initial
+member_offences around fields earlier (MethodTree signature end body) =
+    signature_offences around signature
+    ++ statements_offences (body_scope around Method fields signature.params) (length signature.params) body
+
+abbrev pub members_offences : Around → Meanings → ℕ → List MemberTree → List Offence
+members_offences around fields earlier [] = []
+members_offences around fields earlier (member ∷ others) =
+    member_offences around fields earlier member ++ members_offences around fields (fields_after earlier member) others
+
+-- a class: its parameters and its members
+abbrev pub class_offences : Around → List ParamTree → List MemberTree → List Offence
+class_offences around params members =
+    params_offences around params ++ members_offences around (class_fields params members) (length params) members
 
 -- a declaration
-abbrev pub declaration_offences : DeclTree → List Offence
-declaration_offences (DataTree place name type_params constructors) = []
-declaration_offences (FunctionTree place result name type_params params value) =
-    phrase_offences (body_scope Function [] params) value
-declaration_offences (InterfaceTree place name extended signatures) = []
-declaration_offences (ClassTree place name params implemented members) =
-    members_offences (class_fields params members) (length params) members
+abbrev pub declaration_offences : NameSpaces → DeclTree → List Offence
+declaration_offences spaces (DataTree place name type_params constructors) =
+    constructor_types_offences (around_of spaces type_params) constructors
+declaration_offences spaces (FunctionTree place result name type_params params value) =
+    type_offences (around_of spaces type_params) result
+    ++ (params_offences (around_of spaces type_params) params
+    ++ phrase_offences (body_scope (around_of spaces type_params) Function [] params) value)
+declaration_offences spaces (InterfaceTree place name extended signatures) =
+    interfaces_offences (around_of spaces []) extended ++ signatures_offences (around_of spaces []) signatures
+declaration_offences spaces (ClassTree place name params implemented members) =
+    interfaces_offences (around_of spaces []) implemented ++ class_offences (around_of spaces []) params members
 
-abbrev pub declarations_offences : List DeclTree → List Offence
-declarations_offences [] = []
-declarations_offences (declaration ∷ others) = declaration_offences declaration ++ declarations_offences others
+abbrev pub declarations_offences : NameSpaces → List DeclTree → List Offence
+declarations_offences spaces [] = []
+declarations_offences spaces (declaration ∷ others) =
+    declaration_offences spaces declaration ++ declarations_offences spaces others
 
--- a source
+-- all declarations of a source, with those of the prelude before them
+abbrev pub declared_offences : List DeclTree → List Offence
+declared_offences declarations =
+    spaces_offences 0 built_in declarations
+    ++ (declarations_repeats declarations ++ declarations_offences (spaces_of declarations) declarations)
+
+-- a source, before which the prelude is declared
 abbrev pub name_offences : SourceTree → List Offence
 name_offences source =
-    declarations_repeats source.declarations
-    ++ (declarations_offences source.declarations ++ statements_offences (body_scope Main [] []) 0 source.main)
+    let declarations = prelude ++ source.declarations in
+    declared_offences declarations
+    ++ statements_offences (body_scope (around_of (spaces_of declarations) []) Main [] []) 0 source.main

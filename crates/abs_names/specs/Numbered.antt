@@ -1,33 +1,29 @@
--- Names by their numbers, as the code keeps them. They serve proofs only.
+-- Variables by the numbers of their names, as the code keeps them. They serve proofs only.
 --
---   `looked_up`            what the newest of these says of a number
---   `bound_in`             how many of them are bound variables
+--   `bound_up_to`          how many of these are bound variables, as the newest one has it
+--   `AreCounted`           each has how many bound variables there are up to it
 --   `EndsIn`               the oldest ones are these
---   `SaysTheSame`          a table has room for as many numbers, or more, of which each means the same
-use Rattle.std.specs.Prelude.{◌≡◌, ◌≤◌, ℕ, ◌+◌, ◌++◌, length, get_or, List, [], ◌∷◌, Option, Some, None, nat_eq, if◌then◌else◌}
+use Rattle.std.specs.Prelude.{◌≡◌, ⊤, ℕ, ◌+◌, List, [], ◌∷◌, ◌++◌}
 use Rattle.abs_tree.specs.declared.syntax.variable.Variable.{Variable}
 use Rattle.abs_tree.specs.declared.syntax.variable.Variable.TheVariants.{Bound}
+use Rattle.abs_names.specs.declared.scope.Binding.{Binding}
 
--- what the newest of these says of a number
-abbrev pub looked_up : List (ℕ × Variable) → ℕ → Option Variable
-looked_up [] number = None
-looked_up (known ∷ others) number = if nat_eq known.0 number then Some known.1 else looked_up others number
-
--- how many of them are bound variables
+-- 1 for a bound variable, and else 0
 abbrev pub is_bound : Variable → ℕ
 is_bound (Bound depth) = 1
 is_bound _ = 0
 
-abbrev pub bound_in : List (ℕ × Variable) → ℕ
-bound_in [] = 0
-bound_in (known ∷ others) = is_bound known.1 + bound_in others
+-- how many bound variables there are, as the newest one has it
+abbrev pub bound_up_to : List (ℕ × Binding) → ℕ
+bound_up_to [] = 0
+bound_up_to (known ∷ others) = known.1.bound
+
+-- each has how many bound variables there are up to it
+abbrev pub AreCounted : List (ℕ × Binding) → Type 0
+AreCounted [] = ⊤
+AreCounted (known ∷ others) = (known.1.bound ≡ is_bound known.1.variable + bound_up_to others) × AreCounted others
 
 -- The last entries of a list are these.
 pub record EndsIn {A : Type 0} (items older : List A) : Type 0 where
   pub newer : List A
   pub is : items ≡ newer ++ older
-
--- A table has room for as many numbers as before, or more, and each of them means the same.
-pub record SaysTheSame (before now : List (Option Variable)) : Type 0 where
-  pub longer : length before ≤ length now
-  pub same : (number : ℕ) → get_or now number None ≡ get_or before number None

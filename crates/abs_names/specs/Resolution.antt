@@ -1,14 +1,18 @@
--- The resolved tree of a source: each variable that is used or declared is a slot, a bound variable or a field.
+-- The resolved tree of a source: each variable that is used or declared is a slot, a bound variable or a field, and each
+-- type says what it is.
 --
 --   `resolved`                                         that of a source
 --   `resolved_declaration`, `resolved_members`, ..     that of a declaration, of the members of a class
 --   `resolved_statement`, `resolved_side`, ..          that of statements, right sides, guards
 --   `resolved_phrase`, `resolved_pattern`, ..          that of expressions and patterns
 --   `resolved_use`, `resolved_field`                   that of the use of a name
-use Rattle.std.specs.Prelude.{ℕ, ◌+◌, List, [], ◌∷◌, length, Option, Some, None, if◌then◌else◌}
+use Rattle.std.specs.Prelude.{ℕ, ◌+◌, List, [], ◌∷◌, ◌++◌, length, Option, Some, None, if◌then◌else◌}
 use Rattle.abs_tree.specs.Slots.{is_this, statement_slots, statements_slots}
-use Rattle.abs_tree.specs.Syntax.{Name, VariableTree, Unresolved, AtSlot, AtBound, AtField, PatternTree, AnyValue, Binds, SameNumber, SameString, Built, PatternTrees, NoPattern, NextPattern, Phrase, LetIn, IfElse, OperatorsOf, Prefixed, NumberOf, StringOf, NullOf, DestinyOf, ThisOf, FieldOf, OwnCallOf, VariableOf, ApplyOf, BuildOf, CaseOf, Phrases, NoPhrase, NextPhrase, Operands, NoOperands, NextOperand, Branches, NoBranch, NextBranch, SideTree, NewOf, ValueOf, SendOf, GetOf, CallOf, Tests, NoTest, NextTest, TargetTree, ToVariable, ToField, MaybeSide, NoSide, SomeSide, Statement, BlockOf, SkipOf, SuspendOf, AwaitOf, ReturnOf, PrintOf, IfOf, WhileOf, DeclareOf, AssignOf, DoOf, MaybeStatements, NoElse, Else, Statements, NoStatement, NextStatement, ParamTree, SignatureTree, MaybePhrase, NoValue, Value, MemberTree, FieldTree, MethodTree, DeclTree, DataTree, FunctionTree, InterfaceTree, ClassTree, SourceTree}
+use Rattle.abs_tree.specs.Syntax.{Name, VariableTree, Unresolved, AtSlot, AtBound, AtField, PatternTree, AnyValue, Binds, SameNumber, SameString, Built, PatternTrees, NoPattern, NextPattern, Phrase, LetIn, IfElse, OperatorsOf, Prefixed, NumberOf, StringOf, NullOf, DestinyOf, ThisOf, FieldOf, OwnCallOf, VariableOf, ApplyOf, BuildOf, CaseOf, Phrases, NoPhrase, NextPhrase, Operands, NoOperands, NextOperand, Branches, NoBranch, NextBranch, SideTree, NewOf, ValueOf, SendOf, GetOf, CallOf, Tests, NoTest, NextTest, TargetTree, ToVariable, ToField, MaybeSide, NoSide, SomeSide, Statement, BlockOf, SkipOf, SuspendOf, AwaitOf, ReturnOf, PrintOf, IfOf, WhileOf, DeclareOf, AssignOf, DoOf, MaybeStatements, NoElse, Else, Statements, NoStatement, NextStatement, ParamTree, ConstructorTree, SignatureTree, MaybePhrase, NoValue, Value, MemberTree, FieldTree, MethodTree, DeclTree, DataTree, FunctionTree, InterfaceTree, ClassTree, SourceTree}
 use Rattle.abs_tree.specs.declared.place.Place.{Place}
+use Rattle.abs_tree.specs.NameSpaces.{NameSpaces, spaces_of}
+use Rattle.abs_names.specs.Prelude.{prelude}
+use Rattle.abs_names.specs.TypeNames.{Around, around_of, resolved_type, resolved_types}
 use Rattle.abs_names.specs.declared.scope.Routine.TheVariants.{Main, Method, Function, Initial}
 use Rattle.abs_names.specs.Scopes.{Meanings, Scope, field_of, use_of, next_bound, with_bound, pattern_scope, local_slot, statement_scope, body_scope, class_fields, fields_after}
 
@@ -51,7 +55,7 @@ abbrev mutual
   -- an expression
   pub resolved_phrase : Scope → Phrase → Phrase
   resolved_phrase scope (LetIn place type variable_place variable value body) =
-      LetIn place type variable_place (next_bound scope) (resolved_phrase scope value)
+      LetIn place (resolved_type scope.around type) variable_place (next_bound scope) (resolved_phrase scope value)
       (resolved_phrase (with_bound scope variable) body)
   resolved_phrase scope (IfElse place condition first second) =
       IfElse place (resolved_phrase scope condition) (resolved_phrase scope first) (resolved_phrase scope second)
@@ -133,7 +137,7 @@ abbrev mutual
   resolved_statement scope next (WhileOf index place condition body) =
       WhileOf index place (resolved_phrase scope condition) (resolved_statements scope next body)
   resolved_statement scope next (DeclareOf index place type variable_place variable initial) =
-      DeclareOf index place type variable_place (local_slot next index initial)
+      DeclareOf index place (resolved_type scope.around type) variable_place (local_slot next index initial)
       (resolved_maybe_side scope next initial)
   resolved_statement scope next (AssignOf index place target side) =
       AssignOf index place (resolved_target scope target) (resolved_side scope next side)
@@ -151,23 +155,31 @@ abbrev mutual
       (resolved_statements (statement_scope scope next first) (next + length (statement_slots first)) others)
 
 -- parameters, which are slots of a body or fields of a class, from this index on
-abbrev pub resolved_params : (ℕ → VariableTree) → ℕ → List ParamTree → List ParamTree
-resolved_params make index [] = []
-resolved_params make index (param ∷ others) =
-    record { type_of = param.type_of; place = param.place; variable = make index }
-    ∷ resolved_params make (index + 1) others
+abbrev pub resolved_params : Around → (ℕ → VariableTree) → ℕ → List ParamTree → List ParamTree
+resolved_params around make index [] = []
+resolved_params around make index (param ∷ others) =
+    record { type_of = resolved_type around param.type_of; place = param.place; variable = make index }
+    ∷ resolved_params around make (index + 1) others
 
 -- the head of a method
-abbrev pub resolved_signature : SignatureTree → SignatureTree
-resolved_signature signature = record {
-  result = signature.result;
+abbrev pub resolved_signature : Around → SignatureTree → SignatureTree
+resolved_signature around signature = record {
+  result = resolved_type around signature.result;
   name = signature.name;
-  params = resolved_params AtSlot 0 signature.params;
+  params = resolved_params around AtSlot 0 signature.params;
 }
 
-abbrev pub resolved_signatures : List SignatureTree → List SignatureTree
-resolved_signatures [] = []
-resolved_signatures (signature ∷ others) = resolved_signature signature ∷ resolved_signatures others
+abbrev pub resolved_signatures : Around → List SignatureTree → List SignatureTree
+resolved_signatures around [] = []
+resolved_signatures around (signature ∷ others) =
+    resolved_signature around signature ∷ resolved_signatures around others
+
+-- constructors, with the types of their arguments
+abbrev pub resolved_constructors : Around → List ConstructorTree → List ConstructorTree
+resolved_constructors around [] = []
+resolved_constructors around (constructor ∷ others) =
+    record { name = constructor.name; types = resolved_types around constructor.types }
+    ∷ resolved_constructors around others
 
 -- an initial value, if there is one
 abbrev pub resolved_maybe_phrase : Scope → MaybePhrase → MaybePhrase
@@ -175,38 +187,43 @@ resolved_maybe_phrase scope NoValue = NoValue
 resolved_maybe_phrase scope (Value value) = Value (resolved_phrase scope value)
 
 -- a member of a class with these fields, where `earlier` of the fields come before it
-abbrev pub resolved_member : Meanings → ℕ → MemberTree → MemberTree
-resolved_member fields earlier (FieldTree type name initial) =
-    FieldTree type name (resolved_maybe_phrase (body_scope (Initial earlier) fields []) initial)
-resolved_member fields earlier (MethodTree signature end body) =
-    MethodTree (resolved_signature signature) end
-    (resolved_statements (body_scope Method fields signature.params) (length signature.params) body)
+abbrev pub resolved_member : Around → Meanings → ℕ → MemberTree → MemberTree
+resolved_member around fields earlier (FieldTree type name initial) =
+    FieldTree (resolved_type around type) name
+    (resolved_maybe_phrase (body_scope around (Initial earlier) fields []) initial)
+resolved_member around fields earlier (MethodTree signature end body) =
+    MethodTree (resolved_signature around signature) end
+    (resolved_statements (body_scope around Method fields signature.params) (length signature.params) body)
 
-abbrev pub resolved_members : Meanings → ℕ → List MemberTree → List MemberTree
-resolved_members fields earlier [] = []
-resolved_members fields earlier (member ∷ others) =
-    resolved_member fields earlier member ∷ resolved_members fields (fields_after earlier member) others
+abbrev pub resolved_members : Around → Meanings → ℕ → List MemberTree → List MemberTree
+resolved_members around fields earlier [] = []
+resolved_members around fields earlier (member ∷ others) =
+    resolved_member around fields earlier member ∷ resolved_members around fields (fields_after earlier member) others
 
 -- a declaration
-abbrev pub resolved_declaration : DeclTree → DeclTree
-resolved_declaration (DataTree place name type_params constructors) = DataTree place name type_params constructors
-resolved_declaration (FunctionTree place result name type_params params value) =
-    FunctionTree place result name type_params (resolved_params AtSlot 0 params)
-    (resolved_phrase (body_scope Function [] params) value)
-resolved_declaration (InterfaceTree place name extended signatures) =
-    InterfaceTree place name extended (resolved_signatures signatures)
-resolved_declaration (ClassTree place name params implemented members) =
-    ClassTree place name (resolved_params AtField 0 params) implemented
-    (resolved_members (class_fields params members) (length params) members)
+abbrev pub resolved_declaration : NameSpaces → DeclTree → DeclTree
+resolved_declaration spaces (DataTree place name type_params constructors) =
+    DataTree place name type_params (resolved_constructors (around_of spaces type_params) constructors)
+resolved_declaration spaces (FunctionTree place result name type_params params value) =
+    FunctionTree place (resolved_type (around_of spaces type_params) result) name type_params
+    (resolved_params (around_of spaces type_params) AtSlot 0 params)
+    (resolved_phrase (body_scope (around_of spaces type_params) Function [] params) value)
+resolved_declaration spaces (InterfaceTree place name extended signatures) =
+    InterfaceTree place name extended (resolved_signatures (around_of spaces []) signatures)
+resolved_declaration spaces (ClassTree place name params implemented members) =
+    ClassTree place name (resolved_params (around_of spaces []) AtField 0 params) implemented
+    (resolved_members (around_of spaces []) (class_fields params members) (length params) members)
 
-abbrev pub resolved_declarations : List DeclTree → List DeclTree
-resolved_declarations [] = []
-resolved_declarations (declaration ∷ others) = resolved_declaration declaration ∷ resolved_declarations others
+abbrev pub resolved_declarations : NameSpaces → List DeclTree → List DeclTree
+resolved_declarations spaces [] = []
+resolved_declarations spaces (declaration ∷ others) =
+    resolved_declaration spaces declaration ∷ resolved_declarations spaces others
 
--- a source
+-- a source, before which the prelude is declared
 abbrev pub resolved : SourceTree → SourceTree
 resolved source = record {
-  declarations = resolved_declarations source.declarations;
-  main = resolved_statements (body_scope Main [] []) 0 source.main;
+  declarations = resolved_declarations (spaces_of (prelude ++ source.declarations)) (prelude ++ source.declarations);
+  main = resolved_statements (body_scope (around_of (spaces_of (prelude ++ source.declarations)) []) Main [] []) 0
+      source.main;
   end = source.end;
 }

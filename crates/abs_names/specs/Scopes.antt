@@ -1,35 +1,32 @@
 -- Scopes: what a name means where it is used as a variable.
 --
---   `Meanings`, `meaning_of`                   names with what they mean, and what they say of a name
+--   `Meanings`                                 names with the variables that they mean
 --   `Scope`                                    what is visible at a place
 --   `use_of`, `field_of`, `is_taken`           the use of a name, a field of `this`, a name that may not be bound
 --   `with_bound`, `with_local`                 the scope after a variable is bound, and after a local is declared
 --   `pattern_scope`, `statement_scope`         the scope after a pattern, and after a statement
 --   `body_scope`, `class_fields`               the scope at the beginning of a body, the fields of a class
 use Rattle.std.specs.Prelude.{ℕ, ◌+◌, Bool, true, false, ◌||◌, List, [], ◌∷◌, length, Option, Some, None, is_some, nat_lt, if◌then◌else◌}
-use Rattle.std.specs.Str.{bytes_eq}
 use Rattle.abs_tree.specs.Syntax.{Name, VariableTree, Unresolved, AtSlot, AtBound, AtField, PatternTree, AnyValue, Binds, SameNumber, SameString, Built, PatternTrees, NoPattern, NextPattern, MaybeSide, Statement, BlockOf, SkipOf, SuspendOf, AwaitOf, ReturnOf, PrintOf, IfOf, WhileOf, DeclareOf, AssignOf, DoOf, ParamTree, MemberTree, FieldTree, MethodTree}
 use Rattle.abs_tree.specs.Slots.{maybe_side_slots}
+use Rattle.abs_tree.specs.Tables.{meaning_of, with_first}
+use Rattle.abs_names.specs.TypeNames.{Around}
 use Rattle.abs_names.specs.declared.scope.Routine.{Routine}
 use Rattle.abs_names.specs.declared.scope.Routine.TheVariants.{Main, Method, Function, Initial}
 
--- names with what they mean, the newest first
+-- names with the variables that they mean, the newest first
 abbrev pub Meanings : Type 0
 Meanings = List (Name × VariableTree)
-
--- what the newest of these says of a name
-abbrev pub meaning_of : Meanings → Name → Option VariableTree
-meaning_of [] name = None
-meaning_of (known ∷ others) name = if bytes_eq known.0 name then Some known.1 else meaning_of others name
 
 -- the meanings with a new one; a variable that is resolved already has no name
 abbrev pub with_meaning : Meanings → VariableTree → VariableTree → Meanings
 with_meaning known (Unresolved name) meaning = (name, meaning) ∷ known
 with_meaning known _ meaning = known
 
--- What is visible at a place: in which routine it is, the fields of the class, and the parameters, locals and bound
--- variables.
+-- What is visible at a place: what is around it, in which routine it is, the fields of the class, and the parameters,
+-- locals and bound variables.
 pub record Scope : Type 0 where
+  pub around : Around
   pub routine : Routine
   pub fields : Meanings
   pub variables : Meanings
@@ -81,11 +78,8 @@ abbrev pub next_bound : Scope → VariableTree
 next_bound scope = AtBound (bound_count scope.variables)
 
 abbrev pub with_variable : Scope → VariableTree → VariableTree → Scope
-with_variable scope variable meaning = record {
-  routine = scope.routine;
-  fields = scope.fields;
-  variables = with_meaning scope.variables variable meaning;
-}
+with_variable scope variable meaning =
+    record scope { variables = with_meaning scope.variables variable meaning }
 
 abbrev pub with_bound : Scope → VariableTree → Scope
 with_bound scope variable = with_variable scope variable (next_bound scope)
@@ -130,14 +124,13 @@ with_params known index (param ∷ others) =
     with_params (with_meaning known param.variable (AtSlot index)) (index + 1) others
 
 -- the scope at the beginning of a body, which sees its parameters
-abbrev pub body_scope : Routine → Meanings → List ParamTree → Scope
-body_scope routine fields params =
-    record { routine = routine; fields = fields; variables = with_params [] 0 params }
+abbrev pub body_scope : Around → Routine → Meanings → List ParamTree → Scope
+body_scope around routine fields params =
+    record { around = around; routine = routine; fields = fields; variables = with_params [] 0 params }
 
 -- the fields with one more; the first field of a name counts
 abbrev pub with_field : Meanings → VariableTree → ℕ → Meanings
-with_field known (Unresolved name) index =
-    if is_some (meaning_of known name) then known else (name, AtField index) ∷ known
+with_field known (Unresolved name) index = with_first known name (AtField index)
 with_field known _ index = known
 
 -- the fields of a class: its parameters, and the fields among its members

@@ -2,13 +2,12 @@
 ghost use Rattle.std.specs.Prelude.{◌≡◌, ◌++◌, ⊤, fold, IfOk, OnOk};
 ghost use Rattle.abs_tree.specs.Offences.{earlier};
 ghost use Rattle.abs_tree.specs.SyntaxViews.{variable_tree, type_tree, pattern_tree, phrase, phrases, operand_trees, branches as branch_trees};
-ghost use Rattle.abs_tree.specs.Syntax.{LetIn, IfElse, OperatorsOf, Prefixed as PrefixedOf, CaseOf, OwnCallOf, FieldOf, DestinyOf, ThisOf};
+ghost use Rattle.abs_tree.specs.Syntax.{LetIn, IfElse, OperatorsOf, Prefixed as PrefixedOf, CaseOf, OwnCallOf, ApplyOf, BuildOf, FieldOf, DestinyOf, ThisOf};
 ghost use Rattle.abs_tree.specs.Names.{name_of};
 ghost use Rattle.abs_names.specs.NameOffences.{pattern_offences, phrase_offences, phrases_offences, operands_offences, branches_offences};
 ghost use Rattle.abs_names.specs.Resolution.{resolved_pattern, resolved_phrase, resolved_phrases, resolved_operands, resolved_branches};
 ghost use Rattle.abs_names.specs.Scopes.{pattern_scope};
 
-use crate::types;
 use crate::walk::Walk;
 use abs_tree::{Branch, Expr, Operand, Place, Symbol, TypeTerm, Variable};
 use std::alloc::AllocError;
@@ -21,10 +20,10 @@ impl Walk<'_> {
     /// [`AllocError`] if an allocation fails.
     #[cycle(expressions)]
     pub fn expression(&mut self, expr: &Expr) -> Result<Expr, AllocError>
-        ensures found { IfOk result (λ found. phrase self.old.scope.names found
-            ≡ resolved_phrase self.old.scope.scope (phrase self.old.scope.names expr.now)) }
+        ensures found { IfOk result (λ found. phrase self.old.scope.names.after found
+            ≡ resolved_phrase self.old.scope.scope (phrase self.old.scope.names.before expr.now)) }
         ensures noted { OnOk result (self.new.first ≡ fold earlier self.old.first
-            (phrase_offences self.old.scope.scope (phrase self.old.scope.names expr.now))) }
+            (phrase_offences self.old.scope.scope (phrase self.old.scope.names.before expr.now))) }
         ensures scope { OnOk result (self.new.scope ≡ self.old.scope) }
     {
         match expr {
@@ -76,22 +75,22 @@ impl Walk<'_> {
         value: &Expr,
         body: &Expr,
     ) -> Result<Expr, AllocError>
-        ensures found { IfOk result (λ found. phrase self.old.scope.names found
-            ≡ resolved_phrase self.old.scope.scope (LetIn place (type_tree self.old.scope.names type_of.now)
-            variable_place (variable_tree self.old.scope.names variable) (phrase self.old.scope.names value.now)
-            (phrase self.old.scope.names body.now))) }
+        ensures found { IfOk result (λ found. phrase self.old.scope.names.after found
+            ≡ resolved_phrase self.old.scope.scope (LetIn place (type_tree self.old.scope.names.before type_of.now)
+            variable_place (variable_tree self.old.scope.names.before variable)
+            (phrase self.old.scope.names.before value.now) (phrase self.old.scope.names.before body.now))) }
         ensures noted { OnOk result (self.new.first ≡ fold earlier self.old.first
-            (phrase_offences self.old.scope.scope (LetIn place (type_tree self.old.scope.names type_of.now)
-            variable_place (variable_tree self.old.scope.names variable) (phrase self.old.scope.names value.now)
-            (phrase self.old.scope.names body.now)))) }
+            (phrase_offences self.old.scope.scope (LetIn place (type_tree self.old.scope.names.before type_of.now)
+            variable_place (variable_tree self.old.scope.names.before variable)
+            (phrase self.old.scope.names.before value.now) (phrase self.old.scope.names.before body.now)))) }
         ensures scope { OnOk result (self.new.scope ≡ self.old.scope) }
     {
+        let type_of = self.type_term(type_of)?;
         let value = self.boxed(value)?;
         let outside = self.scope.len();
         let variable = self.bind(variable_place, variable)?;
         let body = self.boxed(body)?;
         self.scope.leave(outside);
-        let type_of = types::copy(self.alloc, type_of)?;
         Ok(Expr::Let {
             place,
             type_of: Box::new(self.alloc, type_of)?,
@@ -111,12 +110,12 @@ impl Walk<'_> {
         first: &Expr,
         second: &Expr,
     ) -> Result<Expr, AllocError>
-        ensures found { IfOk result (λ found. phrase self.old.scope.names found
-            ≡ resolved_phrase self.old.scope.scope (IfElse place (phrase self.old.scope.names condition.now)
-            (phrase self.old.scope.names first.now) (phrase self.old.scope.names second.now))) }
+        ensures found { IfOk result (λ found. phrase self.old.scope.names.after found
+            ≡ resolved_phrase self.old.scope.scope (IfElse place (phrase self.old.scope.names.before condition.now)
+            (phrase self.old.scope.names.before first.now) (phrase self.old.scope.names.before second.now))) }
         ensures noted { OnOk result (self.new.first ≡ fold earlier self.old.first
-            (phrase_offences self.old.scope.scope (IfElse place (phrase self.old.scope.names condition.now)
-            (phrase self.old.scope.names first.now) (phrase self.old.scope.names second.now)))) }
+            (phrase_offences self.old.scope.scope (IfElse place (phrase self.old.scope.names.before condition.now)
+            (phrase self.old.scope.names.before first.now) (phrase self.old.scope.names.before second.now)))) }
         ensures scope { OnOk result (self.new.scope ≡ self.old.scope) }
     {
         Ok(Expr::If {
@@ -135,12 +134,12 @@ impl Walk<'_> {
         first: &Expr,
         operands: &[Operand],
     ) -> Result<Expr, AllocError>
-        ensures found { IfOk result (λ found. phrase self.old.scope.names found
-            ≡ resolved_phrase self.old.scope.scope (OperatorsOf place (phrase self.old.scope.names first.now)
-            (operand_trees self.old.scope.names operands.now))) }
+        ensures found { IfOk result (λ found. phrase self.old.scope.names.after found
+            ≡ resolved_phrase self.old.scope.scope (OperatorsOf place (phrase self.old.scope.names.before first.now)
+            (operand_trees self.old.scope.names.before operands.now))) }
         ensures noted { OnOk result (self.new.first ≡ fold earlier self.old.first
-            (phrase_offences self.old.scope.scope (OperatorsOf place (phrase self.old.scope.names first.now)
-            (operand_trees self.old.scope.names operands.now)))) }
+            (phrase_offences self.old.scope.scope (OperatorsOf place (phrase self.old.scope.names.before first.now)
+            (operand_trees self.old.scope.names.before operands.now)))) }
         ensures scope { OnOk result (self.new.scope ≡ self.old.scope) }
     {
         Ok(Expr::Operators {
@@ -158,12 +157,12 @@ impl Walk<'_> {
         subject: &Expr,
         branches: &[Branch],
     ) -> Result<Expr, AllocError>
-        ensures found { IfOk result (λ found. phrase self.old.scope.names found
-            ≡ resolved_phrase self.old.scope.scope (CaseOf place (phrase self.old.scope.names subject.now)
-            (branch_trees self.old.scope.names branches.now))) }
+        ensures found { IfOk result (λ found. phrase self.old.scope.names.after found
+            ≡ resolved_phrase self.old.scope.scope (CaseOf place (phrase self.old.scope.names.before subject.now)
+            (branch_trees self.old.scope.names.before branches.now))) }
         ensures noted { OnOk result (self.new.first ≡ fold earlier self.old.first
-            (phrase_offences self.old.scope.scope (CaseOf place (phrase self.old.scope.names subject.now)
-            (branch_trees self.old.scope.names branches.now)))) }
+            (phrase_offences self.old.scope.scope (CaseOf place (phrase self.old.scope.names.before subject.now)
+            (branch_trees self.old.scope.names.before branches.now)))) }
         ensures scope { OnOk result (self.new.scope ≡ self.old.scope) }
     {
         Ok(Expr::Case {
@@ -176,7 +175,7 @@ impl Walk<'_> {
     /// Resolves an expression of the lowest level of the grammar.
     #[cycle(expressions)]
     fn primary(&mut self, expr: &Expr) -> Result<Expr, AllocError>
-        requires primary { elim (phrase self.old.scope.names expr.now) [
+        requires primary { elim (phrase self.old.scope.names.before expr.now) [
           | LetIn _ _ _ _ _ _ ↦ ⊥
           | IfElse _ _ _ _ ↦ ⊥
           | OperatorsOf _ _ _ ↦ ⊥
@@ -184,10 +183,10 @@ impl Walk<'_> {
           | CaseOf _ _ _ ↦ ⊥
           | _ ↦ ⊤
         ] }
-        ensures found { IfOk result (λ found. phrase self.old.scope.names found
-            ≡ resolved_phrase self.old.scope.scope (phrase self.old.scope.names expr.now)) }
+        ensures found { IfOk result (λ found. phrase self.old.scope.names.after found
+            ≡ resolved_phrase self.old.scope.scope (phrase self.old.scope.names.before expr.now)) }
         ensures noted { OnOk result (self.new.first ≡ fold earlier self.old.first
-            (phrase_offences self.old.scope.scope (phrase self.old.scope.names expr.now))) }
+            (phrase_offences self.old.scope.scope (phrase self.old.scope.names.before expr.now))) }
         ensures scope { OnOk result (self.new.scope ≡ self.old.scope) }
     {
         match expr {
@@ -200,20 +199,12 @@ impl Walk<'_> {
                 place,
                 function,
                 arguments,
-            } => Ok(Expr::Apply {
-                place: *place,
-                function: *function,
-                arguments: self.expressions(arguments)?,
-            }),
+            } => self.apply(*place, *function, arguments),
             Expr::Build {
                 place,
                 constructor,
                 arguments,
-            } => Ok(Expr::Build {
-                place: *place,
-                constructor: *constructor,
-                arguments: self.expressions(arguments)?,
-            }),
+            } => self.build(*place, *constructor, arguments),
             Expr::Field {
                 place,
                 name_place,
@@ -237,12 +228,12 @@ impl Walk<'_> {
         method: Symbol,
         arguments: &[Expr],
     ) -> Result<Expr, AllocError>
-        ensures found { IfOk result (λ found. phrase self.old.scope.names found
-            ≡ resolved_phrase self.old.scope.scope (OwnCallOf place (name_of self.old.scope.names method)
-            (phrases self.old.scope.names arguments.now))) }
+        ensures found { IfOk result (λ found. phrase self.old.scope.names.after found
+            ≡ resolved_phrase self.old.scope.scope (OwnCallOf place (name_of self.old.scope.names.before method)
+            (phrases self.old.scope.names.before arguments.now))) }
         ensures noted { OnOk result (self.new.first ≡ fold earlier self.old.first
-            (phrase_offences self.old.scope.scope (OwnCallOf place (name_of self.old.scope.names method)
-            (phrases self.old.scope.names arguments.now)))) }
+            (phrase_offences self.old.scope.scope (OwnCallOf place (name_of self.old.scope.names.before method)
+            (phrases self.old.scope.names.before arguments.now)))) }
         ensures scope { OnOk result (self.new.scope ≡ self.old.scope) }
     {
         let known = self.scope.has_this();
@@ -250,17 +241,69 @@ impl Walk<'_> {
         let arguments = self.expressions(arguments)?;
         Ok(Expr::OwnCall {
             place,
-            method,
+            method: self.scope.around().kept(method),
             arguments: Arc::new(self.alloc, arguments)?,
+        })
+    }
+
+    /// Resolves an application of a function.
+    #[cycle(expressions)]
+    fn apply(
+        &mut self,
+        place: Place,
+        function: Symbol,
+        arguments: &[Expr],
+    ) -> Result<Expr, AllocError>
+        ensures found { IfOk result (λ found. phrase self.old.scope.names.after found
+            ≡ resolved_phrase self.old.scope.scope (ApplyOf place (name_of self.old.scope.names.before function)
+            (phrases self.old.scope.names.before arguments.now))) }
+        ensures noted { OnOk result (self.new.first ≡ fold earlier self.old.first
+            (phrase_offences self.old.scope.scope (ApplyOf place (name_of self.old.scope.names.before function)
+            (phrases self.old.scope.names.before arguments.now)))) }
+        ensures scope { OnOk result (self.new.scope ≡ self.old.scope) }
+    {
+        let taken = self.scope.around().function_taking(function);
+        self.note_applied(taken, arguments.len(), place);
+        let arguments = self.expressions(arguments)?;
+        Ok(Expr::Apply {
+            place,
+            function: self.scope.around().kept(function),
+            arguments,
+        })
+    }
+
+    /// Resolves an application of a constructor.
+    #[cycle(expressions)]
+    fn build(
+        &mut self,
+        place: Place,
+        constructor: Symbol,
+        arguments: &[Expr],
+    ) -> Result<Expr, AllocError>
+        ensures found { IfOk result (λ found. phrase self.old.scope.names.after found
+            ≡ resolved_phrase self.old.scope.scope (BuildOf place (name_of self.old.scope.names.before constructor)
+            (phrases self.old.scope.names.before arguments.now))) }
+        ensures noted { OnOk result (self.new.first ≡ fold earlier self.old.first
+            (phrase_offences self.old.scope.scope (BuildOf place (name_of self.old.scope.names.before constructor)
+            (phrases self.old.scope.names.before arguments.now)))) }
+        ensures scope { OnOk result (self.new.scope ≡ self.old.scope) }
+    {
+        let taken = self.scope.around().constructor_taking(constructor);
+        self.note_applied(taken, arguments.len(), place);
+        let arguments = self.expressions(arguments)?;
+        Ok(Expr::Build {
+            place,
+            constructor: self.scope.around().kept(constructor),
+            arguments,
         })
     }
 
     /// A field of `this` as the variable that it is. One that is unknown is noted, and stays as it is.
     fn field(&mut self, place: Place, name_place: Place, name: Symbol) -> Expr
-        ensures found { phrase self.old.scope.names result ≡ resolved_phrase self.old.scope.scope
-            (FieldOf place name_place (name_of self.old.scope.names name)) }
+        ensures found { phrase self.old.scope.names.after result ≡ resolved_phrase self.old.scope.scope
+            (FieldOf place name_place (name_of self.old.scope.names.before name)) }
         ensures noted { self.new.first ≡ fold earlier self.old.first (phrase_offences self.old.scope.scope
-            (FieldOf place name_place (name_of self.old.scope.names name))) }
+            (FieldOf place name_place (name_of self.old.scope.names.before name))) }
         ensures scope { self.new.scope ≡ self.old.scope }
     {
         self.note_field(place, name_place, name);
@@ -269,14 +312,14 @@ impl Walk<'_> {
             None => Expr::Field {
                 place,
                 name_place,
-                name,
+                name: self.scope.around().kept(name),
             },
         }
     }
 
     /// `destiny`. It is noted where there is no task.
     fn destiny(&mut self, place: Place) -> Expr
-        ensures found { phrase self.old.scope.names result ≡ DestinyOf place }
+        ensures found { phrase self.old.scope.names.after result ≡ DestinyOf place }
         ensures noted { self.new.first
             ≡ fold earlier self.old.first (phrase_offences self.old.scope.scope (DestinyOf place)) }
         ensures scope { self.new.scope ≡ self.old.scope }
@@ -288,7 +331,7 @@ impl Walk<'_> {
 
     /// `this`. It is noted where there is none.
     fn this(&mut self, place: Place) -> Expr
-        ensures found { phrase self.old.scope.names result ≡ ThisOf place }
+        ensures found { phrase self.old.scope.names.after result ≡ ThisOf place }
         ensures noted { self.new.first
             ≡ fold earlier self.old.first (phrase_offences self.old.scope.scope (ThisOf place)) }
         ensures scope { self.new.scope ≡ self.old.scope }
@@ -301,10 +344,10 @@ impl Walk<'_> {
     /// Resolves an expression into a box.
     #[cycle(expressions)]
     fn boxed(&mut self, expr: &Expr) -> Result<Box<Expr>, AllocError>
-        ensures found { IfOk result (λ found. phrase self.old.scope.names found.value
-            ≡ resolved_phrase self.old.scope.scope (phrase self.old.scope.names expr.now)) }
+        ensures found { IfOk result (λ found. phrase self.old.scope.names.after found.value
+            ≡ resolved_phrase self.old.scope.scope (phrase self.old.scope.names.before expr.now)) }
         ensures noted { OnOk result (self.new.first ≡ fold earlier self.old.first
-            (phrase_offences self.old.scope.scope (phrase self.old.scope.names expr.now))) }
+            (phrase_offences self.old.scope.scope (phrase self.old.scope.names.before expr.now))) }
         ensures scope { OnOk result (self.new.scope ≡ self.old.scope) }
     {
         let found = self.expression(expr)?;
@@ -314,10 +357,10 @@ impl Walk<'_> {
     /// Resolves the expressions of a list.
     #[cycle(expressions)]
     pub fn expressions(&mut self, exprs: &[Expr]) -> Result<Vec<Expr>, AllocError>
-        ensures found { IfOk result (λ found. phrases self.old.scope.names found.items
-            ≡ resolved_phrases self.old.scope.scope (phrases self.old.scope.names exprs.now)) }
+        ensures found { IfOk result (λ found. phrases self.old.scope.names.after found.items
+            ≡ resolved_phrases self.old.scope.scope (phrases self.old.scope.names.before exprs.now)) }
         ensures noted { OnOk result (self.new.first ≡ fold earlier self.old.first
-            (phrases_offences self.old.scope.scope (phrases self.old.scope.names exprs.now))) }
+            (phrases_offences self.old.scope.scope (phrases self.old.scope.names.before exprs.now))) }
         ensures scope { OnOk result (self.new.scope ≡ self.old.scope) }
     {
         let mut found = Vec::with_capacity(self.alloc, exprs.len())?;
@@ -330,10 +373,10 @@ impl Walk<'_> {
     /// Resolves the right operands of an operator list.
     #[cycle(expressions)]
     fn operands(&mut self, operands: &[Operand]) -> Result<Vec<Operand>, AllocError>
-        ensures found { IfOk result (λ found. operand_trees self.old.scope.names found.items
-            ≡ resolved_operands self.old.scope.scope (operand_trees self.old.scope.names operands.now)) }
+        ensures found { IfOk result (λ found. operand_trees self.old.scope.names.after found.items
+            ≡ resolved_operands self.old.scope.scope (operand_trees self.old.scope.names.before operands.now)) }
         ensures noted { OnOk result (self.new.first ≡ fold earlier self.old.first
-            (operands_offences self.old.scope.scope (operand_trees self.old.scope.names operands.now))) }
+            (operands_offences self.old.scope.scope (operand_trees self.old.scope.names.before operands.now))) }
         ensures scope { OnOk result (self.new.scope ≡ self.old.scope) }
     {
         let mut found = Vec::with_capacity(self.alloc, operands.len())?;
@@ -350,10 +393,10 @@ impl Walk<'_> {
     /// Resolves the branches of a `case`.
     #[cycle(expressions)]
     fn branches(&mut self, branches: &[Branch]) -> Result<Vec<Branch>, AllocError>
-        ensures found { IfOk result (λ found. branch_trees self.old.scope.names found.items
-            ≡ resolved_branches self.old.scope.scope (branch_trees self.old.scope.names branches.now)) }
+        ensures found { IfOk result (λ found. branch_trees self.old.scope.names.after found.items
+            ≡ resolved_branches self.old.scope.scope (branch_trees self.old.scope.names.before branches.now)) }
         ensures noted { OnOk result (self.new.first ≡ fold earlier self.old.first
-            (branches_offences self.old.scope.scope (branch_trees self.old.scope.names branches.now))) }
+            (branches_offences self.old.scope.scope (branch_trees self.old.scope.names.before branches.now))) }
         ensures scope { OnOk result (self.new.scope ≡ self.old.scope) }
     {
         let mut found = Vec::with_capacity(self.alloc, branches.len())?;
@@ -366,15 +409,16 @@ impl Walk<'_> {
     /// Resolves a branch, whose value sees the variables of its pattern.
     #[cycle(expressions)]
     fn branch(&mut self, branch: &Branch) -> Result<Branch, AllocError>
-        ensures pattern { IfOk result (λ found. pattern_tree self.old.scope.names found.pattern
-            ≡ resolved_pattern self.old.scope.scope (pattern_tree self.old.scope.names branch.now.pattern)) }
-        ensures value { IfOk result (λ found. phrase self.old.scope.names found.value ≡ resolved_phrase
-            (pattern_scope self.old.scope.scope (pattern_tree self.old.scope.names branch.now.pattern))
-            (phrase self.old.scope.names branch.now.value)) }
+        ensures pattern { IfOk result (λ found. pattern_tree self.old.scope.names.after found.pattern
+            ≡ resolved_pattern self.old.scope.scope (pattern_tree self.old.scope.names.before branch.now.pattern)) }
+        ensures value { IfOk result (λ found. phrase self.old.scope.names.after found.value ≡ resolved_phrase
+            (pattern_scope self.old.scope.scope (pattern_tree self.old.scope.names.before branch.now.pattern))
+            (phrase self.old.scope.names.before branch.now.value)) }
         ensures noted { OnOk result (self.new.first ≡ fold earlier self.old.first
-            (pattern_offences self.old.scope.scope (pattern_tree self.old.scope.names branch.now.pattern)
+            (pattern_offences self.old.scope.scope (pattern_tree self.old.scope.names.before branch.now.pattern)
             ++ phrase_offences (pattern_scope self.old.scope.scope
-            (pattern_tree self.old.scope.names branch.now.pattern)) (phrase self.old.scope.names branch.now.value))) }
+            (pattern_tree self.old.scope.names.before branch.now.pattern))
+            (phrase self.old.scope.names.before branch.now.value))) }
         ensures scope { OnOk result (self.new.scope ≡ self.old.scope) }
     {
         let outside = self.scope.len();

@@ -1,12 +1,12 @@
-//! The names of a source: which variable each name stands for, and the first name offence.
+//! The names of a source, after the prelude: what each stands for, and the first name offence.
 #![tactic(auto)]
 
+mod around;
 mod bodies;
 mod classes;
 mod declarations;
 mod expressions;
 mod laws;
-mod meanings;
 mod patterns;
 mod prelude;
 mod repeats;
@@ -14,6 +14,7 @@ pub mod resolver;
 mod right_sides;
 mod scope;
 mod slots;
+mod spaces;
 mod statements;
 mod types;
 mod walk;

@@ -17,13 +17,13 @@ impl Walk<'_> {
     /// [`AllocError`] if an allocation fails.
     #[cycle(patterns)]
     pub fn pattern(&mut self, pattern: &Pattern) -> Result<Pattern, AllocError>
-        ensures found { IfOk result (λ found. pattern_tree self.old.scope.names found
-            ≡ resolved_pattern self.old.scope.scope (pattern_tree self.old.scope.names pattern.now)) }
+        ensures found { IfOk result (λ found. pattern_tree self.old.scope.names.after found
+            ≡ resolved_pattern self.old.scope.scope (pattern_tree self.old.scope.names.before pattern.now)) }
         ensures noted { OnOk result (self.new.first ≡ fold earlier self.old.first
-            (pattern_offences self.old.scope.scope (pattern_tree self.old.scope.names pattern.now))) }
+            (pattern_offences self.old.scope.scope (pattern_tree self.old.scope.names.before pattern.now))) }
         ensures names { OnOk result (self.new.scope.names ≡ self.old.scope.names) }
         ensures bound { OnOk result (self.new.scope.scope
-            ≡ pattern_scope self.old.scope.scope (pattern_tree self.old.scope.names pattern.now)) }
+            ≡ pattern_scope self.old.scope.scope (pattern_tree self.old.scope.names.before pattern.now)) }
     {
         match pattern {
             Pattern::Any(place) => Ok(Pattern::Any(*place)),
@@ -38,10 +38,12 @@ impl Walk<'_> {
                 constructor,
                 arguments,
             } => {
+                let taken = self.scope.around().constructor_taking(*constructor);
+                self.note_applied(taken, arguments.len(), *place);
                 let arguments = self.patterns(arguments)?;
                 Ok(Pattern::Built {
                     place: *place,
-                    constructor: *constructor,
+                    constructor: self.scope.around().kept(*constructor),
                     arguments,
                 })
             }
@@ -51,13 +53,13 @@ impl Walk<'_> {
     /// Resolves patterns in order. The scope is then the one after them.
     #[cycle(patterns)]
     fn patterns(&mut self, parts: &[Pattern]) -> Result<Vec<Pattern>, AllocError>
-        ensures found { IfOk result (λ found. pattern_trees self.old.scope.names found.items
-            ≡ resolved_patterns self.old.scope.scope (pattern_trees self.old.scope.names parts.now)) }
+        ensures found { IfOk result (λ found. pattern_trees self.old.scope.names.after found.items
+            ≡ resolved_patterns self.old.scope.scope (pattern_trees self.old.scope.names.before parts.now)) }
         ensures noted { OnOk result (self.new.first ≡ fold earlier self.old.first
-            (patterns_offences self.old.scope.scope (pattern_trees self.old.scope.names parts.now))) }
+            (patterns_offences self.old.scope.scope (pattern_trees self.old.scope.names.before parts.now))) }
         ensures names { OnOk result (self.new.scope.names ≡ self.old.scope.names) }
         ensures bound { OnOk result (self.new.scope.scope
-            ≡ patterns_scope self.old.scope.scope (pattern_trees self.old.scope.names parts.now)) }
+            ≡ patterns_scope self.old.scope.scope (pattern_trees self.old.scope.names.before parts.now)) }
     {
         let mut found = Vec::with_capacity(self.alloc, parts.len())?;
         for part in parts {

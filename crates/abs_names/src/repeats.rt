@@ -5,7 +5,7 @@ ghost use Rattle.abs_tree.specs.Syntax.{Name};
 ghost use Rattle.abs_tree.specs.SyntaxViews.{declared as declared_tree, param_tree, member_tree, signature_tree, decl_tree};
 ghost use Rattle.abs_names.specs.Repeats.{repeated, param_names as names_of_params, class_names as names_of_class, method_names as names_of_methods, signature_names as names_of_signatures, signatures_repeats, members_repeats, declaration_repeats, declarations_repeats};
 
-use crate::walk::Walk;
+use crate::walk::{Walk, note_if};
 use abs_tree::{Decl, Declared, Member, Param, Signature, Variable};
 use indexmap::IndexSet;
 use std::alloc::{AllocError, Global};
@@ -76,13 +76,14 @@ impl Walk<'_> {
     /// [`AllocError`] if an allocation fails.
     fn note_repeated(&mut self, declared: &[Declared]) -> Result<(), AllocError>
         ensures noted { OnOk result (self.new.first ≡ fold earlier self.old.first
-            (repeated [] (map (declared_tree self.old.scope.names) declared.now))) }
+            (repeated [] (map (declared_tree self.old.scope.names.before) declared.now))) }
         ensures scope { OnOk result (self.new.scope ≡ self.old.scope) }
     {
         let mut seen = IndexSet::new(self.alloc);
         for one in declared {
-            let is_new = seen.insert(self.scope.number(one.name))?;
-            self.note_if(!is_new, one.place);
+            let name = self.scope.around().kept(one.name);
+            let is_new = seen.insert(self.scope.around().number(name))?;
+            note_if(&mut self.first, !is_new, one.place);
         }
         Ok(())
     }
@@ -93,7 +94,7 @@ impl Walk<'_> {
     /// [`AllocError`] if an allocation fails.
     fn note_params(&mut self, params: &[Param]) -> Result<(), AllocError>
         ensures noted { OnOk result (self.new.first ≡ fold earlier self.old.first
-            (repeated [] (names_of_params (map (param_tree self.old.scope.names) params.now)))) }
+            (repeated [] (names_of_params (map (param_tree self.old.scope.names.before) params.now)))) }
         ensures scope { OnOk result (self.new.scope ≡ self.old.scope) }
     {
         let names = param_names(self.alloc, params)?;
@@ -106,7 +107,7 @@ impl Walk<'_> {
     /// [`AllocError`] if an allocation fails.
     fn note_signatures(&mut self, signatures: &[Signature]) -> Result<(), AllocError>
         ensures noted { OnOk result (self.new.first ≡ fold earlier self.old.first
-            (signatures_repeats (map (signature_tree self.old.scope.names) signatures.now))) }
+            (signatures_repeats (map (signature_tree self.old.scope.names.before) signatures.now))) }
         ensures scope { OnOk result (self.new.scope ≡ self.old.scope) }
     {
         for signature in signatures {
@@ -121,7 +122,7 @@ impl Walk<'_> {
     /// [`AllocError`] if an allocation fails.
     fn note_members(&mut self, members: &[Member]) -> Result<(), AllocError>
         ensures noted { OnOk result (self.new.first ≡ fold earlier self.old.first
-            (members_repeats (map (member_tree self.old.scope.names) members.now))) }
+            (members_repeats (map (member_tree self.old.scope.names.before) members.now))) }
         ensures scope { OnOk result (self.new.scope ≡ self.old.scope) }
     {
         for member in members {
@@ -138,7 +139,7 @@ impl Walk<'_> {
     /// [`AllocError`] if an allocation fails.
     fn note_declaration(&mut self, declaration: &Decl) -> Result<(), AllocError>
         ensures noted { OnOk result (self.new.first ≡ fold earlier self.old.first
-            (declaration_repeats (decl_tree self.old.scope.names declaration.now))) }
+            (declaration_repeats (decl_tree self.old.scope.names.before declaration.now))) }
         ensures scope { OnOk result (self.new.scope ≡ self.old.scope) }
     {
         match declaration {
@@ -176,7 +177,7 @@ impl Walk<'_> {
     /// [`AllocError`] if an allocation fails.
     pub fn note_declarations(&mut self, declarations: &[Decl]) -> Result<(), AllocError>
         ensures noted { OnOk result (self.new.first ≡ fold earlier self.old.first
-            (declarations_repeats (map (decl_tree self.old.scope.names) declarations.now))) }
+            (declarations_repeats (map (decl_tree self.old.scope.names.before) declarations.now))) }
         ensures scope { OnOk result (self.new.scope ≡ self.old.scope) }
     {
         for declaration in declarations {

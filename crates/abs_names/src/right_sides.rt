@@ -3,7 +3,7 @@ ghost use Rattle.std.specs.Prelude.{◌≡◌, ◌++◌, ℕ, List, Option, None
 ghost use Rattle.abs_tree.specs.Offences.{earlier};
 ghost use Rattle.abs_tree.specs.Slots.{side_slots, maybe_side_slots};
 ghost use Rattle.abs_tree.specs.Names.{name_of};
-ghost use Rattle.abs_tree.specs.Syntax.{Name, CallOf};
+ghost use Rattle.abs_tree.specs.Syntax.{Name, NewOf, CallOf};
 ghost use Rattle.abs_tree.specs.declared.place.Place.{Place as PlaceAt};
 ghost use Rattle.abs_tree.specs.SyntaxViews.{phrases, side_tree, maybe_side};
 ghost use Rattle.abs_names.specs.NameOffences.{phrases_offences, side_offences, maybe_side_offences};
@@ -11,7 +11,7 @@ ghost use Rattle.abs_names.specs.Resolution.{resolved_phrases, hidden_slot, reso
 
 use crate::slots::Slots;
 use crate::walk::Walk;
-use abs_tree::{Expr, Place, RightSide, Slot, Symbol};
+use abs_tree::{Expr, Mode, Place, RightSide, Slot, Symbol};
 use std::alloc::AllocError;
 use std::sync::Arc;
 
@@ -26,13 +26,13 @@ impl Walk<'_> {
         index: u32,
         side: &Option<RightSide>,
     ) -> Result<Option<RightSide>, AllocError>
-        ensures found { IfOk result (λ found. maybe_side self.old.scope.names found
+        ensures found { IfOk result (λ found. maybe_side self.old.scope.names.after found
             ≡ resolved_maybe_side self.old.scope.scope (length slots.old.items.items)
-            (maybe_side self.old.scope.names side.now)) }
+            (maybe_side self.old.scope.names.before side.now)) }
         ensures noted { OnOk result (self.new.first ≡ fold earlier self.old.first
-            (maybe_side_offences self.old.scope.scope (maybe_side self.old.scope.names side.now))) }
+            (maybe_side_offences self.old.scope.scope (maybe_side self.old.scope.names.before side.now))) }
         ensures slots { OnOk result (slots.new.items.items
-            ≡ slots.old.items.items ++ maybe_side_slots index (maybe_side self.old.scope.names side.now)) }
+            ≡ slots.old.items.items ++ maybe_side_slots index (maybe_side self.old.scope.names.before side.now)) }
         ensures scope { OnOk result (self.new.scope ≡ self.old.scope) }
     {
         match side {
@@ -51,13 +51,13 @@ impl Walk<'_> {
         index: u32,
         side: &RightSide,
     ) -> Result<RightSide, AllocError>
-        ensures found { IfOk result (λ found. side_tree self.old.scope.names found
+        ensures found { IfOk result (λ found. side_tree self.old.scope.names.after found
             ≡ resolved_side self.old.scope.scope (length slots.old.items.items)
-            (side_tree self.old.scope.names side.now)) }
+            (side_tree self.old.scope.names.before side.now)) }
         ensures noted { OnOk result (self.new.first ≡ fold earlier self.old.first
-            (side_offences self.old.scope.scope (side_tree self.old.scope.names side.now))) }
+            (side_offences self.old.scope.scope (side_tree self.old.scope.names.before side.now))) }
         ensures slots { OnOk result (slots.new.items.items
-            ≡ slots.old.items.items ++ side_slots index (side_tree self.old.scope.names side.now)) }
+            ≡ slots.old.items.items ++ side_slots index (side_tree self.old.scope.names.before side.now)) }
         ensures scope { OnOk result (self.new.scope ≡ self.old.scope) }
     {
         match side {
@@ -67,17 +67,11 @@ impl Walk<'_> {
                 class_place,
                 class,
                 arguments,
-            } => Ok(RightSide::New {
-                place: *place,
-                mode: *mode,
-                class_place: *class_place,
-                class: *class,
-                arguments: self.row(arguments)?,
-            }),
+            } => self.creation(*place, *mode, *class_place, *class, arguments),
             RightSide::Value(place, value) => Ok(RightSide::Value(*place, self.shared(value)?)),
             RightSide::Send { place, method, row } => Ok(RightSide::Send {
                 place: *place,
-                method: *method,
+                method: self.scope.around().kept(*method),
                 row: self.row(row)?,
             }),
             RightSide::Get {
@@ -98,6 +92,34 @@ impl Walk<'_> {
         }
     }
 
+    /// Resolves the creation of an object.
+    fn creation(
+        &mut self,
+        place: Place,
+        mode: Mode,
+        class_place: Place,
+        class: Symbol,
+        arguments: &[Expr],
+    ) -> Result<RightSide, AllocError>
+        ensures found { IfOk result (λ found. side_tree self.old.scope.names.after found
+            ≡ NewOf place mode class_place (name_of self.old.scope.names.before class)
+            (resolved_phrases self.old.scope.scope (phrases self.old.scope.names.before arguments.now))) }
+        ensures noted { OnOk result (self.new.first ≡ fold earlier self.old.first
+            (side_offences self.old.scope.scope (NewOf place mode class_place
+            (name_of self.old.scope.names.before class) (phrases self.old.scope.names.before arguments.now)))) }
+        ensures scope { OnOk result (self.new.scope ≡ self.old.scope) }
+    {
+        let taken = self.scope.around().class_taking(class);
+        self.note_applied(taken, arguments.len(), class_place);
+        Ok(RightSide::New {
+            place,
+            mode,
+            class_place,
+            class: self.scope.around().kept(class),
+            arguments: self.row(arguments)?,
+        })
+    }
+
     /// Resolves a call by `.` of the statement with this index, and gives it a slot unless its receiver is `this`.
     fn call(
         &mut self,
@@ -107,21 +129,24 @@ impl Walk<'_> {
         method: Symbol,
         row: &[Expr],
     ) -> Result<RightSide, AllocError>
-        ensures found { IfOk result (λ found. side_tree self.old.scope.names found
+        ensures found { IfOk result (λ found. side_tree self.old.scope.names.after found
             ≡ resolved_side self.old.scope.scope (length slots.old.items.items)
-            (CallOf place (name_of self.old.scope.names method) (phrases self.old.scope.names row.now) None)) }
+            (CallOf place (name_of self.old.scope.names.before method)
+            (phrases self.old.scope.names.before row.now) None)) }
         ensures noted { OnOk result (self.new.first ≡ fold earlier self.old.first
             (side_offences self.old.scope.scope
-            (CallOf place (name_of self.old.scope.names method) (phrases self.old.scope.names row.now) None))) }
+            (CallOf place (name_of self.old.scope.names.before method)
+            (phrases self.old.scope.names.before row.now) None))) }
         ensures slots { OnOk result (slots.new.items.items
             ≡ slots.old.items.items ++ side_slots index
-            (CallOf place (name_of self.old.scope.names method) (phrases self.old.scope.names row.now) None)) }
+            (CallOf place (name_of self.old.scope.names.before method)
+            (phrases self.old.scope.names.before row.now) None)) }
         ensures scope { OnOk result (self.new.scope ≡ self.old.scope) }
     {
         let slot = hidden(slots, index, row)?;
         Ok(RightSide::Call {
             place,
-            method,
+            method: self.scope.around().kept(method),
             row: self.row(row)?,
             slot,
         })
@@ -129,10 +154,10 @@ impl Walk<'_> {
 
     /// Resolves a row of expressions that is shared.
     fn row(&mut self, exprs: &[Expr]) -> Result<Arc<Vec<Expr>>, AllocError>
-        ensures found { IfOk result (λ found. phrases self.old.scope.names found.value.items
-            ≡ resolved_phrases self.old.scope.scope (phrases self.old.scope.names exprs.now)) }
+        ensures found { IfOk result (λ found. phrases self.old.scope.names.after found.value.items
+            ≡ resolved_phrases self.old.scope.scope (phrases self.old.scope.names.before exprs.now)) }
         ensures noted { OnOk result (self.new.first ≡ fold earlier self.old.first
-            (phrases_offences self.old.scope.scope (phrases self.old.scope.names exprs.now))) }
+            (phrases_offences self.old.scope.scope (phrases self.old.scope.names.before exprs.now))) }
         ensures scope { OnOk result (self.new.scope ≡ self.old.scope) }
     {
         let found = self.expressions(exprs)?;

@@ -1,15 +1,17 @@
 //! The scope of a place: what is visible there, by name.
-ghost use Rattle.std.specs.Prelude.{◌≡◌, [], ◌∷◌, List, length, is_some, option_map, OnOk, IfOk};
+ghost use Rattle.std.specs.Prelude.{◌≡◌, [], List, length, take, map, is_some, option_map, OnOk, IfOk};
 ghost use Rattle.abs_tree.specs.Syntax.{Name, Unresolved};
-ghost use Rattle.abs_tree.specs.SyntaxViews.{variable_tree};
-ghost use Rattle.abs_tree.specs.Names.{number_of_name, name_of};
-ghost use Rattle.abs_names.specs.Numbered.{EndsIn};
-ghost use Rattle.abs_names.specs.Scopes.{Meanings as MeaningList, meaning_of, visible_field as field_seen, use_of, field_of, is_taken, has_this as is_with_this, has_task as is_with_task, next_bound, with_bound, with_variable, with_field};
+ghost use Rattle.abs_tree.specs.SyntaxViews.{variable_tree, declared as declared_tree};
+ghost use Rattle.abs_tree.specs.Names.{name_of};
+ghost use Rattle.abs_tree.specs.Tables.{meaning_of};
+ghost use Rattle.abs_names.specs.Numbered.{is_bound as count_of_bound, bound_up_to, EndsIn};
+ghost use Rattle.abs_names.specs.Scopes.{Meanings as MeaningList, visible_field as field_seen, use_of, field_of, is_taken, has_this as is_with_this, has_task as is_with_task, next_bound, with_bound, with_variable, with_field};
+ghost use Rattle.abs_names.specs.TypeNames.{around_of};
 ghost use Rattle.abs_names.specs.Visible.{named, ProperNumbers};
 ghost use Rattle.abs_names.specs.declared.scope.Routine.TheVariants.{Main as InMain};
 
-use crate::meanings::Meanings;
-use abs_tree::{Symbol, Symbols, Variable};
+use crate::around::Around;
+use abs_tree::{Declared, Meanings, Symbol, Variable};
 use std::alloc::{AllocError, Global};
 use std::marker::Model;
 
@@ -42,84 +44,142 @@ impl Routine {
     }
 }
 
-/// What is visible at a place. Contracts see the names of the program, and the scope of the definitions.
+/// A variable that is visible, and how many variables of patterns and of `let` there are up to it.
+#[derive(Clone, Copy)]
+struct Binding {
+    variable: Variable,
+    bound: u32,
+}
+
+/// What is visible at a place. Contracts see two tables of names, those of what is read and those of what is made, and
+/// the scope of the definitions.
 #[derive(Drop)]
 pub(crate) struct Scope<'s> {
-    symbols: &'s Symbols<'s>,
+    around: Around<'s>,
     routine: Routine,
-    fields: Meanings,
-    variables: Meanings,
+    fields: Meanings<Variable>,
+    variables: Meanings<Binding>,
 }
 
 impl<'s> Model for Scope<'s> {
-    ghost use Rattle.abs_names.specs.Visible.{Visible, named, ProperNumbers};
+    ghost use Rattle.abs_tree.specs.SyntaxViews.{variable_tree};
+    ghost use Rattle.abs_names.specs.Numbered.{AreCounted};
+    ghost use Rattle.abs_names.specs.Visible.{Visible, named, ProperNumbers, binding_tree};
 
     ghost Value = { Visible };
 
     ghost view = { λ s. record {
-      names = s.symbols.now;
+      names = s.around.names;
       scope = record {
+        around = s.around.around;
         routine = s.routine;
-        fields = named s.symbols.now s.fields;
-        variables = named s.symbols.now s.variables;
+        fields = named s.around.names.after (variable_tree s.around.names.after) s.fields;
+        variables = named s.around.names.after (binding_tree s.around.names.after) s.variables;
       };
     } };
 
-    ghost invariant = { λ s. ProperNumbers s.symbols.now s.fields × ProperNumbers s.symbols.now s.variables };
+    ghost invariant = { λ s. ProperNumbers s.around.names.after s.fields
+        × ProperNumbers s.around.names.after s.variables × AreCounted s.variables };
 }
 
 impl<'s> Scope<'s> {
-    /// The scope of the main block at its beginning.
-    pub fn new(alloc: Global, symbols: &'s Symbols<'s>) -> Scope<'s>
-        ensures names { result.names ≡ symbols.now }
-        ensures scope { result.scope ≡ record { routine = InMain; fields = []; variables = [] } }
+    /// The scope of the main block at its beginning, with this around it.
+    pub fn new(alloc: Global, around: Around<'s>) -> Scope<'s>
+        ensures names { result.names ≡ around.entry.names }
+        ensures scope { result.scope
+            ≡ record { around = around.entry.around; routine = InMain; fields = []; variables = [] } }
     {
         Scope {
-            symbols,
+            around,
             routine: Routine::Main,
             fields: Meanings::new(alloc),
             variables: Meanings::new(alloc),
         }
     }
 
+    /// What is around.
+    pub fn around(&self) -> &Around<'s>
+        ensures names { result.now.names ≡ self.now.names }
+        ensures around { result.now.around ≡ self.now.scope.around }
+    {
+        &self.around
+    }
+
+    /// From now on what is read may have this many names of the table, the first ones.
+    pub fn read(&mut self, readable: u32)
+        ensures before { self.new.names.before ≡ take readable self.old.names.after }
+        ensures after { self.new.names.after ≡ self.old.names.after }
+        ensures scope { self.new.scope ≡ self.old.scope }
+    {
+        self.around.read(readable);
+    }
+
+    /// From now on what is read may have all names of the table.
+    pub fn read_all(&mut self)
+        ensures before { self.new.names.before ≡ self.old.names.after }
+        ensures after { self.new.names.after ≡ self.old.names.after }
+        ensures scope { self.new.scope ≡ self.old.scope }
+    {
+        self.around.read_all();
+    }
+
+    /// Makes these the type parameters.
+    ///
+    /// # Errors
+    /// [`AllocError`] if an allocation fails, or if there are too many of them.
+    pub fn set_type_params(&mut self, params: &[Declared]) -> Result<(), AllocError>
+        ensures names { OnOk result (self.new.names ≡ self.old.names) }
+        ensures scope { OnOk result (self.new.scope ≡ record self.old.scope {
+          around = around_of self.old.scope.around.spaces (map (declared_tree self.old.names.before) params.now);
+        }) }
+    {
+        self.around.set_type_params(params)
+    }
+
     /// What the use of a name stands for, if it is visible.
     pub fn use_of(&self, name: Symbol) -> Option<Variable>
-        ensures { option_map (variable_tree self.now.names) result
-            ≡ use_of self.now.scope (name_of self.now.names name) }
+        ensures { option_map (variable_tree self.now.names.after) result
+            ≡ use_of self.now.scope (name_of self.now.names.before name) }
     {
-        match meaning(self.symbols, &self.variables, name) {
+        match self.variable(name) {
             Some(variable) => Some(variable),
             None => visible_field(self.routine, self.field_of(name)),
         }
     }
 
+    /// The parameter, local or bound variable with this name, if one is visible.
+    fn variable(&self, name: Symbol) -> Option<Variable>
+        ensures { option_map (variable_tree self.now.names.after) result
+            ≡ meaning_of self.now.scope.variables (name_of self.now.names.before name) }
+    {
+        let name = self.around.kept(name);
+        match self.variables.look_up(self.around.number(name)) {
+            Some(binding) => Some(binding.variable),
+            None => None,
+        }
+    }
+
     /// The field of the class with this name.
     pub fn field_of(&self, name: Symbol) -> Option<Variable>
-        ensures { option_map (variable_tree self.now.names) result
-            ≡ field_of self.now.scope (name_of self.now.names name) }
+        ensures { option_map (variable_tree self.now.names.after) result
+            ≡ field_of self.now.scope (name_of self.now.names.before name) }
     {
-        meaning(self.symbols, &self.fields, name)
+        let name = self.around.kept(name);
+        self.fields.look_up(self.around.number(name))
     }
 
     /// Whether a name is that of a parameter, a local or a bound variable that is visible.
     pub fn is_variable(&self, name: Symbol) -> bool
-        ensures { result ≡ is_some (meaning_of self.now.scope.variables (name_of self.now.names name)) }
+        ensures { result ≡ is_some (meaning_of self.now.scope.variables (name_of self.now.names.before name)) }
     {
-        meaning(self.symbols, &self.variables, name).is_some()
+        self.variable(name).is_some()
     }
 
     /// Whether a pattern or a `let` may not bind a name.
     pub fn is_taken(&self, name: Symbol) -> bool
-        ensures { result ≡ is_taken self.now.scope (name_of self.now.names name) }
+        ensures { result ≡ is_taken self.now.scope (name_of self.now.names.before name) }
     {
         self.is_variable(name) || self.field_of(name).is_some()
-    }
-
-    /// A number for a name, which is the same for equal names alone.
-    pub fn number(&self, name: Symbol) -> u32
-        ensures { result ≡ number_of_name self.now.names (name_of self.now.names name) }
-    {
-        self.symbols.number(name)
     }
 
     /// Whether there is `this`.
@@ -138,9 +198,9 @@ impl<'s> Scope<'s> {
 
     /// The variable that a pattern or a `let` binds next.
     pub fn next_bound(&self) -> Variable
-        ensures { variable_tree self.now.names result ≡ next_bound self.now.scope }
+        ensures { variable_tree self.now.names.after result ≡ next_bound self.now.scope }
     {
-        Variable::Bound(self.variables.bound())
+        Variable::Bound(bound_in(&self.variables))
     }
 
     /// Binds a name in a pattern or a `let`, and returns its variable.
@@ -150,11 +210,11 @@ impl<'s> Scope<'s> {
     pub fn bind(&mut self, name: Symbol) -> Result<Variable, AllocError>
         ensures names { OnOk result (self.new.names ≡ self.old.names) }
         ensures scope { OnOk result
-            (self.new.scope ≡ with_bound self.old.scope (Unresolved (name_of self.old.names name))) }
-        ensures found { IfOk result (λ found. variable_tree self.old.names found ≡ next_bound self.old.scope) }
+            (self.new.scope ≡ with_bound self.old.scope (Unresolved (name_of self.old.names.before name))) }
+        ensures found { IfOk result (λ found. variable_tree self.old.names.after found ≡ next_bound self.old.scope) }
     {
         let variable = self.next_bound();
-        add(self.symbols, &mut self.variables, name, variable)?;
+        self.declare(name, variable)?;
         Ok(variable)
     }
 
@@ -165,16 +225,20 @@ impl<'s> Scope<'s> {
     pub fn declare(&mut self, name: Symbol, variable: Variable) -> Result<(), AllocError>
         ensures names { OnOk result (self.new.names ≡ self.old.names) }
         ensures scope { OnOk result (self.new.scope ≡ with_variable self.old.scope
-            (Unresolved (name_of self.old.names name)) (variable_tree self.old.names variable)) }
+            (Unresolved (name_of self.old.names.before name)) (variable_tree self.old.names.after variable)) }
     {
-        add(self.symbols, &mut self.variables, name, variable)
+        let Some(bound) = bound_in(&self.variables).checked_add(is_bound(variable)) else {
+            return Err(AllocError);
+        };
+        let name = self.around.kept(name);
+        self.variables
+            .push(self.around.number(name), Binding { variable, bound })
     }
 
     /// Begins a body, in which only the fields are visible so far.
     pub fn begin(&mut self, routine: Routine)
         ensures names { self.new.names ≡ self.old.names }
-        ensures scope { self.new.scope
-            ≡ record { routine = routine; fields = self.old.scope.fields; variables = [] } }
+        ensures scope { self.new.scope ≡ record self.old.scope { routine = routine; variables = [] } }
     {
         self.routine = routine;
         self.variables.shorten(0);
@@ -187,13 +251,13 @@ impl<'s> Scope<'s> {
     pub fn add_field(&mut self, name: Symbol, index: u32) -> Result<(), AllocError>
         ensures names { OnOk result (self.new.names ≡ self.old.names) }
         ensures scope { OnOk result (self.new.scope ≡ record self.old.scope {
-          fields = with_field self.old.scope.fields (Unresolved (name_of self.old.names name)) index;
+          fields = with_field self.old.scope.fields (Unresolved (name_of self.old.names.before name)) index;
         }) }
     {
-        if self.field_of(name).is_some() {
-            return Ok(());
-        }
-        add(self.symbols, &mut self.fields, name, Variable::Field(index))
+        let name = self.around.kept(name);
+        self.fields
+            .push_first(self.around.number(name), Variable::Field(index))?;
+        Ok(())
     }
 
     /// Ends a class: none of its fields is visible any more.
@@ -221,28 +285,24 @@ impl<'s> Scope<'s> {
     }
 }
 
-/// What a name means.
-fn meaning(symbols: &Symbols<'_>, known: &Meanings, name: Symbol) -> Option<Variable>
-    requires { ProperNumbers symbols.now known.now }
-    ensures { option_map (variable_tree symbols.now) result
-        ≡ meaning_of (named symbols.now known.now) (name_of symbols.now name) }
+/// 1 for a bound variable, and else 0.
+fn is_bound(variable: Variable) -> u32
+    ensures { result ≡ count_of_bound variable }
 {
-    known.look_up(symbols.number(name))
+    match variable {
+        Variable::Bound(_) => 1,
+        _ => 0,
+    }
 }
 
-/// Adds a name, which is the newest.
-fn add(
-    symbols: &Symbols<'_>,
-    known: &mut Meanings,
-    name: Symbol,
-    variable: Variable,
-) -> Result<(), AllocError>
-    requires { ProperNumbers symbols.now known.old }
-    ensures proper { ProperNumbers symbols.now known.new }
-    ensures added { OnOk result (named symbols.now known.new
-        ≡ (name_of symbols.now name, variable_tree symbols.now variable) ∷ named symbols.now known.old) }
+/// How many of these are variables of patterns and of `let`.
+fn bound_in(known: &Meanings<Binding>) -> u32
+    ensures { result ≡ bound_up_to known.now }
 {
-    known.push(symbols.number(name), variable)
+    match known.newest() {
+        Some(binding) => binding.bound,
+        None => 0,
+    }
 }
 
 /// What a field of the class is to a routine that uses its name alone.

@@ -10,8 +10,7 @@ ghost use Rattle.abs_names.specs.Resolution.{resolved_phrase, resolved_tests, re
 ghost use Rattle.abs_names.specs.Scopes.{with_variable, statement_scope};
 
 use crate::slots::Slots;
-use crate::types;
-use crate::walk::Walk;
+use crate::walk::{Walk, note_if};
 use abs_tree::{Expr, Place, RightSide, Slot, Stmt, Target, Test, TypeTerm, Variable};
 use std::alloc::AllocError;
 use std::sync::Arc;
@@ -23,14 +22,14 @@ impl Walk<'_> {
     /// [`AllocError`] if an allocation fails.
     #[cycle(statements)]
     pub fn block(&mut self, slots: &mut Slots, stmts: &[Stmt]) -> Result<Vec<Stmt>, AllocError>
-        ensures found { IfOk result (λ found. statement_trees self.old.scope.names found.items
+        ensures found { IfOk result (λ found. statement_trees self.old.scope.names.after found.items
             ≡ resolved_statements self.old.scope.scope (length slots.old.items.items)
-            (statement_trees self.old.scope.names stmts.now)) }
+            (statement_trees self.old.scope.names.before stmts.now)) }
         ensures noted { OnOk result (self.new.first ≡ fold earlier self.old.first
             (statements_offences self.old.scope.scope (length slots.old.items.items)
-            (statement_trees self.old.scope.names stmts.now))) }
+            (statement_trees self.old.scope.names.before stmts.now))) }
         ensures slots { OnOk result (slots.new.items.items
-            ≡ slots.old.items.items ++ statements_slots (statement_trees self.old.scope.names stmts.now)) }
+            ≡ slots.old.items.items ++ statements_slots (statement_trees self.old.scope.names.before stmts.now)) }
         ensures scope { OnOk result (self.new.scope ≡ self.old.scope) }
     {
         let outside = self.scope.len();
@@ -45,18 +44,18 @@ impl Walk<'_> {
     /// Resolves a statement. The scope is then the one after it.
     #[cycle(statements)]
     fn statement(&mut self, slots: &mut Slots, stmt: &Stmt) -> Result<Stmt, AllocError>
-        ensures found { IfOk result (λ found. statement_tree self.old.scope.names found
+        ensures found { IfOk result (λ found. statement_tree self.old.scope.names.after found
             ≡ resolved_statement self.old.scope.scope (length slots.old.items.items)
-            (statement_tree self.old.scope.names stmt.now)) }
+            (statement_tree self.old.scope.names.before stmt.now)) }
         ensures noted { OnOk result (self.new.first ≡ fold earlier self.old.first
             (statement_offences self.old.scope.scope (length slots.old.items.items)
-            (statement_tree self.old.scope.names stmt.now))) }
+            (statement_tree self.old.scope.names.before stmt.now))) }
         ensures slots { OnOk result (slots.new.items.items
-            ≡ slots.old.items.items ++ statement_slots (statement_tree self.old.scope.names stmt.now)) }
+            ≡ slots.old.items.items ++ statement_slots (statement_tree self.old.scope.names.before stmt.now)) }
         ensures names { OnOk result (self.new.scope.names ≡ self.old.scope.names) }
         ensures after { OnOk result (self.new.scope.scope
             ≡ statement_scope self.old.scope.scope (length slots.old.items.items)
-            (statement_tree self.old.scope.names stmt.now)) }
+            (statement_tree self.old.scope.names.before stmt.now)) }
     {
         match stmt {
             Stmt::Block(place, block) => Ok(Stmt::Block(*place, self.block(slots, block)?)),
@@ -95,14 +94,14 @@ impl Walk<'_> {
         slots: &mut Slots,
         stmts: &Option<Vec<Stmt>>,
     ) -> Result<Option<Vec<Stmt>>, AllocError>
-        ensures found { IfOk result (λ found. maybe_statements self.old.scope.names found
+        ensures found { IfOk result (λ found. maybe_statements self.old.scope.names.after found
             ≡ resolved_else self.old.scope.scope (length slots.old.items.items)
-            (maybe_statements self.old.scope.names stmts.now)) }
+            (maybe_statements self.old.scope.names.before stmts.now)) }
         ensures noted { OnOk result (self.new.first ≡ fold earlier self.old.first
             (else_offences self.old.scope.scope (length slots.old.items.items)
-            (maybe_statements self.old.scope.names stmts.now))) }
+            (maybe_statements self.old.scope.names.before stmts.now))) }
         ensures slots { OnOk result (slots.new.items.items
-            ≡ slots.old.items.items ++ else_slots (maybe_statements self.old.scope.names stmts.now)) }
+            ≡ slots.old.items.items ++ else_slots (maybe_statements self.old.scope.names.before stmts.now)) }
         ensures scope { OnOk result (self.new.scope ≡ self.old.scope) }
     {
         match stmts {
@@ -113,24 +112,24 @@ impl Walk<'_> {
 
     /// Resolves a statement that holds no other one. The scope is then the one after it.
     fn flat(&mut self, slots: &mut Slots, stmt: &Stmt) -> Result<Stmt, AllocError>
-        requires flat { elim (statement_tree self.old.scope.names stmt.now) [
+        requires flat { elim (statement_tree self.old.scope.names.before stmt.now) [
           | BlockOf _ _ ↦ ⊥
           | IfOf _ _ _ _ _ ↦ ⊥
           | WhileOf _ _ _ _ ↦ ⊥
           | _ ↦ ⊤
         ] }
-        ensures found { IfOk result (λ found. statement_tree self.old.scope.names found
+        ensures found { IfOk result (λ found. statement_tree self.old.scope.names.after found
             ≡ resolved_statement self.old.scope.scope (length slots.old.items.items)
-            (statement_tree self.old.scope.names stmt.now)) }
+            (statement_tree self.old.scope.names.before stmt.now)) }
         ensures noted { OnOk result (self.new.first ≡ fold earlier self.old.first
             (statement_offences self.old.scope.scope (length slots.old.items.items)
-            (statement_tree self.old.scope.names stmt.now))) }
+            (statement_tree self.old.scope.names.before stmt.now))) }
         ensures slots { OnOk result (slots.new.items.items
-            ≡ slots.old.items.items ++ statement_slots (statement_tree self.old.scope.names stmt.now)) }
+            ≡ slots.old.items.items ++ statement_slots (statement_tree self.old.scope.names.before stmt.now)) }
         ensures names { OnOk result (self.new.scope.names ≡ self.old.scope.names) }
         ensures after { OnOk result (self.new.scope.scope
             ≡ statement_scope self.old.scope.scope (length slots.old.items.items)
-            (statement_tree self.old.scope.names stmt.now)) }
+            (statement_tree self.old.scope.names.before stmt.now)) }
     {
         match stmt {
             Stmt::Declare {
@@ -180,29 +179,34 @@ impl Walk<'_> {
         variable: Variable,
         initial: &Option<RightSide>,
     ) -> Result<Stmt, AllocError>
-        ensures found { IfOk result (λ found. statement_tree self.old.scope.names found
+        ensures found { IfOk result (λ found. statement_tree self.old.scope.names.after found
             ≡ resolved_statement self.old.scope.scope (length slots.old.items.items)
-            (DeclareOf index place (type_tree self.old.scope.names type_of.now) variable_place
-            (variable_tree self.old.scope.names variable) (maybe_side self.old.scope.names initial.now))) }
+            (DeclareOf index place (type_tree self.old.scope.names.before type_of.now) variable_place
+            (variable_tree self.old.scope.names.before variable)
+            (maybe_side self.old.scope.names.before initial.now))) }
         ensures noted { OnOk result (self.new.first ≡ fold earlier self.old.first
             (statement_offences self.old.scope.scope (length slots.old.items.items)
-            (DeclareOf index place (type_tree self.old.scope.names type_of.now) variable_place
-            (variable_tree self.old.scope.names variable) (maybe_side self.old.scope.names initial.now)))) }
+            (DeclareOf index place (type_tree self.old.scope.names.before type_of.now) variable_place
+            (variable_tree self.old.scope.names.before variable)
+            (maybe_side self.old.scope.names.before initial.now)))) }
         ensures slots { OnOk result (slots.new.items.items ≡ slots.old.items.items ++ statement_slots
-            (DeclareOf index place (type_tree self.old.scope.names type_of.now) variable_place
-            (variable_tree self.old.scope.names variable) (maybe_side self.old.scope.names initial.now))) }
+            (DeclareOf index place (type_tree self.old.scope.names.before type_of.now) variable_place
+            (variable_tree self.old.scope.names.before variable)
+            (maybe_side self.old.scope.names.before initial.now))) }
         ensures names { OnOk result (self.new.scope.names ≡ self.old.scope.names) }
         ensures after { OnOk result (self.new.scope.scope
             ≡ statement_scope self.old.scope.scope (length slots.old.items.items)
-            (DeclareOf index place (type_tree self.old.scope.names type_of.now) variable_place
-            (variable_tree self.old.scope.names variable) (maybe_side self.old.scope.names initial.now))) }
+            (DeclareOf index place (type_tree self.old.scope.names.before type_of.now) variable_place
+            (variable_tree self.old.scope.names.before variable)
+            (maybe_side self.old.scope.names.before initial.now))) }
     {
+        let type_of = self.type_term(type_of)?;
         let initial = self.maybe_side(slots, index, initial)?;
         let variable = self.local(slots, index, variable_place, variable)?;
         Ok(Stmt::Declare {
             index,
             place,
-            type_of: types::copy(self.alloc, type_of)?,
+            type_of,
             variable_place,
             variable,
             initial,
@@ -218,18 +222,18 @@ impl Walk<'_> {
         variable: Variable,
     ) -> Result<Variable, AllocError>
         ensures found { IfOk result
-            (λ found. variable_tree self.old.scope.names found ≡ AtSlot (length slots.old.items.items)) }
+            (λ found. variable_tree self.old.scope.names.after found ≡ AtSlot (length slots.old.items.items)) }
         ensures noted { OnOk result (self.new.first ≡ fold earlier self.old.first
-            (local_offences self.old.scope.scope place (variable_tree self.old.scope.names variable))) }
+            (local_offences self.old.scope.scope place (variable_tree self.old.scope.names.before variable))) }
         ensures slots { OnOk result (slots.new.items.items ≡ slots.old.items.items ++ Local index ∷ []) }
         ensures names { OnOk result (self.new.scope.names ≡ self.old.scope.names) }
         ensures declared { OnOk result (self.new.scope.scope ≡ with_variable self.old.scope.scope
-            (variable_tree self.old.scope.names variable) (AtSlot (length slots.old.items.items))) }
+            (variable_tree self.old.scope.names.before variable) (AtSlot (length slots.old.items.items))) }
     {
         let slot = Variable::Slot(slots.add(Slot::Local(index))?);
         if let Variable::Unresolved(name) = variable {
             let taken = self.scope.is_variable(name);
-            self.note_if(taken, place);
+            note_if(&mut self.first, taken, place);
             self.scope.declare(name, slot)?;
         }
         Ok(slot)
@@ -237,10 +241,10 @@ impl Walk<'_> {
 
     /// Resolves a target. A field of `this` is a variable like others.
     fn target(&mut self, target: Target) -> Target
-        ensures found { target_tree self.old.scope.names result
-            ≡ resolved_target self.old.scope.scope (target_tree self.old.scope.names target) }
+        ensures found { target_tree self.old.scope.names.after result
+            ≡ resolved_target self.old.scope.scope (target_tree self.old.scope.names.before target) }
         ensures noted { self.new.first ≡ fold earlier self.old.first
-            (target_offences self.old.scope.scope (target_tree self.old.scope.names target)) }
+            (target_offences self.old.scope.scope (target_tree self.old.scope.names.before target)) }
         ensures scope { self.new.scope ≡ self.old.scope }
     {
         match target {
@@ -256,7 +260,11 @@ impl Walk<'_> {
                 self.note_field(place, name_place, name);
                 match self.scope.field_of(name) {
                     Some(variable) => Target::Variable(place, variable),
-                    None => target,
+                    None => Target::Field {
+                        place,
+                        name_place,
+                        name: self.scope.around().kept(name),
+                    },
                 }
             }
         }
@@ -264,7 +272,7 @@ impl Walk<'_> {
 
     /// Resolves a statement that holds neither another one nor a right side. The scope is as before.
     fn simple(&mut self, stmt: &Stmt) -> Result<Stmt, AllocError>
-        requires simple { elim (statement_tree self.old.scope.names stmt.now) [
+        requires simple { elim (statement_tree self.old.scope.names.before stmt.now) [
           | SkipOf _ _ ↦ ⊤
           | SuspendOf _ _ ↦ ⊤
           | AwaitOf _ _ _ ↦ ⊤
@@ -272,10 +280,10 @@ impl Walk<'_> {
           | PrintOf _ _ _ ↦ ⊤
           | _ ↦ ⊥
         ] }
-        ensures found { (next : ℕ) → IfOk result (λ found. statement_tree self.old.scope.names found
-            ≡ resolved_statement self.old.scope.scope next (statement_tree self.old.scope.names stmt.now)) }
+        ensures found { (next : ℕ) → IfOk result (λ found. statement_tree self.old.scope.names.after found
+            ≡ resolved_statement self.old.scope.scope next (statement_tree self.old.scope.names.before stmt.now)) }
         ensures noted { (next : ℕ) → OnOk result (self.new.first ≡ fold earlier self.old.first
-            (statement_offences self.old.scope.scope next (statement_tree self.old.scope.names stmt.now))) }
+            (statement_offences self.old.scope.scope next (statement_tree self.old.scope.names.before stmt.now))) }
         ensures scope { OnOk result (self.new.scope ≡ self.old.scope) }
     {
         match stmt {
@@ -320,10 +328,10 @@ impl Walk<'_> {
 
     /// Resolves a guard.
     fn tests(&mut self, tests: &[Test]) -> Result<Vec<Test>, AllocError>
-        ensures found { IfOk result (λ found. test_trees self.old.scope.names found.items
-            ≡ resolved_tests self.old.scope.scope (test_trees self.old.scope.names tests.now)) }
+        ensures found { IfOk result (λ found. test_trees self.old.scope.names.after found.items
+            ≡ resolved_tests self.old.scope.scope (test_trees self.old.scope.names.before tests.now)) }
         ensures noted { OnOk result (self.new.first ≡ fold earlier self.old.first
-            (tests_offences self.old.scope.scope (test_trees self.old.scope.names tests.now))) }
+            (tests_offences self.old.scope.scope (test_trees self.old.scope.names.before tests.now))) }
         ensures scope { OnOk result (self.new.scope ≡ self.old.scope) }
     {
         let mut found = Vec::with_capacity(self.alloc, tests.len())?;
@@ -340,10 +348,10 @@ impl Walk<'_> {
 
     /// Resolves an expression that is shared.
     pub fn shared(&mut self, expr: &Expr) -> Result<Arc<Expr>, AllocError>
-        ensures found { IfOk result (λ found. phrase self.old.scope.names found.value
-            ≡ resolved_phrase self.old.scope.scope (phrase self.old.scope.names expr.now)) }
+        ensures found { IfOk result (λ found. phrase self.old.scope.names.after found.value
+            ≡ resolved_phrase self.old.scope.scope (phrase self.old.scope.names.before expr.now)) }
         ensures noted { OnOk result (self.new.first ≡ fold earlier self.old.first
-            (phrase_offences self.old.scope.scope (phrase self.old.scope.names expr.now))) }
+            (phrase_offences self.old.scope.scope (phrase self.old.scope.names.before expr.now))) }
         ensures scope { OnOk result (self.new.scope ≡ self.old.scope) }
     {
         let found = self.expression(expr)?;

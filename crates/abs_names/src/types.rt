@@ -1,67 +1,181 @@
-//! Types, whose names stay as they are.
-ghost use Rattle.std.specs.Prelude.{◌≡◌, List, IfOk};
-ghost use Rattle.abs_tree.specs.Syntax.{Name};
+//! Types: each name of one becomes what it stands for, and takes as many arguments as are declared.
+ghost use Rattle.std.specs.Prelude.{◌≡◌, List, Some, None, fold, IfOk, OnOk};
+ghost use Rattle.abs_tree.specs.NameSpaces.{type_arity as arity_of_type};
+ghost use Rattle.abs_tree.specs.Names.{name_of};
+ghost use Rattle.abs_tree.specs.Offences.{earlier};
+ghost use Rattle.abs_tree.specs.Syntax.{Name, UnresolvedType};
 ghost use Rattle.abs_tree.specs.SyntaxViews.{type_tree, type_trees};
+ghost use Rattle.abs_names.specs.TypeNames.{type_offences, types_offences, resolved_type, resolved_types, taken_by, future_type, named_type as tree_of_named};
 
-use abs_tree::TypeTerm;
-use std::alloc::{AllocError, Global};
+use crate::walk::Walk;
+use abs_tree::{Place, Symbol, TypeMeaning, TypeTerm};
+use std::alloc::AllocError;
 
-/// A copy of a type.
-///
-/// # Errors
-/// [`AllocError`] if an allocation fails.
-#[cycle(types)]
-pub(crate) fn copy(alloc: Global, term: &TypeTerm) -> Result<TypeTerm, AllocError>
-    ensures { (names : List Name) → IfOk result (λ found. type_tree names found ≡ type_tree names term.now) }
+/// How many arguments the name of a type takes.
+fn arity(meaning: TypeMeaning) -> u32
+    ensures { result ≡ arity_of_type meaning }
 {
-    match term {
-        TypeTerm::Unresolved {
-            place,
-            name,
-            arguments,
-        } => {
-            let arguments = copies(alloc, arguments)?;
-            Ok(TypeTerm::Unresolved {
-                place: *place,
-                name: *name,
-                arguments,
-            })
-        }
-        TypeTerm::Int(place) => Ok(TypeTerm::Int(*place)),
-        TypeTerm::String(place) => Ok(TypeTerm::String(*place)),
-        TypeTerm::Fut(place, value) => {
-            let value = copy(alloc, value)?;
-            Ok(TypeTerm::Fut(*place, Box::new(alloc, value)?))
-        }
-        TypeTerm::Data {
-            place,
-            name,
-            arguments,
-        } => {
-            let arguments = copies(alloc, arguments)?;
-            Ok(TypeTerm::Data {
-                place: *place,
-                name: *name,
-                arguments,
-            })
-        }
-        TypeTerm::Interface(place, name) => Ok(TypeTerm::Interface(*place, *name)),
-        TypeTerm::Parameter(place, parameter) => Ok(TypeTerm::Parameter(*place, *parameter)),
-        TypeTerm::Bottom => Ok(TypeTerm::Bottom),
-        TypeTerm::Null => Ok(TypeTerm::Null),
-        TypeTerm::Class(name) => Ok(TypeTerm::Class(*name)),
+    match meaning {
+        TypeMeaning::Int | TypeMeaning::String | TypeMeaning::Interface(_) => 0,
+        TypeMeaning::Fut => 1,
+        TypeMeaning::Data(taking) => taking.arity,
     }
 }
 
-/// Copies of types.
-#[cycle(types)]
-fn copies(alloc: Global, terms: &[TypeTerm]) -> Result<Vec<TypeTerm>, AllocError>
-    ensures { (names : List Name) → IfOk result (λ found. type_trees names found.items
-        ≡ type_trees names terms.now) }
+/// How many arguments a name takes as a type: a type parameter takes none.
+fn taken(parameter: Option<u32>, meaning: Option<TypeMeaning>) -> Option<u32>
+    ensures { result ≡ taken_by parameter meaning }
 {
-    let mut found = Vec::with_capacity(alloc, terms.len())?;
-    for term in terms {
-        found.push(copy(alloc, term)?)?;
+    match (parameter, meaning) {
+        (Some(_), _) => Some(0),
+        (None, Some(meaning)) => Some(arity(meaning)),
+        (None, None) => None,
     }
-    Ok(found)
+}
+
+impl Walk<'_> {
+    /// Resolves a type.
+    ///
+    /// # Errors
+    /// [`AllocError`] if an allocation fails.
+    #[cycle(types)]
+    pub fn type_term(&mut self, term: &TypeTerm) -> Result<TypeTerm, AllocError>
+        ensures found { IfOk result (λ found. type_tree self.old.scope.names.after found
+            ≡ resolved_type self.old.scope.scope.around (type_tree self.old.scope.names.before term.now)) }
+        ensures noted { OnOk result (self.new.first ≡ fold earlier self.old.first
+            (type_offences self.old.scope.scope.around (type_tree self.old.scope.names.before term.now))) }
+        ensures scope { OnOk result (self.new.scope ≡ self.old.scope) }
+    {
+        match term {
+            TypeTerm::Unresolved {
+                place,
+                name,
+                arguments,
+            } => self.named_type(*place, *name, arguments),
+            TypeTerm::Int(place) => Ok(TypeTerm::Int(*place)),
+            TypeTerm::String(place) => Ok(TypeTerm::String(*place)),
+            TypeTerm::Fut(place, value) => {
+                let value = self.type_term(value)?;
+                Ok(TypeTerm::Fut(*place, Box::new(self.alloc, value)?))
+            }
+            TypeTerm::Data {
+                place,
+                name,
+                arguments,
+            } => Ok(TypeTerm::Data {
+                place: *place,
+                name: self.scope.around().kept(*name),
+                arguments: self.type_terms(arguments)?,
+            }),
+            TypeTerm::Interface(place, name) => Ok(TypeTerm::Interface(
+                *place,
+                self.scope.around().kept(*name),
+            )),
+            TypeTerm::Parameter(place, parameter) => Ok(TypeTerm::Parameter(*place, *parameter)),
+            TypeTerm::Bottom => Ok(TypeTerm::Bottom),
+            TypeTerm::Null => Ok(TypeTerm::Null),
+            TypeTerm::Class(name) => Ok(TypeTerm::Class(self.scope.around().kept(*name))),
+        }
+    }
+
+    /// Resolves types in order.
+    #[cycle(types)]
+    pub fn type_terms(&mut self, terms: &[TypeTerm]) -> Result<Vec<TypeTerm>, AllocError>
+        ensures found { IfOk result (λ found. type_trees self.old.scope.names.after found.items
+            ≡ resolved_types self.old.scope.scope.around (type_trees self.old.scope.names.before terms.now)) }
+        ensures noted { OnOk result (self.new.first ≡ fold earlier self.old.first
+            (types_offences self.old.scope.scope.around (type_trees self.old.scope.names.before terms.now))) }
+        ensures scope { OnOk result (self.new.scope ≡ self.old.scope) }
+    {
+        let mut found = Vec::with_capacity(self.alloc, terms.len())?;
+        for term in terms {
+            found.push(self.type_term(term)?)?;
+        }
+        Ok(found)
+    }
+
+    /// Resolves a type that is written as a name with arguments.
+    #[cycle(types)]
+    fn named_type(
+        &mut self,
+        place: Place,
+        name: Symbol,
+        arguments: &[TypeTerm],
+    ) -> Result<TypeTerm, AllocError>
+        ensures found { IfOk result (λ found. type_tree self.old.scope.names.after found
+            ≡ resolved_type self.old.scope.scope.around (UnresolvedType place
+            (name_of self.old.scope.names.before name) (type_trees self.old.scope.names.before arguments.now))) }
+        ensures noted { OnOk result (self.new.first ≡ fold earlier self.old.first
+            (type_offences self.old.scope.scope.around (UnresolvedType place
+            (name_of self.old.scope.names.before name) (type_trees self.old.scope.names.before arguments.now)))) }
+        ensures scope { OnOk result (self.new.scope ≡ self.old.scope) }
+    {
+        let parameter = self.scope.around().type_param(name);
+        let meaning = self.scope.around().type_named(name);
+        self.note_applied(taken(parameter, meaning), arguments.len(), place);
+        let arguments = self.type_terms(arguments)?;
+        let name = self.scope.around().kept(name);
+        match (parameter, meaning) {
+            (Some(parameter), _) => Ok(TypeTerm::Parameter(place, parameter)),
+            (None, Some(meaning)) => self.known_type(place, name, arguments, meaning),
+            (None, None) => Ok(TypeTerm::Unresolved {
+                place,
+                name,
+                arguments,
+            }),
+        }
+    }
+
+    /// The type of a name that stands for a type, with resolved arguments.
+    ///
+    /// # Errors
+    /// [`AllocError`] if an allocation fails.
+    fn known_type(
+        &self,
+        place: Place,
+        name: Symbol,
+        arguments: Vec<TypeTerm>,
+        meaning: TypeMeaning,
+    ) -> Result<TypeTerm, AllocError>
+        ensures { (names : List Name) → IfOk result (λ found. type_tree names found ≡ tree_of_named place
+            (name_of names name) (type_trees names arguments.items) None (Some meaning)) }
+    {
+        match meaning {
+            TypeMeaning::Int => Ok(TypeTerm::Int(place)),
+            TypeMeaning::String => Ok(TypeTerm::String(place)),
+            TypeMeaning::Fut => self.future_type(place, name, arguments),
+            TypeMeaning::Data(_) => Ok(TypeTerm::Data {
+                place,
+                name,
+                arguments,
+            }),
+            TypeMeaning::Interface(_) => Ok(TypeTerm::Interface(place, name)),
+        }
+    }
+
+    /// `Fut` of one type; of another number of types it stays as it is.
+    ///
+    /// # Errors
+    /// [`AllocError`] if an allocation fails.
+    fn future_type(
+        &self,
+        place: Place,
+        name: Symbol,
+        mut arguments: Vec<TypeTerm>,
+    ) -> Result<TypeTerm, AllocError>
+        ensures { (names : List Name) → IfOk result (λ found. type_tree names found
+            ≡ future_type place (name_of names name) (type_trees names arguments.items)) }
+    {
+        if arguments.len() != 1 {
+            return Ok(TypeTerm::Unresolved {
+                place,
+                name,
+                arguments,
+            });
+        }
+        match arguments.pop() {
+            Some(value) => Ok(TypeTerm::Fut(place, Box::new(self.alloc, value)?)),
+            None => unreachable!(),
+        }
+    }
 }

@@ -1,16 +1,18 @@
-//! The walk over a source, which resolves its variables and notes its first name offence.
-ghost use Rattle.std.specs.Prelude.{◌≡◌, [], None, fold, IfOk, OnOk};
+//! The walk over a source, which resolves its names and notes its first name offence.
+ghost use Rattle.std.specs.Prelude.{◌≡◌, [], fold, map, IfOk, OnOk};
 ghost use Rattle.abs_tree.specs.Offences.{earlier};
-ghost use Rattle.abs_tree.specs.SyntaxViews.{variable_tree};
+ghost use Rattle.abs_tree.specs.SyntaxViews.{variable_tree, declared as declared_tree};
 ghost use Rattle.abs_tree.specs.Names.{name_of};
 ghost use Rattle.abs_names.specs.Single.{unknown, twice};
+ghost use Rattle.abs_names.specs.TypeNames.{applied};
 ghost use Rattle.abs_names.specs.NameOffences.{use_offences, bind_offences, field_offences};
 ghost use Rattle.abs_names.specs.Resolution.{resolved_use};
 ghost use Rattle.abs_names.specs.Scopes.{next_bound, with_bound};
 ghost use Rattle.abs_names.specs.declared.scope.Routine.TheVariants.{Main as InMain};
 
+use crate::around::Around;
 use crate::scope::Scope;
-use abs_tree::{Code, Offence, Place, Symbol, Symbols, Variable};
+use abs_tree::{Code, Declared, Offence, Place, Symbol, Variable};
 use std::alloc::{AllocError, Global};
 
 /// The scope of the place that the walk has come to, and the first offence so far.
@@ -21,17 +23,46 @@ pub(crate) struct Walk<'s> {
     pub first: Option<Offence>,
 }
 
+/// Notes a declaration at this place whose name is taken, if it is.
+pub(crate) fn note_if(first: &mut Option<Offence>, taken: bool, place: Place)
+    ensures { first.new ≡ fold earlier first.old (twice taken place) }
+{
+    if taken {
+        let code = Code::N1;
+        Offence { place, code }.note(first);
+    }
+}
+
 impl<'s> Walk<'s> {
-    /// The walk at the beginning of the main block.
-    pub fn new(alloc: Global, symbols: &'s Symbols<'s>) -> Walk<'s>
-        ensures names { result.scope.names ≡ symbols.now }
-        ensures scope { result.scope.scope ≡ record { routine = InMain; fields = []; variables = [] } }
-        ensures first { result.first ≡ None }
+    /// The walk at the beginning of the main block, after this first offence.
+    pub fn new(alloc: Global, around: Around<'s>, first: Option<Offence>) -> Walk<'s>
+        ensures names { result.scope.names ≡ around.entry.names }
+        ensures scope { result.scope.scope
+            ≡ record { around = around.entry.around; routine = InMain; fields = []; variables = [] } }
+        ensures first { result.first ≡ first }
     {
         Walk {
             alloc,
-            scope: Scope::new(alloc, symbols),
-            first: None,
+            scope: Scope::new(alloc, around),
+            first,
+        }
+    }
+
+    /// Gives a declared name its symbol among the names of what is made.
+    pub fn keep(&self, declared: &mut Declared)
+        ensures { declared_tree self.now.scope.names.after declared.new
+            ≡ declared_tree self.now.scope.names.before declared.old }
+    {
+        declared.name = self.scope.around().kept(declared.name);
+    }
+
+    /// Gives declared names their symbols among the names of what is made.
+    pub fn keep_all(&self, declared: &mut Vec<Declared>)
+        ensures { map (declared_tree self.now.scope.names.after) declared.new.items
+            ≡ map (declared_tree self.now.scope.names.before) declared.old.items }
+    {
+        for one in declared.iter_mut() {
+            self.keep(one);
         }
     }
 
@@ -46,23 +77,28 @@ impl<'s> Walk<'s> {
         }
     }
 
-    /// Notes a declaration at this place whose name is taken, if it is.
-    pub fn note_if(&mut self, taken: bool, place: Place)
-        ensures noted { self.new.first ≡ fold earlier self.old.first (twice taken place) }
+    /// Notes a name at this place that is given so many arguments, unless it takes so many; one that is unknown takes
+    /// none.
+    pub fn note_applied(&mut self, taken: Option<u32>, given: usize, place: Place)
+        ensures noted { self.new.first ≡ fold earlier self.old.first (applied taken given place) }
         ensures scope { self.new.scope ≡ self.old.scope }
     {
-        if taken {
-            let code = Code::N1;
-            Offence { place, code }.note(&mut self.first);
+        match taken {
+            Some(taken) if taken as usize == given => {}
+            Some(_) => {
+                let code = Code::N3;
+                Offence { place, code }.note(&mut self.first);
+            }
+            None => self.note_unless(false, place),
         }
     }
 
     /// The use of a variable. One that is unknown is noted, and stays as it is.
     pub fn used(&mut self, place: Place, variable: Variable) -> Variable
-        ensures found { variable_tree self.old.scope.names result
-            ≡ resolved_use self.old.scope.scope (variable_tree self.old.scope.names variable) }
+        ensures found { variable_tree self.old.scope.names.after result
+            ≡ resolved_use self.old.scope.scope (variable_tree self.old.scope.names.before variable) }
         ensures noted { self.new.first ≡ fold earlier self.old.first
-            (use_offences self.old.scope.scope place (variable_tree self.old.scope.names variable)) }
+            (use_offences self.old.scope.scope place (variable_tree self.old.scope.names.before variable)) }
         ensures scope { self.new.scope ≡ self.old.scope }
     {
         let Variable::Unresolved(name) = variable else {
@@ -72,14 +108,14 @@ impl<'s> Walk<'s> {
         self.note_unless(found.is_some(), place);
         match found {
             Some(meaning) => meaning,
-            None => variable,
+            None => Variable::Unresolved(self.scope.around().kept(name)),
         }
     }
 
     /// Notes a field of `this` that is unknown, or a `this` where there is none.
     pub fn note_field(&mut self, place: Place, name_place: Place, name: Symbol)
         ensures noted { self.new.first ≡ fold earlier self.old.first
-            (field_offences self.old.scope.scope place name_place (name_of self.old.scope.names name)) }
+            (field_offences self.old.scope.scope place name_place (name_of self.old.scope.names.before name)) }
         ensures scope { self.new.scope ≡ self.old.scope }
     {
         if self.scope.has_this() {
@@ -96,18 +132,18 @@ impl<'s> Walk<'s> {
     /// [`AllocError`] if an allocation fails.
     pub fn bind(&mut self, place: Place, variable: Variable) -> Result<Variable, AllocError>
         ensures found { IfOk result
-            (λ found. variable_tree self.old.scope.names found ≡ next_bound self.old.scope.scope) }
+            (λ found. variable_tree self.old.scope.names.after found ≡ next_bound self.old.scope.scope) }
         ensures noted { OnOk result (self.new.first ≡ fold earlier self.old.first
-            (bind_offences self.old.scope.scope place (variable_tree self.old.scope.names variable))) }
+            (bind_offences self.old.scope.scope place (variable_tree self.old.scope.names.before variable))) }
         ensures names { OnOk result (self.new.scope.names ≡ self.old.scope.names) }
         ensures bound { OnOk result (self.new.scope.scope
-            ≡ with_bound self.old.scope.scope (variable_tree self.old.scope.names variable)) }
+            ≡ with_bound self.old.scope.scope (variable_tree self.old.scope.names.before variable)) }
     {
         let Variable::Unresolved(name) = variable else {
             return Ok(self.scope.next_bound());
         };
         let taken = self.scope.is_taken(name);
-        self.note_if(taken, place);
+        note_if(&mut self.first, taken, place);
         self.scope.bind(name)
     }
 }

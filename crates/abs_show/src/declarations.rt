@@ -5,12 +5,8 @@ use std::alloc::AllocError;
 
 impl Printer<'_, '_> {
     /// A program: its declarations, each before a semicolon, and its main block.
-    pub(crate) fn program(
-        &mut self,
-        declarations: &Vec<Decl>,
-        main: &Body,
-    ) -> Result<(), AllocError> {
-        for decl in declarations.iter() {
+    pub(crate) fn program(&mut self, declarations: &[Decl], main: &Body) -> Result<(), AllocError> {
+        for decl in declarations {
             self.decl(decl)?;
             self.push("; ")?;
         }

@@ -1,4 +1,4 @@
-//! What is shown of a source, as text: its tree, its tree with its variables resolved, its names, or its tokens.
+//! What is shown of a source, as text: its tree, its tree with its names resolved, its names, or its tokens.
 ghost use Rattle.std.specs.Prelude.{◌≤◌, length};
 ghost use Rattle.abs_tree.specs.Limits.{source_limit};
 
@@ -6,9 +6,9 @@ use crate::failure::Failure;
 use crate::printer::Printer;
 use abs_lexer::lexer::tokens;
 use abs_lexer::token::Tokens;
-use abs_names::resolve;
+use abs_names::{PRELUDE_DECLARATIONS, resolve};
 use abs_parser::parse;
-use abs_tree::{Body, Decl, Symbol, Symbols};
+use abs_tree::{Body, Decl, Named, Symbol, Symbols};
 use std::alloc::{AllocError, Global};
 
 /// What is shown of a source.
@@ -16,10 +16,14 @@ use std::alloc::{AllocError, Global};
 pub(crate) enum What {
     /// The tree.
     Tree,
-    /// The tree with its variables resolved.
+    /// The tree with its names resolved, without the declarations of the prelude.
     Resolved,
-    /// The table of names, in the order of their symbols.
+    /// The same tree after the declarations of the prelude.
+    Declared,
+    /// The table of names of the source, in the order of their symbols.
     Names,
+    /// The table of names of the resolved program: those of the source, and then those of the prelude.
+    Symbols,
     /// The tokens, and the place after the last byte.
     Tokens,
 }
@@ -30,7 +34,9 @@ impl What {
         match word {
             "tree" => Some(What::Tree),
             "resolved" => Some(What::Resolved),
+            "declared" => Some(What::Declared),
             "names" => Some(What::Names),
+            "symbols" => Some(What::Symbols),
             "tokens" => Some(What::Tokens),
             _ => None,
         }
@@ -40,8 +46,8 @@ impl What {
 /// What is asked for of a source, as whole lines.
 ///
 /// # Errors
-/// [`Failure::Refused`] where the lexer refuses the source, or the parser where more than its tokens are asked for, or
-/// the resolver where its resolved tree is; [`Failure::Memory`] where memory runs out.
+/// [`Failure::Refused`] where the lexer refuses the source. So does the parser where more than its tokens are asked
+/// for, and the resolver where its resolved program is. [`Failure::Memory`] where memory runs out.
 pub(crate) fn show(alloc: Global, what: What, source: &[u8]) -> Result<String, Failure>
     requires { length source.now ≤ source_limit }
 {
@@ -52,18 +58,28 @@ pub(crate) fn show(alloc: Global, what: What, source: &[u8]) -> Result<String, F
     let program = parse(alloc, &list)?;
     match what {
         What::Names => Ok(name_lines(alloc, &program.symbols)?),
-        What::Resolved => {
-            let named = resolve(alloc, program)?;
-            Ok(tree_line(alloc, &named.symbols, &named.declarations, &named.main)?)
+        What::Resolved | What::Declared | What::Symbols => {
+            Ok(resolved_lines(alloc, what, &resolve(alloc, program)?)?)
         }
         What::Tree | What::Tokens => {
             Ok(tree_line(
                 alloc,
                 &program.symbols,
-                &program.declarations,
+                program.declarations.as_slice(),
                 &program.main,
             )?)
         }
+    }
+}
+
+/// What is asked for of a resolved program. The declarations of the prelude come first in it.
+fn resolved_lines(alloc: Global, what: What, named: &Named<'_>) -> Result<String, AllocError> {
+    let all = named.declarations.as_slice();
+    let own = all.get(PRELUDE_DECLARATIONS..).unwrap_or(all);
+    match what {
+        What::Symbols => name_lines(alloc, &named.symbols),
+        What::Declared => tree_line(alloc, &named.symbols, all, &named.main),
+        _ => tree_line(alloc, &named.symbols, own, &named.main),
     }
 }
 
@@ -71,7 +87,7 @@ pub(crate) fn show(alloc: Global, what: What, source: &[u8]) -> Result<String, F
 fn tree_line(
     alloc: Global,
     symbols: &Symbols<'_>,
-    declarations: &Vec<Decl>,
+    declarations: &[Decl],
     main: &Body,
 ) -> Result<String, AllocError> {
     let mut printer = Printer::new(alloc, symbols);

@@ -1,9 +1,11 @@
 //! Where the first unsupported part of a source begins.
-ghost use Rattle.std.specs.Prelude.{◌≡◌};
+ghost use Rattle.std.specs.Prelude.{◌≡◌, List};
 ghost use Rattle.abs_tree.specs.SourceViews.{named_tree};
+ghost use Rattle.abs_tree.specs.Syntax.{Name};
 ghost use Rattle.abs_tree.specs.SyntaxViews.{type_tree, phrase, operand_trees, side_tree, statement as statement_tree, statements as statement_trees};
 ghost use Rattle.abs_command.specs.Unsupported.{unsupported as unsupported_part, unsupported_phrase, unsupported_operands, unsupported_side, unsupported_text, unsupported_statement, unsupported_statements, is_int as is_int_type, is_supported as is_supported_operator};
 
+use abs_names::{PRELUDE_DECLARATIONS, declarations_are_counted};
 use abs_tree::{
     Expr, Named, Operand, Operator, Place, Prefix, RightSide, Stmt, Symbols, Target, TypeTerm,
     Variable,
@@ -13,7 +15,8 @@ use abs_tree::{
 pub fn unsupported(program: &Named<'_>) -> Option<Place>
     ensures { result ≡ unsupported_part (named_tree program.now) }
 {
-    match program.declarations.first() {
+    declarations_are_counted();
+    match program.declarations.get(PRELUDE_DECLARATIONS) {
         Some(first) => Some(first.place()),
         None => statements(&program.symbols, &program.main.statements),
     }
@@ -42,7 +45,7 @@ fn statement(symbols: &Symbols<'_>, stmt: &Stmt) -> Option<Place>
             initial: Some(side),
             ..
         } => {
-            if is_int(symbols, type_of) {
+            if is_int(type_of) {
                 value_of(symbols, side)
             } else {
                 Some(*place)
@@ -59,17 +62,10 @@ fn statement(symbols: &Symbols<'_>, stmt: &Stmt) -> Option<Place>
 }
 
 /// Whether a type is `Int`.
-fn is_int(symbols: &Symbols<'_>, type_of: &TypeTerm) -> bool
-    ensures { result ≡ is_int_type (type_tree symbols.now type_of.now) }
+fn is_int(type_of: &TypeTerm) -> bool
+    ensures { (names : List Name) → result ≡ is_int_type (type_tree names type_of.now) }
 {
-    match type_of {
-        TypeTerm::Unresolved {
-            name,
-            arguments,
-            ..
-        } => arguments.is_empty() && symbols.name(*name) == b"Int".as_slice(),
-        _ => false,
-    }
+    matches!(type_of, TypeTerm::Int(_))
 }
 
 /// The same of a right side: an expression may run.

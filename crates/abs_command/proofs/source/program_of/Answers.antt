@@ -4,10 +4,16 @@ use Rattle.abs_tree.specs.SourceErrors.{HasCause}
 use Rattle.abs_tree.specs.SourceViews.{source_tree}
 use Rattle.abs_names.specs.Resolution.{resolved}
 use Rattle.abs_command.specs.Sources.{IsTree, FirstOffence}
-use Rattle.abs_command.specs.Sources.FirstOffence.{unread, misnamed, not_yet}
+use Rattle.abs_command.specs.Sources.FirstOffence.{unread, misnamed, unsupported_part}
 use Rattle.abs_command.specs.Unsupported.{unsupported}
 use Rattle.abs_command.proofs.ResultLemmas.{cause_follows}
+use Rattle.abs_command.proofs.SourceLemmas.{program_names}
 use Rattle.abs_command.proofs.source.program_of.Goals as goal
+
+pub returns-clause-names : goal.returns-clause-names
+returns-clause-names c =
+    program_names c.in_ok-list.list.tokens c.in_ok-tree.tree.symbols c.in_ok-program.program.symbols
+    c.in_ok-list.ensures.slices c.in_ok-tree.ensures.names c.in_ok-program.ensures.symbols
 
 pub returns-in_err-tree-clause-refused : goal.returns-in_err-tree-clause-refused
 returns-in_err-tree-clause-refused c =
@@ -33,5 +39,5 @@ returns-in-Some-clause-refused c =
     record { list = c.in_ok-list.list; tokens = c.in_ok-list.ensures.found; is = c.in_ok-tree.ensures.found } in
     let waits : unsupported (resolved (source_tree tree)) ≡ Some c.in-Some.place =
     sym (ap unsupported c.in_ok-program.ensures.found) ∙ (sym c.unsupported.ensures ∙ c.in-Some.is) in
-    not_yet tree.symbols (source_tree tree) c.in-Some.place read c.in_ok-program.ensures.accepted waits
+    unsupported_part tree.symbols (source_tree tree) c.in-Some.place read c.in_ok-program.ensures.accepted waits
     c.refusal.ensures

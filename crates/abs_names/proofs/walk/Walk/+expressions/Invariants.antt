@@ -33,6 +33,12 @@ decreases-case l = 4 * max (size-Expr l.subject.now) (most (λ x. size-Branch x)
 abbrev pub decreases-own_call : goal.decreases-own_call
 decreases-own_call l = 4 * goal.size-own_call l + 3
 
+abbrev pub decreases-apply : goal.decreases-apply
+decreases-apply l = 4 * goal.size-apply l + 3
+
+abbrev pub decreases-build : goal.decreases-build
+decreases-build l = 4 * goal.size-build l + 3
+
 abbrev pub decreases-expressions : goal.decreases-expressions
 decreases-expressions l = 4 * goal.size-expressions l + 2
 

@@ -1,19 +1,11 @@
-use Rattle.std.proofs.Common.{◌≡◌, ◌∙◌, List, sym, ap, fold}
-use Rattle.std.specs.declared.alloc.Global.{Global}
-use Rattle.std.specs.declared.vec.Vec.{Vec}
-use Rattle.abs_tree.specs.declared.place.Place.{Place}
-use Rattle.abs_tree.specs.declared.symbol.Symbol.{Symbol}
-use Rattle.abs_tree.specs.declared.syntax.pattern.Pattern as code_pattern
-use Rattle.abs_tree.proofs.SyntaxLemmas.{pattern_tree-built}
-use Rattle.abs_tree.specs.Offences.{earlier}
-use Rattle.abs_tree.specs.Syntax.{Name, Built, PatternTree}
-use Rattle.abs_tree.specs.SyntaxViews.{pattern_tree, pattern_trees}
+use Rattle.std.proofs.Common.{◌∙◌, sym, ap}
 use Rattle.abs_tree.specs.Names.{name_of}
-use Rattle.abs_tree.specs.declared.syntax.pattern.Pattern.{Pattern}
-use Rattle.abs_names.specs.NameOffences.{pattern_offences}
-use Rattle.abs_names.specs.Resolution.{resolved_pattern}
-use Rattle.abs_names.specs.Scopes.{pattern_scope}
-use Rattle.abs_names.proofs.PatternLemmas.{patterns_step, patterns_done}
+use Rattle.abs_tree.specs.SyntaxViews.{pattern_trees}
+use Rattle.abs_names.specs.Scopes.{patterns_scope}
+use Rattle.abs_names.specs.TypeNames.{constructor_taking}
+use Rattle.abs_names.specs.Visible.{Visible}
+use Rattle.abs_names.proofs.FormLemmas.{in_scope, kept_in}
+use Rattle.abs_names.proofs.PatternLemmas.{patterns_step, patterns_done, built_tree, built_found, built_noted}
 use Rattle.abs_names.proofs.walk.Walk.+patterns.Goals as goal
 
 pub patterns-loop-part-preserved : goal.patterns-loop-part-preserved
@@ -34,43 +26,42 @@ patterns-returns-clause-names t c = c.loop-part.invariant.names_are
 pub patterns-returns-clause-bound : goal.patterns-returns-clause-bound
 patterns-returns-clause-bound t c = (patterns_done c.loop-part.invariant c.loop-part-test.false).ends
 
--- the tree of a pattern with a constructor
-built : (names : List Name) (pattern : Pattern) (place : Place) (constructor : Symbol) (arguments : Vec Pattern Global)
-    (parts : List Pattern) → pattern ≡ code_pattern.Built place constructor arguments → parts ≡ arguments.items
-    → pattern_tree names pattern ≡ Built place (name_of names constructor) (pattern_trees names parts)
-built names pattern place constructor arguments parts is parts_are =
-    ap (pattern_tree names) is
-    ∙ (pattern_tree-built names place constructor arguments
-    ∙ ap (λ (ps : List Pattern). Built place (name_of names constructor) (pattern_trees names ps)) (sym parts_are))
-
 pub pattern-returns-in_ok-arguments-in-Built-clause-found
     : goal.pattern-returns-in_ok-arguments-in-Built-clause-found
 pattern-returns-in_ok-arguments-in-Built-clause-found t c =
-    let names = c.args.self.now.scope.names in
-    let now = c.in-Built in
-    pattern_tree-built names now.place now.constructor c.in_ok-arguments-in-Built.arguments
-    ∙ (ap (Built now.place (name_of names now.constructor)) c.in_ok-arguments-in-Built.ensures.found
-    ∙ sym (ap (resolved_pattern c.args.self.now.scope.scope)
-    (built names c.args.pattern.now now.place now.constructor now.arguments c.deref.result.now now.is
-    c.deref.ensures.value)))
+    let start = c.args.self.now.scope in
+    let form = c.in-Built in
+    rw (built_tree start.names.before c.args.pattern.now form.place form.constructor form.arguments c.deref.result.now
+    form.is c.deref.ensures.value)
+    (built_found start c.note_applied.new.self.scope form.place form.constructor c.kept.result
+    c.in_ok-arguments-in-Built.arguments c.deref.result.now c.note_applied.ensures.scope
+    (kept_in c.around-in-Built.result.now start.names c.kept.result form.constructor c.kept.ensures
+    (c.around-in-Built.ensures.names
+    ∙ (c.in_ok-arguments-in-Built.ensures.names ∙ ap (λ (v : Visible). v.names) c.note_applied.ensures.scope)))
+    c.in_ok-arguments-in-Built.ensures.found)
 
 pub pattern-returns-in_ok-arguments-in-Built-clause-noted
     : goal.pattern-returns-in_ok-arguments-in-Built-clause-noted
 pattern-returns-in_ok-arguments-in-Built-clause-noted t c =
-    let names = c.args.self.now.scope.names in
-    let now = c.in-Built in
-    c.in_ok-arguments-in-Built.ensures.noted
-    ∙ sym (ap (λ (tree : PatternTree).
-    fold earlier c.args.self.now.first (pattern_offences c.args.self.now.scope.scope tree))
-    (built names c.args.pattern.now now.place now.constructor now.arguments c.deref.result.now now.is
-    c.deref.ensures.value))
+    let start = c.args.self.now.scope in
+    let form = c.in-Built in
+    rw (built_tree start.names.before c.args.pattern.now form.place form.constructor form.arguments c.deref.result.now
+    form.is c.deref.ensures.value)
+    (built_noted start c.note_applied.new.self.scope form.place form.constructor c.deref.result.now
+    c.constructor_taking-taken.result c.len.result c.args.self.now.first c.note_applied.new.self.first
+    c.patterns.new.self.first c.note_applied.ensures.scope (c.len.ensures ∙ sym c.deref.ensures.len)
+    (c.constructor_taking-taken.ensures
+    ∙ in_scope (λ a ns. constructor_taking a (name_of ns form.constructor)) c.around.result.now start
+    c.around.ensures.names c.around.ensures.around)
+    c.note_applied.ensures.noted c.in_ok-arguments-in-Built.ensures.noted)
 
 pub pattern-returns-in_ok-arguments-in-Built-clause-bound
     : goal.pattern-returns-in_ok-arguments-in-Built-clause-bound
 pattern-returns-in_ok-arguments-in-Built-clause-bound t c =
-    let names = c.args.self.now.scope.names in
-    let now = c.in-Built in
-    c.in_ok-arguments-in-Built.ensures.bound
-    ∙ sym (ap (pattern_scope c.args.self.now.scope.scope)
-    (built names c.args.pattern.now now.place now.constructor now.arguments c.deref.result.now now.is
-    c.deref.ensures.value))
+    let start = c.args.self.now.scope in
+    let form = c.in-Built in
+    rw (built_tree start.names.before c.args.pattern.now form.place form.constructor form.arguments c.deref.result.now
+    form.is c.deref.ensures.value)
+    (c.in_ok-arguments-in-Built.ensures.bound
+    ∙ ap (λ (v : Visible). patterns_scope v.scope (pattern_trees v.names.before c.deref.result.now))
+    c.note_applied.ensures.scope)

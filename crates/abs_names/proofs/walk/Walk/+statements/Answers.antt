@@ -42,10 +42,11 @@ pub statement-returns-in_ok-block-in-Block-clause-found
 statement-returns-in_ok-block-in-Block-clause-found t c =
     let start = c.args.self.now.scope in
     let form = c.in-Block in
-    statement-block start.names form.place c.in_ok-block-in-Block.field-0
+    statement-block start.names.after form.place c.in_ok-block-in-Block.field-0
     ∙ (ap (BlockOf form.place) c.in_ok-block-in-Block.ensures.found
     ∙ sym (ap (resolved_statement start.scope (length c.args.slots.now.items.items))
-    (block_tree start.names c.args.stmt.now form.place form.block c.deref.result.now form.is c.deref.ensures.value)))
+    (block_tree start.names.before c.args.stmt.now form.place form.block c.deref.result.now form.is
+    c.deref.ensures.value)))
 
 pub statement-returns-in_ok-block-in-Block-clause-noted
     : goal.statement-returns-in_ok-block-in-Block-clause-noted
@@ -55,7 +56,8 @@ statement-returns-in_ok-block-in-Block-clause-noted t c =
     c.in_ok-block-in-Block.ensures.noted
     ∙ sym (ap (λ (tree : Statement). fold earlier c.args.self.now.first
     (statement_offences start.scope (length c.args.slots.now.items.items) tree))
-    (block_tree start.names c.args.stmt.now form.place form.block c.deref.result.now form.is c.deref.ensures.value))
+    (block_tree start.names.before c.args.stmt.now form.place form.block c.deref.result.now form.is
+    c.deref.ensures.value))
 
 pub statement-returns-in_ok-block-in-Block-clause-slots
     : goal.statement-returns-in_ok-block-in-Block-clause-slots
@@ -64,7 +66,8 @@ statement-returns-in_ok-block-in-Block-clause-slots t c =
     let form = c.in-Block in
     c.in_ok-block-in-Block.ensures.slots
     ∙ sym (ap (λ (tree : Statement). c.args.slots.now.items.items ++ statement_slots tree)
-    (block_tree start.names c.args.stmt.now form.place form.block c.deref.result.now form.is c.deref.ensures.value))
+    (block_tree start.names.before c.args.stmt.now form.place form.block c.deref.result.now form.is
+    c.deref.ensures.value))
 
 pub statement-returns-in_ok-block-in-While-clause-found
     : goal.statement-returns-in_ok-block-in-While-clause-found
@@ -74,9 +77,9 @@ statement-returns-in_ok-block-in-While-clause-found t c =
     let value = c.deref-in-While.result.now in
     let items = c.deref-in-While-2.result.now in
     while_found start c.shared-in-While.new.self.scope (length c.args.slots.now.items.items)
-    (statement start.names c.args.stmt.now) form.index form.place c.in_ok-shared-in-While.field-0
+    (statement start.names.before c.args.stmt.now) form.index form.place c.in_ok-shared-in-While.field-0
     c.in_ok-block-in-While.field-0 value items
-    (while_tree start.names c.args.stmt.now form.index form.place form.condition form.body value items form.is
+    (while_tree start.names.before c.args.stmt.now form.index form.place form.condition form.body value items form.is
     c.deref-in-While.ensures c.deref-in-While-2.ensures.value)
     c.in_ok-shared-in-While.ensures.scope c.in_ok-shared-in-While.ensures.found c.in_ok-block-in-While.ensures.found
 
@@ -88,9 +91,9 @@ statement-returns-in_ok-block-in-While-clause-noted t c =
     let value = c.deref-in-While.result.now in
     let items = c.deref-in-While-2.result.now in
     while_noted start c.shared-in-While.new.self.scope (length c.args.slots.now.items.items)
-    (statement start.names c.args.stmt.now) form.index form.place value items c.args.self.now.first
+    (statement start.names.before c.args.stmt.now) form.index form.place value items c.args.self.now.first
     c.shared-in-While.new.self.first c.block-in-While.new.self.first
-    (while_tree start.names c.args.stmt.now form.index form.place form.condition form.body value items form.is
+    (while_tree start.names.before c.args.stmt.now form.index form.place form.condition form.body value items form.is
     c.deref-in-While.ensures c.deref-in-While-2.ensures.value)
     c.in_ok-shared-in-While.ensures.scope c.in_ok-shared-in-While.ensures.noted c.in_ok-block-in-While.ensures.noted
 
@@ -101,10 +104,10 @@ statement-returns-in_ok-block-in-While-clause-slots t c =
     let form = c.in-While in
     let value = c.deref-in-While.result.now in
     let items = c.deref-in-While-2.result.now in
-    slots_of_tree start c.shared-in-While.new.self.scope (statement start.names c.args.stmt.now) items
+    slots_of_tree start c.shared-in-While.new.self.scope (statement start.names.before c.args.stmt.now) items
     c.args.slots.now.items.items c.block-in-While.new.slots.items.items
-    (ap statement_slots (while_tree start.names c.args.stmt.now form.index form.place form.condition form.body value
-    items form.is c.deref-in-While.ensures c.deref-in-While-2.ensures.value))
+    (ap statement_slots (while_tree start.names.before c.args.stmt.now form.index form.place form.condition
+    form.body value items form.is c.deref-in-While.ensures c.deref-in-While-2.ensures.value))
     c.in_ok-shared-in-While.ensures.scope c.in_ok-block-in-While.ensures.slots
 
 pub maybe_block-block-requires : goal.maybe_block-block-requires
@@ -119,10 +122,10 @@ statement-returns-in_ok-maybe_block-in-If-clause-found t c =
     let value = c.deref-in-If.result.now in
     let items = c.deref-in-If-2.result.now in
     if_found start c.shared.new.self.scope c.block-in-If.new.self.scope (length c.args.slots.now.items.items)
-    (length c.block-in-If.new.slots.items.items) (statement start.names c.args.stmt.now) form.index form.place
+    (length c.block-in-If.new.slots.items.items) (statement start.names.before c.args.stmt.now) form.index form.place
     c.in_ok-shared-in-If.field-0 c.in_ok-block-in-If.field-0 c.in_ok-maybe_block-in-If.field-0 value items form.second
-    (if_tree start.names c.args.stmt.now form.index form.place form.condition form.first form.second value items form.is
-    c.deref-in-If.ensures c.deref-in-If-2.ensures.value)
+    (if_tree start.names.before c.args.stmt.now form.index form.place form.condition form.first form.second value
+    items form.is c.deref-in-If.ensures c.deref-in-If-2.ensures.value)
     c.in_ok-shared-in-If.ensures.scope (c.in_ok-block-in-If.ensures.scope ∙ c.in_ok-shared-in-If.ensures.scope)
     (slots_after start c.shared.new.self.scope items c.args.slots.now.items.items
     c.block-in-If.new.slots.items.items c.in_ok-shared-in-If.ensures.scope c.in_ok-block-in-If.ensures.slots)
@@ -135,11 +138,11 @@ statement-returns-in_ok-maybe_block-in-If-clause-noted t c =
     let value = c.deref-in-If.result.now in
     let items = c.deref-in-If-2.result.now in
     if_noted start c.shared.new.self.scope c.block-in-If.new.self.scope (length c.args.slots.now.items.items)
-    (length c.block-in-If.new.slots.items.items) (statement start.names c.args.stmt.now) form.index form.place value
-    items form.second c.args.self.now.first c.shared.new.self.first c.block-in-If.new.self.first
+    (length c.block-in-If.new.slots.items.items) (statement start.names.before c.args.stmt.now) form.index
+    form.place value items form.second c.args.self.now.first c.shared.new.self.first c.block-in-If.new.self.first
     c.maybe_block.new.self.first
-    (if_tree start.names c.args.stmt.now form.index form.place form.condition form.first form.second value items form.is
-    c.deref-in-If.ensures c.deref-in-If-2.ensures.value)
+    (if_tree start.names.before c.args.stmt.now form.index form.place form.condition form.first form.second value
+    items form.is c.deref-in-If.ensures c.deref-in-If-2.ensures.value)
     c.in_ok-shared-in-If.ensures.scope (c.in_ok-block-in-If.ensures.scope ∙ c.in_ok-shared-in-If.ensures.scope)
     (slots_after start c.shared.new.self.scope items c.args.slots.now.items.items
     c.block-in-If.new.slots.items.items c.in_ok-shared-in-If.ensures.scope c.in_ok-block-in-If.ensures.slots)
@@ -151,9 +154,10 @@ statement-returns-in_ok-maybe_block-in-If-clause-slots t c =
     let form = c.in-If in
     let value = c.deref-in-If.result.now in
     let items = c.deref-in-If-2.result.now in
-    if_slots start c.shared.new.self.scope c.block-in-If.new.self.scope (statement start.names c.args.stmt.now) items
+    if_slots start c.shared.new.self.scope c.block-in-If.new.self.scope
+    (statement start.names.before c.args.stmt.now) items
     form.second c.args.slots.now.items.items c.block-in-If.new.slots.items.items c.maybe_block.new.slots.items.items
-    (ap statement_slots (if_tree start.names c.args.stmt.now form.index form.place form.condition form.first form.second value items form.is
-    c.deref-in-If.ensures c.deref-in-If-2.ensures.value))
+    (ap statement_slots (if_tree start.names.before c.args.stmt.now form.index form.place form.condition form.first
+    form.second value items form.is c.deref-in-If.ensures c.deref-in-If-2.ensures.value))
     c.in_ok-shared-in-If.ensures.scope (c.in_ok-block-in-If.ensures.scope ∙ c.in_ok-shared-in-If.ensures.scope)
     c.in_ok-block-in-If.ensures.slots c.in_ok-maybe_block-in-If.ensures.slots

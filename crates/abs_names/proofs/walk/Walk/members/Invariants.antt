@@ -1,7 +1,10 @@
-use Rattle.abs_names.proofs.MemberLemmas.{MembersSoFar}
+use Rattle.abs_tree.specs.SlotViews.{MemberHasSlots}
+use Rattle.abs_names.proofs.InPlaceLemmas.{ChangedSoFar, HaveSoFar}
+use Rattle.abs_names.proofs.MemberLemmas.{in_class, member_resolution}
 use Rattle.abs_names.proofs.walk.Walk.members.Given as goal
 
 abbrev pub invariant-loop-member : goal.invariant-loop-member
 invariant-loop-member l =
-    MembersSoFar l.fn.self.scope l.fn.self.first l.fn.earlier l.fn.members.items l.member-index l.member-items
-    l.self.scope l.self.first l.earlier
+    ChangedSoFar member_resolution (in_class l.fn.self.scope) l.fn.earlier l.fn.self.first l.fn.members.items
+    l.member-index l.member-items (in_class l.self.scope) l.earlier l.self.first
+    × HaveSoFar (MemberHasSlots l.fn.self.scope.names.after) l.member-index l.member-items

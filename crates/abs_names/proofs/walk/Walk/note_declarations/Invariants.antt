@@ -5,4 +5,5 @@ use Rattle.abs_names.proofs.walk.Walk.note_declarations.Given as goal
 
 abbrev pub invariant-loop-declaration : goal.invariant-loop-declaration
 invariant-loop-declaration l =
-    NotedSoFar decl_tree declarations_repeats l.fn.self.scope l.fn.self.first l.declarations l.declaration-index l.self.scope l.self.first
+    NotedSoFar decl_tree declarations_repeats l.fn.self.scope l.fn.self.first l.declarations l.declaration-index l.self.scope
+    l.self.first

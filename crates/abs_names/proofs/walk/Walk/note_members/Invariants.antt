@@ -5,4 +5,5 @@ use Rattle.abs_names.proofs.walk.Walk.note_members.Given as goal
 
 abbrev pub invariant-loop-member : goal.invariant-loop-member
 invariant-loop-member l =
-    NotedSoFar member_tree members_repeats l.fn.self.scope l.fn.self.first l.members l.member-index l.self.scope l.self.first
+    NotedSoFar member_tree members_repeats l.fn.self.scope l.fn.self.first l.members l.member-index l.self.scope
+    l.self.first

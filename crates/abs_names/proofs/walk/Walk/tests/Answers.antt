@@ -16,9 +16,9 @@ loop-test-preserved c =
     tests_step item (record { place = item.place; value = c.in_ok-value.value; asks = item.asks })
     c.loop-test.invariant c.loop-test-test.true c.test-item.is refl refl
     (c.in_ok-value.ensures.found
-    ∙ ap (λ (e : Expr). resolved_phrase now.scope (phrase now.names e)) c.deref.ensures)
+    ∙ ap (λ (e : Expr). resolved_phrase now.scope (phrase now.names.before e)) c.deref.ensures)
     (c.in_ok-value.ensures.noted
-    ∙ ap (λ (e : Expr). fold earlier c.loop-test.self.first (phrase_offences now.scope (phrase now.names e)))
+    ∙ ap (λ (e : Expr). fold earlier c.loop-test.self.first (phrase_offences now.scope (phrase now.names.before e)))
     c.deref.ensures)
     c.in_ok-value.ensures.scope c.in_ok-push.ensures.items
 
