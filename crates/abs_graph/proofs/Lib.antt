@@ -1,0 +1,5 @@
+pub mod BitRowLemmas
+pub mod CertificateLemmas
+pub mod ReachLemmas
+pub mod ReachingLemmas
+pub mod TableLemmas

@@ -1,0 +1,27 @@
+use Rattle.std.proofs.Common.{ℕ, List, ◌≡◌, ◌∙◌, length, subst, sym}
+use Rattle.abs_graph.specs.Graphs.{successors}
+use Rattle.abs_graph.specs.Tables.{IsUnion}
+use Rattle.abs_graph.specs.Views.{graph_of}
+use Rattle.abs_graph.proofs.CertificateLemmas.{row_successors}
+use Rattle.abs_graph.proofs.TableLemmas.{filled_more, node_inside, nodes_have_rows}
+use Rattle.abs_graph.proofs.closure.fill.Goals as goal
+
+pub row_over-requires-clause-nodes : goal.row_over-requires-clause-nodes
+row_over-requires-clause-nodes c =
+    let is : c.as_slice.result.now ≡ successors (graph_of c.args.graph.now) c.args.node =
+    c.as_slice.ensures.value
+    ∙ sym (row_successors c.args.graph.now c.args.node c.index-graph-node.result c.requires.node
+    c.index-graph-node.is) in
+    nodes_have_rows (graph_of c.args.graph.now) c.as_slice.result.now (length c.args.rows.now) c.args.node
+    c.requires.nodes (node_inside c.args.graph.now c.args.node c.requires.node) is c.requires.filled.count
+
+pub returns : goal.returns
+returns c =
+    let graph = graph_of c.args.graph.now in
+    let is : c.as_slice.result.now ≡ successors graph c.args.node =
+    c.as_slice.ensures.value
+    ∙ sym (row_successors c.args.graph.now c.args.node c.index-graph-node.result c.requires.node
+    c.index-graph-node.is) in
+    filled_more graph c.args.rows.now c.args.filled.now c.in_ok-row.row c.args.node c.requires.filled
+    (node_inside c.args.graph.now c.args.node c.requires.node)
+    (subst (λ (nodes : List ℕ). IsUnion c.args.rows.now c.args.filled.now nodes c.in_ok-row.row) is c.in_ok-row.ensures)

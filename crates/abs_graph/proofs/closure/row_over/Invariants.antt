@@ -1,0 +1,6 @@
+use Rattle.std.proofs.Common.{take}
+use Rattle.abs_graph.specs.Tables.{IsUnion}
+use Rattle.abs_graph.proofs.closure.row_over.Given as goal
+
+abbrev pub invariant-loop-next : goal.invariant-loop-next
+invariant-loop-next l = IsUnion l.rows l.filled (take l.next-index l.nodes) l.row

@@ -1,0 +1,32 @@
+-- Rows of bits, which are kept as words of 64 bits each.
+--
+--   `has`                      whether a row has a number
+--   `word_has`                 whether the words have a number as a bit
+--   `row_of`                   the row that words keep
+--   `room_for`                 the length of a row for numbers below a bound
+--   `IsNewRow`                 a row for numbers below a bound, which has none of them
+use Rattle.std.specs.Prelude.{◌≡◌, ℕ, ◌*◌, ◌/◌, ◌%◌, ◌≤◌, Bool, false, List, length, get_or, map, nat_eq}
+use Rattle.std.specs.Int.{bit_at, div_ceil}
+use Rattle.std.specs.List.{range_with_len}
+
+-- whether a row has a number
+abbrev pub has : List Bool → ℕ → Bool
+has row number = get_or row number false
+
+-- whether the words have a number as a bit
+unfoldable pub word_has : List ℕ → ℕ → Bool
+word_has words number = nat_eq (bit_at (get_or words (number / 64) 0) (number % 64)) 1
+
+-- the row that words keep: for each number whether they have it
+unfoldable pub row_of : List ℕ → List Bool
+row_of words = map (word_has words) (range_with_len 0 (64 * length words))
+
+-- the length of a row for numbers below a bound: the bound rounded up to whole words
+unfoldable pub room_for : ℕ → ℕ
+room_for bound = 64 * div_ceil bound 64
+
+-- A row for numbers below a bound, which has none of them.
+pub record IsNewRow (bound : ℕ) (row : List Bool) : Type 0 where
+  pub room : length row ≡ room_for bound
+  pub fits : bound ≤ length row
+  pub none : (number : ℕ) → has row number ≡ false

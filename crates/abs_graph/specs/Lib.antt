@@ -1,0 +1,6 @@
+pub mod BitRows
+pub mod Certificates
+pub mod Graphs
+pub mod Reaching
+pub mod Tables
+pub mod Views

@@ -1,0 +1,217 @@
+//! A table of which nodes of a graph without cycles reach which. The rows are filled in an order in which each node
+//! comes after the nodes to which its edges lead. Each row is the union of those nodes and their rows. That their rows
+//! were filled before is tested, so nothing need be proved of the order.
+ghost use Rattle.std.specs.Prelude.{◌≡◌, ◌<◌, true, false, length, All, IfOk};
+ghost use Rattle.std.specs.Bool.{OnTrue};
+ghost use Rattle.abs_graph.specs.Graphs.{HasNodes, reaches as reaches_by, on_cycles as on_cycles_of};
+ghost use Rattle.abs_graph.specs.Tables.{HasRoom, IsFilled, IsTable, IsUnion};
+ghost use Rattle.abs_graph.specs.Views.{graph_of};
+
+use crate::bit_row::BitRow;
+use crate::certificate::leaving_order;
+use std::alloc::{AllocError, Global};
+use std::marker::Model;
+
+/// The table of a graph: it tells in constant time whether a node reaches another one.
+#[derive(Drop)]
+pub struct Closure {
+    graph: Vec<Vec<u32>>,
+    rows: Vec<BitRow>,
+}
+
+impl Model for Closure {
+    ghost use Rattle.abs_graph.specs.Graphs.{Graph};
+    ghost use Rattle.abs_graph.specs.Tables.{IsTable};
+    ghost use Rattle.abs_graph.specs.Views.{graph_of};
+
+    ghost Value = { Graph };
+
+    ghost view = { λ table. graph_of table.graph.items };
+
+    ghost invariant = { λ table. IsTable (graph_of table.graph.items) table.rows.items };
+}
+
+/// The row of a node with edges to some nodes: these nodes, and what their rows have.
+///
+/// # Errors
+/// [`AllocError`] if an allocation fails, or if the row of one of the nodes was not filled.
+fn row_over(
+    alloc: Global,
+    nodes: &[u32],
+    rows: &[BitRow],
+    filled: &[bool],
+) -> Result<BitRow, AllocError>
+    requires nodes { All (λ next. next < length rows.now) nodes.now }
+    requires flags { length filled.now ≡ length rows.now }
+    requires room { HasRoom rows.now }
+    ensures { IfOk result (λ row. IsUnion rows.now filled.now nodes.now row) }
+{
+    let mut row = BitRow::new(alloc, rows.len())?;
+    for next in nodes {
+        let next = *next as usize;
+        if !filled[next] {
+            return Err(AllocError);
+        }
+        row.add(next);
+        row.add_all(&rows[next]);
+    }
+    Ok(row)
+}
+
+/// Fills the row of a node.
+///
+/// # Errors
+/// [`AllocError`] if an allocation fails, or if an edge leads to a node whose row was not filled.
+fn fill(
+    alloc: Global,
+    graph: &[Vec<u32>],
+    node: usize,
+    rows: &mut [BitRow],
+    filled: &mut [bool],
+) -> Result<(), AllocError>
+    requires nodes { HasNodes (graph_of graph.now) }
+    requires node { node < length graph.now }
+    requires filled { IsFilled (graph_of graph.now) rows.old filled.old }
+    ensures { IfOk result (λ _. IsFilled (graph_of graph.now) rows.new filled.new) }
+{
+    let row = row_over(alloc, graph[node].as_slice(), rows, filled)?;
+    rows[node] = row;
+    filled[node] = true;
+    Ok(())
+}
+
+/// Fills the rows of nodes in an order.
+///
+/// # Errors
+/// [`AllocError`] if an allocation fails, or if a node comes before one to which an edge leads from it.
+fn fill_in_order(
+    alloc: Global,
+    graph: &[Vec<u32>],
+    order: &[usize],
+    rows: &mut [BitRow],
+    filled: &mut [bool],
+) -> Result<(), AllocError>
+    requires nodes { HasNodes (graph_of graph.now) }
+    requires filled { IsFilled (graph_of graph.now) rows.old filled.old }
+    ensures { IfOk result (λ _. IsFilled (graph_of graph.now) rows.new filled.new) }
+{
+    for node in order {
+        if *node < graph.len() {
+            fill(alloc, graph, *node, rows, filled)?;
+        }
+    }
+    Ok(())
+}
+
+/// A row without room for each node, to be replaced by one with room.
+///
+/// # Errors
+/// [`AllocError`] if an allocation fails.
+fn no_rows(alloc: Global, nodes: usize) -> Result<Vec<BitRow>, AllocError>
+    ensures { IfOk result (λ rows. (length rows.items ≡ nodes) × HasRoom rows.items) }
+{
+    let mut rows = Vec::with_capacity(alloc, nodes)?;
+    for _ in 0..nodes {
+        rows.push(BitRow::new(alloc, 0)?)?;
+    }
+    Ok(rows)
+}
+
+/// Whether each row was filled.
+fn all_filled(filled: &[bool]) -> bool
+    ensures { OnTrue result (All (λ is_filled. is_filled ≡ true) filled.now) }
+{
+    filled.iter().all(|is_filled| *is_filled)
+}
+
+/// The rows of all nodes.
+///
+/// # Errors
+/// [`AllocError`] if an allocation fails, or if the graph has a cycle.
+fn table(alloc: Global, graph: &[Vec<u32>]) -> Result<Vec<BitRow>, AllocError>
+    requires { HasNodes (graph_of graph.now) }
+    ensures { IfOk result (λ rows. IsTable (graph_of graph.now) rows.items) }
+{
+    let mut rows = no_rows(alloc, graph.len())?;
+    let mut filled = vec![in alloc; false; graph.len()]?;
+    let order = leaving_order(alloc, graph)?;
+    fill_in_order(
+        alloc,
+        graph,
+        order.as_slice(),
+        rows.as_mut_slice(),
+        filled.as_mut_slice(),
+    )?;
+    if !all_filled(filled.as_slice()) {
+        return Err(AllocError);
+    }
+    Ok(rows)
+}
+
+/// A copy of a graph.
+///
+/// # Errors
+/// [`AllocError`] if an allocation fails.
+fn copy(alloc: Global, graph: &[Vec<u32>]) -> Result<Vec<Vec<u32>>, AllocError>
+    ensures { IfOk result (λ copied. graph_of copied.items ≡ graph_of graph.now) }
+{
+    let mut copied = Vec::with_capacity(alloc, graph.len())?;
+    for row in graph {
+        copied.push(row.as_slice().to_vec(alloc)?)?;
+    }
+    Ok(copied)
+}
+
+/// The table of a graph without cycles, which has for each node the nodes to which an edge leads.
+///
+/// # Errors
+/// [`AllocError`] if an allocation fails, or if the check refuses the order that was found, which does not happen.
+pub fn closure_of(alloc: Global, graph: &[Vec<u32>]) -> Result<Closure, AllocError>
+    requires nodes { HasNodes (graph_of graph.now) }
+    requires no_cycle { All (λ is_on_cycle. is_on_cycle ≡ false) (on_cycles_of (graph_of graph.now)) }
+    ensures { IfOk result (λ found. found ≡ graph_of graph.now) }
+{
+    let rows = table(alloc, graph)?;
+    let graph = copy(alloc, graph)?;
+    Ok(Closure { graph, rows })
+}
+
+impl Closure {
+    /// Whether a node reaches another one, in one step or in more.
+    pub fn reaches(&self, from: u32, to: u32) -> bool
+        ensures { result ≡ reaches_by self.now from to }
+    {
+        match self.rows.get(from as usize) {
+            Some(row) => row.has(to as usize),
+            None => false,
+        }
+    }
+}
+
+#[cfg(test)]
+mod tests {
+    use super::*;
+    use crate::cycles::on_cycles;
+    use std::test::Fail;
+
+    #[test]
+    fn small(rt: HostRuntime) -> Result<(), Fail> {
+        let alloc = rt.alloc();
+        let mut graph = Vec::new(alloc);
+        graph.push([2].to_vec(alloc)?)?;
+        graph.push([0, 3].to_vec(alloc)?)?;
+        graph.push([4].to_vec(alloc)?)?;
+        graph.push(Vec::new(alloc))?;
+        graph.push(Vec::new(alloc))?;
+        let on_cycle = on_cycles(alloc, graph.as_slice())?;
+        assert!(rt; on_cycle.iter().all(|is_on_cycle| !*is_on_cycle));
+        let table = closure_of(alloc, graph.as_slice())?;
+        assert!(rt; table.reaches(1, 4));
+        assert!(rt; table.reaches(0, 2));
+        assert!(rt; !table.reaches(2, 0));
+        assert!(rt; !table.reaches(4, 4));
+        assert!(rt; !table.reaches(0, 3));
+        assert!(rt; !table.reaches(7, 0));
+        Ok(())
+    }
+}
