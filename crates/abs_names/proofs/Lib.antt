@@ -18,6 +18,7 @@ pub mod InPlaceLemmas
 pub mod MemberLemmas
 pub mod DeclarationLemmas
 pub mod SourceSizeLemmas
+pub mod ExtensionLemmas
 pub mod BothLemmas
 pub mod OwnSlotLemmas
 pub mod NewestLemmas

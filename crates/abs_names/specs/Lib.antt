@@ -6,6 +6,7 @@ pub mod Single
 pub mod TypeNames
 pub mod Spaces
 pub mod Repeats
+pub mod Extension
 pub mod NameOffences
 pub mod Resolution
 pub mod Answers

@@ -1,5 +1,6 @@
 -- The name offences of a source: what is declared twice (N1), what is used without a declaration or where it is not
--- visible (N2), and what is used with another number of arguments than declared (N3). The order of a list means nothing;
+-- visible (N2), what is used with another number of arguments than declared (N3), and interfaces that extend themselves
+-- (N4). The order of a list means nothing;
 -- the first offence is the one of least place.
 --
 --   `name_offences`                                    those of a source
@@ -14,6 +15,8 @@ use Rattle.abs_tree.specs.declared.place.Place.{Place}
 use Rattle.abs_tree.specs.declared.refusal.Offence.{Offence}
 use Rattle.abs_tree.specs.declared.refusal.Code.TheVariants.{N2}
 use Rattle.abs_names.specs.declared.scope.Routine.TheVariants.{Main, Method, Function, Initial}
+use Rattle.abs_graph.specs.Graphs.{on_cycles}
+use Rattle.abs_names.specs.Extension.{extensions, extension_offences}
 use Rattle.abs_names.specs.Repeats.{declarations_repeats}
 use Rattle.abs_names.specs.Prelude.{prelude}
 use Rattle.abs_names.specs.Single.{unknown, twice}
@@ -248,11 +251,18 @@ declarations_offences spaces [] = []
 declarations_offences spaces (declaration ∷ others) =
     declaration_offences spaces declaration ++ declarations_offences spaces others
 
--- all declarations of a source, with those of the prelude before them
+-- all declarations of a source, with those of the prelude before them: what they declare twice, and interfaces that
+-- extend themselves
+abbrev pub listed_offences : List DeclTree → List Offence
+listed_offences declarations =
+    spaces_offences 0 built_in declarations
+    ++ (declarations_repeats declarations
+    ++ extension_offences (on_cycles (extensions (spaces_of declarations) declarations)) declarations)
+
+-- and all other names in them
 abbrev pub declared_offences : List DeclTree → List Offence
 declared_offences declarations =
-    spaces_offences 0 built_in declarations
-    ++ (declarations_repeats declarations ++ declarations_offences (spaces_of declarations) declarations)
+    listed_offences declarations ++ declarations_offences (spaces_of declarations) declarations
 
 -- a source, before which the prelude is declared
 abbrev pub name_offences : SourceTree → List Offence

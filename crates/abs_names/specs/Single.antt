@@ -1,10 +1,17 @@
 -- The offence of one name.
 --
---   `unknown`, `twice`     a name that is unknown, a name that is declared already
+--   `offence_if`           the offence with a code, where there is one
+--   `unknown`              a name that is unknown
+--   `twice`, `cyclic`      a name that is declared already, and one whose interface extends itself
 use Rattle.std.specs.Prelude.{Bool, List, [], ◌∷◌, if◌then◌else◌}
 use Rattle.abs_tree.specs.declared.place.Place.{Place}
+use Rattle.abs_tree.specs.declared.refusal.Code.{Code}
+use Rattle.abs_tree.specs.declared.refusal.Code.TheVariants.{N1, N2, N4}
 use Rattle.abs_tree.specs.declared.refusal.Offence.{Offence}
-use Rattle.abs_tree.specs.declared.refusal.Code.TheVariants.{N1, N2}
+
+-- the offence with a code at this place, if there is one
+abbrev pub offence_if : Bool → Place → Code → List Offence
+offence_if offends place code = if offends then record { place = place; code = code } ∷ [] else []
 
 -- the offence of a name at this place that is unknown, unless it is known
 abbrev pub unknown : Bool → Place → List Offence
@@ -12,4 +19,8 @@ unknown known place = if known then [] else record { place = place; code = N2 } 
 
 -- the offence of a declaration at this place, if its name is declared already
 abbrev pub twice : Bool → Place → List Offence
-twice taken place = if taken then record { place = place; code = N1 } ∷ [] else []
+twice taken place = offence_if taken place N1
+
+-- the offence of an interface whose name is at this place, if it extends itself
+abbrev pub cyclic : Bool → Place → List Offence
+cyclic extends_itself place = offence_if extends_itself place N4

@@ -6,6 +6,7 @@ mod bodies;
 mod classes;
 mod declarations;
 mod expressions;
+mod extension;
 mod laws;
 mod patterns;
 mod prelude;

@@ -6,7 +6,7 @@ ghost use Rattle.abs_tree.specs.SyntaxViews.{declared as declared_tree, param_tr
 ghost use Rattle.abs_names.specs.Repeats.{repeated, param_names as names_of_params, class_names as names_of_class, method_names as names_of_methods, signature_names as names_of_signatures, signatures_repeats, members_repeats, declaration_repeats, declarations_repeats};
 
 use crate::walk::{Walk, note_if};
-use abs_tree::{Decl, Declared, Member, Param, Signature, Variable};
+use abs_tree::{Code, Decl, Declared, Member, Param, Signature, Variable};
 use indexmap::IndexSet;
 use std::alloc::{AllocError, Global};
 
@@ -83,7 +83,7 @@ impl Walk<'_> {
         for one in declared {
             let name = self.scope.around().kept(one.name);
             let is_new = seen.insert(self.scope.around().number(name))?;
-            note_if(&mut self.first, !is_new, one.place);
+            note_if(&mut self.first, !is_new, one.place, Code::N1);
         }
         Ok(())
     }

@@ -8,7 +8,7 @@ ghost use Rattle.abs_tree.specs.SlotViews.{BodyHasSlots, DeclHasSlots};
 ghost use Rattle.abs_tree.specs.SourceViews.{source_tree, named_tree};
 ghost use Rattle.abs_tree.specs.SyntaxViews.{decl_tree, tree_of_parts};
 ghost use Rattle.abs_names.specs.Answers.{Refuses};
-ghost use Rattle.abs_names.specs.NameOffences.{name_offences, declared_offences, declarations_offences};
+ghost use Rattle.abs_names.specs.NameOffences.{name_offences, listed_offences, declared_offences, declarations_offences};
 ghost use Rattle.abs_names.specs.Prelude.{prelude, prelude_names};
 ghost use Rattle.abs_names.specs.Repeats.{declarations_repeats};
 ghost use Rattle.abs_names.specs.Resolution.{resolved, resolved_declarations};
@@ -105,18 +105,45 @@ fn resolve_declarations<'s>(
     ensures has_slots { OnOk result (All (DeclHasSlots symbols.now) declarations.new.items) }
 {
     let mut before = prelude_declarations(alloc, symbols)?;
-    let mut walk = walk_after(
+    let mut walk = noted_walk(
         alloc,
         symbols,
         readable,
         before.as_slice(),
         declarations.as_slice(),
     )?;
-    walk.note_both(readable, before.as_slice(), declarations.as_slice())?;
     walk.resolve_both(readable, &mut before, declarations)?;
     walk.scope.set_type_params(&[])?;
     before.append(declarations)?;
     *declarations = before;
+    Ok(walk)
+}
+
+/// A walk at the beginning of the main block, to which the declarations of the prelude and those of a source are known.
+/// The source may have the first `readable` names. Names that are declared twice are noted, and interfaces that extend
+/// themselves.
+///
+/// # Errors
+/// [`AllocError`] if an allocation fails, or if there are too many names or declarations.
+fn noted_walk<'s>(
+    alloc: Global,
+    symbols: &'s Symbols<'s>,
+    readable: u32,
+    prelude: &[Decl],
+    source: &[Decl],
+) -> Result<Walk<'s>, AllocError>
+    requires few { length symbols.now ≤ table_limit }
+    ensures names { IfOk result (λ walk. walk.scope.names
+        ≡ record { before = take readable symbols.now; after = symbols.now }) }
+    ensures scope { IfOk result (λ walk. walk.scope.scope ≡ body_scope (around_of (spaces_of
+        (map (decl_tree symbols.now) prelude.now ++ map (decl_tree (take readable symbols.now)) source.now)) [])
+        InMain [] []) }
+    ensures first { IfOk result (λ walk. walk.first ≡ first_offence (listed_offences
+        (map (decl_tree symbols.now) prelude.now ++ map (decl_tree (take readable symbols.now)) source.now))) }
+{
+    let mut walk = walk_after(alloc, symbols, readable, prelude, source)?;
+    walk.note_both(readable, prelude, source)?;
+    walk.note_extensions(readable, prelude, source)?;
     Ok(walk)
 }
 

@@ -9,7 +9,7 @@ ghost use Rattle.abs_names.specs.Spaces.{constructors_offences, space_offences, 
 
 use crate::around::Around;
 use crate::walk::note_if;
-use abs_tree::{Constructor, ConstructorMeaning, Decl, Offence, Taking, TypeMeaning};
+use abs_tree::{Code, Constructor, ConstructorMeaning, Decl, Offence, Taking, TypeMeaning};
 use std::alloc::AllocError;
 
 /// What declares the names of a program: what is declared so far, and the first name that was taken.
@@ -84,7 +84,7 @@ impl Declarer<'_> {
         let taken = self
             .around
             .declare_constructor(name.name, ConstructorMeaning { taking, index })?;
-        note_if(&mut self.first, taken, name.place);
+        note_if(&mut self.first, taken, name.place, Code::N1);
         Ok(())
     }
 
@@ -110,26 +110,26 @@ impl Declarer<'_> {
             } => {
                 let meaning = TypeMeaning::Data(taking(index, type_params.len())?);
                 let taken = self.around.declare_type(name.name, meaning)?;
-                note_if(&mut self.first, taken, name.place);
+                note_if(&mut self.first, taken, name.place, Code::N1);
                 self.constructors(index, constructors.as_slice())
             }
             Decl::Function { name, params, .. } => {
                 let taking = taking(index, params.len())?;
                 let taken = self.around.declare_function(name.name, taking)?;
-                note_if(&mut self.first, taken, name.place);
+                note_if(&mut self.first, taken, name.place, Code::N1);
                 Ok(())
             }
             Decl::Interface { name, .. } => {
                 let taken = self
                     .around
                     .declare_type(name.name, TypeMeaning::Interface(index))?;
-                note_if(&mut self.first, taken, name.place);
+                note_if(&mut self.first, taken, name.place, Code::N1);
                 Ok(())
             }
             Decl::Class { name, params, .. } => {
                 let taking = taking(index, params.len())?;
                 let taken = self.around.declare_class(name.name, taking)?;
-                note_if(&mut self.first, taken, name.place);
+                note_if(&mut self.first, taken, name.place, Code::N1);
                 Ok(())
             }
         }

@@ -11,7 +11,7 @@ ghost use Rattle.abs_names.specs.Scopes.{with_variable, statement_scope};
 
 use crate::slots::Slots;
 use crate::walk::{Walk, note_if};
-use abs_tree::{Expr, Place, RightSide, Slot, Stmt, Target, Test, TypeTerm, Variable};
+use abs_tree::{Code, Expr, Place, RightSide, Slot, Stmt, Target, Test, TypeTerm, Variable};
 use std::alloc::AllocError;
 use std::sync::Arc;
 
@@ -233,7 +233,7 @@ impl Walk<'_> {
         let slot = Variable::Slot(slots.add(Slot::Local(index))?);
         if let Variable::Unresolved(name) = variable {
             let taken = self.scope.is_variable(name);
-            note_if(&mut self.first, taken, place);
+            note_if(&mut self.first, taken, place, Code::N1);
             self.scope.declare(name, slot)?;
         }
         Ok(slot)

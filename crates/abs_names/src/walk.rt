@@ -3,7 +3,7 @@ ghost use Rattle.std.specs.Prelude.{◌≡◌, [], fold, map, IfOk, OnOk};
 ghost use Rattle.abs_tree.specs.Offences.{earlier};
 ghost use Rattle.abs_tree.specs.SyntaxViews.{variable_tree, declared as declared_tree};
 ghost use Rattle.abs_tree.specs.Names.{name_of};
-ghost use Rattle.abs_names.specs.Single.{unknown, twice};
+ghost use Rattle.abs_names.specs.Single.{unknown, offence_if};
 ghost use Rattle.abs_names.specs.TypeNames.{applied};
 ghost use Rattle.abs_names.specs.NameOffences.{use_offences, bind_offences, field_offences};
 ghost use Rattle.abs_names.specs.Resolution.{resolved_use};
@@ -23,12 +23,11 @@ pub(crate) struct Walk<'s> {
     pub first: Option<Offence>,
 }
 
-/// Notes a declaration at this place whose name is taken, if it is.
-pub(crate) fn note_if(first: &mut Option<Offence>, taken: bool, place: Place)
-    ensures { first.new ≡ fold earlier first.old (twice taken place) }
+/// Notes an offence with this code at this place, if there is one.
+pub(crate) fn note_if(first: &mut Option<Offence>, offends: bool, place: Place, code: Code)
+    ensures { first.new ≡ fold earlier first.old (offence_if offends place code) }
 {
-    if taken {
-        let code = Code::N1;
+    if offends {
         Offence { place, code }.note(first);
     }
 }
@@ -143,7 +142,7 @@ impl<'s> Walk<'s> {
             return Ok(self.scope.next_bound());
         };
         let taken = self.scope.is_taken(name);
-        note_if(&mut self.first, taken, place);
+        note_if(&mut self.first, taken, place, Code::N1);
         self.scope.bind(name)
     }
 }

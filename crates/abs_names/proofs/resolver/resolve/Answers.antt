@@ -46,3 +46,15 @@ returns-clause-accepted c =
     first_offence (name_offences (tree_of_parts names program.declarations.items program.main)))
     (sym c.in_ok-readable.ensures.earlier)
     ∙ (sym c.in_ok-offence.ensures.first ∙ c.in-None.is))
+
+pub returns-in-Some-clause-refused : goal.returns-in-Some-clause-refused
+returns-in-Some-clause-refused c =
+    let program = c.args.program in
+    record {
+      first = c.in-Some.offence;
+      is_first = ap (λ (names : List Name).
+          first_offence (name_offences (tree_of_parts names program.declarations.items program.main)))
+          (sym c.in_ok-readable.ensures.earlier)
+          ∙ (sym c.in_ok-offence.ensures.first ∙ c.in-Some.is);
+      refusal_is = c.refusal.ensures;
+    }
