@@ -1,5 +1,6 @@
 pub mod BitRowLemmas
 pub mod CertificateLemmas
+pub mod ColumnLemmas
 pub mod ReachLemmas
 pub mod ReachingLemmas
 pub mod TableLemmas

@@ -8,19 +8,45 @@ use Rattle.std.proofs.lemmas.List.{get_or_past, get_or-set_same, get_or-set_othe
 use Rattle.std.proofs.lemmas.List.Elements.{All-more}
 use Rattle.std.proofs.lemmas.List.Folds.{list_any_more}
 use Rattle.abs_graph.specs.BitRows.{has, room_for, IsNewRow}
+use Rattle.abs_graph.specs.Columns.{count_of, column_of, has_column, has_node}
 use Rattle.abs_graph.specs.Graphs.{Graph, HasNodes, successors, reaches, is_marked}
-use Rattle.abs_graph.specs.Tables.{row_at, IsTable, IsUnion, IsFilled}
+use Rattle.abs_graph.specs.Tables.{row_at, IsTable, HasNoRoom, HasRoom, IsUnion, IsWide, IsFilled}
 use Rattle.abs_graph.specs.Views.{graph_of}
+use Rattle.abs_graph.specs.declared.columns.Columns.{Columns}
+use Rattle.abs_graph.proofs.ColumnLemmas.{column_inside, has_node_none, has_node_added, has_node_joined}
 use Rattle.abs_graph.proofs.ReachLemmas.{reaches_step}
 
 -- a new row is the union for no node
-pub union_none : (rows : List (List Bool)) (filled row : List Bool) → IsNewRow (length rows) row
-    → IsUnion rows filled [] row
-union_none rows filled row new = record {
-  room = new.room;
-  fits = new.fits;
+pub union_none : (columns : Columns) (rows : List (List Bool)) (filled row : List Bool) (bound : ℕ)
+    → IsNewRow bound row → length row ≤ room_for (count_of columns) → IsUnion columns rows filled [] row
+union_none columns rows filled row bound new room = record {
+  room = room;
   all_filled = λ k d less. absurd (omega arith);
-  tells = new.none;
+  tells = λ goal. has_node_none columns row goal (new.none (column_of columns goal));
+}
+
+-- also where it has no room
+pub union_empty : (columns : Columns) (rows : List (List Bool)) (filled row : List Bool) (nodes : List ℕ)
+    → IsNewRow 0 row → length nodes ≡ 0 → IsUnion columns rows filled nodes row
+unfolding room_for
+union_empty columns rows filled row [] new none = union_none columns rows filled row 0 new (omega (arith, new.room))
+union_empty columns rows filled row (node ∷ nodes) new none = absurd (omega (arith, none))
+
+-- a new row has room
+pub wide_new : (bound : ℕ) (row : List Bool) → IsNewRow bound row → IsWide bound row
+wide_new bound row new = record { room = new.room; fits = new.fits }
+
+-- a row with room for each column has room for that of a node
+pub wide_column : (columns : Columns) (row : List Bool) (node column : ℕ) → IsWide (count_of columns) row
+    → has_column columns node ≡ true → column ≡ column_of columns node → column < length row
+wide_column columns row node column wide told is = omega (arith, wide.fits, column_inside columns node told, is)
+
+-- a row that takes no more and no less room than another one
+pub wide_same : (bound : ℕ) (row added joined : List Bool) → IsWide bound row → length added ≡ length row
+    → length joined ≡ length added → IsWide bound joined
+wide_same bound row added joined wide long longer = record {
+  room = longer ∙ (long ∙ wide.room);
+  fits = omega (arith, wide.fits, longer, long);
 }
 
 -- the order in which three tests are tried
@@ -31,25 +57,27 @@ or_turn false true c = refl
 or_turn false false c = refl
 
 -- a row to which one more node and its row were added
-pub union_more : (rows : List (List Bool)) (filled : List Bool) (nodes : List ℕ) (index next : ℕ)
-    (row added joined other : List Bool) → IsUnion rows filled (take index nodes) row → index < length nodes
-    → next ≡ get_or nodes index 0 → is_marked filled next ≡ true → other ≡ row_at rows next
-    → length added ≡ length row → ((goal : ℕ) → has added goal ≡ (nat_eq next goal || has row goal))
-    → length joined ≡ length added → ((goal : ℕ) → has joined goal ≡ (has added goal || has other goal))
-    → IsUnion rows filled (take (index + 1) nodes) joined
-union_more rows filled nodes index next row added joined other union less is done at long adds longer joins =
-    let member : ℕ → ℕ → Bool = λ goal after. nat_eq after goal || has (row_at rows after) goal in
+pub union_more : (columns : Columns) (rows : List (List Bool)) (filled : List Bool) (nodes : List ℕ) (index next
+    column : ℕ) (row added joined other : List Bool) → IsUnion columns rows filled (take index nodes) row → index < length nodes
+    → next ≡ get_or nodes index 0 → is_marked filled next ≡ true → has_column columns next ≡ true
+    → column ≡ column_of columns next → other ≡ row_at rows next → length added ≡ length row
+    → ((number : ℕ) → has added number ≡ (nat_eq column number || has row number))
+    → length joined ≡ length added → ((number : ℕ) → has joined number ≡ (has added number || has other number))
+    → IsUnion columns rows filled (take (index + 1) nodes) joined
+union_more columns rows filled nodes index next column row added joined other union less is done told owns at long adds
+    longer joins =
+    let member : ℕ → ℕ → Bool = λ goal after. nat_eq after goal || has_node columns (row_at rows after) goal in
     record {
-      room = longer ∙ (long ∙ union.room);
-      fits = omega (arith, union.fits, longer, long);
+      room = omega (arith, union.room, longer, long);
       all_filled = All-more (λ after. is_marked filled after ≡ true) nodes index 0 less union.all_filled
           (subst (λ (n : ℕ). is_marked filled n ≡ true) is done);
       tells = λ goal.
-          joins goal
-          ∙ (ap (λ (b : Bool). b || has other goal) (adds goal)
-          ∙ (or_turn (has row goal) (nat_eq next goal) (has other goal)
-          ∙ (ap (λ (r : List Bool). has row goal || (nat_eq next goal || has r goal)) at
-          ∙ (ap (λ (n : ℕ). has row goal || member goal n) is
+          has_node_joined columns added joined other goal joins
+          ∙ (ap (λ (b : Bool). b || has_node columns other goal)
+          (has_node_added columns row added next column goal told owns adds)
+          ∙ (or_turn (has_node columns row goal) (nat_eq next goal) (has_node columns other goal)
+          ∙ (ap (λ (r : List Bool). has_node columns row goal || (nat_eq next goal || has_node columns r goal)) at
+          ∙ (ap (λ (n : ℕ). has_node columns row goal || member goal n) is
           ∙ (ap (λ (b : Bool). b || member goal (get_or nodes index 0)) (union.tells goal)
           ∙ sym (list_any_more (member goal) nodes index 0 less))))));
     }
@@ -62,22 +90,22 @@ any_same p q (x ∷ xs) same =
     ∙ ap (λ (b : Bool). q x || b) (any_same p q xs (λ k d less. same (suc k) d (omega (arith, less))))
 
 -- a union over the nodes to which the edges of a node lead tells what the node reaches
-union_reaches : (graph : Graph) (rows : List (List Bool)) (filled row : List Bool) (node goal : ℕ)
-    → IsFilled graph rows filled → IsUnion rows filled (successors graph node) row
-    → has row goal ≡ reaches graph node goal
-union_reaches graph rows filled row node goal known union =
+union_reaches : (graph : Graph) (columns : Columns) (rows : List (List Bool)) (filled row : List Bool) (node goal : ℕ)
+    → IsFilled graph columns rows filled → IsUnion columns rows filled (successors graph node) row
+    → has_node columns row goal ≡ reaches graph node goal
+union_reaches graph columns rows filled row node goal known union =
     union.tells goal
-    ∙ (any_same (λ next. nat_eq next goal || has (row_at rows next) goal)
+    ∙ (any_same (λ next. nat_eq next goal || has_node columns (row_at rows next) goal)
     (λ next. nat_eq next goal || reaches graph next goal) (successors graph node)
     (λ k d less. ap (λ (b : Bool). nat_eq (get_or (successors graph node) k d) goal || b)
     (known.tells (get_or (successors graph node) k d) goal (union.all_filled k d less)))
     ∙ reaches_step graph node goal)
 
 -- the rows after one more of them was filled
-pub filled_more : (graph : Graph) (rows : List (List Bool)) (filled row : List Bool) (node : ℕ)
-    → IsFilled graph rows filled → node < length graph → IsUnion rows filled (successors graph node) row
-    → IsFilled graph (set rows node row) (set filled node true)
-filled_more graph rows filled row node known inside union =
+pub filled_more : (graph : Graph) (columns : Columns) (rows : List (List Bool)) (filled row : List Bool) (node : ℕ)
+    → IsFilled graph columns rows filled → node < length graph → IsUnion columns rows filled (successors graph node) row
+    → IsFilled graph columns (set rows node row) (set filled node true)
+filled_more graph columns rows filled row node known inside union =
     let at_row : node < length rows = omega (arith, known.count) in
     let at_flag : node < length filled = omega (arith, known.flags) in
     let as_long : length (set rows node row) ≡ length rows = length-set rows node row in
@@ -85,45 +113,48 @@ filled_more graph rows filled row node known inside union =
       count = as_long ∙ known.count;
       flags = length-set filled node true ∙ known.flags;
       room = record {
-        room = λ other. subst (λ (n : ℕ). length (row_at (set rows node row) other) ≤ room_for n) (sym as_long)
-            (elim (cases_eq other node) [
-              | inl here ↦
-                  let is : row_at (set rows node row) other ≡ row =
-                  ap (row_at (set rows node row)) here ∙ get_or-set_same rows node row [] at_row in
-                  let long : length (row_at (set rows node row) other) ≡ room_for (length rows) =
-                  ap (λ (r : List Bool). length r) is ∙ union.room in
-                  omega (arith, long)
-              | inr away ↦
-                  subst (λ (r : List Bool). length r ≤ room_for (length rows))
-                  (sym (get_or-set_other rows node other row [] away)) (known.room.room other)
-            ]);
+        room = λ other. elim (cases_eq other node) [
+          | inl here ↦
+              let is : row_at (set rows node row) other ≡ row =
+              ap (row_at (set rows node row)) here ∙ get_or-set_same rows node row [] at_row in
+              subst (λ (r : List Bool). length r ≤ room_for (count_of columns)) (sym is) union.room
+          | inr away ↦
+              subst (λ (r : List Bool). length r ≤ room_for (count_of columns))
+              (sym (get_or-set_other rows node other row [] away)) (known.room.room other)
+        ];
       };
       tells = λ other goal told. elim (cases_eq other node) [
         | inl here ↦
-            ap (λ (n : ℕ). has (row_at (set rows node row) n) goal) here
-            ∙ (ap (λ (r : List Bool). has r goal) (get_or-set_same rows node row [] at_row)
-            ∙ (union_reaches graph rows filled row node goal known union
+            ap (λ (n : ℕ). has_node columns (row_at (set rows node row) n) goal) here
+            ∙ (ap (λ (r : List Bool). has_node columns r goal) (get_or-set_same rows node row [] at_row)
+            ∙ (union_reaches graph columns rows filled row node goal known union
             ∙ ap (λ (n : ℕ). reaches graph n goal) (sym here)))
         | inr away ↦
-            ap (λ (r : List Bool). has r goal) (get_or-set_other rows node other row [] away)
+            ap (λ (r : List Bool). has_node columns r goal) (get_or-set_other rows node other row [] away)
             ∙ known.tells other goal (sym (get_or-set_other filled node other true false away) ∙ told)
       ];
     }
 
 -- one more row without room
-pub none_more : (rows : List (List Bool)) (row : List Bool) → ((node : ℕ) → length (row_at rows node) ≡ 0)
-    → IsNewRow 0 row → (node : ℕ) → length (row_at (rows ++ row ∷ []) node) ≡ 0
+pub none_more : (rows : List (List Bool)) (row : List Bool) → HasNoRoom rows → IsNewRow 0 row
+    → HasNoRoom (rows ++ row ∷ [])
 unfolding room_for
-none_more rows row none new node = elim (cases_lt node (length rows)) [
-  | inl less ↦ ap (λ (r : List Bool). length r) (get_or_append_left rows (row ∷ []) [] node less) ∙ none node
-  | inr over ↦ elim (cases_eq node (length rows)) [
-    | inl last ↦ ap (λ (r : List Bool). length r) (get_or_push rows row [] node (sym last)) ∙ new.room
-    | inr past ↦
-        let long = length_push rows row in
-        let beyond : length (rows ++ row ∷ []) ≤ node = omega (arith, long, over, past) in
-        ap (λ (r : List Bool). length r) (get_or_past (rows ++ row ∷ []) node [] beyond)
-  ]
-]
+none_more rows row none new = record {
+  none = λ node. elim (cases_lt node (length rows)) [
+    | inl less ↦ ap (λ (r : List Bool). length r) (get_or_append_left rows (row ∷ []) [] node less) ∙ none.none node
+    | inr over ↦ elim (cases_eq node (length rows)) [
+      | inl last ↦ ap (λ (r : List Bool). length r) (get_or_push rows row [] node (sym last)) ∙ new.room
+      | inr past ↦
+          let long = length_push rows row in
+          let beyond : length (rows ++ row ∷ []) ≤ node = omega (arith, long, over, past) in
+          ap (λ (r : List Bool). length r) (get_or_past (rows ++ row ∷ []) node [] beyond)
+    ]
+  ];
+}
+
+-- rows without room are short enough
+pub room_none : (columns : Columns) (rows : List (List Bool)) → HasNoRoom rows → HasRoom columns rows
+room_none columns rows none = record { room = λ node. omega (arith, none.none node) }
 
 -- the nodes to which the edges of a node lead are some of the rows
 pub nodes_have_rows : (graph : Graph) (nodes : List ℕ) (rows node : ℕ) → HasNodes graph → node < length graph
@@ -139,21 +170,32 @@ reaches_past graph node goal past =
     ∙ ap (list_any (λ next. nat_eq next goal || reaches graph next goal)) (get_or_past graph node [] past)
 
 -- rows that were all filled are the table
-pub filled_table : (graph : Graph) (rows : List (List Bool)) (filled flags : List Bool) → IsFilled graph rows filled
-    → flags ≡ filled → All (λ b. b ≡ true) flags → IsTable graph rows
-filled_table graph rows filled flags known is all = record {
+pub filled_table : (graph : Graph) (columns : Columns) (rows : List (List Bool)) (filled flags : List Bool) → IsFilled graph columns rows filled
+    → flags ≡ filled → All (λ b. b ≡ true) flags → IsTable graph columns rows
+filled_table graph columns rows filled flags known is all = record {
   tells = λ node goal. elim (cases_lt node (length graph)) [
     | inl less ↦
         let flag = subst (λ (bs : List Bool). All (λ b. b ≡ true) bs) is all in
         known.tells node goal (flag node false (omega (arith, less, known.flags)))
     | inr past ↦
         let beyond : length rows ≤ node = omega (arith, past, known.count) in
-        ap (λ (r : List Bool). has r goal) (get_or_past rows node [] beyond) ∙ sym (reaches_past graph node goal past)
+        ap (λ (r : List Bool). has_node columns r goal) (get_or_past rows node [] beyond)
+        ∙ (has_node_none columns [] goal refl ∙ sym (reaches_past graph node goal past))
   ];
 }
+
+-- past the rows of a table nothing reaches anything
+pub table_past : (graph : Graph) (columns : Columns) (rows : List (List Bool)) (node goal : ℕ)
+    → IsTable graph columns rows → length rows ≤ node → false ≡ reaches graph node goal
+table_past graph columns rows node goal table past =
+    sym (has_node_none columns [] goal refl)
+    ∙ (ap (λ (r : List Bool). has_node columns r goal) (sym (get_or_past rows node [] past)) ∙ table.tells node goal)
 
 -- the graph of rows has as many nodes as there are rows
 pub node_inside : (rows : List (Vec ℕ Global)) (node : ℕ) → node < length rows → node < length (graph_of rows)
 node_inside rows node inside =
     let count = length-map rows (λ (row : Vec ℕ Global). row.items) in
     omega (arith, inside, count)
+
+pub rows_count : (rows : List (Vec ℕ Global)) → length rows ≡ length (graph_of rows)
+rows_count rows = sym (length-map rows (λ (row : Vec ℕ Global). row.items))

@@ -1,5 +1,6 @@
 pub mod BitRows
 pub mod Certificates
+pub mod Columns
 pub mod Graphs
 pub mod Reaching
 pub mod Tables

@@ -1,14 +1,17 @@
-//! A table of which nodes of a graph without cycles reach which. The rows are filled in an order in which each node
-//! comes after the nodes to which its edges lead. Each row is the union of those nodes and their rows. That their rows
-//! were filled before is tested, so nothing need be proved of the order.
+//! A table of which nodes of a graph without cycles reach which. It has a row for each node. A row has a bit for each
+//! node to which an edge leads, and no bits if no edge leads from its node. The rows are filled in an order in which
+//! each node comes after the nodes to which its edges lead. Each row is the union of those nodes and their rows. That
+//! their rows were filled before is tested, so nothing need be proved of the order.
 ghost use Rattle.std.specs.Prelude.{◌≡◌, ◌<◌, true, false, length, All, IfOk};
 ghost use Rattle.std.specs.Bool.{OnTrue};
+ghost use Rattle.abs_graph.specs.Columns.{HasColumns, has_column};
 ghost use Rattle.abs_graph.specs.Graphs.{HasNodes, reaches as reaches_by, on_cycles as on_cycles_of};
-ghost use Rattle.abs_graph.specs.Tables.{HasRoom, IsFilled, IsTable, IsUnion};
+ghost use Rattle.abs_graph.specs.Tables.{HasNoRoom, HasRoom, IsFilled, IsTable, IsUnion};
 ghost use Rattle.abs_graph.specs.Views.{graph_of};
 
 use crate::bit_row::BitRow;
 use crate::certificate::leaving_order;
+use crate::columns::Columns;
 use std::alloc::{AllocError, Global};
 use std::marker::Model;
 
@@ -16,6 +19,7 @@ use std::marker::Model;
 #[derive(Drop)]
 pub struct Closure {
     graph: Vec<Vec<u32>>,
+    columns: Columns,
     rows: Vec<BitRow>,
 }
 
@@ -28,31 +32,38 @@ impl Model for Closure {
 
     ghost view = { λ table. graph_of table.graph.items };
 
-    ghost invariant = { λ table. IsTable (graph_of table.graph.items) table.rows.items };
+    ghost invariant = { λ table. IsTable (graph_of table.graph.items) table.columns table.rows.items };
 }
 
-/// The row of a node with edges to some nodes: these nodes, and what their rows have.
+/// The row of a node with edges to some nodes: these nodes, and what their rows have. Without edges the row takes no
+/// memory.
 ///
 /// # Errors
 /// [`AllocError`] if an allocation fails, or if the row of one of the nodes was not filled.
 fn row_over(
     alloc: Global,
     nodes: &[u32],
+    columns: &Columns,
     rows: &[BitRow],
     filled: &[bool],
 ) -> Result<BitRow, AllocError>
     requires nodes { All (λ next. next < length rows.now) nodes.now }
+    requires columns { All (λ next. has_column columns.now next ≡ true) nodes.now }
     requires flags { length filled.now ≡ length rows.now }
-    requires room { HasRoom rows.now }
-    ensures { IfOk result (λ row. IsUnion rows.now filled.now nodes.now row) }
+    requires room { HasRoom columns.now rows.now }
+    ensures { IfOk result (λ row. IsUnion columns.now rows.now filled.now nodes.now row) }
 {
-    let mut row = BitRow::new(alloc, rows.len())?;
+    if nodes.is_empty() {
+        let empty = BitRow::new(alloc, 0)?;
+        return Ok(empty);
+    }
+    let mut row = BitRow::new(alloc, columns.count())?;
     for next in nodes {
         let next = *next as usize;
         if !filled[next] {
             return Err(AllocError);
         }
-        row.add(next);
+        row.add(columns.column(next));
         row.add_all(&rows[next]);
     }
     Ok(row)
@@ -65,16 +76,18 @@ fn row_over(
 fn fill(
     alloc: Global,
     graph: &[Vec<u32>],
+    columns: &Columns,
     node: usize,
     rows: &mut [BitRow],
     filled: &mut [bool],
 ) -> Result<(), AllocError>
     requires nodes { HasNodes (graph_of graph.now) }
+    requires columns { HasColumns columns.now (graph_of graph.now) (length graph.now) }
     requires node { node < length graph.now }
-    requires filled { IsFilled (graph_of graph.now) rows.old filled.old }
-    ensures { IfOk result (λ _. IsFilled (graph_of graph.now) rows.new filled.new) }
+    requires filled { IsFilled (graph_of graph.now) columns.now rows.old filled.old }
+    ensures { IfOk result (λ _. IsFilled (graph_of graph.now) columns.now rows.new filled.new) }
 {
-    let row = row_over(alloc, graph[node].as_slice(), rows, filled)?;
+    let row = row_over(alloc, graph[node].as_slice(), columns, rows, filled)?;
     rows[node] = row;
     filled[node] = true;
     Ok(())
@@ -87,28 +100,30 @@ fn fill(
 fn fill_in_order(
     alloc: Global,
     graph: &[Vec<u32>],
+    columns: &Columns,
     order: &[usize],
     rows: &mut [BitRow],
     filled: &mut [bool],
 ) -> Result<(), AllocError>
     requires nodes { HasNodes (graph_of graph.now) }
-    requires filled { IsFilled (graph_of graph.now) rows.old filled.old }
-    ensures { IfOk result (λ _. IsFilled (graph_of graph.now) rows.new filled.new) }
+    requires columns { HasColumns columns.now (graph_of graph.now) (length graph.now) }
+    requires filled { IsFilled (graph_of graph.now) columns.now rows.old filled.old }
+    ensures { IfOk result (λ _. IsFilled (graph_of graph.now) columns.now rows.new filled.new) }
 {
     for node in order {
         if *node < graph.len() {
-            fill(alloc, graph, *node, rows, filled)?;
+            fill(alloc, graph, columns, *node, rows, filled)?;
         }
     }
     Ok(())
 }
 
-/// A row without room for each node, to be replaced by one with room.
+/// A row without room for each node, to be replaced by the one of the node.
 ///
 /// # Errors
 /// [`AllocError`] if an allocation fails.
 fn no_rows(alloc: Global, nodes: usize) -> Result<Vec<BitRow>, AllocError>
-    ensures { IfOk result (λ rows. (length rows.items ≡ nodes) × HasRoom rows.items) }
+    ensures { IfOk result (λ rows. (length rows.items ≡ nodes) × HasNoRoom rows.items) }
 {
     let mut rows = Vec::with_capacity(alloc, nodes)?;
     for _ in 0..nodes {
@@ -128,9 +143,10 @@ fn all_filled(filled: &[bool]) -> bool
 ///
 /// # Errors
 /// [`AllocError`] if an allocation fails, or if the graph has a cycle.
-fn table(alloc: Global, graph: &[Vec<u32>]) -> Result<Vec<BitRow>, AllocError>
-    requires { HasNodes (graph_of graph.now) }
-    ensures { IfOk result (λ rows. IsTable (graph_of graph.now) rows.items) }
+fn table(alloc: Global, graph: &[Vec<u32>], columns: &Columns) -> Result<Vec<BitRow>, AllocError>
+    requires nodes { HasNodes (graph_of graph.now) }
+    requires columns { HasColumns columns.now (graph_of graph.now) (length graph.now) }
+    ensures { IfOk result (λ rows. IsTable (graph_of graph.now) columns.now rows.items) }
 {
     let mut rows = no_rows(alloc, graph.len())?;
     let mut filled = vec![in alloc; false; graph.len()]?;
@@ -138,6 +154,7 @@ fn table(alloc: Global, graph: &[Vec<u32>]) -> Result<Vec<BitRow>, AllocError>
     fill_in_order(
         alloc,
         graph,
+        columns,
         order.as_slice(),
         rows.as_mut_slice(),
         filled.as_mut_slice(),
@@ -171,9 +188,14 @@ pub fn closure_of(alloc: Global, graph: &[Vec<u32>]) -> Result<Closure, AllocErr
     requires no_cycle { All (λ is_on_cycle. is_on_cycle ≡ false) (on_cycles_of (graph_of graph.now)) }
     ensures { IfOk result (λ found. found ≡ graph_of graph.now) }
 {
-    let rows = table(alloc, graph)?;
+    let columns = Columns::new(alloc, graph)?;
+    let rows = table(alloc, graph, &columns)?;
     let graph = copy(alloc, graph)?;
-    Ok(Closure { graph, rows })
+    Ok(Closure {
+        graph,
+        columns,
+        rows,
+    })
 }
 
 impl Closure {
@@ -182,7 +204,7 @@ impl Closure {
         ensures { result ≡ reaches_by self.now from to }
     {
         match self.rows.get(from as usize) {
-            Some(row) => row.has(to as usize),
+            Some(row) => self.columns.has_node(row, to as usize),
             None => false,
         }
     }

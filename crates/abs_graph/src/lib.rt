@@ -4,6 +4,7 @@
 mod bit_row;
 mod certificate;
 mod closure;
+mod columns;
 mod cycles;
 mod laws;
 mod marked;
@@ -11,4 +12,4 @@ mod marked;
 pub use closure::{Closure, closure_of};
 pub use cycles::on_cycles;
 pub use laws::reaches_is_told;
-pub use marked::reaching;
+pub use marked::{is_marked, reaching};

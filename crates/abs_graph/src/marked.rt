@@ -11,7 +11,7 @@ use crate::certificate::{Arrival, arrivals, edge_end};
 use std::alloc::{AllocError, Global};
 
 /// Whether a node is marked.
-fn is_marked(marked: &[bool], node: usize) -> bool
+pub fn is_marked(marked: &[bool], node: usize) -> bool
     ensures { result ≡ is_marked_of marked.now node }
 {
     match marked.get(node) {

@@ -3,4 +3,4 @@ use Rattle.abs_graph.specs.Views.{graph_of}
 use Rattle.abs_graph.proofs.closure.fill_in_order.Given as goal
 
 abbrev pub invariant-loop-node : goal.invariant-loop-node
-invariant-loop-node l = IsFilled (graph_of l.graph) l.rows l.filled
+invariant-loop-node l = IsFilled (graph_of l.graph) l.columns l.rows l.filled

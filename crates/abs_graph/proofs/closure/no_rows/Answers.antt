@@ -1,12 +1,12 @@
-use Rattle.std.proofs.Common.{List, Bool, ◌≡◌, length, subst, sym, arith}
+use Rattle.std.proofs.Common.{subst, sym, arith}
 use Rattle.std.proofs.lemmas.Grind.{common_steps}
-use Rattle.abs_graph.specs.Tables.{row_at}
+use Rattle.abs_graph.specs.Tables.{HasNoRoom}
 use Rattle.abs_graph.proofs.TableLemmas.{none_more}
 use Rattle.abs_graph.proofs.closure.no_rows.Goals as goal
 
 pub loop-preserved : goal.loop-preserved
 loop-preserved c = (
   grind (arith, common_steps, c.in_ok-push.ensures.items),
-  λ node. subst (λ (rows : List (List Bool)). length (row_at rows node) ≡ 0) (sym c.in_ok-push.ensures.items)
-      (none_more c.loop.rows.items c.in_ok-new.field-0 c.loop.invariant.1 c.in_ok-new.ensures node),
+  subst HasNoRoom (sym c.in_ok-push.ensures.items)
+      (none_more c.loop.rows.items c.in_ok-new.field-0 c.loop.invariant.1 c.in_ok-new.ensures),
 )

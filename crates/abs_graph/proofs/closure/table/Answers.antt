@@ -11,7 +11,7 @@ returns c =
     let filled = c.fill_in_order.new.filled in
     let rows_len : length rows ≡ c.in_ok-rows.rows.len = omega arith in
     let filled_len : length filled ≡ c.in_ok-filled.filled.len = omega arith in
-    subst (λ (rs : List (List Bool)). IsTable (graph_of c.args.graph.now) rs)
+    subst (λ (rs : List (List Bool)). IsTable (graph_of c.args.graph.now) c.args.columns.now rs)
     (sym (with_items_is c.in_ok-rows.rows rows rows_len))
-    (filled_table (graph_of c.args.graph.now) rows filled c.as_slice-2.result.now c.in_ok-fill_in_order.ensures
+    (filled_table (graph_of c.args.graph.now) c.args.columns.now rows filled c.as_slice-2.result.now c.in_ok-fill_in_order.ensures
     (c.as_slice-2.ensures.value ∙ with_items_is c.in_ok-filled.filled filled filled_len) c.if-not-all_filled.ensures)

@@ -1,0 +1,129 @@
+//! The columns of a table: one for each node to which an edge leads. Most nodes of a large graph have none, so the rows
+//! of the table stay short. Each look-up compares the node of a column, so no two nodes have the same one.
+ghost use Rattle.std.specs.Prelude.{◌≡◌, ◌<◌, [], ◌∷◌, length, All, IfOk};
+ghost use Rattle.abs_graph.specs.Columns.{HasColumns, IsExtended, count_of, column_of, has_column, has_node};
+ghost use Rattle.abs_graph.specs.Graphs.{HasNodes};
+ghost use Rattle.abs_graph.specs.Views.{graph_of};
+
+use crate::bit_row::BitRow;
+use std::alloc::{AllocError, Global};
+
+/// The columns of a table.
+#[derive(Drop)]
+pub struct Columns {
+    /// For each column its node.
+    pub nodes: Vec<usize>,
+    /// For each node its column, and another number where it has none.
+    pub columns: Vec<usize>,
+}
+
+impl Columns {
+    /// A column for each node to which an edge leads.
+    ///
+    /// # Errors
+    /// [`AllocError`] if an allocation fails.
+    pub fn new(alloc: Global, graph: &[Vec<u32>]) -> Result<Columns, AllocError>
+        requires { HasNodes (graph_of graph.now) }
+        ensures { IfOk result (λ columns. HasColumns columns (graph_of graph.now) (length graph.now)) }
+    {
+        let mut columns = Columns {
+            nodes: Vec::new(alloc),
+            columns: vec![in alloc; 0; graph.len()]?,
+        };
+        for row in graph {
+            columns.add_row(row.as_slice())?;
+        }
+        Ok(columns)
+    }
+
+    /// Adds a column for each of some nodes that has none.
+    ///
+    /// # Errors
+    /// [`AllocError`] if an allocation fails.
+    fn add_row(&mut self, row: &[u32]) -> Result<(), AllocError>
+        requires { All (λ next. next < length self.old.columns.items) row.now }
+        ensures { IfOk result (λ _. IsExtended self.old self.new row.now) }
+    {
+        for next in row {
+            self.add(*next as usize)?;
+        }
+        Ok(())
+    }
+
+    /// Adds a column for a node, if it has none.
+    ///
+    /// # Errors
+    /// [`AllocError`] if an allocation fails.
+    fn add(&mut self, node: usize) -> Result<(), AllocError>
+        requires { node < length self.old.columns.items }
+        ensures { IfOk result (λ _. IsExtended self.old self.new (node ∷ [])) }
+    {
+        if self.has(node) {
+            return Ok(());
+        }
+        self.columns[node] = self.nodes.len();
+        self.nodes.push(node)?;
+        Ok(())
+    }
+
+    /// How many columns there are.
+    pub fn count(&self) -> usize
+        ensures { result ≡ count_of self.now }
+    {
+        self.nodes.len()
+    }
+
+    /// The column of a node that has one.
+    pub fn column(&self, node: usize) -> usize
+        ensures { result ≡ column_of self.now node }
+    {
+        match self.columns.get(node) {
+            Some(column) => *column,
+            None => 0,
+        }
+    }
+
+    /// Whether a node has a column.
+    #[tactic(auto, unfolding(crate::specs::Columns::has_column))]
+    pub fn has(&self, node: usize) -> bool
+        ensures { result ≡ has_column self.now node }
+    {
+        let column = self.column(node);
+        column < self.nodes.len() && self.nodes[column] == node
+    }
+
+    /// Whether a row has a node.
+    #[tactic(auto, unfolding(crate::specs::Columns::has_node))]
+    pub fn has_node(&self, row: &BitRow, node: usize) -> bool
+        ensures { result ≡ has_node self.now row.now node }
+    {
+        self.has(node) && row.has(self.column(node))
+    }
+}
+
+#[cfg(test)]
+mod tests {
+    use super::*;
+    use std::test::Fail;
+
+    #[test]
+    fn small(rt: HostRuntime) -> Result<(), Fail> {
+        let alloc = rt.alloc();
+        let mut graph = Vec::new(alloc);
+        graph.push(Vec::new(alloc))?;
+        graph.push([4, 3].to_vec(alloc)?)?;
+        graph.push([4].to_vec(alloc)?)?;
+        graph.push(Vec::new(alloc))?;
+        graph.push(Vec::new(alloc))?;
+        let columns = Columns::new(alloc, graph.as_slice())?;
+        assert_eq!(rt; columns.count(), 2);
+        assert_eq!(rt; columns.column(3), 1);
+        assert_eq!(rt; columns.column(4), 0);
+        assert!(rt; columns.has(3));
+        assert!(rt; columns.has(4));
+        assert!(rt; !columns.has(0));
+        assert!(rt; !columns.has(2));
+        assert!(rt; !columns.has(5));
+        Ok(())
+    }
+}
