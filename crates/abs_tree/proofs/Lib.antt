@@ -5,3 +5,8 @@ pub mod StatementLemmas
 pub mod EntryLemmas
 pub mod OffenceLemmas
 pub mod LinkLemmas
+pub mod AddedLemmas
+pub mod KeptSpaceLemmas
+pub mod EdgeLemmas
+pub mod HolderLemmas
+pub mod DeclaredLemmas

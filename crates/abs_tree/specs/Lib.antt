@@ -22,3 +22,7 @@ pub mod SourceSizes
 pub mod SourceViews
 pub mod Numbered
 pub mod Linked
+pub mod KeptSpaces
+pub mod Supertypes
+pub mod Holdings
+pub mod NamedDeclarations

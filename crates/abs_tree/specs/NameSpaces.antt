@@ -5,7 +5,8 @@
 --   `built_in`                             what is declared before all declarations
 --   `with_declaration`, `spaces_of`      name spaces with a declaration, and those of declarations
 --   `type_arity`, `function_arity`         how many arguments a name of a type or a function takes
-use Rattle.std.specs.Prelude.{ℕ, ◌+◌, List, [], ◌∷◌, codes, length}
+--   `data_arity`, `means_interface`        how many that of data takes, and whether a name is that of an interface
+use Rattle.std.specs.Prelude.{ℕ, ◌+◌, Bool, true, false, List, [], ◌∷◌, codes, length, Option, Some, None}
 use Rattle.abs_tree.specs.Syntax.{TypeTrees, NoType, NextType, ConstructorTree, DeclTree, DataTree, FunctionTree, InterfaceTree, ClassTree}
 use Rattle.abs_tree.specs.Tables.{Table, with_first}
 use Rattle.abs_tree.specs.declared.name_spaces.Taking.{Taking}
@@ -83,3 +84,17 @@ type_arity (type.Interface index) = 0
 abbrev pub function_arity : FunctionMeaning → ℕ
 function_arity function.ToString = 1
 function_arity (function.Defined taking) = taking.arity
+
+-- how many arguments data takes, by what its name stands for
+abbrev pub data_arity : Option TypeMeaning → Option ℕ
+data_arity (Some (type.Data taking)) = Some taking.arity
+data_arity (Some type.Int) = None
+data_arity (Some type.String) = None
+data_arity (Some type.Fut) = None
+data_arity (Some (type.Interface index)) = None
+data_arity None = None
+
+-- whether a name stands for an interface
+abbrev pub means_interface : Option TypeMeaning → Bool
+means_interface (Some (type.Interface index)) = true
+means_interface _ = false

@@ -1,8 +1,16 @@
 //! Laws of the definitions, which hold whatever the code does.
-ghost use Rattle.std.specs.Prelude.{◌≡◌, ◌↔◌, List, Some};
+ghost use Rattle.std.specs.Prelude.{◌≡◌, ◌↔◌, ℕ, List, Some};
+ghost use Rattle.abs_tree.specs.declared.name_spaces.ConstructorMeaning.{ConstructorMeaning};
+ghost use Rattle.abs_tree.specs.declared.name_spaces.FunctionMeaning.TheVariants.{Defined};
+ghost use Rattle.abs_tree.specs.declared.name_spaces.Taking.{Taking};
+ghost use Rattle.abs_tree.specs.declared.name_spaces.TypeMeaning.TheVariants.{Data, Interface};
 ghost use Rattle.abs_tree.specs.declared.refusal.Offence.{Offence as OffenceAt};
-ghost use Rattle.abs_tree.specs.Offences.{first_offence, IsFirst};
+ghost use Rattle.abs_tree.specs.NamedDeclarations.{IsData, IsInterface, IsConstructor, IsFunction, IsClass};
+ghost use Rattle.abs_tree.specs.NameSpaces.{spaces_of};
 ghost use Rattle.abs_tree.specs.Names.{number_of_name, name_of};
+ghost use Rattle.abs_tree.specs.Offences.{first_offence, IsFirst};
+ghost use Rattle.abs_tree.specs.Syntax.{Name, DeclTree};
+ghost use Rattle.abs_tree.specs.Tables.{meaning_of};
 
 use crate::{Symbol, Symbols};
 
@@ -19,4 +27,22 @@ pub fn numbers_tell_names(symbols: &Symbols<'_>, one: Symbol, other: Symbol)
     ensures { (number_of_name symbols.now (name_of symbols.now one)
         ≡ number_of_name symbols.now (name_of symbols.now other))
         ↔ (name_of symbols.now one ≡ name_of symbols.now other) }
+{}
+
+/// What the name spaces of declarations say of a name is declared: there is a declaration of this name at the index,
+/// and it takes as many arguments.
+pub fn declared_is_there()
+    ensures data_type { (declarations : List DeclTree) (name : Name) (taking : Taking)
+        → meaning_of (spaces_of declarations).types name ≡ Some (Data taking) → IsData declarations name taking }
+    ensures interface { (declarations : List DeclTree) (name : Name) (index : ℕ)
+        → meaning_of (spaces_of declarations).types name ≡ Some (Interface index)
+        → IsInterface declarations name index }
+    ensures constructor { (declarations : List DeclTree) (name : Name) (meaning : ConstructorMeaning)
+        → meaning_of (spaces_of declarations).constructors name ≡ Some meaning
+        → IsConstructor declarations name meaning }
+    ensures function { (declarations : List DeclTree) (name : Name) (taking : Taking)
+        → meaning_of (spaces_of declarations).functions name ≡ Some (Defined taking)
+        → IsFunction declarations name taking }
+    ensures class { (declarations : List DeclTree) (name : Name) (taking : Taking)
+        → meaning_of (spaces_of declarations).classes name ≡ Some taking → IsClass declarations name taking }
 {}

@@ -13,11 +13,12 @@ pub mod refusal;
 pub mod source_error;
 pub mod symbol;
 pub mod syntax;
+pub mod tables;
 pub mod text;
 pub mod value;
 
 pub use arithmetic::negated;
-pub use laws::{first_is_least, numbers_tell_names};
+pub use laws::{declared_is_there, first_is_least, numbers_tell_names};
 pub use meanings::Meanings;
 pub use name_spaces::{ConstructorMeaning, FunctionMeaning, NameSpaces, Taking, TypeMeaning};
 pub use named::Named;
@@ -29,5 +30,6 @@ pub use syntax::{
     Body, Branch, Constructor, Decl, Declared, Expr, Member, Mode, Operand, Operator, Param,
     Pattern, Prefix, Program, RightSide, Signature, Slot, Stmt, Target, Test, TypeTerm, Variable,
 };
+pub use tables::supertypes::supertype_graph;
 pub use text::Text;
 pub use value::{Evaluated, Fault, Output, Value, Values, value_text};
