@@ -10,3 +10,6 @@ pub mod KeptSpaceLemmas
 pub mod EdgeLemmas
 pub mod HolderLemmas
 pub mod DeclaredLemmas
+pub mod FieldLemmas
+pub mod SignatureLemmas
+pub mod MethodLemmas

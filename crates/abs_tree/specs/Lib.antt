@@ -25,4 +25,10 @@ pub mod Linked
 pub mod KeptSpaces
 pub mod Supertypes
 pub mod Holdings
+pub mod Members
+pub mod KeptMembers
+pub mod TableFacts
 pub mod NamedDeclarations
+pub mod FieldRows
+pub mod SignatureRows
+pub mod MethodEntries

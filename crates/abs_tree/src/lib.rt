@@ -30,6 +30,8 @@ pub use syntax::{
     Body, Branch, Constructor, Decl, Declared, Expr, Member, Mode, Operand, Operator, Param,
     Pattern, Prefix, Program, RightSide, Signature, Slot, Stmt, Target, Test, TypeTerm, Variable,
 };
+pub use tables::Tables;
+pub use tables::members::{FieldAt, SignatureAt};
 pub use tables::supertypes::supertype_graph;
 pub use text::Text;
 pub use value::{Evaluated, Fault, Output, Value, Values, value_text};
