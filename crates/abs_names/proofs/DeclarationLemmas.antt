@@ -1,6 +1,6 @@
 -- How declared names, constructors, heads of methods and declarations are resolved, each in a list.
 use Rattle.std.proofs.Common.{[], refl}
-use Rattle.abs_tree.specs.NameSpaces.{NameSpaces}
+use Rattle.abs_tree.specs.NameSpaces.{NameSpaces, means_interface}
 use Rattle.abs_tree.specs.Syntax.{DeclaredTree, ConstructorTree, SignatureTree, DeclTree}
 use Rattle.abs_tree.specs.SyntaxViews.{declared, constructor_tree, signature_tree, decl_tree}
 use Rattle.abs_tree.specs.Tables.{meaning_of}
@@ -11,7 +11,7 @@ use Rattle.abs_tree.specs.declared.syntax.declaration.Signature.{Signature}
 use Rattle.abs_names.specs.NameOffences.{interfaces_offences, constructor_types_offences, signature_offences, signatures_offences, declaration_offences, declarations_offences}
 use Rattle.abs_names.specs.Resolution.{resolved_constructors, resolved_signature, resolved_signatures, resolved_declaration, resolved_declarations}
 use Rattle.abs_names.specs.Single.{unknown}
-use Rattle.abs_names.specs.TypeNames.{is_interface, types_offences, resolved_types}
+use Rattle.abs_names.specs.TypeNames.{types_offences, resolved_types}
 use Rattle.abs_names.specs.Visible.{Names, Visible}
 use Rattle.abs_names.proofs.InPlaceLemmas.{ItemResolution}
 
@@ -38,7 +38,7 @@ interface_resolution = record {
   after = λ v. declared v.names.after;
   resolved = λ v count tree. tree;
   all_resolved = λ v count trees. trees;
-  offences = λ v count tree. unknown (is_interface (meaning_of v.scope.around.spaces.types tree.name)) tree.place;
+  offences = λ v count tree. unknown (means_interface (meaning_of v.scope.around.spaces.types tree.name)) tree.place;
   all_offences = λ v count trees. interfaces_offences v.scope.around trees;
   next = λ v count tree. count;
   none_resolved = λ v count. refl;

@@ -9,6 +9,7 @@ use Rattle.std.proofs.lemmas.List.Sums.{fold-append}
 use Rattle.abs_tree.proofs.SyntaxLemmas.{phrase-own_call, phrase-apply, phrase-build, phrase-operators, phrase-case}
 use Rattle.abs_tree.specs.Offences.{earlier}
 use Rattle.abs_tree.specs.Syntax.{Name, Phrase, OperatorsOf, OwnCallOf, ApplyOf, BuildOf, CaseOf}
+use Rattle.abs_tree.specs.SyntaxCounts.{count_phrases}
 use Rattle.abs_tree.specs.SyntaxViews.{phrase, phrases, operand_trees, branches}
 use Rattle.abs_tree.specs.Names.{name_of}
 use Rattle.abs_tree.specs.declared.place.Place.{Place}
@@ -18,7 +19,7 @@ use Rattle.abs_tree.specs.declared.syntax.expression.Expr as code
 use Rattle.abs_tree.specs.declared.syntax.expression.Expr.{Expr}
 use Rattle.abs_tree.specs.declared.syntax.expression.Operand.{Operand}
 use Rattle.abs_tree.specs.declared.syntax.expression.Branch.{Branch}
-use Rattle.abs_names.specs.NameOffences.{count_phrases, phrases_offences}
+use Rattle.abs_names.specs.NameOffences.{phrases_offences}
 use Rattle.abs_names.specs.Resolution.{resolved_phrases, resolved_operands, resolved_branches}
 use Rattle.abs_names.specs.TypeNames.{Around, applied}
 use Rattle.abs_names.specs.Visible.{Names, Known, Visible}

@@ -19,6 +19,14 @@ pub mod MemberLemmas
 pub mod DeclarationLemmas
 pub mod SourceSizeLemmas
 pub mod ExtensionLemmas
+pub mod ResolvedLemmas
 pub mod BothLemmas
 pub mod OwnSlotLemmas
 pub mod NewestLemmas
+pub mod ThereTypeLemmas
+pub mod ThereScopeLemmas
+pub mod ThereExpressionLemmas
+pub mod ThereStatementLemmas
+pub mod ThereBodyLemmas
+pub mod ThereLemmas
+pub mod WholeLemmas

@@ -7,13 +7,14 @@ use Rattle.abs_tree.proofs.SyntaxLemmas.{pattern_tree-built}
 use Rattle.abs_tree.specs.Names.{name_of}
 use Rattle.abs_tree.specs.Offences.{earlier}
 use Rattle.abs_tree.specs.Syntax.{Name, PatternTree, Built, NextPattern}
+use Rattle.abs_tree.specs.SyntaxCounts.{count_patterns}
 use Rattle.abs_tree.specs.SyntaxViews.{pattern_tree, pattern_trees}
 use Rattle.abs_tree.specs.declared.place.Place.{Place}
 use Rattle.abs_tree.specs.declared.refusal.Offence.{Offence}
 use Rattle.abs_tree.specs.declared.symbol.Symbol.{Symbol}
 use Rattle.abs_tree.specs.declared.syntax.pattern.Pattern as code
 use Rattle.abs_tree.specs.declared.syntax.pattern.Pattern.{Pattern}
-use Rattle.abs_names.specs.NameOffences.{count_patterns, pattern_offences, patterns_offences}
+use Rattle.abs_names.specs.NameOffences.{pattern_offences, patterns_offences}
 use Rattle.abs_names.specs.Resolution.{resolved_pattern, resolved_patterns}
 use Rattle.abs_names.specs.Scopes.{Scope, pattern_scope, patterns_scope}
 use Rattle.abs_names.specs.TypeNames.{applied, constructor_taking}

@@ -136,7 +136,7 @@ bodies_are_few source few =
     (All-tail IsFew (statements_variables source.main) (decl_sizes source.declarations) few)))
 
 -- there are as many fields among members as before
-members_fields : (around : Around) (fields : Meanings) (earlier : ℕ) (members : List MemberTree)
+pub members_fields : (around : Around) (fields : Meanings) (earlier : ℕ) (members : List MemberTree)
     → fields_among (resolved_members around fields earlier members) ≡ fields_among members
 members_fields around fields earlier [] = refl
 members_fields around fields earlier (FieldTree type name initial ∷ others) =

@@ -1,14 +1,9 @@
 -- Name spaces by name and by number are the same, also after more names are declared.
-use Rattle.std.proofs.Common.{◌≡◌, ℕ, ◌<◌, Bool, true, false, List, [], ◌∷◌, Ok, Err, refl, sym, ap, ◌∙◌, subst, cond, length, drop, fold, map, arith}
+use Rattle.std.proofs.Common.{◌≡◌, ℕ, Bool, true, false, List, [], ◌∷◌, Ok, Err, refl, sym, ap, ◌∙◌, subst, cond, length, drop, fold, map, arith}
 use Rattle.std.specs.Prelude.{Option, Some, None, is_some, option_map, Result, OnOk, OnErr, IfOk}
-use Rattle.std.specs.Str.{bytes_eq}
-use Rattle.std.proofs.lemmas.Bool.Decides.{nat_tests}
-use Rattle.std.proofs.lemmas.List.Sums.{passes_at_first}
-use Rattle.std.proofs.lemmas.Option.{unwrap_or-slice_get}
-use Rattle.std.proofs.lemmas.Slice.Eq.{bytes_eq-Decides}
-use Rattle.abs_tree.proofs.NumberLemmas.{name_of_number, number_of_found}
+use Rattle.abs_tree.proofs.NumberLemmas.{name_of_number}
 use Rattle.abs_tree.specs.NameSpaces.{count_types, with_constructors, with_declarations}
-use Rattle.abs_tree.specs.Names.{number_of_name, name_of, symbol_in}
+use Rattle.abs_tree.specs.Names.{number_of_name, name_of}
 use Rattle.abs_tree.specs.Numbered.{looked_up}
 use Rattle.abs_tree.specs.Offences.{earlier}
 use Rattle.abs_tree.specs.Syntax.{Name, DeclaredTree, ConstructorTree, DeclTree}
@@ -17,9 +12,11 @@ use Rattle.abs_tree.specs.Tables.{meaning_of, with_first}
 use Rattle.abs_tree.specs.declared.refusal.Offence.{Offence}
 use Rattle.abs_tree.specs.declared.symbol.Symbol.{Symbol}
 use Rattle.abs_tree.specs.declared.syntax.types.TypeTerm.{TypeTerm}
-use Rattle.abs_names.proofs.ScopeLemmas.{looked_up-named, proper_number}
+use Rattle.abs_tree.proofs.KeptSpaceLemmas.{looked_up-named}
+use Rattle.abs_names.proofs.ScopeLemmas.{proper_number}
 use Rattle.abs_names.specs.TypeNames.{Around, with_type_params}
-use Rattle.abs_names.specs.Visible.{Known, Names, name_at, named, ProperNumbers}
+use Rattle.abs_tree.specs.KeptSpaces.{name_at, named, ProperNumbers}
+use Rattle.abs_names.specs.Visible.{Known, Names}
 
 -- a meaning that is mapped is there where it was
 is_some_map : {A B : Type 0} (f : A → B) (one : Option A) → is_some one ≡ is_some (option_map f one)

@@ -47,16 +47,18 @@ data_tree names term place name arguments items is items_are =
     ∙ ap (λ (ts : List TypeTerm). DataType place (name_of names name) (type_trees names ts)) (sym items_are))
 
 -- a resolved data type
-pub data_found : (start : Visible) (place : Place) (name kept : Symbol) (found : Vec TypeTerm Global)
-    (items : List TypeTerm) → name_of start.names.after kept ≡ name_of start.names.before name
-    → type_trees start.names.after found.items ≡ resolved_types start.scope.around (type_trees start.names.before items)
+pub data_found : (start now : Visible) (place : Place) (name kept : Symbol) (found : Vec TypeTerm Global)
+    (items : List TypeTerm) → now ≡ start → name_of start.names.after kept ≡ name_of start.names.before name
+    → type_trees now.names.after found.items ≡ resolved_types now.scope.around (type_trees now.names.before items)
     → type_tree start.names.after (code.Data place kept found)
     ≡ DataType place (name_of start.names.before name)
     (resolved_types start.scope.around (type_trees start.names.before items))
-data_found start place name kept found items is resolved =
+data_found start now place name kept found items same is resolved =
     type_tree-data start.names.after place kept found
     ∙ (ap (λ (n : Name). DataType place n (type_trees start.names.after found.items)) is
-    ∙ ap (DataType place (name_of start.names.before name)) resolved)
+    ∙ ap (DataType place (name_of start.names.before name)) (subst (λ (v : Visible).
+    type_trees v.names.after found.items ≡ resolved_types v.scope.around (type_trees v.names.before items)) same
+    resolved))
 
 -- `Fut` of another number of types than one stays as it is
 pub no_future : (names : List Name) (place : Place) (name : Name) (terms : List TypeTerm) → (length terms ≡ 1 → ⊥)

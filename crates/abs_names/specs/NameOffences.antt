@@ -1,7 +1,7 @@
 -- The name offences of a source: what is declared twice (N1), what is used without a declaration or where it is not
 -- visible (N2), what is used with another number of arguments than declared (N3), and interfaces that extend themselves
--- (N4). The order of a list means nothing;
--- the first offence is the one of least place.
+-- (N4). A type or a variable that is resolved already, which no source writes, is N2 too. The order of a list means
+-- nothing: the first offence is the one of least place.
 --
 --   `name_offences`                                    those of a source
 --   `declaration_offences`, `members_offences`         those of a declaration, of the members of a class
@@ -11,34 +11,36 @@
 use Rattle.std.specs.Prelude.{ℕ, ◌+◌, List, [], ◌∷◌, ◌++◌, length, is_some, if◌then◌else◌}
 use Rattle.abs_tree.specs.Slots.{statement_slots, statements_slots}
 use Rattle.abs_tree.specs.Syntax.{Name, VariableTree, Unresolved, AtSlot, AtBound, AtField, PatternTree, AnyValue, Binds, SameNumber, SameString, Built, PatternTrees, NoPattern, NextPattern, Phrase, LetIn, IfElse, OperatorsOf, Prefixed, NumberOf, StringOf, NullOf, DestinyOf, ThisOf, FieldOf, OwnCallOf, VariableOf, ApplyOf, BuildOf, CaseOf, Phrases, NoPhrase, NextPhrase, Operands, NoOperands, NextOperand, Branches, NoBranch, NextBranch, SideTree, NewOf, ValueOf, SendOf, GetOf, CallOf, Tests, NoTest, NextTest, TargetTree, ToVariable, ToField, MaybeSide, NoSide, SomeSide, Statement, BlockOf, SkipOf, SuspendOf, AwaitOf, ReturnOf, PrintOf, IfOf, WhileOf, DeclareOf, AssignOf, DoOf, MaybeStatements, NoElse, Else, Statements, NoStatement, NextStatement, MaybePhrase, NoValue, Value, ParamTree, DeclaredTree, ConstructorTree, SignatureTree, MemberTree, FieldTree, MethodTree, DeclTree, DataTree, FunctionTree, InterfaceTree, ClassTree, SourceTree}
+use Rattle.abs_tree.specs.SyntaxCounts.{count_patterns, count_phrases}
 use Rattle.abs_tree.specs.declared.place.Place.{Place}
 use Rattle.abs_tree.specs.declared.refusal.Offence.{Offence}
 use Rattle.abs_tree.specs.declared.refusal.Code.TheVariants.{N2}
 use Rattle.abs_names.specs.declared.scope.Routine.TheVariants.{Main, Method, Function, Initial}
 use Rattle.abs_graph.specs.Graphs.{on_cycles}
-use Rattle.abs_names.specs.Extension.{extensions, extension_offences}
+use Rattle.abs_names.specs.Extension.{extension_offences}
+use Rattle.abs_tree.specs.Supertypes.{supertypes}
 use Rattle.abs_names.specs.Repeats.{declarations_repeats}
 use Rattle.abs_names.specs.Prelude.{prelude}
-use Rattle.abs_names.specs.Single.{unknown, twice}
+use Rattle.abs_names.specs.Single.{unknown, unwritten, twice}
 use Rattle.abs_names.specs.Spaces.{spaces_offences}
-use Rattle.abs_names.specs.TypeNames.{Around, around_of, applied, function_taking, constructor_taking, class_taking, is_interface, type_offences, types_offences}
-use Rattle.abs_tree.specs.NameSpaces.{NameSpaces, built_in, spaces_of}
+use Rattle.abs_names.specs.TypeNames.{Around, around_of, applied, function_taking, constructor_taking, class_taking, type_offences, types_offences}
+use Rattle.abs_tree.specs.NameSpaces.{NameSpaces, built_in, spaces_of, means_interface}
 use Rattle.abs_tree.specs.Tables.{meaning_of}
 use Rattle.abs_names.specs.Scopes.{Meanings, Scope, has_this, has_task, field_of, use_of, is_taken, with_bound, pattern_scope, statement_scope, body_scope, class_fields, fields_after}
 
--- the use of a variable
+-- the use of a variable; a source does not write one that is resolved already
 abbrev pub use_offences : Scope → Place → VariableTree → List Offence
 use_offences scope place (Unresolved name) = unknown (is_some (use_of scope name)) place
-use_offences scope place (AtSlot slot) = []
-use_offences scope place (AtBound depth) = []
-use_offences scope place (AtField field) = []
+use_offences scope place (AtSlot slot) = unwritten place
+use_offences scope place (AtBound depth) = unwritten place
+use_offences scope place (AtField field) = unwritten place
 
 -- a variable that a pattern or a `let` binds
 abbrev pub bind_offences : Scope → Place → VariableTree → List Offence
 bind_offences scope place (Unresolved name) = twice (is_taken scope name) place
-bind_offences scope place (AtSlot slot) = []
-bind_offences scope place (AtBound depth) = []
-bind_offences scope place (AtField field) = []
+bind_offences scope place (AtSlot slot) = unwritten place
+bind_offences scope place (AtBound depth) = unwritten place
+bind_offences scope place (AtField field) = unwritten place
 
 -- a local that a statement declares; it may have the name of a field
 abbrev pub local_offences : Scope → Place → VariableTree → List Offence
@@ -55,15 +57,6 @@ abbrev pub field_offences : Scope → Place → Place → Name → List Offence
 field_offences scope place name_place name =
     if has_this scope.routine then unknown (is_some (field_of scope name)) name_place
     else record { place = place; code = N2 } ∷ []
-
--- how many patterns, and how many expressions there are
-abbrev pub count_patterns : PatternTrees → ℕ
-count_patterns NoPattern = 0
-count_patterns (NextPattern first others) = 1 + count_patterns others
-
-abbrev pub count_phrases : Phrases → ℕ
-count_phrases NoPhrase = 0
-count_phrases (NextPhrase first others) = 1 + count_phrases others
 
 abbrev mutual
   -- a pattern; the variables before one in the same pattern are visible to it
@@ -207,7 +200,7 @@ signatures_offences around (signature ∷ others) =
 abbrev pub interfaces_offences : Around → List DeclaredTree → List Offence
 interfaces_offences around [] = []
 interfaces_offences around (name ∷ others) =
-    unknown (is_interface (meaning_of around.spaces.types name.name)) name.place ++ interfaces_offences around others
+    unknown (means_interface (meaning_of around.spaces.types name.name)) name.place ++ interfaces_offences around others
 
 -- the types of constructors
 abbrev pub constructor_types_offences : Around → List ConstructorTree → List Offence
@@ -251,18 +244,16 @@ declarations_offences spaces [] = []
 declarations_offences spaces (declaration ∷ others) =
     declaration_offences spaces declaration ++ declarations_offences spaces others
 
--- all declarations of a source, with those of the prelude before them: what they declare twice, and interfaces that
--- extend themselves
-abbrev pub listed_offences : List DeclTree → List Offence
-listed_offences declarations =
-    spaces_offences 0 built_in declarations
-    ++ (declarations_repeats declarations
-    ++ extension_offences (on_cycles (extensions (spaces_of declarations) declarations)) declarations)
+-- all declarations of a source, with those of the prelude before them: what is declared twice
+abbrev pub repeated_offences : List DeclTree → List Offence
+repeated_offences declarations = spaces_offences 0 built_in declarations ++ declarations_repeats declarations
 
--- and all other names in them
+-- and all else: other names in them, and interfaces that extend themselves (no class does, since nothing leads to one)
 abbrev pub declared_offences : List DeclTree → List Offence
 declared_offences declarations =
-    listed_offences declarations ++ declarations_offences (spaces_of declarations) declarations
+    repeated_offences declarations
+    ++ (declarations_offences (spaces_of declarations) declarations
+    ++ extension_offences (on_cycles (supertypes declarations)) declarations)
 
 -- a source, before which the prelude is declared
 abbrev pub name_offences : SourceTree → List Offence

@@ -2,6 +2,7 @@
 --
 --   `offence_if`           the offence with a code, where there is one
 --   `unknown`              a name that is unknown
+--   `unwritten`            what a source does not write
 --   `twice`, `cyclic`      a name that is declared already, and one whose interface extends itself
 use Rattle.std.specs.Prelude.{Bool, List, [], ◌∷◌, if◌then◌else◌}
 use Rattle.abs_tree.specs.declared.place.Place.{Place}
@@ -16,6 +17,10 @@ offence_if offends place code = if offends then record { place = place; code = c
 -- the offence of a name at this place that is unknown, unless it is known
 abbrev pub unknown : Bool → Place → List Offence
 unknown known place = if known then [] else record { place = place; code = N2 } ∷ []
+
+-- the offence of what a source does not write: a part at this place that is resolved already
+abbrev pub unwritten : Place → List Offence
+unwritten place = record { place = place; code = N2 } ∷ []
 
 -- the offence of a declaration at this place, if its name is declared already
 abbrev pub twice : Bool → Place → List Offence

@@ -5,8 +5,9 @@
 --   `applied`, `counted`                   the offence of a name with so many arguments
 --   `type_offences`, `types_offences`      the offences of types
 --   `resolved_type`, `resolved_types`      resolved types
-use Rattle.std.specs.Prelude.{ℕ, ◌+◌, Bool, true, false, List, [], ◌∷◌, ◌++◌, Option, Some, None, option_map, nat_eq, if◌then◌else◌}
+use Rattle.std.specs.Prelude.{ℕ, ◌+◌, List, [], ◌∷◌, ◌++◌, Option, Some, None, option_map, nat_eq, if◌then◌else◌}
 use Rattle.abs_tree.specs.NameSpaces.{NameSpaces, count_types, type_arity, function_arity}
+use Rattle.abs_tree.specs.Places.{start}
 use Rattle.abs_tree.specs.Syntax.{Name, TypeTree, UnresolvedType, IntType, StringType, FutType, DataType, InterfaceType, ParameterType, BottomType, NullType, ClassType, TypeTrees, NoType, NextType, DeclaredTree}
 use Rattle.abs_tree.specs.Tables.{Table, meaning_of, with_first}
 use Rattle.abs_tree.specs.declared.name_spaces.Taking.{Taking}
@@ -16,6 +17,7 @@ use Rattle.abs_tree.specs.declared.name_spaces.TypeMeaning.TheVariants as type
 use Rattle.abs_tree.specs.declared.place.Place.{Place}
 use Rattle.abs_tree.specs.declared.refusal.Offence.{Offence}
 use Rattle.abs_tree.specs.declared.refusal.Code.TheVariants.{N2, N3}
+use Rattle.abs_names.specs.Single.{unwritten}
 
 -- what is around a part of a source: what is declared, and the type parameters with their indices
 pub record Around : Type 0 where
@@ -60,25 +62,20 @@ constructor_taking around name =
 abbrev pub class_taking : Around → Name → Option ℕ
 class_taking around name = option_map (λ (c : Taking). c.arity) (meaning_of around.spaces.classes name)
 
--- whether a name is that of an interface
-abbrev pub is_interface : Option TypeMeaning → Bool
-is_interface (Some (type.Interface index)) = true
-is_interface _ = false
-
 abbrev mutual
-  -- a type, whose name comes before its arguments
+  -- a type, whose name comes before its arguments; a source does not write one that is resolved already
   pub type_offences : Around → TypeTree → List Offence
   type_offences around (UnresolvedType place name arguments) =
       applied (type_taking around name) (count_types arguments) place ++ types_offences around arguments
-  type_offences around (FutType place value) = type_offences around value
-  type_offences around (DataType place name arguments) = types_offences around arguments
-  type_offences around (IntType place) = []
-  type_offences around (StringType place) = []
-  type_offences around (InterfaceType place name) = []
-  type_offences around (ParameterType place parameter) = []
-  type_offences around BottomType = []
-  type_offences around NullType = []
-  type_offences around (ClassType name) = []
+  type_offences around (FutType place value) = unwritten place ++ type_offences around value
+  type_offences around (DataType place name arguments) = unwritten place ++ types_offences around arguments
+  type_offences around (IntType place) = unwritten place
+  type_offences around (StringType place) = unwritten place
+  type_offences around (InterfaceType place name) = unwritten place
+  type_offences around (ParameterType place parameter) = unwritten place
+  type_offences around BottomType = unwritten start
+  type_offences around NullType = unwritten start
+  type_offences around (ClassType name) = unwritten start
 
   pub types_offences : Around → TypeTrees → List Offence
   types_offences around NoType = []

@@ -1,16 +1,19 @@
 //! What is around a part of a source: the names that it may have, what is declared, and the type parameters.
 ghost use Rattle.std.specs.Prelude.{◌≡◌, ◌≤◌, [], length, take, map, is_some, IfOk, OnOk};
+ghost use Rattle.abs_graph.specs.Views.{graph_of};
+ghost use Rattle.abs_tree.specs.KeptSpaces.{spaces_by_name, AreProper};
 ghost use Rattle.abs_tree.specs.Limits.{table_limit};
 ghost use Rattle.abs_tree.specs.Names.{number_of_name, name_of};
-ghost use Rattle.abs_tree.specs.NameSpaces.{built_in, function_arity as arity_of_function};
-ghost use Rattle.abs_tree.specs.SyntaxViews.{declared as declared_tree};
+ghost use Rattle.abs_tree.specs.NameSpaces.{built_in, function_arity as arity_of_function, means_interface as names_interface};
+ghost use Rattle.abs_tree.specs.Supertypes.{supertypes_in};
+ghost use Rattle.abs_tree.specs.SyntaxViews.{decl_tree, declared as declared_tree};
 ghost use Rattle.abs_tree.specs.Tables.{meaning_of, with_first};
 ghost use Rattle.abs_tree.specs.declared.name_spaces.FunctionMeaning.TheVariants.{Defined};
-ghost use Rattle.abs_names.specs.TypeNames.{around_of, function_taking, constructor_taking, class_taking, is_interface as names_interface};
+ghost use Rattle.abs_names.specs.TypeNames.{around_of, function_taking, constructor_taking, class_taking};
 
 use abs_tree::{
-    ConstructorMeaning, Declared, FunctionMeaning, Meanings, NameSpaces, Symbol, Symbols, Taking,
-    TypeMeaning,
+    ConstructorMeaning, Decl, Declared, FunctionMeaning, Meanings, NameSpaces, Symbol, Symbols,
+    Taking, TypeMeaning, supertype_graph,
 };
 use std::alloc::{AllocError, Global};
 use std::marker::Model;
@@ -32,7 +35,8 @@ pub(crate) struct Around<'s> {
 impl<'s> Model for Around<'s> {
     ghost use Rattle.std.specs.Prelude.{◌≤◌, length, take};
     ghost use Rattle.abs_tree.specs.Limits.{table_limit};
-    ghost use Rattle.abs_names.specs.Visible.{Known, named, ProperNumbers, spaces_by_name, AreProper};
+    ghost use Rattle.abs_tree.specs.KeptSpaces.{named, ProperNumbers, spaces_by_name, AreProper};
+    ghost use Rattle.abs_names.specs.Visible.{Known};
 
     ghost Value = { Known };
 
@@ -243,8 +247,7 @@ impl<'s> Around<'s> {
     pub fn type_named(&self, name: Symbol) -> Option<TypeMeaning>
         ensures { result ≡ meaning_of self.now.around.spaces.types (name_of self.now.names.before name) }
     {
-        let name = self.kept(name);
-        self.spaces.types.look_up(self.symbols.number(name))
+        self.spaces.type_named(self.symbols, self.kept(name))
     }
 
     /// Whether a name is that of an interface.
@@ -255,12 +258,35 @@ impl<'s> Around<'s> {
         matches!(self.type_named(name), Some(TypeMeaning::Interface(_)))
     }
 
+    /// The graph of resolved declarations: for each of them the interfaces that it extends or implements in one step.
+    ///
+    /// # Errors
+    /// [`AllocError`] if an allocation fails.
+    pub fn supertypes(
+        &self,
+        alloc: Global,
+        declarations: &[Decl],
+    ) -> Result<Vec<Vec<u32>>, AllocError>
+        ensures { IfOk result (λ graph. graph_of graph.items
+            ≡ supertypes_in self.now.around.spaces (map (decl_tree self.now.names.after) declarations.now)) }
+    {
+        supertype_graph(alloc, self.symbols, &self.spaces, declarations)
+    }
+
+    /// The name spaces, by the numbers of names.
+    pub fn into_spaces(self) -> NameSpaces
+        ensures spaces { spaces_by_name self.entry.names.after result ≡ self.entry.around.spaces }
+        ensures proper { AreProper self.entry.names.after result }
+    {
+        let Around { spaces, .. } = self;
+        spaces
+    }
+
     /// How many arguments a name takes as that of a function.
     pub fn function_taking(&self, name: Symbol) -> Option<u32>
         ensures { result ≡ function_taking self.now.around (name_of self.now.names.before name) }
     {
-        let name = self.kept(name);
-        match self.spaces.functions.look_up(self.symbols.number(name)) {
+        match self.spaces.function(self.symbols, self.kept(name)) {
             Some(meaning) => Some(function_arity(meaning)),
             None => None,
         }
@@ -270,8 +296,7 @@ impl<'s> Around<'s> {
     pub fn constructor_taking(&self, name: Symbol) -> Option<u32>
         ensures { result ≡ constructor_taking self.now.around (name_of self.now.names.before name) }
     {
-        let name = self.kept(name);
-        match self.spaces.constructors.look_up(self.symbols.number(name)) {
+        match self.spaces.constructor(self.symbols, self.kept(name)) {
             Some(meaning) => Some(meaning.taking.arity),
             None => None,
         }
@@ -281,8 +306,7 @@ impl<'s> Around<'s> {
     pub fn class_taking(&self, name: Symbol) -> Option<u32>
         ensures { result ≡ class_taking self.now.around (name_of self.now.names.before name) }
     {
-        let name = self.kept(name);
-        match self.spaces.classes.look_up(self.symbols.number(name)) {
+        match self.spaces.class(self.symbols, self.kept(name)) {
             Some(taking) => Some(taking.arity),
             None => None,
         }

@@ -1,5 +1,6 @@
 //! The public call: resolves the names of a source after the prelude, or returns its first name offence.
 ghost use Rattle.std.specs.Prelude.{◌≡◌, ◌≤◌, ◌++◌, [], None, All, fold, length, map, take, IfOk, IfErr, OnOk};
+ghost use Rattle.abs_tree.specs.KeptSpaces.{spaces_by_name, AreProper};
 ghost use Rattle.abs_tree.specs.Limits.{table_limit};
 ghost use Rattle.abs_tree.specs.Names.{with_name};
 ghost use Rattle.abs_tree.specs.NameSpaces.{built_in, spaces_of};
@@ -8,7 +9,7 @@ ghost use Rattle.abs_tree.specs.SlotViews.{BodyHasSlots, DeclHasSlots};
 ghost use Rattle.abs_tree.specs.SourceViews.{source_tree, named_tree};
 ghost use Rattle.abs_tree.specs.SyntaxViews.{decl_tree, tree_of_parts};
 ghost use Rattle.abs_names.specs.Answers.{Refuses};
-ghost use Rattle.abs_names.specs.NameOffences.{name_offences, listed_offences, declared_offences, declarations_offences};
+ghost use Rattle.abs_names.specs.NameOffences.{name_offences, repeated_offences, declared_offences, declarations_offences};
 ghost use Rattle.abs_names.specs.Prelude.{prelude, prelude_names};
 ghost use Rattle.abs_names.specs.Repeats.{declarations_repeats};
 ghost use Rattle.abs_names.specs.Resolution.{resolved, resolved_declarations};
@@ -23,7 +24,7 @@ use crate::prelude::{add_names, prelude as prelude_declarations};
 use crate::scope::Routine;
 use crate::spaces::Declarer;
 use crate::walk::Walk;
-use abs_tree::{Body, Decl, Named, Offence, Program, Symbols};
+use abs_tree::{Body, Decl, NameSpaces, Named, Offence, Program, Symbols, Tables};
 use std::alloc::{AllocError, Global};
 
 /// The source with its names resolved, after the declarations of the prelude. The names of the prelude that the source
@@ -44,18 +45,34 @@ pub fn resolve<'a>(alloc: Global, program: Program<'a>) -> Result<Named<'a>, Nam
         mut main,
     } = program;
     let readable = add_names(&mut symbols)?;
-    match resolve_parts(alloc, &symbols, readable, &mut declarations, &mut main)? {
-        Some(offence) => Err(NameError::Refused(offence.refusal())),
-        None => Ok(Named {
-            symbols,
-            declarations,
-            main,
-        }),
+    let Found { spaces, first } = resolve_parts(
+        alloc,
+        &symbols,
+        readable,
+        &mut declarations,
+        &mut main,
+    )?;
+    if let Some(offence) = first {
+        return Err(NameError::Refused(offence.refusal()));
     }
+    let tables = Tables::new(alloc, &symbols, spaces, declarations.as_slice())?;
+    Ok(Named {
+        symbols,
+        declarations,
+        main,
+        tables,
+    })
 }
 
-/// Resolves declarations and a main block in place, puts the declarations of the prelude before them, and returns the
-/// first name offence. The source may have the first `readable` names.
+/// What a walk over a whole source found: its name spaces, by the numbers of names, and its first name offence.
+#[derive(Drop)]
+struct Found {
+    spaces: NameSpaces,
+    first: Option<Offence>,
+}
+
+/// Resolves declarations and a main block in place, and puts the declarations of the prelude before them. The source
+/// may have the first `readable` names.
 ///
 /// # Errors
 /// [`AllocError`] if an allocation fails, or if a body has too many slots or a class too many fields.
@@ -65,10 +82,13 @@ fn resolve_parts(
     readable: u32,
     declarations: &mut Vec<Decl>,
     main: &mut Body,
-) -> Result<Option<Offence>, AllocError>
+) -> Result<Found, AllocError>
     requires few { length symbols.now ≤ table_limit }
-    ensures first { IfOk result (λ first. first ≡ first_offence
+    ensures first { IfOk result (λ found. found.first ≡ first_offence
         (name_offences (tree_of_parts (take readable symbols.now) declarations.old.items main.old))) }
+    ensures spaces { IfOk result (λ found. spaces_by_name symbols.now found.spaces
+        ≡ spaces_of (prelude ++ map (decl_tree (take readable symbols.now)) declarations.old.items)) }
+    ensures proper { IfOk result (λ found. AreProper symbols.now found.spaces) }
     ensures found { OnOk result (tree_of_parts symbols.now declarations.new.items main.new
         ≡ resolved (tree_of_parts (take readable symbols.now) declarations.old.items main.old)) }
     ensures main_has_slots { OnOk result (BodyHasSlots symbols.now 0 main.new) }
@@ -77,7 +97,11 @@ fn resolve_parts(
     let mut walk = resolve_declarations(alloc, symbols, readable, declarations)?;
     let slots = walk.begin(Routine::Main, &[])?;
     walk.body(slots, main)?;
-    Ok(walk.first)
+    let Walk { scope, first, .. } = walk;
+    Ok(Found {
+        spaces: scope.into_spaces(),
+        first,
+    })
 }
 
 /// Resolves declarations in place, and puts those of the prelude before them. The source may have the first `readable`
@@ -115,13 +139,13 @@ fn resolve_declarations<'s>(
     walk.resolve_both(readable, &mut before, declarations)?;
     walk.scope.set_type_params(&[])?;
     before.append(declarations)?;
+    walk.note_extensions(before.as_slice())?;
     *declarations = before;
     Ok(walk)
 }
 
 /// A walk at the beginning of the main block, to which the declarations of the prelude and those of a source are known.
-/// The source may have the first `readable` names. Names that are declared twice are noted, and interfaces that extend
-/// themselves.
+/// The source may have the first `readable` names. Names that are declared twice are noted.
 ///
 /// # Errors
 /// [`AllocError`] if an allocation fails, or if there are too many names or declarations.
@@ -138,12 +162,11 @@ fn noted_walk<'s>(
     ensures scope { IfOk result (λ walk. walk.scope.scope ≡ body_scope (around_of (spaces_of
         (map (decl_tree symbols.now) prelude.now ++ map (decl_tree (take readable symbols.now)) source.now)) [])
         InMain [] []) }
-    ensures first { IfOk result (λ walk. walk.first ≡ first_offence (listed_offences
+    ensures first { IfOk result (λ walk. walk.first ≡ first_offence (repeated_offences
         (map (decl_tree symbols.now) prelude.now ++ map (decl_tree (take readable symbols.now)) source.now))) }
 {
     let mut walk = walk_after(alloc, symbols, readable, prelude, source)?;
     walk.note_both(readable, prelude, source)?;
-    walk.note_extensions(readable, prelude, source)?;
     Ok(walk)
 }
 

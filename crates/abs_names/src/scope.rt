@@ -7,11 +7,11 @@ ghost use Rattle.abs_tree.specs.Tables.{meaning_of};
 ghost use Rattle.abs_names.specs.Numbered.{is_bound as count_of_bound, bound_up_to, EndsIn};
 ghost use Rattle.abs_names.specs.Scopes.{Meanings as MeaningList, visible_field as field_seen, use_of, field_of, is_taken, has_this as is_with_this, has_task as is_with_task, next_bound, with_bound, with_variable, with_field};
 ghost use Rattle.abs_names.specs.TypeNames.{around_of};
-ghost use Rattle.abs_names.specs.Visible.{named, ProperNumbers};
+ghost use Rattle.abs_tree.specs.KeptSpaces.{named, spaces_by_name, AreProper, ProperNumbers};
 ghost use Rattle.abs_names.specs.declared.scope.Routine.TheVariants.{Main as InMain};
 
 use crate::around::Around;
-use abs_tree::{Declared, Meanings, Symbol, Variable};
+use abs_tree::{Declared, Meanings, NameSpaces, Symbol, Variable};
 use std::alloc::{AllocError, Global};
 use std::marker::Model;
 
@@ -64,7 +64,8 @@ pub(crate) struct Scope<'s> {
 impl<'s> Model for Scope<'s> {
     ghost use Rattle.abs_tree.specs.SyntaxViews.{variable_tree};
     ghost use Rattle.abs_names.specs.Numbered.{AreCounted};
-    ghost use Rattle.abs_names.specs.Visible.{Visible, named, ProperNumbers, binding_tree};
+    ghost use Rattle.abs_tree.specs.KeptSpaces.{named, ProperNumbers};
+    ghost use Rattle.abs_names.specs.Visible.{Visible, binding_tree};
 
     ghost Value = { Visible };
 
@@ -103,6 +104,15 @@ impl<'s> Scope<'s> {
         ensures around { result.now.around ≡ self.now.scope.around }
     {
         &self.around
+    }
+
+    /// The name spaces around, by the numbers of names.
+    pub fn into_spaces(self) -> NameSpaces
+        ensures spaces { spaces_by_name self.entry.names.after result ≡ self.entry.scope.around.spaces }
+        ensures proper { AreProper self.entry.names.after result }
+    {
+        let Scope { around, .. } = self;
+        around.into_spaces()
     }
 
     /// From now on what is read may have this many names of the table, the first ones.

@@ -3,13 +3,21 @@ ghost use Rattle.std.specs.Prelude.{◌≡◌, List, Some, None, fold, IfOk, OnO
 ghost use Rattle.abs_tree.specs.NameSpaces.{type_arity as arity_of_type};
 ghost use Rattle.abs_tree.specs.Names.{name_of};
 ghost use Rattle.abs_tree.specs.Offences.{earlier};
-ghost use Rattle.abs_tree.specs.Syntax.{Name, UnresolvedType};
+ghost use Rattle.abs_tree.specs.Syntax.{Name, UnresolvedType, DataType};
 ghost use Rattle.abs_tree.specs.SyntaxViews.{type_tree, type_trees};
+ghost use Rattle.abs_names.specs.Single.{unwritten as unwritten_at};
 ghost use Rattle.abs_names.specs.TypeNames.{type_offences, types_offences, resolved_type, resolved_types, taken_by, future_type, named_type as tree_of_named};
 
 use crate::walk::Walk;
 use abs_tree::{Place, Symbol, TypeMeaning, TypeTerm};
 use std::alloc::AllocError;
+
+/// The place of the first byte of a source, at which a type without a place is noted.
+const START: Place = Place {
+    offset: 0,
+    line: 1,
+    column: 1,
+};
 
 /// How many arguments the name of a type takes.
 fn arity(meaning: TypeMeaning) -> u32
@@ -52,9 +60,10 @@ impl Walk<'_> {
                 name,
                 arguments,
             } => self.named_type(*place, *name, arguments),
-            TypeTerm::Int(place) => Ok(TypeTerm::Int(*place)),
-            TypeTerm::String(place) => Ok(TypeTerm::String(*place)),
+            TypeTerm::Int(place) => Ok(self.unwritten(*place, TypeTerm::Int(*place))),
+            TypeTerm::String(place) => Ok(self.unwritten(*place, TypeTerm::String(*place))),
             TypeTerm::Fut(place, value) => {
+                self.note_unless(false, *place);
                 let value = self.type_term(value)?;
                 Ok(TypeTerm::Fut(*place, Box::new(self.alloc, value)?))
             }
@@ -62,19 +71,20 @@ impl Walk<'_> {
                 place,
                 name,
                 arguments,
-            } => Ok(TypeTerm::Data {
-                place: *place,
-                name: self.scope.around().kept(*name),
-                arguments: self.type_terms(arguments)?,
-            }),
-            TypeTerm::Interface(place, name) => Ok(TypeTerm::Interface(
-                *place,
-                self.scope.around().kept(*name),
-            )),
-            TypeTerm::Parameter(place, parameter) => Ok(TypeTerm::Parameter(*place, *parameter)),
-            TypeTerm::Bottom => Ok(TypeTerm::Bottom),
-            TypeTerm::Null => Ok(TypeTerm::Null),
-            TypeTerm::Class(name) => Ok(TypeTerm::Class(self.scope.around().kept(*name))),
+            } => self.data_type(*place, *name, arguments),
+            TypeTerm::Interface(place, name) => {
+                let name = self.scope.around().kept(*name);
+                Ok(self.unwritten(*place, TypeTerm::Interface(*place, name)))
+            }
+            TypeTerm::Parameter(place, parameter) => {
+                Ok(self.unwritten(*place, TypeTerm::Parameter(*place, *parameter)))
+            }
+            TypeTerm::Bottom => Ok(self.unwritten(START, TypeTerm::Bottom)),
+            TypeTerm::Null => Ok(self.unwritten(START, TypeTerm::Null)),
+            TypeTerm::Class(name) => {
+                let name = self.scope.around().kept(*name);
+                Ok(self.unwritten(START, TypeTerm::Class(name)))
+            }
         }
     }
 
@@ -92,6 +102,45 @@ impl Walk<'_> {
             found.push(self.type_term(term)?)?;
         }
         Ok(found)
+    }
+
+    /// Notes a type that is resolved already, since a source does not write it, and gives it back.
+    fn unwritten(&mut self, place: Place, found: TypeTerm) -> TypeTerm
+        ensures found { result ≡ found }
+        ensures noted { self.new.first ≡ fold earlier self.old.first (unwritten_at place) }
+        ensures scope { self.new.scope ≡ self.old.scope }
+    {
+        self.note_unless(false, place);
+        found
+    }
+
+    /// Notes a data type that is resolved already, since a source does not write it, and resolves its arguments.
+    ///
+    /// # Errors
+    /// [`AllocError`] if an allocation fails.
+    #[cycle(types)]
+    fn data_type(
+        &mut self,
+        place: Place,
+        name: Symbol,
+        arguments: &[TypeTerm],
+    ) -> Result<TypeTerm, AllocError>
+        ensures found { IfOk result (λ found. type_tree self.old.scope.names.after found
+            ≡ resolved_type self.old.scope.scope.around (DataType place
+            (name_of self.old.scope.names.before name) (type_trees self.old.scope.names.before arguments.now))) }
+        ensures noted { OnOk result (self.new.first ≡ fold earlier self.old.first
+            (type_offences self.old.scope.scope.around (DataType place
+            (name_of self.old.scope.names.before name) (type_trees self.old.scope.names.before arguments.now)))) }
+        ensures scope { OnOk result (self.new.scope ≡ self.old.scope) }
+    {
+        self.note_unless(false, place);
+        let arguments = self.type_terms(arguments)?;
+        let name = self.scope.around().kept(name);
+        Ok(TypeTerm::Data {
+            place,
+            name,
+            arguments,
+        })
     }
 
     /// Resolves a type that is written as a name with arguments.

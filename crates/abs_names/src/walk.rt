@@ -92,7 +92,8 @@ impl<'s> Walk<'s> {
         }
     }
 
-    /// The use of a variable. One that is unknown is noted, and stays as it is.
+    /// The use of a variable. One that is unknown is noted, and stays as it is. So is one that is resolved already,
+    /// which a source does not write.
     pub fn used(&mut self, place: Place, variable: Variable) -> Variable
         ensures found { variable_tree self.old.scope.names.after result
             ≡ resolved_use self.old.scope.scope (variable_tree self.old.scope.names.before variable) }
@@ -101,6 +102,7 @@ impl<'s> Walk<'s> {
         ensures scope { self.new.scope ≡ self.old.scope }
     {
         let Variable::Unresolved(name) = variable else {
+            self.note_unless(false, place);
             return variable;
         };
         let found = self.scope.use_of(name);
@@ -125,7 +127,8 @@ impl<'s> Walk<'s> {
         }
     }
 
-    /// Binds a variable of a pattern or of a `let`. A name that may not be bound is noted.
+    /// Binds a variable of a pattern or of a `let`. A name that may not be bound is noted, and so is a variable that is
+    /// resolved already, which a source does not write.
     ///
     /// # Errors
     /// [`AllocError`] if an allocation fails.
@@ -139,6 +142,7 @@ impl<'s> Walk<'s> {
             ≡ with_bound self.old.scope.scope (variable_tree self.old.scope.names.before variable)) }
     {
         let Variable::Unresolved(name) = variable else {
+            self.note_unless(false, place);
             return Ok(self.scope.next_bound());
         };
         let taken = self.scope.is_taken(name);

@@ -28,6 +28,8 @@ pub mod Holdings
 pub mod Members
 pub mod KeptMembers
 pub mod TableFacts
+pub mod SyntaxCounts
+pub mod Whole
 pub mod NamedDeclarations
 pub mod FieldRows
 pub mod SignatureRows

@@ -9,10 +9,12 @@ ghost use Rattle.abs_tree.specs.NamedDeclarations.{IsData, IsInterface, IsConstr
 ghost use Rattle.abs_tree.specs.NameSpaces.{spaces_of};
 ghost use Rattle.abs_tree.specs.Names.{number_of_name, name_of};
 ghost use Rattle.abs_tree.specs.Offences.{first_offence, IsFirst};
+ghost use Rattle.abs_tree.specs.SourceViews.{named_tree};
 ghost use Rattle.abs_tree.specs.Syntax.{Name, DeclTree};
 ghost use Rattle.abs_tree.specs.Tables.{meaning_of};
+ghost use Rattle.abs_tree.specs.Whole.{IsWhole};
 
-use crate::{Symbol, Symbols};
+use crate::{Named, Symbol, Symbols};
 
 /// The first one of several offences is one of them, and none of them comes before it. No other one of them is like
 /// that, so the order of a list of offences does not matter.
@@ -45,4 +47,11 @@ pub fn declared_is_there()
         → IsFunction declarations name taking }
     ensures class { (declarations : List DeclTree) (name : Name) (taking : Taking)
         → meaning_of (spaces_of declarations).classes name ≡ Some taking → IsClass declarations name taking }
+{}
+
+/// In a program whose names are resolved everything that is named is there. Each function, constructor, class,
+/// interface and type is declared, and takes as many arguments as it is given; each slot, bound variable and field is
+/// there; and no interface extends itself.
+pub fn named_is_whole(named: &Named<'_>)
+    ensures { ∥ IsWhole (named_tree named.now) ∥₁ }
 {}

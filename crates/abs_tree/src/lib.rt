@@ -9,6 +9,7 @@ pub mod meanings;
 pub mod name_spaces;
 pub mod named;
 pub mod place;
+pub mod readers;
 pub mod refusal;
 pub mod source_error;
 pub mod symbol;
@@ -18,7 +19,7 @@ pub mod text;
 pub mod value;
 
 pub use arithmetic::negated;
-pub use laws::{declared_is_there, first_is_least, numbers_tell_names};
+pub use laws::{declared_is_there, first_is_least, named_is_whole, numbers_tell_names};
 pub use meanings::Meanings;
 pub use name_spaces::{ConstructorMeaning, FunctionMeaning, NameSpaces, Taking, TypeMeaning};
 pub use named::Named;

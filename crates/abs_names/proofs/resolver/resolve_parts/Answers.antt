@@ -13,7 +13,8 @@ use Rattle.abs_names.specs.Prelude.{prelude}
 use Rattle.abs_names.specs.Resolution.{resolved_declarations, resolved_statements}
 use Rattle.abs_names.specs.Scopes.{Meanings, Scope, body_scope}
 use Rattle.abs_names.specs.TypeNames.{Around, around_of}
-use Rattle.abs_names.specs.Visible.{Names}
+use Rattle.abs_names.specs.Visible.{Names, Visible}
+use Rattle.abs_tree.specs.KeptSpaces.{spaces_by_name, AreProper}
 use Rattle.abs_names.specs.declared.scope.Routine.TheVariants.{Main}
 use Rattle.abs_names.proofs.FormLemmas.{both_noted}
 use Rattle.abs_names.proofs.BothLemmas.{in_main}
@@ -105,3 +106,24 @@ returns-clause-main_has_slots c =
     old.statements.items)) begun.slots
     ∙ ap (λ (ns : List Name). body_slots 0 (statements ns old.statements.items)) before))
     c.in_ok-body.ensures.few
+
+pub returns-clause-spaces : goal.returns-clause-spaces
+returns-clause-spaces c =
+    let begun = c.in_ok-slots.ensures in
+    let kept = c.in_ok-body.ensures.scope in
+    let after : c.body.new.self.scope.names.after ≡ c.args.symbols.now =
+    ap (λ (v : Visible). v.names.after) kept
+    ∙ ap (λ (ns : Names). ns.after) (begun.names ∙ c.in_ok-walk.ensures.names) in
+    subst (λ (ns : List Name). spaces_by_name ns c.into_spaces.result ≡ c.body.new.self.scope.scope.around.spaces)
+    after c.into_spaces.ensures.spaces
+    ∙ (ap (λ (v : Visible). v.scope.around.spaces) kept
+    ∙ (ap (λ (s : Scope). s.around.spaces) begun.scope
+    ∙ ap (λ (a : Around). a.spaces) c.in_ok-walk.ensures.around))
+
+pub returns-clause-proper : goal.returns-clause-proper
+returns-clause-proper c =
+    let begun = c.in_ok-slots.ensures in
+    let after : c.body.new.self.scope.names.after ≡ c.args.symbols.now =
+    ap (λ (v : Visible). v.names.after) c.in_ok-body.ensures.scope
+    ∙ ap (λ (ns : Names). ns.after) (begun.names ∙ c.in_ok-walk.ensures.names) in
+    subst (λ (ns : List Name). AreProper ns c.into_spaces.result) after c.into_spaces.ensures.proper

@@ -1,13 +1,13 @@
 use Rattle.std.proofs.Common.{◌∙◌, ap}
-use Rattle.abs_tree.specs.Numbered.{looked_up}
-use Rattle.abs_names.proofs.ScopeLemmas.{looked_up-known}
+use Rattle.abs_tree.specs.KeptSpaces.{named}
+use Rattle.abs_tree.specs.Tables.{meaning_of}
 use Rattle.abs_names.proofs.around.Around.type_named.Goals as goal
+
+pub type_named-requires : goal.type_named-requires
+type_named-requires c = c.self.invariant.2
 
 pub returns : goal.returns
 returns c =
-    let names = c.self.inside.symbols.now in
-    let known = c.self.inside.spaces.types in
-    let is = rw (← c.self.view_is) at c.kept-name.ensures in
-    rw (← c.self.view_is) (c.look_up.ensures
-    ∙ (ap (looked_up known) c.number.ensures.number
-    ∙ looked_up-known names known c.kept-name.result _ c.self.invariant.2.types is))
+    let known = named c.self.inside.symbols.now (λ x. x) c.self.inside.spaces.types in
+    let is = rw (← c.self.view_is) at c.kept.ensures in
+    rw (← c.self.view_is) (c.type_named.ensures ∙ ap (meaning_of known) is)

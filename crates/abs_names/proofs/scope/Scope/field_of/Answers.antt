@@ -5,8 +5,9 @@ use Rattle.abs_tree.specs.Numbered.{looked_up}
 use Rattle.abs_tree.specs.SyntaxViews.{variable_tree}
 use Rattle.abs_tree.specs.Tables.{meaning_of}
 use Rattle.abs_names.specs.Scopes.{field_of}
-use Rattle.abs_names.specs.Visible.{Visible, named}
-use Rattle.abs_names.proofs.ScopeLemmas.{looked_up-named}
+use Rattle.abs_tree.specs.KeptSpaces.{named}
+use Rattle.abs_names.specs.Visible.{Visible}
+use Rattle.abs_tree.proofs.KeptSpaceLemmas.{looked_up-named}
 use Rattle.abs_names.proofs.scope.Scope.field_of.Goals as goal
 
 pub returns : goal.returns

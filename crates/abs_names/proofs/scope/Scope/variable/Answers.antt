@@ -4,8 +4,9 @@ use Rattle.abs_tree.specs.Names.{name_of}
 use Rattle.abs_tree.specs.Numbered.{looked_up}
 use Rattle.abs_tree.specs.SyntaxViews.{variable_tree}
 use Rattle.abs_tree.specs.Tables.{meaning_of}
-use Rattle.abs_names.specs.Visible.{Visible, named, binding_tree}
-use Rattle.abs_names.proofs.ScopeLemmas.{looked_up-named}
+use Rattle.abs_tree.specs.KeptSpaces.{named}
+use Rattle.abs_names.specs.Visible.{Visible, binding_tree}
+use Rattle.abs_tree.proofs.KeptSpaceLemmas.{looked_up-named}
 use Rattle.abs_names.proofs.scope.Scope.variable.Goals as goal
 
 pub returns-in-Some : goal.returns-in-Some

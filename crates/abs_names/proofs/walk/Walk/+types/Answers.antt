@@ -100,22 +100,26 @@ type_term-returns-in-Unresolved-clause-noted t c =
     c.deref.result.now form.is c.deref.ensures.value)
     c.named_type.ensures.noted
 
-pub type_term-returns-in_ok-type_terms-in-Data-clause-found
-    : goal.type_term-returns-in_ok-type_terms-in-Data-clause-found
-type_term-returns-in_ok-type_terms-in-Data-clause-found t c =
-    let start = c.args.self.now.scope in
-    let form = c.in-Data in
-    let items = c.deref-in-Data.result.now in
-    rw (data_tree start.names.before c.args.term.now form.place form.name form.arguments items form.is
-    c.deref-in-Data.ensures.value)
-    (data_found start form.place form.name c.kept.result c.in_ok-type_terms-in-Data.field-0 items
-    (kept_in c.around.result.now start.names c.kept.result form.name c.kept.ensures c.around.ensures.names)
-    c.in_ok-type_terms-in-Data.ensures.found)
-
-pub type_term-returns-in_ok-type_terms-in-Data-clause-noted
-    : goal.type_term-returns-in_ok-type_terms-in-Data-clause-noted
-type_term-returns-in_ok-type_terms-in-Data-clause-noted t c =
+pub type_term-returns-in-Data-clause-found : goal.type_term-returns-in-Data-clause-found
+type_term-returns-in-Data-clause-found t c =
     let form = c.in-Data in
     rw (data_tree c.args.self.now.scope.names.before c.args.term.now form.place form.name form.arguments
     c.deref-in-Data.result.now form.is c.deref-in-Data.ensures.value)
-    c.in_ok-type_terms-in-Data.ensures.noted
+    c.data_type.ensures.found
+
+pub type_term-returns-in-Data-clause-noted : goal.type_term-returns-in-Data-clause-noted
+type_term-returns-in-Data-clause-noted t c =
+    let form = c.in-Data in
+    rw (data_tree c.args.self.now.scope.names.before c.args.term.now form.place form.name form.arguments
+    c.deref-in-Data.result.now form.is c.deref-in-Data.ensures.value)
+    c.data_type.ensures.noted
+
+pub data_type-returns-clause-found : goal.data_type-returns-clause-found
+data_type-returns-clause-found t c =
+    let start = c.args.self.now.scope in
+    data_found start c.note_unless.new.self.scope c.args.place c.args.name c.kept-name.result
+    c.in_ok-arguments.arguments c.args.arguments.now c.note_unless.ensures.scope
+    (kept_in c.around.result.now start.names c.kept-name.result c.args.name c.kept-name.ensures
+    (c.around.ensures.names
+    ∙ ap (λ (v : Visible). v.names) (c.in_ok-arguments.ensures.scope ∙ c.note_unless.ensures.scope)))
+    c.in_ok-arguments.ensures.found

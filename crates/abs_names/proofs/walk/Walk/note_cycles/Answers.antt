@@ -10,7 +10,7 @@ loop-index-preserved c =
     c.loop-index-test.true c.index-declarations-index.is c.name_place-place.ensures
     (c.note_if.ensures
     ∙ ap (λ b. fold earlier c.loop-index.self.first (cyclic b c.name_place-place.result))
-    c.value_at-extends_itself.ensures) refl
+    c.is_marked-extends_itself.ensures) refl
 
 pub returns-clause-noted : goal.returns-clause-noted
 returns-clause-noted c = λ names. cycles_done names c.loop-index.invariant c.loop-index-test.false
