@@ -23,6 +23,7 @@ mod walk;
 pub use abs_tree::SourceError as NameError;
 pub use laws::{newest_declaration, own_slots};
 pub use prelude::{
-    DECLARATIONS as PRELUDE_DECLARATIONS, TEXT as PRELUDE_TEXT, declarations_are_counted,
+    DECLARATIONS as PRELUDE_DECLARATIONS, TEXT as PRELUDE_TEXT, add_names as add_prelude_names,
+    declarations_are_counted, prelude as prelude_declarations,
 };
 pub use resolver::resolve;

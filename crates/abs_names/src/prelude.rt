@@ -99,7 +99,7 @@ fn name(index: usize) -> &'static [u8]
 /// # Errors
 /// [`AllocError`] if an allocation fails, or the table has no room.
 #[tactic(auto, unfolding(crate::specs::Prelude::prelude_names))]
-pub(crate) fn add_names(symbols: &mut Symbols<'_>) -> Result<u32, AllocError>
+pub fn add_names(symbols: &mut Symbols<'_>) -> Result<u32, AllocError>
     requires few { length symbols.old ≤ table_limit }
     ensures few { OnOk result (length symbols.new ≤ table_limit) }
     ensures names { OnOk result (symbols.new ≡ fold with_name symbols.old prelude_names) }
@@ -120,7 +120,7 @@ pub(crate) fn add_names(symbols: &mut Symbols<'_>) -> Result<u32, AllocError>
 /// # Errors
 /// [`AllocError`] if an allocation fails, or the table does not have a name of the prelude.
 #[tactic(auto, unfolding(crate::specs::Prelude::prelude))]
-pub(crate) fn prelude(alloc: Global, symbols: &Symbols<'_>) -> Result<Vec<Decl>, AllocError>
+pub fn prelude(alloc: Global, symbols: &Symbols<'_>) -> Result<Vec<Decl>, AllocError>
     requires few { length symbols.now ≤ table_limit }
     ensures { IfOk result (λ found. map (decl_tree symbols.now) found.items ≡ prelude) }
 {

@@ -6,8 +6,11 @@ use crate::failure::Failure;
 use crate::printer::Printer;
 use abs_lexer::lexer::tokens;
 use abs_lexer::token::Tokens;
-use abs_names::{PRELUDE_DECLARATIONS, resolve};
+use abs_names::{
+    PRELUDE_DECLARATIONS, PRELUDE_TEXT, add_prelude_names, prelude_declarations, resolve,
+};
 use abs_parser::parse;
+use abs_tree::limits::SOURCE_LIMIT;
 use abs_tree::{Body, Decl, Named, Symbol, Symbols};
 use std::alloc::{AllocError, Global};
 
@@ -26,6 +29,8 @@ pub(crate) enum What {
     Symbols,
     /// The tokens, and the place after the last byte.
     Tokens,
+    /// The tree of the prelude, whatever the source is: as its text is read, and as it is made by hand.
+    Prelude,
 }
 
 impl What {
@@ -38,6 +43,7 @@ impl What {
             "names" => Some(What::Names),
             "symbols" => Some(What::Symbols),
             "tokens" => Some(What::Tokens),
+            "prelude" => Some(What::Prelude),
             _ => None,
         }
     }
@@ -61,6 +67,7 @@ pub(crate) fn show(alloc: Global, what: What, source: &[u8]) -> Result<String, F
         What::Resolved | What::Declared | What::Symbols => {
             Ok(resolved_lines(alloc, what, &resolve(alloc, program)?)?)
         }
+        What::Prelude => prelude_lines(alloc),
         What::Tree | What::Tokens => {
             Ok(tree_line(
                 alloc,
@@ -81,6 +88,44 @@ fn resolved_lines(alloc: Global, what: What, named: &Named<'_>) -> Result<String
         What::Declared => tree_line(alloc, &named.symbols, all, &named.main),
         _ => tree_line(alloc, &named.symbols, own, &named.main),
     }
+}
+
+/// Two lines with the tree of the prelude before an empty main block: as its text is read, and as it is made by hand.
+///
+/// # Errors
+/// [`Failure::Refused`] if the text is no program, and [`Failure::Memory`] if memory runs out.
+fn prelude_lines(alloc: Global) -> Result<String, Failure> {
+    let source = prelude_source(alloc)?;
+    if source.len() > SOURCE_LIMIT {
+        return Err(Failure::TooLarge);
+    }
+    let list = tokens(alloc, source.as_bytes())?;
+    let read = parse(alloc, &list)?;
+    let mut lines = tree_line(
+        alloc,
+        &read.symbols,
+        read.declarations.as_slice(),
+        &read.main,
+    )?;
+    let mut symbols = Symbols::new(alloc);
+    add_prelude_names(&mut symbols)?;
+    let made = prelude_declarations(alloc, &symbols)?;
+    lines.push_str(tree_line(alloc, &symbols, made.as_slice(), &read.main)?.as_str())?;
+    Ok(lines)
+}
+
+/// The text of the declarations of the prelude, one of which is on a line, before an empty main block.
+///
+/// # Errors
+/// [`AllocError`] if memory runs out.
+fn prelude_source(alloc: Global) -> Result<String, AllocError> {
+    let mut source = String::new(alloc);
+    for line in PRELUDE_TEXT.lines().take(PRELUDE_DECLARATIONS) {
+        source.push_str(line)?;
+        source.push_str("\n")?;
+    }
+    source.push_str("{ }")?;
+    Ok(source)
 }
 
 /// A line with the tree of these parts.
