@@ -1,0 +1,14 @@
+pub mod PassedLemmas
+pub mod TermLemmas
+pub mod SpineLemmas
+pub mod FormLemmas
+pub mod NameLemmas
+pub mod FittingLemmas
+pub mod CopyLemmas
+pub mod JoinLemmas
+pub mod JoinFormLemmas
+pub mod SubtypingLemmas
+pub mod ReplacementLemmas
+pub mod ApplicationLemmas
+pub mod ArgumentLemmas
+pub mod NamedLemmas

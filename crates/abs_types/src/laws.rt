@@ -1,0 +1,52 @@
+//! Laws of the definitions, which hold whatever the code does.
+ghost use Rattle.std.specs.Prelude.{◌≡◌, ◌↔◌, true, List, map, length, Option, Some, option_map};
+ghost use Rattle.abs_tree.specs.Syntax.{DeclTree};
+ghost use Rattle.abs_types.specs.Applications.{met_by, replaced, AllFit};
+ghost use Rattle.abs_types.specs.Joins.{both_applied, join_of, IsLeastAbove};
+ghost use Rattle.abs_types.specs.PlainTypes.{PlainType, PlainApplied, PlainFut};
+ghost use Rattle.abs_types.specs.Schemes.{IsClosed, Scheme};
+ghost use Rattle.abs_types.specs.Subtyping.{fits, Fits, NoneExtendsItself};
+
+/// The test and the relation of fitting agree. A type fits itself; what fits a type that fits a third one fits that one
+/// too; and in a program whose interfaces do not extend themselves two types that fit each other are the same.
+pub fn subtyping_is_an_order()
+    ensures told { (declarations : List DeclTree) (one other : PlainType)
+        → (fits declarations one other ≡ true) ↔ Fits declarations one other }
+    ensures reflexive { (declarations : List DeclTree) (one : PlainType) → fits declarations one one ≡ true }
+    ensures transitive { (declarations : List DeclTree) (one between other : PlainType)
+        → fits declarations one between ≡ true → fits declarations between other ≡ true
+        → fits declarations one other ≡ true }
+    ensures antisymmetric { (declarations : List DeclTree) (one other : PlainType) → NoneExtendsItself declarations
+        → fits declarations one other ≡ true → fits declarations other one ≡ true → one ≡ other }
+{}
+
+/// A join is the least type that both types fit. In a program whose interfaces do not extend themselves it does not
+/// depend on their order, and inside data and `Fut` the joins of the arguments alone decide.
+pub fn joins_are_least()
+    ensures least { (declarations : List DeclTree) (one other joined : PlainType)
+        → join_of declarations one other ≡ Some joined → IsLeastAbove declarations one other joined }
+    ensures symmetric { (declarations : List DeclTree) (one other : PlainType) → NoneExtendsItself declarations
+        → join_of declarations one other ≡ join_of declarations other one }
+    ensures applied { (declarations : List DeclTree) (head other_head argument other_argument : PlainType)
+        → NoneExtendsItself declarations
+        → join_of declarations (PlainApplied head argument) (PlainApplied other_head other_argument)
+        ≡ both_applied (join_of declarations head other_head) (join_of declarations argument other_argument) }
+    ensures futures { (declarations : List DeclTree) (one other : PlainType) → NoneExtendsItself declarations
+        → join_of declarations (PlainFut one) (PlainFut other) ≡ option_map PlainFut (join_of declarations one other) }
+{}
+
+/// In an application the arguments fit what is taken, with the type parameters replaced by what they met, and what they
+/// met fits every other replacement of which that is true. A replacement keeps what fits. Types that fit others give
+/// types that fit what the others give in their place.
+pub fn applications_are_least()
+    ensures fit { (declarations : List DeclTree) (scheme : Scheme) (given met : List PlainType) → IsClosed scheme
+        → met_by declarations scheme given ≡ Some met → AllFit declarations given (map (replaced met) scheme.takes) }
+    ensures least { (declarations : List DeclTree) (scheme : Scheme) (given met types : List PlainType)
+        → length types ≡ scheme.parameters → met_by declarations scheme given ≡ Some met
+        → AllFit declarations given (map (replaced types) scheme.takes) → AllFit declarations met types }
+    ensures replacement { (declarations : List DeclTree) (types : List PlainType) (one other : PlainType)
+        → fits declarations one other ≡ true
+        → fits declarations (replaced types one) (replaced types other) ≡ true }
+    ensures replacements { (declarations : List DeclTree) (types others : List PlainType) (one : PlainType)
+        → AllFit declarations types others → fits declarations (replaced types one) (replaced others one) ≡ true }
+{}

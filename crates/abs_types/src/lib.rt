@@ -1,0 +1,13 @@
+//! Types: when one fits another, their joins, and what they hold.
+#![tactic(auto)]
+
+mod copies;
+mod holds;
+mod joins;
+mod laws;
+mod subtyping;
+
+pub use holds::{holds_futures, holds_objects};
+pub use joins::join;
+pub use laws::{applications_are_least, joins_are_least, subtyping_is_an_order};
+pub use subtyping::subtype;
