@@ -3,6 +3,7 @@ ghost use Rattle.std.specs.Prelude.{◌≤◌, length};
 ghost use Rattle.abs_tree.specs.Limits.{source_limit};
 
 use crate::failure::Failure;
+use crate::fits::fit_lines;
 use crate::printer::Printer;
 use abs_lexer::lexer::tokens;
 use abs_lexer::token::Tokens;
@@ -29,6 +30,8 @@ pub(crate) enum What {
     Symbols,
     /// The tokens, and the place after the last byte.
     Tokens,
+    /// Which types fit which, for those that its declarations write.
+    Fits,
     /// The tree of the prelude, whatever the source is: as its text is read, and as it is made by hand.
     Prelude,
 }
@@ -43,6 +46,7 @@ impl What {
             "names" => Some(What::Names),
             "symbols" => Some(What::Symbols),
             "tokens" => Some(What::Tokens),
+            "fits" => Some(What::Fits),
             "prelude" => Some(What::Prelude),
             _ => None,
         }
@@ -64,7 +68,7 @@ pub(crate) fn show(alloc: Global, what: What, source: &[u8]) -> Result<String, F
     let program = parse(alloc, &list)?;
     match what {
         What::Names => Ok(name_lines(alloc, &program.symbols)?),
-        What::Resolved | What::Declared | What::Symbols => {
+        What::Resolved | What::Declared | What::Symbols | What::Fits => {
             Ok(resolved_lines(alloc, what, &resolve(alloc, program)?)?)
         }
         What::Prelude => prelude_lines(alloc),
@@ -86,6 +90,7 @@ fn resolved_lines(alloc: Global, what: What, named: &Named<'_>) -> Result<String
     match what {
         What::Symbols => name_lines(alloc, &named.symbols),
         What::Declared => tree_line(alloc, &named.symbols, all, &named.main),
+        What::Fits => fit_lines(alloc, named, own),
         _ => tree_line(alloc, &named.symbols, own, &named.main),
     }
 }
