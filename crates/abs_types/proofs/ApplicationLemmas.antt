@@ -253,3 +253,22 @@ pub application_is_least : (declarations : List DeclTree) (scheme : Scheme) (giv
 application_is_least declarations scheme given met types many is fit =
     meet_all_least declarations scheme.takes given (replicate scheme.parameters PlainBottom) met types is
     (subst (λ (count : ℕ). AllFit declarations (replicate count PlainBottom) types) many (none_met declarations types)) fit
+
+-- all arguments were met: there are as many types as before
+meet_all_length : (declarations : List DeclTree) (takes given met later : List PlainType)
+    → meet_all declarations takes given met ≡ Some later → length later ≡ length met
+meet_all_length declarations [] [] met later is =
+    ap (λ (types : List PlainType). length types) (sym (same_Some met later is))
+meet_all_length declarations [] (one ∷ given) met later is = absurd (none-some later is)
+meet_all_length declarations (first ∷ takes) [] met later is = absurd (none-some later is)
+meet_all_length declarations (first ∷ takes) (one ∷ given) met later is =
+    option_and_then_some (meet_all declarations takes given) (meet declarations first one met) later is
+    (λ between head others. meet_all_length declarations takes given between later others
+    ∙ meets_length (meets declarations first one met between head))
+
+-- in an application there is a type for each type parameter
+pub application_length : (declarations : List DeclTree) (scheme : Scheme) (given met : List PlainType)
+    → met_by declarations scheme given ≡ Some met → length met ≡ scheme.parameters
+application_length declarations scheme given met is =
+    meet_all_length declarations scheme.takes given (replicate scheme.parameters PlainBottom) met is
+    ∙ length-replicate scheme.parameters PlainBottom

@@ -1,13 +1,14 @@
 -- A join is the least type above two types. By cases on which of them fits the other: the greater one is the join, and
 -- otherwise the joins of their parts decide.
-use Rattle.std.proofs.Common.{◌≡◌, true, false, List, Option, Some, None, option_map, refl, sym, ap, ap₂, ◌∙◌, subst, ⊎_elim}
+use Rattle.std.proofs.Common.{◌≡◌, true, false, List, [], ◌∷◌, Option, Some, None, option_map, refl, sym, ap, ap₂, ◌∙◌, subst, ⊎_elim}
 use Rattle.std.proofs.lemmas.Bool.{and_from, and_parts, cases_Bool}
-use Rattle.std.proofs.lemmas.Option.{none-some}
+use Rattle.std.proofs.lemmas.List.Elements.{All-nil, All-cons, All-head, All-tail}
+use Rattle.std.proofs.lemmas.Option.{none-some, option_and_then_some}
 use Rattle.abs_tree.specs.Syntax.{DeclTree}
-use Rattle.abs_types.specs.Joins.{greater_or, both_applied, join_of, IsLeastAbove}
+use Rattle.abs_types.specs.Joins.{greater_or, both_applied, join_of, join_all, IsLeastAbove, IsLeastAboveAll}
 use Rattle.abs_types.specs.PlainTypes.{PlainType, PlainFut, PlainApplied}
 use Rattle.abs_types.specs.Subtyping.{fits, NoneExtendsItself}
-use Rattle.abs_types.proofs.SubtypingLemmas.{fits_reflexive, fits_antisymmetric}
+use Rattle.abs_types.proofs.SubtypingLemmas.{fits_reflexive, fits_transitive, fits_antisymmetric}
 
 -- the join that the parts of two types give
 abbrev pub join_of_parts : List DeclTree → PlainType → PlainType → Option PlainType
@@ -177,6 +178,41 @@ join_of_least declarations (PlainApplied head argument) (PlainApplied other_head
     told
 join_of_least declarations one other joined told =
     least_by_parts declarations one other joined (λ parts. absurd (none-some joined parts)) told
+
+-- the least type above the join of two types and above others is the least one above all of them
+all_least_after : (declarations : List DeclTree) (one other between least : PlainType) (others : List PlainType)
+    → IsLeastAbove declarations one other between → IsLeastAboveAll declarations (between ∷ others) least
+    → IsLeastAboveAll declarations (one ∷ other ∷ others) least
+all_least_after declarations one other between least others of_two of_all =
+    let below : PlainType → Type 0 = λ type. fits declarations type least ≡ true in
+    let inner = All-head below between others of_all.above_all in
+    record {
+      above_all = All-cons below one (other ∷ others) (fits_transitive declarations one between least of_two.first inner)
+          (All-cons below other others (fits_transitive declarations other between least of_two.second inner)
+          (All-tail below between others of_all.above_all));
+      least_is = λ above fit.
+          let under : PlainType → Type 0 = λ type. fits declarations type above ≡ true in
+          let rest = All-tail under one (other ∷ others) fit in
+          of_all.least_is above (All-cons under between others
+          (of_two.least_is above (All-head under one (other ∷ others) fit) (All-head under other others rest))
+          (All-tail under other others rest));
+    }
+
+-- so the join of several types is the least type above all of them
+pub join_all_least : (declarations : List DeclTree) (one joined : PlainType) (others : List PlainType)
+    → join_all declarations one others ≡ Some joined → IsLeastAboveAll declarations (one ∷ others) joined
+join_all_least declarations one joined [] told =
+    subst (IsLeastAboveAll declarations (one ∷ [])) (some_is_same told)
+    (record {
+      above_all = All-cons (λ type. fits declarations type one ≡ true) one [] (fits_reflexive declarations one)
+          (All-nil (λ type. fits declarations type one ≡ true));
+      least_is = λ above all_fit. All-head (λ type. fits declarations type above ≡ true) one [] all_fit;
+    })
+join_all_least declarations one joined (other ∷ others) told =
+    option_and_then_some (λ between. join_all declarations between others) (join_of declarations one other) joined told
+    (λ between first more. all_least_after declarations one other between joined others
+    (join_of_least declarations one other between first)
+    (join_all_least declarations between joined others more))
 
 -- two joins in either order are the same, if those of the parts are
 symmetric_by_parts : (declarations : List DeclTree) (one other : PlainType) → NoneExtendsItself declarations

@@ -12,3 +12,5 @@ pub mod ReplacementLemmas
 pub mod ApplicationLemmas
 pub mod ArgumentLemmas
 pub mod NamedLemmas
+pub mod SchemeLemmas
+pub mod ConstructorLemmas

@@ -1,7 +1,10 @@
 -- Data that is applied to arguments, and when it fits.
-use Rattle.std.proofs.Common.{◌≡◌, ℕ, ◌+◌, Bool, true, false, ◌&&◌, List, [], ◌∷◌, refl, ap, ◌∙◌, length, suc, arith}
+use Rattle.std.proofs.Common.{◌≡◌, ℕ, ◌+◌, Bool, true, false, ◌&&◌, List, [], ◌∷◌, refl, sym, ap, ◌∙◌, length, suc, arith, true≢false}
 use Rattle.std.specs.Str.{bytes_eq}
+use Rattle.std.proofs.lemmas.Bool.{and_from, and_parts}
+use Rattle.std.proofs.lemmas.Slice.Eq.{bytes_eq-Decides}
 use Rattle.abs_tree.specs.Syntax.{Name, DeclTree}
+use Rattle.abs_types.specs.Applications.{AllFit}
 use Rattle.abs_types.specs.Arguments.{all_fit}
 use Rattle.abs_types.specs.PlainTypes.{PlainType, PlainData, PlainApplied, applied_to}
 use Rattle.abs_types.specs.Subtyping.{fits}
@@ -106,3 +109,31 @@ pub data_fits_data : (declarations : List DeclTree) (name other_name : Name) (on
 unfolding fits
 data_fits_data declarations name other_name ones others =
     spines_fit declarations (PlainData name) (PlainData other_name) ones others refl refl
+
+-- types that pass the test fit one by one
+pub all_fit_found : (declarations : List DeclTree) (ones others : List PlainType) → all_fit declarations ones others ≡ true
+    → AllFit declarations ones others
+all_fit_found declarations [] [] told = tt
+all_fit_found declarations (one ∷ ones) (other ∷ others) told =
+    let both = and_parts (fits declarations one other) (all_fit declarations ones others) told in
+    (both.0, all_fit_found declarations ones others both.1)
+all_fit_found declarations ones others told = absurd (true≢false (sym told))
+
+-- types that fit one by one pass it
+pub all_fit_whole : (declarations : List DeclTree) (ones others : List PlainType) → AllFit declarations ones others
+    → all_fit declarations ones others ≡ true
+all_fit_whole declarations [] [] fit = refl
+all_fit_whole declarations [] (other ∷ others) fit = absurd fit
+all_fit_whole declarations (one ∷ ones) [] fit = absurd fit
+all_fit_whole declarations (one ∷ ones) (other ∷ others) fit =
+    and_from (fits declarations one other) (all_fit declarations ones others) fit.0
+    (all_fit_whole declarations ones others fit.1)
+
+-- data that fits data has its name, and its arguments fit one by one
+pub data_fitting : (declarations : List DeclTree) (name other_name : Name) (arguments others : List PlainType)
+    → fits declarations (applied_to (PlainData name) arguments) (applied_to (PlainData other_name) others) ≡ true
+    → (name ≡ other_name) × AllFit declarations arguments others
+data_fitting declarations name other_name arguments others told =
+    let both = and_parts (bytes_eq name other_name) (all_fit declarations arguments others)
+    (sym (data_fits_data declarations name other_name arguments others) ∙ told) in
+    ((bytes_eq-Decides name other_name).0 both.0, all_fit_found declarations arguments others both.1)

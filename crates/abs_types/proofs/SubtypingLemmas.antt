@@ -1,6 +1,6 @@
 -- Fitting is an order. The test and the relation agree; the relation is transitive by its sentences, and antisymmetric
 -- where no interface extends itself.
-use Rattle.std.proofs.Common.{◌≡◌, ℕ, ◌<◌, Bool, true, false, List, [], length, Option, Some, refl, sym, ap, ap₂, ◌∙◌, subst, nat_eq, bytes_eq, arith, ⊎_elim, true≢false, eq-eqb, eqb-true}
+use Rattle.std.proofs.Common.{◌≡◌, ℕ, ◌<◌, Bool, true, false, List, [], length, Option, Some, refl, sym, ap, ap₂, ◌∙◌, subst, ◌⊎◌, inl, inr, nat_eq, bytes_eq, arith, ⊎_elim, true≢false, eq-eqb, eqb-true}
 use Rattle.std.specs.List.{list_any, All}
 use Rattle.std.proofs.lemmas.Bool.{and_from, and_parts, cases_lt, or_left, or_right, or_cases}
 use Rattle.std.proofs.lemmas.List.{get_or_past}
@@ -138,6 +138,15 @@ fits_reflexive declarations (PlainInterface name) =
     or_left (bytes_eq name name) (extends_name declarations name name) (name_is_itself name)
 fits_reflexive declarations (PlainClass name) = name_is_itself name
 fits_reflexive declarations (PlainParameter index) = eq-eqb index index refl
+
+-- `null` fits its own type, interfaces and `Fut` types alone
+pub null_fitting : (declarations : List DeclTree) (other : PlainType) → fits declarations PlainNull other ≡ true
+    → (other ≡ PlainNull) ⊎ ((name : Name) × other ≡ PlainInterface name) ⊎ ((value : PlainType) × other ≡ PlainFut value)
+unfolding fits
+null_fitting declarations PlainNull told = inl refl
+null_fitting declarations (PlainInterface name) told = inr (inl (name, refl))
+null_fitting declarations (PlainFut value) told = inr (inr (value, refl))
+null_fitting declarations other told = absurd (true≢false (sym told))
 
 -- the test finds a reason to fit
 pub fits_found : (declarations : List DeclTree) (one other : PlainType) → fits declarations one other ≡ true

@@ -3,7 +3,8 @@
 --   `join_of`                  that of two types
 --   `join_all`                 that of several types, taken from the left, two at a time
 --   `IsLeastAbove`             a type that two types fit, and that fits each other one that both fit
-use Rattle.std.specs.Prelude.{◌≡◌, true, List, [], ◌∷◌, Option, Some, None, option_map, option_and_then, if◌then◌else◌}
+--   `IsLeastAboveAll`          the same of several types
+use Rattle.std.specs.Prelude.{◌≡◌, true, List, [], ◌∷◌, Option, Some, None, option_map, option_and_then, if◌then◌else◌, All}
 use Rattle.abs_tree.specs.Syntax.{DeclTree}
 use Rattle.abs_types.specs.PlainTypes.{PlainType, PlainFut, PlainApplied}
 use Rattle.abs_types.specs.Subtyping.{fits}
@@ -40,4 +41,10 @@ pub record IsLeastAbove (declarations : List DeclTree) (one other least : PlainT
   pub first : fits declarations one least ≡ true
   pub second : fits declarations other least ≡ true
   pub least_is : (above : PlainType) → fits declarations one above ≡ true → fits declarations other above ≡ true
+      → fits declarations least above ≡ true
+
+-- All types of a list fit a type, and it fits each other one that all of them fit.
+pub record IsLeastAboveAll (declarations : List DeclTree) (types : List PlainType) (least : PlainType) : Type 0 where
+  pub above_all : All (λ type. fits declarations type least ≡ true) types
+  pub least_is : (above : PlainType) → All (λ type. fits declarations type above ≡ true) types
       → fits declarations least above ≡ true

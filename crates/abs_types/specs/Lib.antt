@@ -5,3 +5,5 @@ pub mod Holds
 pub mod Arguments
 pub mod Schemes
 pub mod Applications
+pub mod Mistyped
+pub mod PatternTypes

@@ -1,10 +1,12 @@
 //! Laws of the definitions, which hold whatever the code does.
-ghost use Rattle.std.specs.Prelude.{◌≡◌, ◌↔◌, true, List, map, length, Option, Some, option_map};
-ghost use Rattle.abs_tree.specs.Syntax.{DeclTree};
-ghost use Rattle.abs_types.specs.Applications.{met_by, replaced, AllFit};
-ghost use Rattle.abs_types.specs.Joins.{both_applied, join_of, IsLeastAbove};
-ghost use Rattle.abs_types.specs.PlainTypes.{PlainType, PlainApplied, PlainFut};
-ghost use Rattle.abs_types.specs.Schemes.{IsClosed, Scheme};
+ghost use Rattle.std.specs.Prelude.{◌≡◌, ◌↔◌, ◌⊎◌, true, List, ◌∷◌, map, length, Option, Some, option_map};
+ghost use Rattle.abs_tree.specs.Syntax.{DeclTree, Name, SourceTree};
+ghost use Rattle.abs_tree.specs.Whole.{IsWhole};
+ghost use Rattle.abs_types.specs.Applications.{applied_type, met_by, replaced, AllFit};
+ghost use Rattle.abs_types.specs.Joins.{both_applied, join_all, join_of, IsLeastAbove, IsLeastAboveAll};
+ghost use Rattle.abs_types.specs.PatternTypes.{constructor_parts};
+ghost use Rattle.abs_types.specs.PlainTypes.{applied_to, PlainApplied, PlainBottom, PlainData, PlainFut, PlainInterface, PlainNull, PlainType};
+ghost use Rattle.abs_types.specs.Schemes.{scheme_of_constructor, scheme_of_function, IsClosed, Scheme};
 ghost use Rattle.abs_types.specs.Subtyping.{fits, Fits, NoneExtendsItself};
 
 /// The test and the relation of fitting agree. A type fits itself; what fits a type that fits a third one fits that one
@@ -20,6 +22,17 @@ pub fn subtyping_is_an_order()
         → fits declarations one other ≡ true → fits declarations other one ≡ true → one ≡ other }
 {}
 
+/// `null` fits interfaces and `Fut` types, and its own type. Data that fits data has the same name, and its arguments
+/// fit one by one.
+pub fn types_fit_by_form()
+    ensures null { (declarations : List DeclTree) (other : PlainType) → fits declarations PlainNull other ≡ true
+        → (other ≡ PlainNull) ⊎ ((name : Name) × other ≡ PlainInterface name)
+        ⊎ ((value : PlainType) × other ≡ PlainFut value) }
+    ensures applied { (declarations : List DeclTree) (name other_name : Name) (arguments others : List PlainType)
+        → fits declarations (applied_to (PlainData name) arguments) (applied_to (PlainData other_name) others) ≡ true
+        → (name ≡ other_name) × AllFit declarations arguments others }
+{}
+
 /// A join is the least type that both types fit. In a program whose interfaces do not extend themselves it does not
 /// depend on their order, and inside data and `Fut` the joins of the arguments alone decide.
 pub fn joins_are_least()
@@ -33,6 +46,8 @@ pub fn joins_are_least()
         ≡ both_applied (join_of declarations head other_head) (join_of declarations argument other_argument) }
     ensures futures { (declarations : List DeclTree) (one other : PlainType) → NoneExtendsItself declarations
         → join_of declarations (PlainFut one) (PlainFut other) ≡ option_map PlainFut (join_of declarations one other) }
+    ensures several { (declarations : List DeclTree) (one joined : PlainType) (others : List PlainType)
+        → join_all declarations one others ≡ Some joined → IsLeastAboveAll declarations (one ∷ others) joined }
 {}
 
 /// In an application the arguments fit what is taken, with the type parameters replaced by what they met, and what they
@@ -49,4 +64,33 @@ pub fn applications_are_least()
         → fits declarations (replaced types one) (replaced types other) ≡ true }
     ensures replacements { (declarations : List DeclTree) (types others : List PlainType) (one : PlainType)
         → AllFit declarations types others → fits declarations (replaced types one) (replaced others one) ≡ true }
+{}
+
+/// In a resolved program the types that functions and constructors take and give have their own type parameters alone.
+pub fn schemes_are_closed()
+    ensures functions { (source : SourceTree) (name : Name) (scheme : Scheme) → IsWhole source
+        → scheme_of_function source.declarations name ≡ Some scheme → IsClosed scheme }
+    ensures constructors { (source : SourceTree) (name : Name) (scheme : Scheme) → IsWhole source
+        → scheme_of_constructor source.declarations name ≡ Some scheme → IsClosed scheme }
+{}
+
+/// What a constructor is applied to fits what its pattern finds in the type of that application. Where data fits
+/// another type, what a pattern finds in it fits what it finds in the other one; and so does what it finds in the type
+/// of no value.
+pub fn constructors_match()
+    ensures agree { (source : SourceTree) (name : Name) (scheme : Scheme) (given : List PlainType) (built : PlainType)
+        → IsWhole source → scheme_of_constructor source.declarations name ≡ Some scheme
+        → applied_type source.declarations scheme given ≡ Some built
+        → (parts : List PlainType) × (constructor_parts source.declarations built name ≡ Some parts)
+        × AllFit source.declarations given parts }
+    ensures below { (declarations : List DeclTree) (name owner : Name) (arguments : List PlainType) (other : PlainType)
+        (parts : List PlainType) → fits declarations (applied_to (PlainData owner) arguments) other ≡ true
+        → constructor_parts declarations other name ≡ Some parts
+        → (others : List PlainType)
+        × (constructor_parts declarations (applied_to (PlainData owner) arguments) name ≡ Some others)
+        × AllFit declarations others parts }
+    ensures no_value { (declarations : List DeclTree) (name : Name) (other : PlainType) (parts : List PlainType)
+        → constructor_parts declarations other name ≡ Some parts
+        → (others : List PlainType) × (constructor_parts declarations PlainBottom name ≡ Some others)
+        × AllFit declarations others parts }
 {}

@@ -9,5 +9,8 @@ mod subtyping;
 
 pub use holds::{holds_futures, holds_objects};
 pub use joins::join;
-pub use laws::{applications_are_least, joins_are_least, subtyping_is_an_order};
+pub use laws::{
+    applications_are_least, constructors_match, joins_are_least, schemes_are_closed,
+    subtyping_is_an_order, types_fit_by_form,
+};
 pub use subtyping::subtype;

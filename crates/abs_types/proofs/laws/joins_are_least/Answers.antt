@@ -1,4 +1,4 @@
-use Rattle.abs_types.proofs.JoinLemmas.{join_of_least, join_of_symmetric, join_of_applied, join_of_futures}
+use Rattle.abs_types.proofs.JoinLemmas.{join_of_least, join_of_symmetric, join_of_applied, join_of_futures, join_all_least}
 use Rattle.abs_types.proofs.laws.joins_are_least.Goals as goal
 
 pub returns-clause-least : goal.returns-clause-least
@@ -12,3 +12,6 @@ returns-clause-applied c = join_of_applied
 
 pub returns-clause-futures : goal.returns-clause-futures
 returns-clause-futures c = join_of_futures
+
+pub returns-clause-several : goal.returns-clause-several
+returns-clause-several c = join_all_least
