@@ -12,5 +12,11 @@ pub mod ReplacementLemmas
 pub mod ApplicationLemmas
 pub mod ArgumentLemmas
 pub mod NamedLemmas
+pub mod OffenceLemmas
+pub mod PatternLemmas
+pub mod OperatorLemmas
+pub mod RowLemmas
+pub mod AgreementLemmas
+pub mod SilenceLemmas
 pub mod SchemeLemmas
 pub mod ConstructorLemmas

@@ -6,4 +6,11 @@ pub mod Arguments
 pub mod Schemes
 pub mod Applications
 pub mod Mistyped
+pub mod OperatorTypes
 pub mod PatternTypes
+pub mod Typing
+pub mod Matching
+pub mod OperatorRows
+pub mod HasType
+pub mod Methods
+pub mod ExpressionOffences

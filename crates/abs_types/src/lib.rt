@@ -6,6 +6,7 @@ mod holds;
 mod joins;
 mod laws;
 mod subtyping;
+mod typing_laws;
 
 pub use holds::{holds_futures, holds_objects};
 pub use joins::join;
@@ -14,3 +15,4 @@ pub use laws::{
     subtyping_is_an_order, types_fit_by_form,
 };
 pub use subtyping::subtype;
+pub use typing_laws::expressions_are_typed;
