@@ -20,3 +20,8 @@ pub mod AgreementLemmas
 pub mod SilenceLemmas
 pub mod SchemeLemmas
 pub mod ConstructorLemmas
+pub mod AskedLemmas
+pub mod CallLemmas
+pub mod SideLemmas
+pub mod StatementLemmas
+pub mod ProgramLemmas

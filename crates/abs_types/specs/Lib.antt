@@ -14,3 +14,10 @@ pub mod OperatorRows
 pub mod HasType
 pub mod Methods
 pub mod ExpressionOffences
+pub mod SideTypes
+pub mod Endings
+pub mod StatementOffences
+pub mod InterfacesMet
+pub mod TypeOffences
+pub mod IsTyped
+pub mod TypedProgram

@@ -15,4 +15,4 @@ pub use laws::{
     subtyping_is_an_order, types_fit_by_form,
 };
 pub use subtyping::subtype;
-pub use typing_laws::expressions_are_typed;
+pub use typing_laws::{expressions_are_typed, programs_are_typed, statements_are_typed};
