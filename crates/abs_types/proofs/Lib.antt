@@ -25,3 +25,4 @@ pub mod CallLemmas
 pub mod SideLemmas
 pub mod StatementLemmas
 pub mod ProgramLemmas
+pub mod ShareLemmas

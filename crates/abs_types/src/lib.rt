@@ -1,18 +1,22 @@
 //! Types: when one fits another, their joins, and what they hold.
 #![tactic(auto)]
 
+mod checked;
 mod copies;
 mod holds;
 mod joins;
 mod laws;
+mod sharing;
 mod subtyping;
 mod typing_laws;
 
+pub use checked::Checked;
 pub use holds::{holds_futures, holds_objects};
 pub use joins::join;
 pub use laws::{
     applications_are_least, constructors_match, joins_are_least, schemes_are_closed,
     subtyping_is_an_order, types_fit_by_form,
 };
+pub use sharing::programs_are_shared;
 pub use subtyping::subtype;
 pub use typing_laws::{expressions_are_typed, programs_are_typed, statements_are_typed};

@@ -1,0 +1,133 @@
+-- Threads can hand over and share programs: what a resolved or an accepted program owns names no thread. One search for
+-- it is too long, so each part of a program has its own lemmas, which cite those of its parts.
+--     named_send, named_sync        a resolved program can be handed over;  it can be shared
+--     checked_send, checked_sync    an accepted program can be handed over;  it can be shared
+use denote.Ref.{NamedLft}
+use denote.Param.Send.{IsSend, IsSync, sendable}
+use Rattle.std.proofs.Crossing.{crosses}
+use Rattle.abs_tree.specs.contracts.named.Named as Named
+use Rattle.abs_tree.specs.contracts.syntax.declaration.Body as Body
+use Rattle.abs_tree.specs.contracts.syntax.declaration.Decl as Decl
+use Rattle.abs_tree.specs.contracts.syntax.expression.Expr as Expr
+use Rattle.abs_tree.specs.contracts.syntax.declaration.Member as Member
+use Rattle.abs_tree.specs.contracts.syntax.declaration.Param as Param
+use Rattle.abs_tree.specs.contracts.syntax.pattern.Pattern as Pattern
+use Rattle.abs_tree.specs.contracts.syntax.statement.RightSide as RightSide
+use Rattle.abs_tree.specs.contracts.syntax.declaration.Signature as Signature
+use Rattle.abs_tree.specs.contracts.syntax.statement.Stmt as Stmt
+use Rattle.abs_tree.specs.contracts.syntax.statement.Test as Test
+use Rattle.abs_tree.specs.contracts.syntax.types.TypeTerm as TypeTerm
+use Rattle.abs_tree.proofs.symbol.Symbols.TheSendSync as SymbolsShared
+use Rattle.abs_tree.proofs.tables.Tables.TheSendSync as TablesShared
+use Rattle.abs_tree.proofs.syntax.expression.Expr.TheLaws.TheKnot as ExprKnot
+use Rattle.abs_tree.proofs.syntax.pattern.Pattern.TheLaws.TheKnot as PatternKnot
+use Rattle.abs_tree.proofs.syntax.statement.Stmt.TheLaws.TheKnot as StmtKnot
+use Rattle.abs_tree.proofs.syntax.types.TypeTerm.TheLaws.TheKnot as TypeTermKnot
+use Rattle.abs_types.specs.contracts.checked.Checked as Checked
+
+-- A type as it is written can be handed over
+type_send : IsSend (TypeTerm.the_field).row
+type_send = search (sendable, crosses, TypeTermKnot.crosses) depth 20
+
+-- A type as it is written can be shared
+type_sync : IsSync (TypeTerm.the_field).row
+type_sync = search (sendable, crosses, TypeTermKnot.crosses) depth 20
+
+-- A pattern can be handed over
+pattern_send : IsSend (Pattern.the_field).row
+pattern_send = search (sendable, crosses, PatternKnot.crosses) depth 20
+
+-- A pattern can be shared
+pattern_sync : IsSync (Pattern.the_field).row
+pattern_sync = search (sendable, crosses, PatternKnot.crosses) depth 20
+
+-- An expression holds counted ones, and these can be handed over only where they can be shared too, so the search for
+-- either law takes both of each part.
+
+-- An expression can be handed over
+expression_send : IsSend (Expr.the_field).row
+expression_send = search (sendable, crosses, ExprKnot.crosses_both, type_send, type_sync, pattern_send, pattern_sync) depth 20 fits 20000
+
+-- An expression can be shared
+expression_sync : IsSync (Expr.the_field).row
+expression_sync = search (sendable, crosses, ExprKnot.crosses_both, type_send, type_sync, pattern_send, pattern_sync) depth 20 fits 20000
+
+-- A right side can be handed over
+side_send : IsSend (RightSide.the_field).row
+side_send = search (sendable, crosses, expression_send, expression_sync) depth 20
+
+-- A right side can be shared
+side_sync : IsSync (RightSide.the_field).row
+side_sync = search (sendable, crosses, expression_send, expression_sync) depth 20
+
+-- A test of a guard can be handed over
+test_send : IsSend (Test.the_field).row
+test_send = search (sendable, crosses, expression_send, expression_sync) depth 20
+
+-- A test of a guard can be shared
+test_sync : IsSync (Test.the_field).row
+test_sync = search (sendable, crosses, expression_send, expression_sync) depth 20
+
+-- A statement can be handed over
+statement_send : IsSend (Stmt.the_field).row
+statement_send = search (sendable, crosses, StmtKnot.crosses, type_send, expression_send, expression_sync, side_send, test_send) depth 20
+
+-- A statement can be shared
+statement_sync : IsSync (Stmt.the_field).row
+statement_sync = search (sendable, crosses, StmtKnot.crosses, type_sync, expression_send, expression_sync, side_sync, test_sync) depth 20
+
+-- A body can be handed over
+body_send : IsSend (Body.the_field).row
+body_send = search (sendable, crosses, statement_send) depth 20
+
+-- A body can be shared
+body_sync : IsSync (Body.the_field).row
+body_sync = search (sendable, crosses, statement_sync) depth 20
+
+-- A parameter can be handed over
+parameter_send : IsSend (Param.the_field).row
+parameter_send = search (sendable, crosses, type_send) depth 20
+
+-- A parameter can be shared
+parameter_sync : IsSync (Param.the_field).row
+parameter_sync = search (sendable, crosses, type_sync) depth 20
+
+-- A signature can be handed over
+signature_send : IsSend (Signature.the_field).row
+signature_send = search (sendable, crosses, type_send, parameter_send) depth 20
+
+-- A signature can be shared
+signature_sync : IsSync (Signature.the_field).row
+signature_sync = search (sendable, crosses, type_sync, parameter_sync) depth 20
+
+-- A member can be handed over
+member_send : IsSend (Member.the_field).row
+member_send = search (sendable, crosses, type_send, expression_send, expression_sync, signature_send, body_send) depth 20
+
+-- A member can be shared
+member_sync : IsSync (Member.the_field).row
+member_sync = search (sendable, crosses, type_sync, expression_send, expression_sync, signature_sync, body_sync) depth 20
+
+-- A declaration can be handed over
+declaration_send : IsSend (Decl.the_field).row
+declaration_send = search (sendable, crosses, type_send, expression_send, expression_sync, parameter_send, signature_send, member_send) depth 20
+
+-- A declaration can be shared
+declaration_sync : IsSync (Decl.the_field).row
+declaration_sync = search (sendable, crosses, type_sync, expression_send, expression_sync, parameter_sync, signature_sync, member_sync) depth 20
+
+-- A resolved program can be handed over
+pub named_send : (a : NamedLft) → IsSend (Named.the_field a).row
+named_send a = search (sendable, crosses, SymbolsShared.the_send, TablesShared.the_field_send, declaration_send, body_send) depth 20
+
+-- A resolved program can be shared
+pub named_sync : (a : NamedLft) → IsSync (Named.the_field a).row
+named_sync a = search (sendable, crosses, SymbolsShared.the_sync, TablesShared.the_field_sync, declaration_sync, body_sync) depth 20
+
+-- An accepted program can be handed over
+pub checked_send : (a : NamedLft) → IsSend (Checked.the_field a).row
+checked_send a = search (sendable, crosses, named_send) depth 20
+
+-- An accepted program can be shared
+pub checked_sync : (a : NamedLft) → IsSync (Checked.the_field a).row
+checked_sync a = search (sendable, crosses, named_sync) depth 20
