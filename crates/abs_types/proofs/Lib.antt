@@ -25,4 +25,14 @@ pub mod CallLemmas
 pub mod SideLemmas
 pub mod StatementLemmas
 pub mod ProgramLemmas
+pub mod KeepLemmas
+pub mod TypeTableLemmas
+pub mod OwnNameLemmas
+pub mod ShapeLemmas
+pub mod GrowthLemmas
+pub mod TableLemmas
+pub mod AddLemmas
+pub mod TypeSetLemmas
+pub mod MemoryLemmas
+pub mod TermTableLemmas
 pub mod ShareLemmas

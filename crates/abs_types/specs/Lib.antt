@@ -9,6 +9,8 @@ pub mod Mistyped
 pub mod OperatorTypes
 pub mod PatternTypes
 pub mod Typing
+pub mod TypeShapes
+pub mod TypeTables
 pub mod Matching
 pub mod OperatorRows
 pub mod HasType

@@ -8,6 +8,7 @@ mod joins;
 mod laws;
 mod sharing;
 mod subtyping;
+mod table;
 mod typing_laws;
 
 pub use checked::Checked;
@@ -19,4 +20,5 @@ pub use laws::{
 };
 pub use sharing::programs_are_shared;
 pub use subtyping::subtype;
+pub use table::{Shape, TypeIndex, TypeTable};
 pub use typing_laws::{expressions_are_typed, programs_are_typed, statements_are_typed};
