@@ -35,4 +35,6 @@ pub mod AddLemmas
 pub mod TypeSetLemmas
 pub mod MemoryLemmas
 pub mod TermTableLemmas
+pub mod PartLemmas
+pub mod TableJoinLemmas
 pub mod ShareLemmas

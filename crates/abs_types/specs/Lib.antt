@@ -23,3 +23,4 @@ pub mod InterfacesMet
 pub mod TypeOffences
 pub mod IsTyped
 pub mod TypedProgram
+pub mod TypeParts

@@ -105,7 +105,7 @@ pub fn same_name(program: &Named<'_>, one: Symbol, other: Symbol) -> bool
 
 /// Whether the interface with a name extends that with another name, in one step or in more.
 #[tactic(auto, unfolding(crate::specs::Subtyping::extends_name))]
-fn extends(program: &Named<'_>, one: Symbol, other: Symbol) -> bool
+pub(crate) fn extends(program: &Named<'_>, one: Symbol, other: Symbol) -> bool
     ensures { result ≡ extends_name (named_tree program.now).declarations
         (name_of program.now.symbols one) (name_of program.now.symbols other) }
 {
@@ -120,7 +120,7 @@ fn extends(program: &Named<'_>, one: Symbol, other: Symbol) -> bool
 
 /// Whether the class with a name implements the interface with another name, directly or through `extends`.
 #[tactic(auto, unfolding(crate::specs::Subtyping::implements_name))]
-fn implements(program: &Named<'_>, class: Symbol, interface: Symbol) -> bool
+pub(crate) fn implements(program: &Named<'_>, class: Symbol, interface: Symbol) -> bool
     ensures { result ≡ implements_name (named_tree program.now).declarations
         (name_of program.now.symbols class) (name_of program.now.symbols interface) }
 {
