@@ -38,3 +38,9 @@ pub mod TermTableLemmas
 pub mod PartLemmas
 pub mod TableJoinLemmas
 pub mod ShareLemmas
+pub mod OpenLemmas
+pub mod HeadLemmas
+pub mod MeetLemmas
+pub mod MetSoFarLemmas
+pub mod AllMetLemmas
+pub mod ReplacedSoFarLemmas

@@ -24,3 +24,4 @@ pub mod TypeOffences
 pub mod IsTyped
 pub mod TypedProgram
 pub mod TypeParts
+pub mod Heads

@@ -5,6 +5,7 @@ ghost use Rattle.abs_tree.specs.SourceViews.{named_tree};
 ghost use Rattle.abs_types.specs.Schemes.{has_parameter};
 ghost use Rattle.abs_types.specs.TypeShapes.{types_of, AreFormed, AreFormed-prop, AreRemembered};
 
+mod applying;
 mod fitting;
 mod joining;
 mod making;
