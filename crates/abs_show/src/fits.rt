@@ -39,7 +39,7 @@ pub(crate) fn fit_lines(
 }
 
 /// The word for an answer.
-fn answer(holds: bool) -> &'static str {
+pub(crate) fn answer(holds: bool) -> &'static str {
     if holds { "yes" } else { "no" }
 }
 
@@ -47,7 +47,7 @@ fn answer(holds: bool) -> &'static str {
 ///
 /// # Errors
 /// [`AllocError`] if memory runs out.
-fn add_line(
+pub(crate) fn add_line(
     alloc: Global,
     named: &Named<'_>,
     name: Symbol,
@@ -104,7 +104,7 @@ fn is_join(named: &Named<'_>, found: &Option<TypeTerm>, wanted: &TypeTerm) -> bo
 }
 
 /// Whether a type is the data with a name.
-fn is_data(named: &Named<'_>, term: &TypeTerm, name: &str) -> bool {
+pub(crate) fn is_data(named: &Named<'_>, term: &TypeTerm, name: &str) -> bool {
     match term {
         TypeTerm::Data { name: symbol, .. } => named.symbols.name(*symbol) == name.as_bytes(),
         _ => false,
@@ -117,7 +117,11 @@ fn is_data(named: &Named<'_>, term: &TypeTerm, name: &str) -> bool {
 /// # Errors
 /// [`AllocError`] if memory runs out.
 #[cycle(meant_types)]
-fn meant(alloc: Global, named: &Named<'_>, term: &TypeTerm) -> Result<TypeTerm, AllocError> {
+pub(crate) fn meant(
+    alloc: Global,
+    named: &Named<'_>,
+    term: &TypeTerm,
+) -> Result<TypeTerm, AllocError> {
     match term {
         TypeTerm::Fut(place, value) => {
             let value = meant(alloc, named, value)?;

@@ -1,6 +1,6 @@
 //! The program `abs_show WHAT FILE`: prints what the lexer, the parser and the resolver make of a source, for tests to
-//! compare. WHAT is `tree`, `resolved`, `declared`, `names`, `symbols`, `tokens`, `fits` or `prelude`. A source that is
-//! refused prints its refusal, and ends with status 4.
+//! compare. WHAT is `tree`, `resolved`, `declared`, `names`, `symbols`, `tokens`, `fits`, `towers` or `prelude`. A
+//! source that is refused prints its refusal, and ends with status 4.
 #![tactic(auto)]
 
 mod declarations;
@@ -10,6 +10,7 @@ mod fits;
 mod printer;
 mod show;
 mod statements;
+mod towers;
 mod types;
 
 use crate::failure::Failure;

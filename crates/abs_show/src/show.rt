@@ -5,6 +5,7 @@ ghost use Rattle.abs_tree.specs.Limits.{source_limit};
 use crate::failure::Failure;
 use crate::fits::fit_lines;
 use crate::printer::Printer;
+use crate::towers::tower_lines;
 use abs_lexer::lexer::tokens;
 use abs_lexer::token::Tokens;
 use abs_names::{
@@ -32,6 +33,8 @@ pub(crate) enum What {
     Tokens,
     /// Which types fit which, for those that its declarations write.
     Fits,
+    /// What a table of types answers for them, and for towers of pairs over them.
+    Towers,
     /// The tree of the prelude, whatever the source is: as its text is read, and as it is made by hand.
     Prelude,
 }
@@ -47,6 +50,7 @@ impl What {
             "symbols" => Some(What::Symbols),
             "tokens" => Some(What::Tokens),
             "fits" => Some(What::Fits),
+            "towers" => Some(What::Towers),
             "prelude" => Some(What::Prelude),
             _ => None,
         }
@@ -68,7 +72,7 @@ pub(crate) fn show(alloc: Global, what: What, source: &[u8]) -> Result<String, F
     let program = parse(alloc, &list)?;
     match what {
         What::Names => Ok(name_lines(alloc, &program.symbols)?),
-        What::Resolved | What::Declared | What::Symbols | What::Fits => {
+        What::Resolved | What::Declared | What::Symbols | What::Fits | What::Towers => {
             Ok(resolved_lines(alloc, what, &resolve(alloc, program)?)?)
         }
         What::Prelude => prelude_lines(alloc),
@@ -91,6 +95,7 @@ fn resolved_lines(alloc: Global, what: What, named: &Named<'_>) -> Result<String
         What::Symbols => name_lines(alloc, &named.symbols),
         What::Declared => tree_line(alloc, &named.symbols, all, &named.main),
         What::Fits => fit_lines(alloc, named, own),
+        What::Towers => tower_lines(alloc, named, own),
         _ => tree_line(alloc, &named.symbols, own, &named.main),
     }
 }
