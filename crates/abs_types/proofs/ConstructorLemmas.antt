@@ -1,6 +1,8 @@
 -- What a constructor's pattern finds in the type of its subject: the types that the constructor takes, with the type
 -- parameters replaced by the arguments of the subject's data.
 --
+--   `data_arguments`           data that is applied to arguments has these
+--   `applied_end`              a type that is applied to arguments and one more is applied to this one last
 --   `built_parts`              what was applied to a constructor fits what is found in the type of the application
 --   `parts_below`              where data fits a type, what is found in it fits what is found in that type
 --   `no_value_parts`           so does what is found in the type of no value
@@ -38,13 +40,13 @@ arguments_applied head known (argument ∷ others) is =
     (append_assoc known.arguments (argument ∷ []) others)
 
 -- data that is applied to arguments has these
-data_arguments : (name : Name) (arguments : List PlainType)
+pub data_arguments : (name : Name) (arguments : List PlainType)
     → arguments_of (applied_to (PlainData name) arguments) ≡ Some (record { name = name; arguments = arguments })
 data_arguments name arguments =
     arguments_applied (PlainData name) (record { name = name; arguments = [] }) arguments refl
 
 -- a type that is applied to arguments and one more is applied to this one last
-applied_end : (head : PlainType) (arguments : List PlainType) (last : PlainType)
+pub applied_end : (head : PlainType) (arguments : List PlainType) (last : PlainType)
     → applied_to head (arguments ++ last ∷ []) ≡ PlainApplied (applied_to head arguments) last
 applied_end head [] last = refl
 applied_end head (argument ∷ others) last = applied_end (PlainApplied head argument) others last

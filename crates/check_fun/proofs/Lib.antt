@@ -1,0 +1,4 @@
+pub mod ContextLemmas
+pub mod GrowingLemmas
+pub mod ListLemmas
+pub mod SchemeLemmas

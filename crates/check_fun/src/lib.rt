@@ -1,0 +1,9 @@
+//! Checks functions by their types: each expression has its type, or its first offence is noted.
+#![tactic(auto)]
+
+mod checker;
+mod growing;
+mod notes;
+mod schemes;
+
+pub use checker::Checker;
