@@ -2,6 +2,7 @@
 #![tactic(auto)]
 
 mod checker;
+mod frames;
 mod growing;
 mod notes;
 mod schemes;
