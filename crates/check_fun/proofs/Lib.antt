@@ -1,6 +1,11 @@
 pub mod ContextLemmas
+pub mod FoundLemmas
 pub mod FrameLemmas
 pub mod GrowingLemmas
+pub mod JoinedSoFarLemmas
 pub mod ListLemmas
 pub mod MethodLemmas
+pub mod OperatedSoFarLemmas
+pub mod OperatorLemmas
+pub mod RowLemmas
 pub mod SchemeLemmas

@@ -5,6 +5,8 @@ mod checker;
 mod frames;
 mod growing;
 mod notes;
+mod operators;
+mod rows;
 mod schemes;
 
 pub use checker::Checker;
