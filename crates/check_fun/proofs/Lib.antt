@@ -7,5 +7,7 @@ pub mod ListLemmas
 pub mod MethodLemmas
 pub mod OperatedSoFarLemmas
 pub mod OperatorLemmas
+pub mod PartLemmas
+pub mod PatternLemmas
 pub mod RowLemmas
 pub mod SchemeLemmas

@@ -6,6 +6,8 @@ mod frames;
 mod growing;
 mod notes;
 mod operators;
+mod parts;
+mod patterns;
 mod rows;
 mod schemes;
 
