@@ -3,10 +3,12 @@ pub mod FoundLemmas
 pub mod FrameLemmas
 pub mod GrowingLemmas
 pub mod JoinedSoFarLemmas
+pub mod LeafLemmas
 pub mod ListLemmas
 pub mod MethodLemmas
 pub mod OperatedSoFarLemmas
 pub mod OperatorLemmas
+pub mod OwnCallLemmas
 pub mod PartLemmas
 pub mod PatternLemmas
 pub mod RowLemmas

@@ -1,2 +1,3 @@
 pub mod Contexts
 pub mod OwnMethods
+pub mod Parts

@@ -1,9 +1,11 @@
 //! Checks functions by their types: each expression has its type, or its first offence is noted.
 #![tactic(auto)]
 
+mod checked_rows;
 mod checker;
 mod frames;
 mod growing;
+mod leaves;
 mod notes;
 mod operators;
 mod parts;
