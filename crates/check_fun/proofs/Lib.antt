@@ -6,10 +6,14 @@ pub mod JoinedSoFarLemmas
 pub mod LeafLemmas
 pub mod ListLemmas
 pub mod MethodLemmas
+pub mod OperandLemmas
 pub mod OperatedSoFarLemmas
 pub mod OperatorLemmas
 pub mod OwnCallLemmas
 pub mod PartLemmas
 pub mod PatternLemmas
+pub mod PhraseLemmas
 pub mod RowLemmas
 pub mod SchemeLemmas
+pub mod SoFarLemmas
+pub mod StepLemmas
