@@ -1,7 +1,9 @@
 pub mod ContextLemmas
 pub mod FoundLemmas
 pub mod FrameLemmas
+pub mod FunctionLemmas
 pub mod GrowingLemmas
+pub mod HeadLemmas
 pub mod JoinedSoFarLemmas
 pub mod LeafLemmas
 pub mod ListLemmas
@@ -17,3 +19,4 @@ pub mod RowLemmas
 pub mod SchemeLemmas
 pub mod SoFarLemmas
 pub mod StepLemmas
+pub mod WiderLemmas

@@ -1,3 +1,5 @@
 pub mod Contexts
+pub mod MoreSlots
+pub mod ObjectHeads
 pub mod OwnMethods
 pub mod Parts

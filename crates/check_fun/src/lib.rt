@@ -7,7 +7,10 @@ mod checked_rows;
 mod checker;
 mod expressions;
 mod frames;
+mod functions;
 mod growing;
+pub mod heads;
+pub mod laws;
 mod leaves;
 mod notes;
 mod operators;
@@ -17,3 +20,5 @@ mod rows;
 mod schemes;
 
 pub use checker::Checker;
+pub use functions::check_functions;
+pub use heads::Head;

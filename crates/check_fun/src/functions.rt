@@ -1,0 +1,82 @@
+//! The functions of a program, and their first offence.
+ghost use Rattle.std.specs.Prelude.{◌≡◌, ◌++◌, option_map, IfOk, OnOk};
+ghost use Rattle.abs_tree.specs.Offences.{first_offence};
+ghost use Rattle.abs_tree.specs.Refusals.{refusal_of};
+ghost use Rattle.abs_tree.specs.SourceViews.{named_tree};
+ghost use Rattle.abs_tree.specs.SyntaxPlaces.{phrase_place};
+ghost use Rattle.abs_tree.specs.SyntaxViews.{decl_tree, phrase, type_tree};
+ghost use Rattle.abs_types.specs.Mistyped.{unfit};
+ghost use Rattle.abs_types.specs.PlainTypes.{plain};
+ghost use Rattle.abs_types.specs.TypeOffences.{function_offences, function_offences_in};
+ghost use Rattle.abs_types.specs.TypeTables.{Keeps};
+ghost use Rattle.check_fun.specs.Contexts.{offends, typed, Context, Knows, Noted, Stays};
+
+use crate::checker::Checker;
+use abs_tree::{Decl, Expr, Named, Refusal, TypeTerm};
+use std::alloc::{AllocError, Global};
+
+/// The refusal of a program for the first offence of its functions by their types, or None if they have none.
+///
+/// # Errors
+/// [`AllocError`] if an allocation fails, or if there are too many types.
+pub fn check_functions(alloc: Global, program: &Named<'_>) -> Result<Option<Refusal>, AllocError>
+    ensures { IfOk result (λ found. found ≡ option_map refusal_of
+        (first_offence (function_offences (named_tree program.now).declarations))) }
+{
+    let mut checker = Checker::new(alloc, program);
+    checker.functions()?;
+    match checker.first {
+        Some(offence) => Ok(Some(offence.refusal())),
+        None => Ok(None),
+    }
+}
+
+impl Checker<'_> {
+    /// Checks all functions of the program.
+    ///
+    /// # Errors
+    /// [`AllocError`] if an allocation fails, or if there are too many types.
+    pub fn functions(&mut self) -> Result<(), AllocError>
+        ensures noted { (context : Context) → Knows self.old context
+            → OnOk result (Noted self.old.first (function_offences context.declarations) self.new.first) }
+    {
+        let program = self.table.program;
+        for declaration in program.declarations.iter() {
+            self.function(declaration)?;
+        }
+        Ok(())
+    }
+
+    /// Checks a declaration, if it is a function: its value fits its result type.
+    fn function(&mut self, declaration: &Decl) -> Result<(), AllocError>
+        ensures noted { (context : Context) → Knows self.old context → OnOk result (Noted self.old.first
+            (function_offences_in context.declarations (decl_tree context.names declaration.now)) self.new.first) }
+        ensures keeps { OnOk result (Keeps self.old.table self.new.table) }
+    {
+        let Decl::Function {
+            params,
+            result,
+            value,
+            ..
+        } = declaration
+        else {
+            return Ok(());
+        };
+        self.enter_value(params.as_slice())?;
+        self.asked_value(value, result)
+    }
+
+    /// Checks an expression, and that its type fits the one that is asked for.
+    fn asked_value(&mut self, value: &Expr, asked: &TypeTerm) -> Result<(), AllocError>
+        ensures noted { (context : Context) → Knows self.old context → OnOk result (Noted self.old.first
+            (offends context value.now ++ unfit context.declarations (typed context value.now)
+            (plain (type_tree context.names asked.now)) (phrase_place (phrase context.names value.now)))
+            self.new.first) }
+        ensures stays { OnOk result (Stays self.old self.new) }
+    {
+        let given = self.expression(value)?;
+        let asked = self.written(asked)?;
+        self.note_unfit(given, asked, value.place());
+        Ok(())
+    }
+}
