@@ -1,8 +1,9 @@
 -- A source has at most one program, and at most one refusal, and not both.
-use Rattle.std.proofs.Common.{◌≡◌, ℕ, List, [], ◌++◌, sym, ap, ◌∙◌, subst, inl, inr, fold}
+use Rattle.std.proofs.Common.{◌≡◌, ℕ, List, [], ◌++◌, refl, sym, ap, ◌∙◌, subst, inl, inr, fold, option_map}
 use Rattle.std.proofs.lemmas.List.Elements.{All-weaker, All-contains, All-contains_itself}
 use Rattle.std.specs.List.{All, Contains}
-use Rattle.std.specs.Prelude.{Option, Some, None, unwrap_or}
+use Rattle.std.proofs.lemmas.Option.{none-some, same_Some}
+use Rattle.std.specs.Prelude.{Option, Some, None}
 use Rattle.abs_tree.specs.Names.{by_first_appearance, with_name}
 use Rattle.abs_tree.specs.Syntax.{Name, SourceTree}
 use Rattle.abs_tree.specs.declared.place.Place.{Place}
@@ -28,8 +29,10 @@ use Rattle.abs_names.specs.Answers.{RefusesFirst}
 use Rattle.abs_names.specs.NameOffences.{name_offences}
 use Rattle.abs_names.specs.Prelude.{prelude_names}
 use Rattle.abs_names.specs.Resolution.{resolved}
+use Rattle.abs_tree.proofs.OffenceLemmas.{no_offence as no_offences}
+use Rattle.abs_types.specs.TypeOffences.{function_offences}
 use Rattle.abs_command.specs.Sources.{IsTree, IsProgramOf, IsPiece, IsNameOf, FirstOffence, HasOneFirstOffence}
-use Rattle.abs_command.specs.Sources.FirstOffence.{unlexed, unread, misnamed, unsupported_part}
+use Rattle.abs_command.specs.Sources.FirstOffence.{unlexed, unread, misnamed, mistyped, unsupported_part}
 use Rattle.abs_command.specs.Unsupported.{unsupported}
 
 -- the names of two trees are equal, and so are the trees
@@ -59,21 +62,53 @@ one_of_tree : {text : List ℕ} {names others : List Name} {tree next : SourceTr
     → IsTree text names tree → IsTree text others next → gives tree ≡ gives next
 one_of_tree gives x y = ap gives (one_tree x y).tree_is
 
--- the first unsupported part of a source begins at one place
-one_place : {text : List ℕ} {names others : List Name} {tree next : SourceTree} (place at : Place)
-    → IsTree text names tree → IsTree text others next
-    → unsupported (resolved tree) ≡ Some place → unsupported (resolved next) ≡ Some at → place ≡ at
-one_place place at x y waits also =
-    let part = one_of_tree (λ (tree : SourceTree). unsupported (resolved tree)) x y in
-    ap (λ (found : Option Place). unwrap_or found place) (sym waits ∙ (part ∙ also))
-
 -- Two programs of a source are equal.
 pub one_program : {text : List ℕ} {p q : SourceTree} → IsProgramOf text p → IsProgramOf text q → p ≡ q
 one_program x y = x.is ∙ (one_of_tree resolved x.read y.read ∙ sym y.is)
 
--- Of no offences none is the first.
-none_first : (offences : List Offence) (first : Offence) → offences ≡ [] → first_offence offences ≡ Some first → ⊥
-none_first offences first e is = cc (sym is ∙ ap first_offence e)
+-- the first of two offences that may be there: the second one only if the first one is not
+abbrev in_turn : Option Offence → Option Offence → Option Offence
+in_turn (Some offence) second = Some offence
+in_turn None second = second
+
+-- the offence of an unsupported part that begins at a place
+abbrev unsupported_at : Place → Offence
+unsupported_at place = record { place = place; code = S1 }
+
+-- the first offence of a tree by its types
+abbrev first_mistyped : SourceTree → Option Offence
+first_mistyped tree = first_offence (function_offences (resolved tree).declarations)
+
+-- the first offence of a tree: of its names, else of its functions by their types, else of what is unsupported
+abbrev first_of_tree : SourceTree → Option Offence
+first_of_tree tree = in_turn (first_offence (name_offences tree)) (in_turn (first_mistyped tree)
+    (option_map unsupported_at (unsupported (resolved tree))))
+
+-- A source is refused in one of three ways: for a token, for what the parser meets, or for an offence of its tree.
+data Refused (text : List ℕ) (refusal : Refusal) : Type 0 where
+  unlexed_source : RefusesLexing text refusal → Refused text refusal
+  unread_source : (list : TokenList) → TokensOf text list → StopsWith list refusal → Refused text refusal
+  offending_tree : (names : List Name) (tree : SourceTree) (first : Offence) → IsTree text names tree
+      → first_of_tree tree ≡ Some first → refusal ≡ refusal_of first → Refused text refusal
+
+-- each way in which a source is refused is one of these
+in_three_ways : {text : List ℕ} {refusal : Refusal} → FirstOffence text refusal → Refused text refusal
+in_three_ways (unlexed lexing) = unlexed_source lexing
+in_three_ways (unread list tokens stops) = unread_source list tokens stops
+in_three_ways (misnamed names tree read first) =
+    offending_tree names tree first.first read (rw first.is_first refl) first.refusal_is
+in_three_ways (mistyped names tree read named first) =
+    offending_tree names tree first.first read (rw (named, first.is_first) refl) first.refusal_is
+in_three_ways (unsupported_part names tree place read named typed waits is) =
+    offending_tree names tree (unsupported_at place) read (rw (named, typed, waits) refl) is
+
+-- the tree of a source with a program has no offence
+none_of_tree : {text : List ℕ} {program : SourceTree} (accepted : IsProgramOf text program)
+    → first_of_tree accepted.tree ≡ None
+none_of_tree {text} {program} accepted =
+    let typed = ap (λ (tree : SourceTree). function_offences tree.declarations) (sym accepted.is) ∙ accepted.typed in
+    let runs = ap unsupported (sym accepted.is) ∙ accepted.runs in
+    rw (accepted.no_offence, typed, runs) refl
 
 -- the parser does not fail on an accepted source
 no_stop : {text : List ℕ} {names : List Name} {tree : SourceTree} {list : TokenList} {refusal : Refusal}
@@ -82,23 +117,18 @@ no_stop {refusal = refusal} x tokens stops =
     let stop = subst (λ (l : TokenList). StopsWith l refusal) (list_once tokens x.tokens) stops in
     x.is.accepted.no_stop stop.before stop.mark stop.code stop.stops
 
--- a source without name offences has no first one
-not_misnamed : {text : List ℕ} {names others : List Name} {tree next : SourceTree} {refusal : Refusal}
-    → IsTree text names tree → IsTree text others next → name_offences tree ≡ []
-    → RefusesFirst (name_offences next) refusal → ⊥
-not_misnamed {next = next} x y none first =
-    none_first (name_offences next) first.first (one_of_tree name_offences y x ∙ none) first.is_first
+-- a source with a program is refused in none of the three ways
+not_refused : {text : List ℕ} {program : SourceTree} {refusal : Refusal} → IsProgramOf text program
+    → Refused text refusal → ⊥
+not_refused accepted (unlexed_source lexing) = list_or_first accepted.read.tokens lexing.is_first
+not_refused accepted (unread_source list tokens stops) = no_stop accepted.read tokens stops
+not_refused accepted (offending_tree names tree first read is_first is) =
+    none-some first (sym (none_of_tree accepted) ∙ (one_of_tree first_of_tree accepted.read read ∙ is_first))
 
 -- A source with a program has no offence.
 pub no_offence : {text : List ℕ} {program : SourceTree} {refusal : Refusal} → IsProgramOf text program
     → FirstOffence text refusal → ⊥
-no_offence accepted (unlexed lexing) = list_or_first accepted.read.tokens lexing.is_first
-no_offence accepted (unread list tokens stops) = no_stop accepted.read tokens stops
-no_offence accepted (misnamed names tree read first) = not_misnamed accepted.read read accepted.no_offence first
-no_offence {program = program} accepted (unsupported_part names tree place read none waits is) =
-    let same : program ≡ resolved tree = accepted.is ∙ one_of_tree resolved accepted.read read in
-    let both : None ≡ Some place = sym accepted.runs ∙ (ap unsupported same ∙ waits) in
-    cc both
+no_offence accepted offence = not_refused accepted (in_three_ways offence)
 
 -- Two refusals for the first lexical offence are equal.
 one_lexical : {text : List ℕ} {one other : Refusal} → RefusesLexing text one → RefusesLexing text other → one ≡ other
@@ -111,55 +141,52 @@ one_stopped x y =
     let at : Code → Mark → Refusal = λ code mark. refusal_of (record { code = code; place = place_of_mark mark }) in
     x.refusal_is ∙ (sym (ap (λ (code : Code). at code y.mark) once.2 ∙ ap (at x.code) once.1) ∙ sym y.refusal_is)
 
--- two offences are equal if the options of them are
-same_first : (one other : Offence) → Some one ≡ Some other → one ≡ other
-same_first one other e = ap (λ (first : Option Offence). unwrap_or first one) e
-
--- and two for the first name offence of a source
-one_misnamed : {text : List ℕ} {names others : List Name} {tree next : SourceTree} (one other : Refusal)
-    → IsTree text names tree → IsTree text others next → RefusesFirst (name_offences tree) one
-    → RefusesFirst (name_offences next) other → one ≡ other
-one_misnamed one other x y first second =
-    let same = one_of_tree (λ (tree : SourceTree). first_offence (name_offences tree)) x y in
-    first.refusal_is
-    ∙ (ap refusal_of (same_first first.first second.first (sym first.is_first ∙ (same ∙ second.is_first)))
-    ∙ sym second.refusal_is)
+-- two refusals in the three ways are equal
+one_refused : {text : List ℕ} (one other : Refusal) → Refused text one → Refused text other → one ≡ other
+one_refused one other (unlexed_source x) (unlexed_source y) = one_lexical x y
+one_refused one other (unlexed_source x) (unread_source list tokens stops) = absurd (list_or_first tokens x.is_first)
+one_refused one other (unlexed_source x) (offending_tree names tree first read is_first is) =
+    absurd (list_or_first read.tokens x.is_first)
+one_refused one other (unread_source list tokens stops) (unlexed_source y) = absurd (list_or_first tokens y.is_first)
+one_refused one other (unread_source list tokens stops) (unread_source others other_tokens other_stops) =
+    one_stopped stops (subst (λ (l : TokenList). StopsWith l other) (list_once other_tokens tokens) other_stops)
+one_refused one other (unread_source list tokens stops) (offending_tree names tree first read is_first is) =
+    absurd (no_stop read tokens stops)
+one_refused one other (offending_tree names tree first read is_first is) (unlexed_source y) =
+    absurd (list_or_first read.tokens y.is_first)
+one_refused one other (offending_tree names tree first read is_first is) (unread_source list tokens stops) =
+    absurd (no_stop read tokens stops)
+one_refused one other (offending_tree names tree first read is_first is)
+    (offending_tree others next second reads is_second other_is) =
+    let same = sym is_first ∙ (one_of_tree first_of_tree read reads ∙ is_second) in
+    is ∙ (ap refusal_of (same_Some first second same) ∙ sym other_is)
 
 -- A source is refused for at most one offence.
 pub one_first_offence : (text : List ℕ) → HasOneFirstOffence text
-one_first_offence text one other (unlexed x) (unlexed y) = one_lexical x y
-one_first_offence text one other (unlexed x) (unread list tokens stops) = absurd (list_or_first tokens x.is_first)
-one_first_offence text one other (unlexed x) (misnamed names tree read first) =
-    absurd (list_or_first read.tokens x.is_first)
-one_first_offence text one other (unlexed x) (unsupported_part names tree place read none waits is) =
-    absurd (list_or_first read.tokens x.is_first)
-one_first_offence text one other (unread list tokens stops) (unlexed y) = absurd (list_or_first tokens y.is_first)
-one_first_offence text one other (unread list tokens stops) (unread others other_tokens other_stops) =
-    one_stopped stops (subst (λ (l : TokenList). StopsWith l other) (list_once other_tokens tokens) other_stops)
-one_first_offence text one other (unread list tokens stops) (misnamed names tree read first) =
-    absurd (no_stop read tokens stops)
-one_first_offence text one other (unread list tokens stops) (unsupported_part names tree place read none waits is) =
-    absurd (no_stop read tokens stops)
-one_first_offence text one other (misnamed names tree read first) (unlexed y) =
-    absurd (list_or_first read.tokens y.is_first)
-one_first_offence text one other (misnamed names tree read first) (unread list tokens stops) =
-    absurd (no_stop read tokens stops)
-one_first_offence text one other (misnamed names tree read first) (misnamed others next reads second) =
-    one_misnamed one other read reads first second
-one_first_offence text one other (misnamed names tree read first)
-    (unsupported_part others next place reads none waits is) =
-    absurd (not_misnamed reads read none first)
-one_first_offence text one other (unsupported_part names tree place read none waits is) (unlexed y) =
-    absurd (list_or_first read.tokens y.is_first)
-one_first_offence text one other (unsupported_part names tree place read none waits is) (unread list tokens stops) =
-    absurd (no_stop read tokens stops)
-one_first_offence text one other (unsupported_part names tree place read none waits is)
-    (misnamed others next reads first) =
-    absurd (not_misnamed read reads none first)
-one_first_offence text one other (unsupported_part names tree place read none waits is)
-    (unsupported_part others next at reads also_none also other_is) =
-    is ∙ (ap (λ (begin : Place). refusal_of (record { place = begin; code = S1 }))
-    (one_place place at read reads waits also) ∙ sym other_is)
+one_first_offence text one other x y = one_refused one other (in_three_ways x) (in_three_ways y)
+
+-- no refusal is of the first of offences of which none is the first, and then there are none
+pub none_mistyped : (offences : List Offence) → None ≡ option_map refusal_of (first_offence offences) → offences ≡ []
+none_mistyped offences is = none_if (first_offence offences) refl is
+  where
+    none_if : (first : Option Offence) → first_offence offences ≡ first → None ≡ option_map refusal_of first
+        → offences ≡ []
+    none_if None first_is is = no_offences offences first_is
+    none_if (Some first) first_is is = absurd (none-some (refusal_of first) is)
+
+-- a refusal that is there is of the first offence
+pub first_refused : (offences : List Offence) (refusal : Refusal)
+    → Some refusal ≡ option_map refusal_of (first_offence offences) → RefusesFirst offences refusal
+first_refused offences refusal is = some_if (first_offence offences) refl is
+  where
+    some_if : (first : Option Offence) → first_offence offences ≡ first → Some refusal ≡ option_map refusal_of first
+        → RefusesFirst offences refusal
+    some_if None first_is is = absurd (none-some refusal (sym is))
+    some_if (Some first) first_is is = record {
+      first = first;
+      is_first = first_is;
+      refusal_is = same_Some refusal (refusal_of first) is;
+    }
 
 -- if tokens are pieces of a source, the names that they write are pieces of it too
 names_are_pieces : {text : List ℕ} (tokens : List Lexed) (names : List (List ℕ)) → All (IsPieceAt text) tokens
