@@ -30,6 +30,11 @@ pub column_inside : (columns : Columns) (node : ℕ) → has_column columns node
     → column_of columns node < count_of columns
 column_inside columns node told = (owned columns node told).inside
 
+-- and the node of that column is this one
+pub column_owner : (columns : Columns) (node : ℕ) → has_column columns node ≡ true
+    → get_or columns.nodes.items (column_of columns node) 0 ≡ node
+column_owner columns node told = (owned columns node told).owner
+
 -- no two nodes have the same column
 column_distinct : (columns : Columns) (node other : ℕ) → has_column columns node ≡ true
     → has_column columns other ≡ true → column_of columns node ≡ column_of columns other → node ≡ other
@@ -106,7 +111,7 @@ has_node_joined columns row joined other goal joins = ⊎_elim
     (cases_Bool (has_column columns goal))
 
 -- a node whose column is there has it
-has_owned : (columns : Columns) (node : ℕ) → column_of columns node < count_of columns
+pub has_owned : (columns : Columns) (node : ℕ) → column_of columns node < count_of columns
     → get_or columns.nodes.items (column_of columns node) 0 ≡ node → has_column columns node ≡ true
 unfolding has_column
 has_owned columns node inside owner =

@@ -1,6 +1,7 @@
 pub mod BitRowLemmas
 pub mod CertificateLemmas
 pub mod ColumnLemmas
+pub mod ListedLemmas
 pub mod ReachLemmas
 pub mod ReachingLemmas
 pub mod TableLemmas

@@ -2,10 +2,11 @@
 --
 --   `has`                      whether a row has a number
 --   `word_has`                 whether the words have a number as a bit
+--   `word_bit`                 whether a number is one of the first bits of the word with an index
 --   `row_of`                   the row that words keep
 --   `room_for`                 the length of a row for numbers below a bound
 --   `IsNewRow`                 a row for numbers below a bound, which has none of them
-use Rattle.std.specs.Prelude.{◌≡◌, ℕ, ◌*◌, ◌/◌, ◌%◌, ◌≤◌, Bool, false, List, length, get_or, map, nat_eq}
+use Rattle.std.specs.Prelude.{◌≡◌, ℕ, ◌*◌, ◌/◌, ◌%◌, ◌≤◌, Bool, false, ◌&&◌, List, length, get_or, map, nat_eq, nat_lt}
 use Rattle.std.specs.Int.{bit_at, div_ceil}
 use Rattle.std.specs.List.{range_with_len}
 
@@ -16,6 +17,11 @@ has row number = get_or row number false
 -- whether the words have a number as a bit
 unfoldable pub word_has : List ℕ → ℕ → Bool
 word_has words number = nat_eq (bit_at (get_or words (number / 64) 0) (number % 64)) 1
+
+-- whether words have a number that is one of the first bits, this many, of the word with an index. It serves proofs only.
+unfoldable pub word_bit : List ℕ → ℕ → ℕ → ℕ → Bool
+word_bit words index bits number =
+    (nat_eq (number / 64) index && nat_lt (number % 64) bits) && word_has words number
 
 -- the row that words keep: for each number whether they have it
 unfoldable pub row_of : List ℕ → List Bool

@@ -2,6 +2,7 @@
 --
 --   `Graph`, `successors`      all edges, and those of a node
 --   `HasNodes`                 each edge leads to a node
+--   `is_listed`                whether a list has a node
 --   `Reaches`                  a node reaches another one in one step, or in more
 --   `reaches`                  the same as a test, in at most as many steps as there are nodes
 --   `on_cycles`                for each node, whether it reaches itself
@@ -19,6 +20,10 @@ successors graph node = get_or graph node []
 -- each edge leads to a node
 abbrev pub HasNodes : Graph → Type 0
 HasNodes graph = All (λ (row : List ℕ). All (λ (node : ℕ). node < length graph) row) graph
+
+-- whether a list has a node
+unfoldable pub is_listed : List ℕ → ℕ → Bool
+is_listed nodes node = list_any (nat_eq node) nodes
 
 -- an edge leads from a node to another one
 abbrev pub leads : Graph → ℕ → ℕ → Bool

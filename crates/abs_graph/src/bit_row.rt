@@ -1,6 +1,7 @@
 //! A row of bits: a set of numbers below a bound. Only this file knows that the bits are kept in words.
-ghost use Rattle.std.specs.Prelude.{◌≡◌, ℕ, ◌*◌, ◌<◌, ◌≤◌, ◌||◌, nat_eq, length, IfOk};
-ghost use Rattle.abs_graph.specs.BitRows.{IsNewRow, has as row_has, word_has};
+ghost use Rattle.std.specs.Prelude.{◌≡◌, ℕ, ◌+◌, ◌*◌, ◌<◌, ◌≤◌, ◌||◌, nat_eq, length, IfOk, OnOk};
+ghost use Rattle.abs_graph.specs.BitRows.{word_bit, IsNewRow, has as row_has, word_has};
+ghost use Rattle.abs_graph.specs.Graphs.{is_listed};
 
 use std::alloc::{AllocError, Global};
 use std::marker::Model;
@@ -48,6 +49,55 @@ fn join(words: &mut [u64], others: &[u64])
     }
 }
 
+/// The number that is a bit of the word with an index.
+///
+/// # Errors
+/// [`AllocError`] if it takes more than 64 bits.
+fn number_at(index: usize, bit: usize) -> Result<usize, AllocError>
+    ensures { IfOk result (λ number. number ≡ 64 * index + bit) }
+{
+    let Some(first) = index.checked_mul(64) else {
+        return Err(AllocError);
+    };
+    let Some(number) = first.checked_add(bit) else {
+        return Err(AllocError);
+    };
+    Ok(number)
+}
+
+/// Adds to a list the numbers that words have as bits of the word with an index.
+///
+/// # Errors
+/// [`AllocError`] if an allocation fails, or if a number takes more than 64 bits.
+fn add_numbers(words: &[u64], index: usize, found: &mut Vec<usize>) -> Result<(), AllocError>
+    ensures { OnOk result ((number : ℕ) → is_listed found.new.items number
+        ≡ (is_listed found.old.items number || word_bit words.now index 64 number)) }
+{
+    for bit in 0..64 {
+        let number = number_at(index, bit)?;
+        if has_bit(words, number) {
+            found.push(number)?;
+        }
+    }
+    Ok(())
+}
+
+/// The numbers that words have as bits.
+///
+/// # Errors
+/// [`AllocError`] if an allocation fails, or if a number takes more than 64 bits.
+fn numbers_of(alloc: Global, words: &[u64]) -> Result<Vec<usize>, AllocError>
+    ensures { IfOk result (λ found. (number : ℕ) → is_listed found.items number ≡ word_has words.now number) }
+{
+    let mut found = Vec::new(alloc);
+    for (index, word) in words.iter().enumerate() {
+        if *word != 0 {
+            add_numbers(words, index, &mut found)?;
+        }
+    }
+    Ok(found)
+}
+
 impl BitRow {
     /// A row with no number, and with room for the numbers below a bound.
     ///
@@ -84,5 +134,15 @@ impl BitRow {
             → row_has self.new number ≡ (row_has self.old number || row_has others.now number) }
     {
         join(self.words.as_mut_slice(), others.words.as_slice());
+    }
+
+    /// The numbers that the row has. It takes a step for each word, and 64 for a word with a number.
+    ///
+    /// # Errors
+    /// [`AllocError`] if an allocation fails, or if the row has room for 2^64 numbers.
+    pub fn numbers(&self, alloc: Global) -> Result<Vec<usize>, AllocError>
+        ensures { IfOk result (λ found. (number : ℕ) → is_listed found.items number ≡ row_has self.now number) }
+    {
+        numbers_of(alloc, self.words.as_slice())
     }
 }

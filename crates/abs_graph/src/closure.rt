@@ -2,10 +2,10 @@
 //! node to which an edge leads, and no bits if no edge leads from its node. The rows are filled in an order in which
 //! each node comes after the nodes to which its edges lead. Each row is the union of those nodes and their rows. That
 //! their rows were filled before is tested, so nothing need be proved of the order.
-ghost use Rattle.std.specs.Prelude.{◌≡◌, ◌<◌, true, false, length, All, IfOk};
+ghost use Rattle.std.specs.Prelude.{◌≡◌, ℕ, ◌<◌, true, false, length, All, IfOk};
 ghost use Rattle.std.specs.Bool.{OnTrue};
 ghost use Rattle.abs_graph.specs.Columns.{HasColumns, has_column};
-ghost use Rattle.abs_graph.specs.Graphs.{HasNodes, reaches as reaches_by, on_cycles as on_cycles_of};
+ghost use Rattle.abs_graph.specs.Graphs.{HasNodes, reaches as reaches_by, on_cycles as on_cycles_of, is_listed};
 ghost use Rattle.abs_graph.specs.Tables.{HasNoRoom, HasRoom, IsFilled, IsTable, IsUnion};
 ghost use Rattle.abs_graph.specs.Views.{graph_of};
 
@@ -208,6 +208,20 @@ impl Closure {
             None => false,
         }
     }
+
+    /// The nodes that a node reaches, in one step or in more, in no set order. It takes a step for 64 columns of the
+    /// table, and few for each node that is reached.
+    ///
+    /// # Errors
+    /// [`AllocError`] if an allocation fails.
+    pub fn reached(&self, alloc: Global, from: u32) -> Result<Vec<u32>, AllocError>
+        ensures { IfOk result (λ found. (to : ℕ) → is_listed found.items to ≡ reaches_by self.now from to) }
+    {
+        match self.rows.get(from as usize) {
+            Some(row) => self.columns.nodes_of(alloc, row),
+            None => Ok(Vec::new(alloc)),
+        }
+    }
 }
 
 #[cfg(test)]
@@ -234,6 +248,10 @@ mod tests {
         assert!(rt; !table.reaches(4, 4));
         assert!(rt; !table.reaches(0, 3));
         assert!(rt; !table.reaches(7, 0));
+        assert_eq!(rt; table.reached(alloc, 1)?.len(), 4);
+        assert_eq!(rt; table.reached(alloc, 0)?.len(), 2);
+        assert!(rt; table.reached(alloc, 4)?.is_empty());
+        assert!(rt; table.reached(alloc, 7)?.is_empty());
         Ok(())
     }
 }

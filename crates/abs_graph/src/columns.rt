@@ -1,8 +1,8 @@
 //! The columns of a table: one for each node to which an edge leads. Most nodes of a large graph have none, so the rows
 //! of the table stay short. Each look-up compares the node of a column, so no two nodes have the same one.
-ghost use Rattle.std.specs.Prelude.{◌≡◌, ◌<◌, [], ◌∷◌, length, All, IfOk};
+ghost use Rattle.std.specs.Prelude.{◌≡◌, ◌<◌, ◌&&◌, ℕ, [], ◌∷◌, ◌||◌, length, nat_eq, All, IfOk, OnOk};
 ghost use Rattle.abs_graph.specs.Columns.{HasColumns, IsExtended, count_of, column_of, has_column, has_node};
-ghost use Rattle.abs_graph.specs.Graphs.{HasNodes};
+ghost use Rattle.abs_graph.specs.Graphs.{HasNodes, is_listed};
 ghost use Rattle.abs_graph.specs.Views.{graph_of};
 
 use crate::bit_row::BitRow;
@@ -98,6 +98,44 @@ impl Columns {
         ensures { result ≡ has_node self.now row.now node }
     {
         self.has(node) && row.has(self.column(node))
+    }
+
+    /// The nodes that a row has.
+    ///
+    /// # Errors
+    /// [`AllocError`] if an allocation fails, or if a node takes more than 32 bits.
+    pub fn nodes_of(&self, alloc: Global, row: &BitRow) -> Result<Vec<u32>, AllocError>
+        ensures { IfOk result (λ found. (node : ℕ)
+            → is_listed found.items node ≡ has_node self.now row.now node) }
+    {
+        let numbers = row.numbers(alloc)?;
+        let mut found = Vec::new(alloc);
+        for column in numbers.iter() {
+            self.add_node(*column, &mut found)?;
+        }
+        Ok(found)
+    }
+
+    /// Adds the node that has a column to a list, if there is one.
+    ///
+    /// # Errors
+    /// [`AllocError`] if an allocation fails, or if the node takes more than 32 bits.
+    fn add_node(&self, column: usize, found: &mut Vec<u32>) -> Result<(), AllocError>
+        ensures { OnOk result ((node : ℕ) → is_listed found.new.items node
+            ≡ (is_listed found.old.items node
+            || (has_column self.now node && nat_eq column (column_of self.now node)))) }
+    {
+        let Some(node) = self.nodes.get(column) else {
+            return Ok(());
+        };
+        if self.column(*node) != column {
+            return Ok(());
+        }
+        match u32::try_from(*node) {
+            Ok(node) => found.push(node)?,
+            Err(_) => return Err(AllocError),
+        }
+        Ok(())
     }
 }
 

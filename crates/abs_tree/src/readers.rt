@@ -1,6 +1,7 @@
-//! What the names of a resolved source stand for. No reader takes memory, and none walks over a list. A declaration is
-//! known by its index.
-ghost use Rattle.std.specs.Prelude.{◌≡◌, false, get_or};
+//! What the names of a resolved source stand for. No reader but [`Named::above`] takes memory, and none walks over a
+//! list. A declaration is known by its index.
+ghost use Rattle.std.specs.Prelude.{◌≡◌, ℕ, false, get_or, IfOk};
+ghost use Rattle.abs_graph.specs.Graphs.{is_listed};
 ghost use Rattle.abs_tree.specs.Holdings.{holders};
 ghost use Rattle.abs_tree.specs.Members.{field_of, method_of, signatures_of};
 ghost use Rattle.abs_tree.specs.Names.{name_of};
@@ -12,6 +13,7 @@ ghost use Rattle.abs_tree.specs.Tables.{meaning_of};
 use crate::tables::members::{FieldAt, SignatureAt};
 use crate::{ConstructorMeaning, FunctionMeaning, Named, Symbol, Taking, TypeMeaning};
 use abs_graph::is_marked;
+use std::alloc::{AllocError, Global};
 
 impl Named<'_> {
     /// What a name stands for as that of a type: a built-in type, data or an interface.
@@ -52,6 +54,17 @@ impl Named<'_> {
         ensures { result ≡ is_below (named_tree self.now).declarations one other }
     {
         self.tables.supertypes.reaches(one, other)
+    }
+
+    /// The interfaces that an interface extends, or that a class implements, in one step or in more, in no set order.
+    ///
+    /// # Errors
+    /// [`AllocError`] if an allocation fails.
+    pub fn above(&self, alloc: Global, declaration: u32) -> Result<Vec<u32>, AllocError>
+        ensures { IfOk result (λ found. (other : ℕ)
+            → is_listed found.items other ≡ is_below (named_tree self.now).declarations declaration other) }
+    {
+        self.tables.supertypes.reached(alloc, declaration)
     }
 
     /// Whether the declaration with this index is that of an interface, or of data that leads to one: through the types
