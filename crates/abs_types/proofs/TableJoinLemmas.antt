@@ -10,6 +10,8 @@
 --   `next_pair`                        the next pair can be joined
 use Rattle.std.proofs.Common.{◌≡◌, ◌≤◌, max, false, List, [], ◌∷◌, ◌++◌, Option, Some, None, option_map, All, refl, sym, ap, ap₂, ◌∙◌, arith}
 use Rattle.std.specs.Borrow.{Bor}
+use Rattle.std.specs.Prelude.{Result, Ok, Err, IfOk}
+use Rattle.std.specs.declared.alloc.AllocError.{AllocError}
 use Rattle.std.proofs.lemmas.List.Elements.{All-head, All-tail, All-push, All-pop, All-weaker}
 use Rattle.abs_tree.specs.SourceViews.{named_tree}
 use Rattle.abs_tree.specs.Syntax.{DeclTree}
@@ -112,7 +114,7 @@ along_kept {before} declarations found (first ∷ others) keeps among =
     (pair_join_kept declarations keeps (All-head (ArePairAmong (types_in before)) first others among))
 
 -- pairs among the types are among them later
-pairs_among_kept : {before now : TypeTable} (pairs : List TypePair) → Keeps before now
+pub pairs_among_kept : {before now : TypeTable} (pairs : List TypePair) → Keeps before now
     → All (ArePairAmong (types_in before)) pairs → All (ArePairAmong (types_in now)) pairs
 pairs_among_kept {before} {now} pairs keeps among =
     All-weaker (ArePairAmong (types_in before)) (ArePairAmong (types_in now))
@@ -245,3 +247,15 @@ pub applied_stop : {before now : TypeTable} {heads arguments : TypePair} {joined
     (pair_join (declarations_of before) (types_in before) arguments)
 applied_stop {before} {now} pair rest so_far whole_is none =
     sym (next_decides pair rest so_far whole_is none ∙ along_none (declarations_of before) (types_in now) rest)
+
+-- what was found after a table has grown is the join before
+pub joined_later : {before between : TypeTable} (now : TypeTable) {one other : TypeIndex} → Keeps before between
+    → IsAmong (types_in before) one → IsAmong (types_in before) other
+    → (result : Result (Option TypeIndex) AllocError)
+    → IfOk result (λ found. option_map (type_at (types_in now)) found
+    ≡ join_of (declarations_of between) (type_at (types_in between) one) (type_at (types_in between) other))
+    → IfOk result (λ found. option_map (type_at (types_in now)) found
+    ≡ join_of (declarations_of before) (type_at (types_in before) one) (type_at (types_in before) other))
+joined_later now keeps one_among other_among (Ok found) is =
+    rw (← declarations-kept keeps, ← type_at_kept keeps one_among, ← type_at_kept keeps other_among) is
+joined_later now keeps one_among other_among (Err error) is = tt

@@ -1,7 +1,7 @@
 //! Joins of types of a table. Each pair of types is joined once, and the join is remembered. Inside data and `Fut` the
 //! joins of the parts alone decide: no test of fitting goes down into parts, since types that share parts would be
 //! compared again and again.
-ghost use Rattle.std.specs.Prelude.{◌≡◌, ◌≢◌, false, option_map, IfOk, IfSome};
+ghost use Rattle.std.specs.Prelude.{◌≡◌, ◌≢◌, false, All, option_map, IfOk, IfSome};
 ghost use Rattle.abs_types.specs.Joins.{both_applied, join_of};
 ghost use Rattle.abs_types.specs.PlainTypes.{PlainFut};
 ghost use Rattle.abs_types.specs.TypeParts.{have_parts_alike, pair_join, ArePairAmong, AreParts, AreSpines, IsFound};
@@ -27,8 +27,74 @@ impl TypeTable<'_> {
     ///
     /// # Errors
     /// [`AllocError`] if an allocation fails, or if there are 2^31 types.
-    #[cycle(joining)]
     pub fn join(
+        &mut self,
+        one: TypeIndex,
+        other: TypeIndex,
+    ) -> Result<Option<TypeIndex>, AllocError>
+        requires one { IsAmong (types_in self.old) one }
+        requires other { IsAmong (types_in self.old) other }
+        ensures found { IfOk result (λ found. option_map (type_at (types_in self.new)) found
+            ≡ join_of (declarations_of self.old) (type_at (types_in self.old) one)
+            (type_at (types_in self.old) other)) }
+        ensures among { IfOk result (λ found. IfSome found (IsAmong (types_in self.new))) }
+        ensures keeps { Keeps self.old self.new }
+    {
+        self.join_inner(TypePair { one, other })?;
+        self.join_once(one, other)
+    }
+
+    /// Joins the parts of two types, those inside first, so that each join finds the joins of its parts: inferred types
+    /// can nest so deep that a recursion down them takes more stack than there is.
+    ///
+    /// # Errors
+    /// [`AllocError`] if an allocation fails, or if there are 2^31 types.
+    fn join_inner(&mut self, pair: TypePair) -> Result<(), AllocError>
+        requires { ArePairAmong (types_in self.old) pair }
+        ensures keeps { Keeps self.old self.new }
+    {
+        if !self.is_open(pair) {
+            return Ok(());
+        }
+        let mut waiting = Vec::new(self.alloc);
+        waiting.push(pair)?;
+        // (nothing waits after far fewer turns: each pair is joined once, and a turn joins one or finds parts of it)
+        for _ in 0..usize::MAX {
+            let Some(pair) = waiting.pop() else {
+                return Ok(());
+            };
+            self.join_next(pair, &mut waiting)?;
+        }
+        Ok(())
+    }
+
+    /// Joins two types, if the joins of their parts are known. Else they wait, and these parts after them.
+    ///
+    /// # Errors
+    /// [`AllocError`] if an allocation fails, or if there are 2^31 types.
+    fn join_next(&mut self, pair: TypePair, waiting: &mut Vec<TypePair>) -> Result<(), AllocError>
+        requires pair { ArePairAmong (types_in self.old) pair }
+        requires waiting { All (ArePairAmong (types_in self.old)) waiting.old.items }
+        ensures waiting { All (ArePairAmong (types_in self.new)) waiting.new.items }
+        ensures keeps { Keeps self.old self.new }
+    {
+        let count = waiting.len();
+        waiting.push(pair)?;
+        self.add_parts(pair, waiting)?;
+        if waiting.len() > count + 1 {
+            return Ok(());
+        }
+        self.join_once(pair.one, pair.other)?;
+        waiting.truncate(count);
+        Ok(())
+    }
+
+    /// The join of two types whose parts are joined already, or else are joined now, by recursion.
+    ///
+    /// # Errors
+    /// [`AllocError`] if an allocation fails, or if there are 2^31 types.
+    #[cycle(joining)]
+    fn join_once(
         &mut self,
         one: TypeIndex,
         other: TypeIndex,
@@ -110,7 +176,7 @@ impl TypeTable<'_> {
             (option_map PlainFut (pair_join (declarations_of self.old) (types_in self.old) values))) }
         ensures keeps { Keeps self.old self.new }
     {
-        match self.join(values.one, values.other)? {
+        match self.join_once(values.one, values.other)? {
             Some(joined) => Ok(Some(self.future(joined)?)),
             None => Ok(None),
         }
@@ -137,11 +203,11 @@ impl TypeTable<'_> {
             innermost,
             arguments: mut rest,
         } = self.spines(heads, arguments)?;
-        let Some(mut joined) = self.join(innermost.one, innermost.other)? else {
+        let Some(mut joined) = self.join_once(innermost.one, innermost.other)? else {
             return Ok(None);
         };
         while let Some(pair) = rest.pop() {
-            let Some(argument) = self.join(pair.one, pair.other)? else {
+            let Some(argument) = self.join_once(pair.one, pair.other)? else {
                 return Ok(None);
             };
             joined = self.applied(joined, argument)?;

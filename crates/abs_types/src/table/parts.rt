@@ -1,11 +1,12 @@
 //! The parts of two types of a table that stand for each other.
-ghost use Rattle.std.specs.Prelude.{◌≡◌, false, MatchOption};
-ghost use Rattle.abs_types.specs.TypeParts.{have_parts_alike, AreParts};
+ghost use Rattle.std.specs.Prelude.{◌≡◌, false, All, MatchOption};
+ghost use Rattle.abs_types.specs.TypeParts.{have_parts_alike, AreParts, ArePairAmong};
 ghost use Rattle.abs_types.specs.TypeShapes.{type_at, IsAmong};
 ghost use Rattle.abs_types.specs.TypeTables.{types_in};
 
 use crate::table::shape::TypePair;
 use crate::table::{Shape, TypeIndex, TypeTable};
+use std::alloc::AllocError;
 
 /// The parts of two types of one form, in pairs.
 #[derive(Clone, Copy)]
@@ -55,5 +56,58 @@ impl TypeTable<'_> {
             },
             _ => None,
         }
+    }
+
+    /// Adds the parts of two types whose joins are not known yet, if that of the types is not.
+    ///
+    /// # Errors
+    /// [`AllocError`] if an allocation fails.
+    pub(crate) fn add_parts(
+        &self,
+        pair: TypePair,
+        waiting: &mut Vec<TypePair>,
+    ) -> Result<(), AllocError>
+        requires pair { ArePairAmong (types_in self.now) pair }
+        requires waiting { All (ArePairAmong (types_in self.now)) waiting.old.items }
+        ensures { All (ArePairAmong (types_in self.now)) waiting.new.items }
+    {
+        if !self.is_open(pair) {
+            return Ok(());
+        }
+        let mut whole = pair;
+        while let Some(parts) = self.parts(whole.one, whole.other) {
+            match parts {
+                Parts::Futures(values) => return self.add_open(values, waiting),
+                Parts::Applied { heads, arguments } => {
+                    self.add_open(arguments, waiting)?;
+                    whole = heads;
+                }
+            }
+        }
+        Ok(())
+    }
+
+    /// Adds two types, if their join is not known yet.
+    ///
+    /// # Errors
+    /// [`AllocError`] if an allocation fails.
+    fn add_open(&self, pair: TypePair, waiting: &mut Vec<TypePair>) -> Result<(), AllocError>
+        requires pair { ArePairAmong (types_in self.now) pair }
+        requires waiting { All (ArePairAmong (types_in self.now)) waiting.old.items }
+        ensures { All (ArePairAmong (types_in self.now)) waiting.new.items }
+    {
+        if self.is_open(pair) {
+            waiting.push(pair)?;
+        }
+        Ok(())
+    }
+
+    /// Whether the join of two types is not known yet, and is that of their parts.
+    pub(crate) fn is_open(&self, pair: TypePair) -> bool
+        requires { ArePairAmong (types_in self.now) pair }
+    {
+        !self.are_same(pair.one, pair.other)
+            && self.parts(pair.one, pair.other).is_some()
+            && self.remembered(pair.one, pair.other).is_none()
     }
 }

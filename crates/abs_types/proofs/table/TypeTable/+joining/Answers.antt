@@ -7,27 +7,27 @@ use Rattle.abs_types.specs.TypeParts.{IsFound}
 use Rattle.abs_types.specs.TypeTables.{declarations_of}
 use Rattle.abs_types.proofs.table.TypeTable.+joining.Goals as goal
 
-pub join-returns-then-are_same-clause-found : goal.join-returns-then-are_same-clause-found
-join-returns-then-are_same-clause-found t c =
+pub join_once-returns-then-are_same-clause-found : goal.join_once-returns-then-are_same-clause-found
+join_once-returns-then-are_same-clause-found t c =
     same_join (declarations_of c.args.self.now) _ _ (c.are_same.ensures.0 c.if-are_same.true)
 
-pub join-remember-requires-clause-one : goal.join-remember-requires-clause-one
-join-remember-requires-clause-one t c = among_kept c.join_parts.ensures.keeps c.requires.one
+pub join_once-remember-requires-clause-one : goal.join_once-remember-requires-clause-one
+join_once-remember-requires-clause-one t c = among_kept c.join_parts.ensures.keeps c.requires.one
 
-pub join-remember-requires-clause-other : goal.join-remember-requires-clause-other
-join-remember-requires-clause-other t c = among_kept c.join_parts.ensures.keeps c.requires.other
+pub join_once-remember-requires-clause-other : goal.join_once-remember-requires-clause-other
+join_once-remember-requires-clause-other t c = among_kept c.join_parts.ensures.keeps c.requires.other
 
-pub join-returns-in_err-remember-clause-keeps : goal.join-returns-in_err-remember-clause-keeps
-join-returns-in_err-remember-clause-keeps t c = keeps_transitive c.join_parts.ensures.keeps c.remember.ensures.keeps
+pub join_once-returns-in_err-remember-clause-keeps : goal.join_once-returns-in_err-remember-clause-keeps
+join_once-returns-in_err-remember-clause-keeps t c = keeps_transitive c.join_parts.ensures.keeps c.remember.ensures.keeps
 
-pub join-returns-clause-found : goal.join-returns-clause-found
-join-returns-clause-found t c = (found_kept c.remember.ensures.keeps c.in_ok-found.ensures.found).is
+pub join_once-returns-clause-found : goal.join_once-returns-clause-found
+join_once-returns-clause-found t c = (found_kept c.remember.ensures.keeps c.in_ok-found.ensures.found).is
 
-pub join-returns-clause-among : goal.join-returns-clause-among
-join-returns-clause-among t c = (found_kept c.remember.ensures.keeps c.in_ok-found.ensures.found).among
+pub join_once-returns-clause-among : goal.join_once-returns-clause-among
+join_once-returns-clause-among t c = (found_kept c.remember.ensures.keeps c.in_ok-found.ensures.found).among
 
-pub join-returns-clause-keeps : goal.join-returns-clause-keeps
-join-returns-clause-keeps t c = keeps_transitive c.join_parts.ensures.keeps c.remember.ensures.keeps
+pub join_once-returns-clause-keeps : goal.join_once-returns-clause-keeps
+join_once-returns-clause-keeps t c = keeps_transitive c.join_parts.ensures.keeps c.remember.ensures.keeps
 
 pub join_applied-returns-in_default-clause-found :
     goal.join_applied-returns-in_default-clause-found
@@ -38,18 +38,18 @@ join_applied-returns-in_default-clause-found t c = record {
 
 pub join_applied-loop-pair-init : goal.join_applied-loop-pair-init
 join_applied-loop-pair-init t c =
-    applied_init c.in_ok-innermost.ensures c.join.ensures.keeps (rw c.in-Some.is at c.in_ok-joined.ensures.among)
+    applied_init c.in_ok-innermost.ensures c.join_once.ensures.keeps (rw c.in-Some.is at c.in_ok-joined.ensures.among)
     (rw c.in-Some.is at c.in_ok-joined.ensures.found)
 
-pub join_applied-join-requires-in-Some-pop : goal.join_applied-join-requires-in-Some-pop
-join_applied-join-requires-in-Some-pop t c =
+pub join_applied-join_once-requires-in-Some-pop : goal.join_applied-join_once-requires-in-Some-pop
+join_applied-join_once-requires-in-Some-pop t c =
     let next = next_pair c.in-Some-pop.pair c.pop.new.self.items c.loop-pair.invariant c.in-Some-pop.ensures.items in
     (omega (arith, next.below), next.among)
 
 pub join_applied-returns-in_err-argument-clause-keeps :
     goal.join_applied-returns-in_err-argument-clause-keeps
 join_applied-returns-in_err-argument-clause-keeps t c =
-    keeps_transitive c.loop-pair.invariant.keeps c.join-in-Some-pop.ensures.keeps
+    keeps_transitive c.loop-pair.invariant.keeps c.join_once-in-Some-pop.ensures.keeps
 
 pub join_applied-returns-in_default-2-clause-found :
     goal.join_applied-returns-in_default-2-clause-found
@@ -62,33 +62,33 @@ join_applied-returns-in_default-2-clause-found t c = record {
 pub join_applied-returns-in_default-2-clause-keeps :
     goal.join_applied-returns-in_default-2-clause-keeps
 join_applied-returns-in_default-2-clause-keeps t c =
-    keeps_transitive c.loop-pair.invariant.keeps c.join-in-Some-pop.ensures.keeps
+    keeps_transitive c.loop-pair.invariant.keeps c.join_once-in-Some-pop.ensures.keeps
 
 pub join_applied-applied-requires-clause-head : goal.join_applied-applied-requires-clause-head
 join_applied-applied-requires-clause-head t c =
-    among_kept c.join-in-Some-pop.ensures.keeps c.loop-pair.invariant.joined_among
+    among_kept c.join_once-in-Some-pop.ensures.keeps c.loop-pair.invariant.joined_among
 
 pub join_applied-returns-in_err-joined-2-clause-keeps :
     goal.join_applied-returns-in_err-joined-2-clause-keeps
 join_applied-returns-in_err-joined-2-clause-keeps t c =
     keeps_transitive c.loop-pair.invariant.keeps
-    (keeps_transitive c.join-in-Some-pop.ensures.keeps c.applied.ensures.keeps)
+    (keeps_transitive c.join_once-in-Some-pop.ensures.keeps c.applied.ensures.keeps)
 
 pub join_applied-loop-pair-preserved : goal.join_applied-loop-pair-preserved
 join_applied-loop-pair-preserved t c =
     applied_step c.in-Some-pop.pair c.in-Some-2.argument c.pop.new.self.items c.loop-pair.invariant
-    c.in-Some-pop.ensures.items c.join-in-Some-pop.ensures.keeps (rw c.in-Some-2.is at c.in_ok-argument.ensures.found)
+    c.in-Some-pop.ensures.items c.join_once-in-Some-pop.ensures.keeps (rw c.in-Some-2.is at c.in_ok-argument.ensures.found)
     c.applied.ensures.keeps c.in_ok-joined-2.ensures.found
 
 pub join_futures-returns-in_err-future-in-Some-clause-keeps :
     goal.join_futures-returns-in_err-future-in-Some-clause-keeps
 join_futures-returns-in_err-future-in-Some-clause-keeps t c =
-    keeps_transitive c.join.ensures.keeps c.future.ensures.keeps
+    keeps_transitive c.join_once.ensures.keeps c.future.ensures.keeps
 
 pub join_futures-returns-in_ok-future-in-Some-clause-keeps :
     goal.join_futures-returns-in_ok-future-in-Some-clause-keeps
 join_futures-returns-in_ok-future-in-Some-clause-keeps t c =
-    keeps_transitive c.join.ensures.keeps c.future.ensures.keeps
+    keeps_transitive c.join_once.ensures.keeps c.future.ensures.keeps
 
 pub join_parts-returns-in-Futures-clause-found : goal.join_parts-returns-in-Futures-clause-found
 join_parts-returns-in-Futures-clause-found t c =

@@ -3,8 +3,8 @@ use Rattle.abs_types.proofs.TableJoinLemmas.{AppliedSoFar}
 use Rattle.abs_types.proofs.table.TypeTable.+joining.Given as goal
 
 -- parts have smaller indices, and each function has a place of its own between two indices
-abbrev pub decreases-join : goal.decreases-join
-decreases-join l = 3 * l.one.0 + 2
+abbrev pub decreases-join_once : goal.decreases-join_once
+decreases-join_once l = 3 * l.one.0 + 2
 
 abbrev pub decreases-join_parts : goal.decreases-join_parts
 decreases-join_parts l = 3 * l.one.0 + 1
