@@ -3,7 +3,7 @@
 //! ([`types_stay_in_wider_frames`](crate::laws::types_stay_in_wider_frames)).
 ghost use Rattle.std.specs.Prelude.{◌≡◌, Some, option_map, IfOk, OnOk};
 ghost use Rattle.abs_types.specs.PlainTypes.{PlainType};
-ghost use Rattle.check_fun.specs.Contexts.{typed, Context, Finds, Found, Knows, Stays};
+ghost use Rattle.check_fun.specs.Contexts.{offends, typed, Context, Finds, Found, Knows, Noted, Stays};
 ghost use Rattle.check_fun.specs.ObjectHeads.{head_named, head_of};
 
 use crate::checker::Checker;
@@ -30,6 +30,8 @@ impl Checker<'_> {
     pub fn head(&mut self, expr: &Expr) -> Result<Option<Head>, AllocError>
         ensures found { (context : Context) → Knows self.old context → IfOk result
             (λ found. option_map (head_named context.names) found ≡ option_map head_of (typed context expr.now)) }
+        ensures noted { (context : Context) → Knows self.old context
+            → OnOk result (Noted self.old.first (offends context expr.now) self.new.first) }
         ensures stays { OnOk result (Stays self.old self.new) }
     {
         let found = self.expression(expr)?;
