@@ -12,7 +12,6 @@ use Rattle.std.specs.Prelude.{slice_get, is_some, is_none, option_and_then, if�
 use Rattle.std.proofs.lemmas.Option.{none-some, same_Some, option_and_then_some, cond_some}
 use Rattle.abs_tree.specs.Syntax.{Name, AtSlot, DeclTree, Phrase, OwnCallOf, VariableOf, Phrases, NoPhrase, NextPhrase, SideTree, NewOf, ValueOf, SendOf, GetOf, CallOf}
 use Rattle.abs_tree.specs.SyntaxCounts.{count_phrases}
-use Rattle.abs_tree.specs.SyntaxPlaces.{side_place}
 use Rattle.abs_tree.specs.declared.place.Place.{Place}
 use Rattle.abs_tree.specs.declared.refusal.Code.TheVariants.{T1, T2}
 use Rattle.abs_tree.specs.declared.syntax.statement.Mode.{Mode}
@@ -32,7 +31,7 @@ use Rattle.abs_types.specs.IsTyped.SideHasType.{new_object, value, own_call, sen
 use Rattle.abs_types.specs.Mistyped.{offence_if, mistyped_if, unfit}
 use Rattle.abs_types.specs.PlainTypes.{PlainType, PlainFut, PlainClass}
 use Rattle.abs_types.specs.SideTypes.{class_takes, new_type, value_type, future_type, whole_type, side_type, can_be_called, whole_offences, side_offences}
-use Rattle.abs_types.specs.StatementOffences.{unfit_side}
+use Rattle.abs_types.specs.StatementOffences.{unfit_place, unfit_side}
 use Rattle.abs_types.specs.Subtyping.{Fits}
 use Rattle.abs_types.specs.Typing.{Frame, type_in, types_in}
 
@@ -254,13 +253,13 @@ pub side_fits : (declarations : List DeclTree) (frame : Frame) (side : SideTree)
 side_fits declarations frame side type asked_is none unfit_none =
     let typed = typed_side declarations frame side none in
     let told : unfit_side declarations frame side (Some type) ≡ [] = rw asked_is at unfit_none in
-    let silent = subst (λ (given : Option PlainType). unfit declarations given type (side_place side) ≡ []) typed.found
+    let silent = subst (λ (given : Option PlainType). unfit declarations given type (unfit_place side) ≡ []) typed.found
     told in
     record {
       given = typed.type;
       has_type = typed.has_type;
       fits_it = fits_found declarations typed.type type
-          (unfit_silent declarations typed.type type (side_place side) silent);
+          (unfit_silent declarations typed.type type (unfit_place side) silent);
     }
 
 -- a type that fits does not offend
@@ -268,4 +267,4 @@ pub silent_fitting : {declarations : List DeclTree} {frame : Frame} {side : Side
     {given : PlainType} (type : PlainType) → asked ≡ Some type → SideHasType declarations frame side given
     → Fits declarations given type → unfit_side declarations frame side asked ≡ []
 silent_fitting {declarations} {frame} {side} {given = given} type asked_is has_type fit =
-    rw (asked_is, side_whole has_type) (silent_if_fit declarations given type (side_place side) (fits_whole fit))
+    rw (asked_is, side_whole has_type) (silent_if_fit declarations given type (unfit_place side) (fits_whole fit))

@@ -3,11 +3,12 @@
 --
 --   `frame_after`                  what is around the statement after this one
 --   `target_type`                  the type of what is assigned to
+--   `unfit_place`                  where a right side offends that does not fit
 --   `test_offences`                the offences of a guard
 --   `statement_offences`, ..       those of a statement, and of several; whether they are the last of a method's body
 use Rattle.std.specs.Prelude.{Bool, true, false, not, ◌&&◌, List, [], ◌++◌, set, Option, Some, None, is_none, if◌then◌else◌}
-use Rattle.abs_tree.specs.Syntax.{VariableTree, AtSlot, DeclTree, Phrase, SideTree, Tests, NoTest, NextTest, TargetTree, ToVariable, ToField, MaybeSide, NoSide, SomeSide, Statement, BlockOf, SkipOf, SuspendOf, AwaitOf, ReturnOf, PrintOf, IfOf, WhileOf, DeclareOf, AssignOf, DoOf, MaybeStatements, NoElse, Else, Statements, NoStatement, NextStatement}
-use Rattle.abs_tree.specs.SyntaxPlaces.{phrase_place, side_place}
+use Rattle.abs_tree.specs.Syntax.{VariableTree, AtSlot, DeclTree, Phrase, SideTree, NewOf, ValueOf, SendOf, GetOf, CallOf, Tests, NoTest, NextTest, TargetTree, ToVariable, ToField, MaybeSide, NoSide, SomeSide, Statement, BlockOf, SkipOf, SuspendOf, AwaitOf, ReturnOf, PrintOf, IfOf, WhileOf, DeclareOf, AssignOf, DoOf, MaybeStatements, NoElse, Else, Statements, NoStatement, NextStatement}
+use Rattle.abs_tree.specs.SyntaxPlaces.{phrase_place}
 use Rattle.abs_tree.specs.declared.place.Place.{Place}
 use Rattle.abs_tree.specs.declared.refusal.Code.TheVariants.{T3, T5}
 use Rattle.abs_tree.specs.declared.refusal.Offence.{Offence}
@@ -45,10 +46,18 @@ abbrev pub target_place : TargetTree → Place
 target_place (ToVariable place variable) = place
 target_place (ToField place name_place name) = place
 
--- a right side that does not fit, at its first token
+-- where a right side offends that does not fit: an expression at its own place, so parentheses around it do not count
+abbrev pub unfit_place : SideTree → Place
+unfit_place (ValueOf place value) = phrase_place value
+unfit_place (NewOf place mode class_place class arguments) = place
+unfit_place (SendOf place method row) = place
+unfit_place (GetOf place get_place future) = place
+unfit_place (CallOf place method row slot) = place
+
+-- a right side that does not fit
 abbrev pub unfit_side : List DeclTree → Frame → SideTree → Option PlainType → List Offence
 unfit_side declarations frame side (Some asked) =
-    unfit declarations (side_type declarations frame side) asked (side_place side)
+    unfit declarations (side_type declarations frame side) asked (unfit_place side)
 unfit_side declarations frame side None = []
 
 -- the offences of an expression, and of a type of it that does not fit what is asked for
