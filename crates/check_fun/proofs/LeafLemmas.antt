@@ -1,6 +1,7 @@
 -- The types of `destiny` and of `this`.
 --
---   `future_found`, `no_future`        `Fut` of the result type of the task
+--   `task_found`                       the result type of the task
+--   `future_found`, `no_future`        `Fut` of it
 --   `class_found`, `no_class`          an object of the class of `this`
 use mathlib.Core.Logic.{∥∥₁_elim}
 use Rattle.std.proofs.Common.{◌≡◌, Some, None, Option, refl, sym, ap, ◌∙◌, subst, option_map}
@@ -23,7 +24,7 @@ among-prop : (checker : Checker) (found : Option TypeIndex) → IsProp (IfSome f
 among-prop checker found = Prim.hlevel props
 
 -- the result type of the task, as the checker knows it
-task_found : {checker : Checker} {context : Context} → Knows checker context
+pub task_found : {checker : Checker} {context : Context} → Knows checker context
     → Finds checker checker.task context.frame.task
 unfolding context_in
 task_found {checker} knows = record {

@@ -17,6 +17,7 @@ pub mod PatternLemmas
 pub mod PhraseLemmas
 pub mod RowLemmas
 pub mod SchemeLemmas
+pub mod SlotLemmas
 pub mod SoFarLemmas
 pub mod StepLemmas
 pub mod WiderLemmas

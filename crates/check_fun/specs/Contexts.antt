@@ -4,6 +4,7 @@
 --   `Context`                      the program, what is around an expression, and the types of bound variables
 --   `context_in`, `Knows`          that of a checker
 --   `with_bound`, `with_frame`     a context with more bound variables, or with another frame
+--   `with_slots`                   a context with other slots
 --   `Found`, `Finds`               an index that is found, or none, stands for a type, or for none
 --   `FoundAll`, `FindsAll`         the same of several indices
 --   `FindsScheme`, ..              what functions and constructors take and give
@@ -73,6 +74,10 @@ with_bound context types = record context { bound = context.bound ++ types }
 -- a context with another frame, and without bound variables
 abbrev pub with_frame : Context → Frame → Context
 with_frame context frame = record context { frame = frame; bound = [] }
+
+-- a context with other slots
+abbrev pub with_slots : Context → List (Option PlainType) → Context
+with_slots context slots = record context { frame = record context.frame { slots = slots } }
 
 -- An index that is found is that of a type of the table.
 pub record Found (checker : Checker) (found : Option TypeIndex) : Type 0 where

@@ -1,5 +1,5 @@
 //! What is around an expression: a checker is made for a program, enters a body, and binds variables.
-ghost use Rattle.std.specs.Prelude.{◌≡◌, All, List, [], ◌∷◌, Option, Some, None, not, length, map, OnOk};
+ghost use Rattle.std.specs.Prelude.{◌≡◌, All, List, [], ◌∷◌, ◌++◌, Option, Some, None, not, length, map, set, OnOk};
 ghost use Rattle.abs_tree.specs.Names.{name_of};
 ghost use Rattle.abs_tree.specs.SourceViews.{named_tree};
 ghost use Rattle.abs_tree.specs.Syntax.{Name};
@@ -9,13 +9,13 @@ ghost use Rattle.abs_types.specs.Methods.{has_method};
 ghost use Rattle.abs_types.specs.PlainTypes.{PlainClass, PlainType};
 ghost use Rattle.abs_types.specs.Schemes.{param_types};
 ghost use Rattle.abs_types.specs.TypeOffences.{value_frame};
-ghost use Rattle.abs_types.specs.TypeTables.{Keeps};
-ghost use Rattle.abs_types.specs.Typing.{Frame};
-ghost use Rattle.check_fun.specs.Contexts.{with_bound, with_frame, Context, Finds, FoundAll, Found, IsFrameOf, Knows};
+ghost use Rattle.abs_types.specs.TypeTables.{types_in, Keeps};
+ghost use Rattle.abs_types.specs.Typing.{known_at, Frame};
+ghost use Rattle.check_fun.specs.Contexts.{types_known, with_bound, with_frame, with_slots, Context, Finds, FoundAll, Found, IsFrameOf, Knows};
 ghost use Rattle.check_fun.specs.OwnMethods.{declaration_takes, member_takes, takes_count};
 
 use crate::checker::Checker;
-use abs_tree::{Decl, Member, Named, Param, Symbol};
+use abs_tree::{Decl, Member, Named, Param, Symbol, Variable};
 use abs_types::{TypeIndex, TypeTable};
 use std::alloc::{AllocError, Global};
 
@@ -88,6 +88,58 @@ impl<'a> Checker<'a> {
         self.bound.clear();
     }
 
+    /// Enters another body with the same `this` and the same fields: these are the types of its slots, if they are
+    /// visible, and the result type of the task. No variable is bound.
+    pub fn enter_method(&mut self, slots: Vec<Option<TypeIndex>>, task: Option<TypeIndex>)
+        requires slots { All (Found self.old) slots.items }
+        requires task { Found self.old task }
+        ensures knows { (context : Context) (types : List (Option PlainType)) (result : Option PlainType)
+            → Knows self.old context → Finds self.old task result
+            → types_known (types_in self.old.table) slots.items ≡ types
+            → Knows self.new (with_frame context (record context.frame { slots = types; task = result })) }
+        ensures first { self.new.first ≡ self.old.first }
+        ensures table { self.new.table ≡ self.old.table }
+    {
+        self.slots = slots;
+        self.task = task;
+        self.bound.clear();
+    }
+
+    /// Puts a type in the slot with an index, or makes it invisible, if there is such a slot. The answer is what was
+    /// there.
+    pub fn set_slot(&mut self, slot: u32, found: Option<TypeIndex>) -> Option<TypeIndex>
+        requires { Found self.old found }
+        ensures knows { (context : Context) (type : Option PlainType) → Knows self.old context
+            → Finds self.old found type → Knows self.new (with_slots context (set context.frame.slots slot type)) }
+        ensures was { (context : Context) → Knows self.old context
+            → Finds self.new result (known_at context.frame.slots slot) }
+        ensures first { self.new.first ≡ self.old.first }
+        ensures table { self.new.table ≡ self.old.table }
+    {
+        let was = self.variable_type(Variable::Slot(slot));
+        if slot as usize >= self.slots.len() {
+            return was;
+        }
+        self.slots[slot as usize] = found;
+        was
+    }
+
+    /// Adds a slot that is visible.
+    ///
+    /// # Errors
+    /// [`AllocError`] if an allocation fails.
+    pub fn add_slot(&mut self, found: TypeIndex) -> Result<(), AllocError>
+        requires { Found self.old (Some found) }
+        ensures knows { (context : Context) (type : PlainType) → Knows self.old context
+            → Finds self.old (Some found) (Some type)
+            → OnOk result (Knows self.new (with_slots context (context.frame.slots ++ Some type ∷ []))) }
+        ensures first { self.new.first ≡ self.old.first }
+        ensures table { self.new.table ≡ self.old.table }
+    {
+        self.slots.push(Some(found))?;
+        Ok(())
+    }
+
     /// Binds a variable, whose type may be missing.
     ///
     /// # Errors
@@ -111,6 +163,13 @@ impl<'a> Checker<'a> {
         ensures table { self.new.table ≡ self.old.table }
     {
         self.bound.truncate(count);
+    }
+
+    /// The result type of the task, if there is one.
+    pub fn task(&self) -> Option<TypeIndex>
+        ensures { (context : Context) → Knows self.now context → Finds self.now result context.frame.task }
+    {
+        self.task
     }
 
     /// Whether the class of `this` has a method with a name and this many parameters. Outside of a class there is none.

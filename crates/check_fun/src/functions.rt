@@ -1,18 +1,19 @@
 //! The functions of a program, and their first offence.
-ghost use Rattle.std.specs.Prelude.{◌≡◌, ◌++◌, option_map, IfOk, OnOk};
+ghost use Rattle.std.specs.Prelude.{◌≡◌, ◌++◌, Some, option_map, IfOk, OnOk};
 ghost use Rattle.abs_tree.specs.Offences.{first_offence};
 ghost use Rattle.abs_tree.specs.Refusals.{refusal_of};
 ghost use Rattle.abs_tree.specs.SourceViews.{named_tree};
 ghost use Rattle.abs_tree.specs.SyntaxPlaces.{phrase_place};
 ghost use Rattle.abs_tree.specs.SyntaxViews.{decl_tree, phrase, type_tree};
 ghost use Rattle.abs_types.specs.Mistyped.{unfit};
-ghost use Rattle.abs_types.specs.PlainTypes.{plain};
+ghost use Rattle.abs_types.specs.PlainTypes.{plain, PlainType};
 ghost use Rattle.abs_types.specs.TypeOffences.{function_offences, function_offences_in};
 ghost use Rattle.abs_types.specs.TypeTables.{Keeps};
-ghost use Rattle.check_fun.specs.Contexts.{offends, typed, Context, Knows, Noted, Stays};
+ghost use Rattle.check_fun.specs.Contexts.{offends, typed, Context, Finds, Found, Knows, Noted, Stays};
 
 use crate::checker::Checker;
-use abs_tree::{Decl, Expr, Named, Refusal, TypeTerm};
+use abs_tree::{Decl, Expr, Named, Place, Refusal, TypeTerm};
+use abs_types::TypeIndex;
 use std::alloc::{AllocError, Global};
 
 /// The refusal of a program for the first offence of its functions by their types, or None if they have none.
@@ -39,6 +40,7 @@ impl Checker<'_> {
     pub fn functions(&mut self) -> Result<(), AllocError>
         ensures noted { (context : Context) → Knows self.old context
             → OnOk result (Noted self.old.first (function_offences context.declarations) self.new.first) }
+        ensures keeps { OnOk result (Keeps self.old.table self.new.table) }
     {
         let program = self.table.program;
         for declaration in program.declarations.iter() {
@@ -66,7 +68,7 @@ impl Checker<'_> {
         self.asked_value(value, result)
     }
 
-    /// Checks an expression, and that its type fits the one that is asked for.
+    /// Checks an expression, and that its type fits the one that the program writes; if not, it offends at its front.
     fn asked_value(&mut self, value: &Expr, asked: &TypeTerm) -> Result<(), AllocError>
         ensures noted { (context : Context) → Knows self.old context → OnOk result (Noted self.old.first
             (offends context value.now ++ unfit context.declarations (typed context value.now)
@@ -74,9 +76,24 @@ impl Checker<'_> {
             self.new.first) }
         ensures stays { OnOk result (Stays self.old self.new) }
     {
-        let given = self.expression(value)?;
         let asked = self.written(asked)?;
-        self.note_unfit(given, asked, value.place());
+        self.asked(value, asked, value.place())
+    }
+
+    /// Checks an expression, and that its type fits the one that is asked for; if not, it offends at the place.
+    ///
+    /// # Errors
+    /// [`AllocError`] if an allocation fails, or if there are too many types.
+    pub fn asked(&mut self, value: &Expr, asked: TypeIndex, place: Place) -> Result<(), AllocError>
+        requires { Found self.old (Some asked) }
+        ensures noted { (context : Context) (type : PlainType) → Knows self.old context
+            → Finds self.old (Some asked) (Some type) → OnOk result (Noted self.old.first
+            (offends context value.now ++ unfit context.declarations (typed context value.now) type place)
+            self.new.first) }
+        ensures stays { OnOk result (Stays self.old self.new) }
+    {
+        let given = self.expression(value)?;
+        self.note_unfit(given, asked, place);
         Ok(())
     }
 }

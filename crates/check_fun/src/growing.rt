@@ -4,7 +4,7 @@ ghost use Rattle.abs_tree.specs.Names.{name_of};
 ghost use Rattle.abs_tree.specs.SyntaxViews.{type_tree};
 ghost use Rattle.abs_types.specs.Applications.{applied_type, replaced};
 ghost use Rattle.abs_types.specs.Joins.{join_of};
-ghost use Rattle.abs_types.specs.OperatorTypes.{bool_type};
+ghost use Rattle.abs_types.specs.OperatorTypes.{bool_type, unit_type};
 ghost use Rattle.abs_types.specs.PlainTypes.{plain, PlainApplied, PlainClass, PlainData, PlainFut, PlainInt, PlainNull, PlainParameter, PlainString, PlainType};
 ghost use Rattle.check_fun.specs.Contexts.{Context, FindsAll, Finds, FoundAll, Found, Knows, Stays};
 
@@ -28,7 +28,7 @@ impl Checker<'_> {
     }
 
     /// `String`.
-    pub(crate) fn string(&mut self) -> Result<TypeIndex, AllocError>
+    pub fn string(&mut self) -> Result<TypeIndex, AllocError>
         ensures found { IfOk result (λ found. Finds self.new (Some found) (Some PlainString)) }
         ensures first { self.new.first ≡ self.old.first }
         ensures stays { Stays self.old self.new }
@@ -37,12 +37,21 @@ impl Checker<'_> {
     }
 
     /// `Bool`.
-    pub(crate) fn bool(&mut self) -> Result<TypeIndex, AllocError>
+    pub fn bool(&mut self) -> Result<TypeIndex, AllocError>
         ensures found { IfOk result (λ found. Finds self.new (Some found) (Some bool_type)) }
         ensures first { self.new.first ≡ self.old.first }
         ensures stays { Stays self.old self.new }
     {
         self.table.bool()
+    }
+
+    /// `Unit`.
+    pub fn unit(&mut self) -> Result<TypeIndex, AllocError>
+        ensures found { IfOk result (λ found. Finds self.new (Some found) (Some unit_type)) }
+        ensures first { self.new.first ≡ self.old.first }
+        ensures stays { Stays self.old self.new }
+    {
+        self.table.unit()
     }
 
     /// The type of `null`.
@@ -55,7 +64,7 @@ impl Checker<'_> {
     }
 
     /// `Fut` of a type.
-    pub(crate) fn future(&mut self, value: TypeIndex) -> Result<TypeIndex, AllocError>
+    pub fn future(&mut self, value: TypeIndex) -> Result<TypeIndex, AllocError>
         requires { Found self.old (Some value) }
         ensures found { (type : PlainType) → Finds self.old (Some value) (Some type)
             → IfOk result (λ found. Finds self.new (Some found) (Some (PlainFut type))) }
@@ -66,7 +75,7 @@ impl Checker<'_> {
     }
 
     /// An object of the class with a name.
-    pub(crate) fn class(&mut self, name: Symbol) -> Result<TypeIndex, AllocError>
+    pub fn class(&mut self, name: Symbol) -> Result<TypeIndex, AllocError>
         ensures found { (context : Context) → Knows self.old context
             → IfOk result (λ found. Finds self.new (Some found) (Some (PlainClass (name_of context.names name)))) }
         ensures first { self.new.first ≡ self.old.first }
@@ -76,7 +85,7 @@ impl Checker<'_> {
     }
 
     /// A type that the program writes.
-    pub(crate) fn written(&mut self, term: &TypeTerm) -> Result<TypeIndex, AllocError>
+    pub fn written(&mut self, term: &TypeTerm) -> Result<TypeIndex, AllocError>
         ensures found { (context : Context) → Knows self.old context → IfOk result
             (λ found. Finds self.new (Some found) (Some (plain (type_tree context.names term.now)))) }
         ensures first { self.new.first ≡ self.old.first }
@@ -152,11 +161,7 @@ impl Checker<'_> {
     }
 
     /// A data type that is applied to one more argument.
-    pub(crate) fn applied(
-        &mut self,
-        head: TypeIndex,
-        argument: TypeIndex,
-    ) -> Result<TypeIndex, AllocError>
+    pub fn applied(&mut self, head: TypeIndex, argument: TypeIndex) -> Result<TypeIndex, AllocError>
         requires head { Found self.old (Some head) }
         requires argument { Found self.old (Some argument) }
         ensures found { (one other : PlainType) → Finds self.old (Some head) (Some one)

@@ -42,7 +42,7 @@ impl Checker<'_> {
     }
 
     /// What a type is at its head.
-    fn head_at(&self, index: TypeIndex) -> Head
+    pub fn head_at(&self, index: TypeIndex) -> Head
         requires { Found self.now (Some index) }
         ensures { (context : Context) (type : PlainType) → Knows self.now context
             → Finds self.now (Some index) (Some type) → head_named context.names result ≡ head_of type }

@@ -58,7 +58,7 @@ impl Checker<'_> {
     }
 
     /// An object of the class of `this`, if there is one.
-    fn this_class(&mut self) -> Result<Option<TypeIndex>, AllocError>
+    pub fn this_class(&mut self) -> Result<Option<TypeIndex>, AllocError>
         ensures found { (context : Context) → Knows self.old context
             → IfOk result (λ found. Finds self.new found (option_map PlainClass context.frame.this)) }
         ensures first { self.new.first ≡ self.old.first }

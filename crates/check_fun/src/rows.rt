@@ -15,7 +15,7 @@ use std::alloc::AllocError;
 
 impl Checker<'_> {
     /// The type of a variable, if it is known.
-    pub(crate) fn variable_type(&self, variable: Variable) -> Option<TypeIndex>
+    pub fn variable_type(&self, variable: Variable) -> Option<TypeIndex>
         ensures { (context : Context) → Knows self.now context → Finds self.now result
             (variable_type context.frame context.bound (variable_tree context.names variable)) }
     {

@@ -213,7 +213,7 @@ impl Checker<'_> {
     ///
     /// # Errors
     /// [`AllocError`] if an allocation fails, or if there are too many types.
-    pub(crate) fn param_types(&mut self, params: &[Param]) -> Result<Vec<TypeIndex>, AllocError>
+    pub fn param_types(&mut self, params: &[Param]) -> Result<Vec<TypeIndex>, AllocError>
         ensures found { (context : Context) → Knows self.old context
             → IfOk result (λ found. FindsAll self.new (Some found.items)
             (Some (param_types (map (param_tree context.names) params.now)))) }

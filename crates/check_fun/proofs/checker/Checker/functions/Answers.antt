@@ -10,8 +10,10 @@ loop-declaration-preserved c =
     c.loop-declaration.invariant c.loop-declaration-test.true c.declaration-item.is
     c.in_ok-function.ensures.noted c.in_ok-function.ensures.keeps
 
-pub returns : goal.returns
-returns c = record {
-  noted = all_checked c.deref-declaration-items.result.now c.loop-declaration.declaration-index
-      c.loop-declaration.invariant c.loop-declaration-test.false c.deref-declaration-items.ensures.value;
-}
+pub returns-clause-noted : goal.returns-clause-noted
+returns-clause-noted c =
+    all_checked c.deref-declaration-items.result.now c.loop-declaration.declaration-index c.loop-declaration.invariant
+    c.loop-declaration-test.false c.deref-declaration-items.ensures.value
+
+pub returns-clause-keeps : goal.returns-clause-keeps
+returns-clause-keeps c = c.loop-declaration.invariant.keeps
