@@ -1,0 +1,4 @@
+//! Checks classes, interfaces and the main block by their types, and with them a whole program.
+#![tactic(auto)]
+
+mod method_types;
