@@ -1,5 +1,9 @@
 pub mod FirstLemmas
 pub mod GrownRowLemmas
+pub mod HasLemmas
+pub mod InheritedLemmas
+pub mod MeetLemmas
 pub mod MethodRowLemmas
 pub mod MethodTypeLemmas
 pub mod RowsLemmas
+pub mod SameTypeLemmas

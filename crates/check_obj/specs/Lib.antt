@@ -1,1 +1,2 @@
 pub mod MethodRows
+pub mod MethodsMet

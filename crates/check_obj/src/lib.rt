@@ -1,4 +1,5 @@
 //! Checks classes, interfaces and the main block by their types, and with them a whole program.
 #![tactic(auto)]
 
+mod interfaces;
 mod method_types;
