@@ -7,3 +7,5 @@ pub mod MethodRowLemmas
 pub mod MethodTypeLemmas
 pub mod RowsLemmas
 pub mod SameTypeLemmas
+pub mod SeveralLemmas
+pub mod SeveralToldLemmas
