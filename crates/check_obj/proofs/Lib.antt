@@ -1,3 +1,7 @@
+pub mod AgreeLemmas
+pub mod AgreedLemmas
+pub mod BelowLemmas
+pub mod EntriesLemmas
 pub mod FirstLemmas
 pub mod GrownRowLemmas
 pub mod HasLemmas
@@ -5,6 +9,7 @@ pub mod InheritedLemmas
 pub mod MeetLemmas
 pub mod MethodRowLemmas
 pub mod MethodTypeLemmas
+pub mod OneTypeLemmas
 pub mod RowsLemmas
 pub mod SameTypeLemmas
 pub mod SeveralLemmas
