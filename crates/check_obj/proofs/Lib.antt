@@ -1,6 +1,7 @@
 pub mod AgreeLemmas
 pub mod AgreedLemmas
 pub mod BelowLemmas
+pub mod CallLemmas
 pub mod EntriesLemmas
 pub mod FirstLemmas
 pub mod GrownRowLemmas
@@ -10,7 +11,9 @@ pub mod MeetLemmas
 pub mod MethodRowLemmas
 pub mod MethodTypeLemmas
 pub mod OneTypeLemmas
+pub mod PickedLemmas
 pub mod RowsLemmas
 pub mod SameTypeLemmas
 pub mod SeveralLemmas
 pub mod SeveralToldLemmas
+pub mod TakingLemmas

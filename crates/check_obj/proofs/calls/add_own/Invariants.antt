@@ -1,0 +1,9 @@
+use Rattle.std.proofs.Common.{ℕ, nat_eq}
+use Rattle.abs_tree.specs.SourceViews.{named_tree}
+use Rattle.check_obj.proofs.PickedLemmas.{AddedSoFar}
+use Rattle.check_obj.proofs.calls.add_own.Given as goal
+use Rattle.check_obj.specs.Calls.{trees_of}
+
+abbrev pub invariant-loop-at : goal.invariant-loop-at
+invariant-loop-at l = AddedSoFar (λ (one : ℕ). nat_eq one l.own) (named_tree l.program).declarations l.count
+    l.at-items l.at-index (trees_of l.program.symbols l.fn.found.items) (trees_of l.program.symbols l.found.items)
