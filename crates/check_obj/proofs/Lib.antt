@@ -2,6 +2,8 @@ pub mod AgreeLemmas
 pub mod AgreedLemmas
 pub mod BelowLemmas
 pub mod CallLemmas
+pub mod CalledLemmas
+pub mod CreationLemmas
 pub mod EntriesLemmas
 pub mod FirstLemmas
 pub mod GrownRowLemmas
@@ -16,4 +18,6 @@ pub mod RowsLemmas
 pub mod SameTypeLemmas
 pub mod SeveralLemmas
 pub mod SeveralToldLemmas
+pub mod ShapeLemmas
+pub mod SideLemmas
 pub mod TakingLemmas

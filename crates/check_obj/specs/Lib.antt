@@ -1,3 +1,4 @@
+pub mod Bodies
 pub mod Calls
 pub mod MethodRows
 pub mod MethodsMet

@@ -2,5 +2,7 @@
 #![tactic(auto)]
 
 mod calls;
+mod creations;
 mod interfaces;
 mod method_types;
+mod right_sides;
