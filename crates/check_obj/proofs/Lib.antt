@@ -4,9 +4,11 @@ pub mod BelowLemmas
 pub mod CallLemmas
 pub mod CalledLemmas
 pub mod CreationLemmas
+pub mod EndingLemmas
 pub mod EntriesLemmas
 pub mod FirstLemmas
 pub mod GrownRowLemmas
+pub mod GuardLemmas
 pub mod HasLemmas
 pub mod InheritedLemmas
 pub mod MeetLemmas
@@ -21,3 +23,4 @@ pub mod SeveralToldLemmas
 pub mod ShapeLemmas
 pub mod SideLemmas
 pub mod TakingLemmas
+pub mod VisibleLemmas

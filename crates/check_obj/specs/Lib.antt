@@ -1,4 +1,6 @@
 pub mod Bodies
 pub mod Calls
+pub mod Endings
 pub mod MethodRows
 pub mod MethodsMet
+pub mod Visible

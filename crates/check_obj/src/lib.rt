@@ -1,8 +1,12 @@
 //! Checks classes, interfaces and the main block by their types, and with them a whole program.
 #![tactic(auto)]
 
+mod assignments;
 mod calls;
 mod creations;
+mod endings;
+mod guards;
 mod interfaces;
 mod method_types;
 mod right_sides;
+mod visible;
