@@ -1,6 +1,7 @@
 pub mod AgreeLemmas
 pub mod AgreedLemmas
 pub mod BelowLemmas
+pub mod BlockLemmas
 pub mod CallLemmas
 pub mod CalledLemmas
 pub mod CreationLemmas
@@ -16,6 +17,7 @@ pub mod MethodRowLemmas
 pub mod MethodTypeLemmas
 pub mod OneTypeLemmas
 pub mod PickedLemmas
+pub mod ResultLemmas
 pub mod RowsLemmas
 pub mod SameTypeLemmas
 pub mod SeveralLemmas
@@ -23,4 +25,5 @@ pub mod SeveralToldLemmas
 pub mod ShapeLemmas
 pub mod SideLemmas
 pub mod TakingLemmas
+pub mod TreeLemmas
 pub mod VisibleLemmas

@@ -9,4 +9,5 @@ mod guards;
 mod interfaces;
 mod method_types;
 mod right_sides;
+mod statements;
 mod visible;
