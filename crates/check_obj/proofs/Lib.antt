@@ -2,8 +2,10 @@ pub mod AgreeLemmas
 pub mod AgreedLemmas
 pub mod BelowLemmas
 pub mod BlockLemmas
+pub mod BodyLemmas
 pub mod CallLemmas
 pub mod CalledLemmas
+pub mod ClassLemmas
 pub mod CreationLemmas
 pub mod EndingLemmas
 pub mod EntriesLemmas
@@ -16,6 +18,7 @@ pub mod MeetLemmas
 pub mod MethodRowLemmas
 pub mod MethodTypeLemmas
 pub mod OneTypeLemmas
+pub mod OrderLemmas
 pub mod PickedLemmas
 pub mod ResultLemmas
 pub mod RowsLemmas

@@ -1,5 +1,6 @@
 pub mod Bodies
 pub mod Calls
+pub mod Classes
 pub mod Endings
 pub mod MethodRows
 pub mod MethodsMet

@@ -3,11 +3,13 @@
 
 mod assignments;
 mod calls;
+mod classes;
 mod creations;
 mod endings;
 mod guards;
 mod interfaces;
 mod method_types;
+mod methods;
 mod right_sides;
 mod statements;
 mod visible;
