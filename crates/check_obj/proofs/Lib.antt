@@ -20,6 +20,7 @@ pub mod MethodTypeLemmas
 pub mod OneTypeLemmas
 pub mod OrderLemmas
 pub mod PickedLemmas
+pub mod ProgramLemmas
 pub mod ResultLemmas
 pub mod RowsLemmas
 pub mod SameTypeLemmas

@@ -10,6 +10,10 @@ mod guards;
 mod interfaces;
 mod method_types;
 mod methods;
+mod program;
 mod right_sides;
 mod statements;
 mod visible;
+
+pub use abs_tree::SourceError as TypeError;
+pub use program::check;
