@@ -29,8 +29,7 @@ use Rattle.abs_names.specs.Answers.{RefusesFirst}
 use Rattle.abs_names.specs.NameOffences.{name_offences}
 use Rattle.abs_names.specs.Prelude.{prelude_names}
 use Rattle.abs_names.specs.Resolution.{resolved}
-use Rattle.abs_tree.proofs.OffenceLemmas.{no_offence as no_offences}
-use Rattle.abs_types.specs.TypeOffences.{function_offences}
+use Rattle.abs_types.specs.TypeOffences.{type_offences}
 use Rattle.abs_command.specs.Sources.{IsTree, IsProgramOf, IsPiece, IsNameOf, FirstOffence, HasOneFirstOffence}
 use Rattle.abs_command.specs.Sources.FirstOffence.{unlexed, unread, misnamed, mistyped, unsupported_part}
 use Rattle.abs_command.specs.Unsupported.{unsupported}
@@ -77,9 +76,9 @@ unsupported_at place = record { place = place; code = S1 }
 
 -- the first offence of a tree by its types
 abbrev first_mistyped : SourceTree → Option Offence
-first_mistyped tree = first_offence (function_offences (resolved tree).declarations)
+first_mistyped tree = first_offence (type_offences (resolved tree))
 
--- the first offence of a tree: of its names, else of its functions by their types, else of what is unsupported
+-- the first offence of a tree: of its names, else by its types, else of what is unsupported
 abbrev first_of_tree : SourceTree → Option Offence
 first_of_tree tree = in_turn (first_offence (name_offences tree)) (in_turn (first_mistyped tree)
     (option_map unsupported_at (unsupported (resolved tree))))
@@ -106,7 +105,7 @@ in_three_ways (unsupported_part names tree place read named typed waits is) =
 none_of_tree : {text : List ℕ} {program : SourceTree} (accepted : IsProgramOf text program)
     → first_of_tree accepted.tree ≡ None
 none_of_tree {text} {program} accepted =
-    let typed = ap (λ (tree : SourceTree). function_offences tree.declarations) (sym accepted.is) ∙ accepted.typed in
+    let typed = ap type_offences (sym accepted.is) ∙ accepted.typed in
     let runs = ap unsupported (sym accepted.is) ∙ accepted.runs in
     rw (accepted.no_offence, typed, runs) refl
 
@@ -164,15 +163,6 @@ one_refused one other (offending_tree names tree first read is_first is)
 -- A source is refused for at most one offence.
 pub one_first_offence : (text : List ℕ) → HasOneFirstOffence text
 one_first_offence text one other x y = one_refused one other (in_three_ways x) (in_three_ways y)
-
--- no refusal is of the first of offences of which none is the first, and then there are none
-pub none_mistyped : (offences : List Offence) → None ≡ option_map refusal_of (first_offence offences) → offences ≡ []
-none_mistyped offences is = none_if (first_offence offences) refl is
-  where
-    none_if : (first : Option Offence) → first_offence offences ≡ first → None ≡ option_map refusal_of first
-        → offences ≡ []
-    none_if None first_is is = no_offences offences first_is
-    none_if (Some first) first_is is = absurd (none-some (refusal_of first) is)
 
 -- a refusal that is there is of the first offence
 pub first_refused : (offences : List Offence) (refusal : Refusal)

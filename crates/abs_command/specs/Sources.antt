@@ -19,7 +19,7 @@ use Rattle.abs_names.specs.Answers.{RefusesFirst}
 use Rattle.abs_names.specs.NameOffences.{name_offences}
 use Rattle.abs_names.specs.Prelude.{prelude_names}
 use Rattle.abs_names.specs.Resolution.{resolved}
-use Rattle.abs_types.specs.TypeOffences.{function_offences}
+use Rattle.abs_types.specs.TypeOffences.{type_offences}
 use Rattle.abs_command.specs.Unsupported.{unsupported}
 
 -- The source has tokens and is accepted; these are its names and its tree.
@@ -28,30 +28,30 @@ pub record IsTree (text : List ℕ) (names : List Name) (tree : SourceTree) : Ty
   pub tokens : TokensOf text list
   pub is : IsTextOf list names tree
 
--- The source has a tree in which no name offends. This is its program, whose names are resolved. No function of it
--- offends by its types, and no part of it is unsupported.
+-- The source has a tree in which no name offends. This is its program, whose names are resolved. It has no offence by
+-- its types, and no part of it is unsupported.
 pub record IsProgramOf (text : List ℕ) (program : SourceTree) : Type 0 where
   pub names : List Name
   pub tree : SourceTree
   pub read : IsTree text names tree
   pub no_offence : name_offences tree ≡ []
   pub is : program ≡ resolved tree
-  pub typed : function_offences program.declarations ≡ []
+  pub typed : type_offences program ≡ []
   pub runs : unsupported program ≡ None
 
 -- The source is refused for its first offence, in one of five ways. It has a lexical offence, and this is the first. It
 -- has tokens, and the parser fails at one of them or at the end. It has a tree, and this is the first of its name
--- offences. It has a tree without name offences, and this is the first offence of its functions by their types. It has
--- a tree without any of these, and its first unsupported part begins here.
+-- offences. It has a tree without name offences, and this is the first of its offences by types. It has a tree without
+-- any of these, and its first unsupported part begins here.
 pub data FirstOffence (text : List ℕ) (refusal : Refusal) : Type 0 where
   unlexed : RefusesLexing text refusal → FirstOffence text refusal
   unread : (list : TokenList) → TokensOf text list → StopsWith list refusal → FirstOffence text refusal
   misnamed : (names : List Name) (tree : SourceTree) → IsTree text names tree
       → RefusesFirst (name_offences tree) refusal → FirstOffence text refusal
   mistyped : (names : List Name) (tree : SourceTree) → IsTree text names tree → name_offences tree ≡ []
-      → RefusesFirst (function_offences (resolved tree).declarations) refusal → FirstOffence text refusal
+      → RefusesFirst (type_offences (resolved tree)) refusal → FirstOffence text refusal
   unsupported_part : (names : List Name) (tree : SourceTree) (place : Place) → IsTree text names tree
-      → name_offences tree ≡ [] → function_offences (resolved tree).declarations ≡ []
+      → name_offences tree ≡ [] → type_offences (resolved tree) ≡ []
       → unsupported (resolved tree) ≡ Some place
       → refusal ≡ refusal_of (record { place = place; code = S1 }) → FirstOffence text refusal
 

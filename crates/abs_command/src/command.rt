@@ -231,7 +231,7 @@ fn answer<K: Sink>(alloc: Global, bytes: &[u8], sink: &mut K) -> Result<Ended, A
         return Ok(deliver(sink, TOO_LARGE.as_bytes(), ended));
     }
     match program_of(alloc, bytes) {
-        Ok(program) => answer_program(alloc, &program, sink),
+        Ok(checked) => answer_program(alloc, checked.named(), sink),
         Err(SourceError::Refused(refusal)) => refuse(alloc, refusal, sink),
         Err(SourceError::Memory) => Err(AllocError),
     }

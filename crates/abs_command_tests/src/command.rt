@@ -279,7 +279,7 @@ fn refusal_texts(rt: HostRuntime) -> Result<(), Fail> {
 fn spent_run(rt: HostRuntime) -> Result<(), Fail> {
     let alloc = rt.alloc();
     let program = program_of(alloc, b"{ println(toString(42)); }")?;
-    let ran = run(alloc, &program, 1)?;
+    let ran = run(alloc, program.named(), 1)?;
     assert_eq!(rt; ran.end, End::Spent);
     assert_eq!(rt; ran.history.len(), 1);
     assert_eq!(rt; ran.history.at(0), 0);

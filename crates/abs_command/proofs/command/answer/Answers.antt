@@ -23,12 +23,13 @@ returns-then-bytes-gt-SOURCE_LIMIT-clause-answered g c = λ words source source'
 pub returns-in-Ok-clause-answered : goal.returns-in-Ok-clause-answered
 returns-in-Ok-clause-answered g c = ok_follows c.answer_program.result c.answer_program.ensures.answered
     (λ ended answer words source source' named.
-    answer words c.args.bytes.now source source' named (record { small = omega arith; read = c.in-Ok.ensures.found }))
+    answer words c.args.bytes.now source source' named
+    (rw c.named.ensures.program (record { small = omega arith; read = c.in-Ok.ensures.found })))
 
 pub returns-in-Ok-clause-exhausted : goal.returns-in-Ok-clause-exhausted
 returns-in-Ok-clause-exhausted g c = error_follows c.answer_program.result c.answer_program.ensures.exhausted
     (λ written words named. written words c.args.bytes.now named
-    (record { small = omega arith; read = c.in-Ok.ensures.found }))
+    (rw c.named.ensures.program (record { small = omega arith; read = c.in-Ok.ensures.found })))
 
 pub returns-in-Err-Refused-clause-answered : goal.returns-in-Err-Refused-clause-answered
 returns-in-Err-Refused-clause-answered g c = ok_follows c.refuse.result c.refuse.ensures.answered

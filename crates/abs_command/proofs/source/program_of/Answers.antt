@@ -1,22 +1,40 @@
 use Rattle.std.proofs.Common.{◌≡◌, Some, subst, sym, ap, ◌∙◌}
 use Rattle.std.proofs.lemmas.Result.{err_from_is_err_and}
+use Rattle.abs_tree.specs.declared.named.Named.{Named}
 use Rattle.abs_tree.specs.SourceErrors.{HasCause}
-use Rattle.abs_tree.specs.SourceViews.{source_tree}
+use Rattle.abs_tree.specs.SourceViews.{named_tree, source_tree}
 use Rattle.abs_tree.specs.Syntax.{SourceTree}
 use Rattle.abs_names.specs.Answers.{RefusesFirst}
 use Rattle.abs_names.specs.Resolution.{resolved}
-use Rattle.abs_types.specs.TypeOffences.{function_offences}
+use Rattle.abs_types.specs.TypeOffences.{type_offences}
 use Rattle.abs_command.specs.Sources.{IsTree, FirstOffence}
 use Rattle.abs_command.specs.Sources.FirstOffence.{unread, misnamed, mistyped, unsupported_part}
 use Rattle.abs_command.specs.Unsupported.{unsupported}
 use Rattle.abs_command.proofs.ResultLemmas.{cause_follows}
-use Rattle.abs_command.proofs.SourceLemmas.{program_names}
+use Rattle.abs_command.proofs.SourceLemmas.{first_refused, program_names}
 use Rattle.abs_command.proofs.source.program_of.Goals as goal
 
 pub returns-clause-names : goal.returns-clause-names
 returns-clause-names c =
-    program_names c.in_ok-list.list.tokens c.in_ok-tree.tree.symbols c.in_ok-program.program.symbols
-    c.in_ok-list.ensures.slices c.in_ok-tree.ensures.names c.in_ok-program.ensures.symbols
+    rw c.in_ok-checked.ensures.same
+    (program_names c.in_ok-list.list.tokens c.in_ok-tree.tree.symbols c.in_ok-program.program.symbols
+    c.in_ok-list.ensures.slices c.in_ok-tree.ensures.names c.in_ok-program.ensures.symbols)
+
+pub returns-clause-found : goal.returns-clause-found
+returns-clause-found c =
+    let tree = c.in_ok-tree.tree in
+    record {
+      names = tree.symbols;
+      tree = source_tree tree;
+      read =
+          record { list = c.in_ok-list.list; tokens = c.in_ok-list.ensures.found; is = c.in_ok-tree.ensures.found };
+      no_offence = c.in_ok-program.ensures.accepted;
+      is = ap named_tree c.in_ok-checked.ensures.same ∙ c.in_ok-program.ensures.found;
+      typed = rw c.in_ok-checked.ensures.same c.in_ok-checked.ensures.accepted;
+      runs =
+          sym (ap (λ (program : Named). unsupported (named_tree program)) c.named.ensures.program)
+          ∙ (sym c.unsupported.ensures ∙ c.in-None.is);
+    }
 
 pub returns-in_err-tree-clause-refused : goal.returns-in_err-tree-clause-refused
 returns-in_err-tree-clause-refused c =
@@ -35,27 +53,27 @@ returns-in_err-program-clause-refused c =
     (cause_follows c.in_err-program.field-0.0 c.in_err-program.ensures.refused
     (λ refusal first. misnamed tree.symbols (source_tree tree) read first)))
 
-pub returns-in_err-refuse_mistyped-clause-refused : goal.returns-in_err-refuse_mistyped-clause-refused
-returns-in_err-refuse_mistyped-clause-refused c =
+pub returns-in_err-checked-clause-refused : goal.returns-in_err-checked-clause-refused
+returns-in_err-checked-clause-refused c =
     let tree = c.in_ok-tree.tree in
     let read : IsTree c.args.text.now tree.symbols (source_tree tree) =
     record { list = c.in_ok-list.list; tokens = c.in_ok-list.ensures.found; is = c.in_ok-tree.ensures.found } in
-    let error = err_from_is_err_and c.from_residual-in_err-refuse_mistyped.result
-    c.from_residual-in_err-refuse_mistyped.ensures.1 in
+    let error = err_from_is_err_and c.from_residual-in_err-checked.result c.from_residual-in_err-checked.ensures.1 in
     rw error.1 (subst (HasCause (FirstOffence c.args.text.now)) (sym error.2)
-    (cause_follows c.in_err-refuse_mistyped.field-0.0 c.in_err-refuse_mistyped.ensures.refused
+    (cause_follows c.in_err-checked.field-0.0 c.in_err-checked.ensures.refused
     (λ refusal first. mistyped tree.symbols (source_tree tree) read c.in_ok-program.ensures.accepted
-    (subst (λ (program : SourceTree). RefusesFirst (function_offences program.declarations) refusal)
-    c.in_ok-program.ensures.found first))))
+    (subst (λ (program : SourceTree). RefusesFirst (type_offences program) refusal) c.in_ok-program.ensures.found
+    (first_refused _ refusal first)))))
 
 pub returns-in-Some-clause-refused : goal.returns-in-Some-clause-refused
 returns-in-Some-clause-refused c =
     let tree = c.in_ok-tree.tree in
     let read : IsTree c.args.text.now tree.symbols (source_tree tree) =
     record { list = c.in_ok-list.list; tokens = c.in_ok-list.ensures.found; is = c.in_ok-tree.ensures.found } in
+    let same : named_tree c.named.result.now ≡ resolved (source_tree tree) =
+    ap named_tree (c.named.ensures.program ∙ c.in_ok-checked.ensures.same) ∙ c.in_ok-program.ensures.found in
     let waits : unsupported (resolved (source_tree tree)) ≡ Some c.in-Some.place =
-    sym (ap unsupported c.in_ok-program.ensures.found) ∙ (sym c.unsupported.ensures ∙ c.in-Some.is) in
-    let typed = ap (λ (program : SourceTree). function_offences program.declarations)
-    (sym c.in_ok-program.ensures.found) ∙ c.in_ok-refuse_mistyped.ensures.typed in
+    sym (ap unsupported same) ∙ (sym c.unsupported.ensures ∙ c.in-Some.is) in
+    let typed = ap type_offences (sym same) ∙ c.named.ensures.accepted in
     unsupported_part tree.symbols (source_tree tree) c.in-Some.place read c.in_ok-program.ensures.accepted typed waits
     c.refusal.ensures
