@@ -13,3 +13,7 @@ pub mod DeclaredLemmas
 pub mod FieldLemmas
 pub mod SignatureLemmas
 pub mod MethodLemmas
+pub mod ListPartLemmas
+pub mod PointLemmas
+pub mod LeftLemmas
+pub mod FlowLemmas

@@ -4,6 +4,9 @@ pub mod Names
 pub mod Values
 pub mod Numbers
 pub mod Evaluation
+pub mod Control
+pub mod Left
+pub mod Flows
 pub mod Refusals
 pub mod Offences
 pub mod SourceErrors

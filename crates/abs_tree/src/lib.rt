@@ -19,7 +19,10 @@ pub mod text;
 pub mod value;
 
 pub use arithmetic::negated;
-pub use laws::{declared_is_there, first_is_least, named_is_whole, numbers_tell_names};
+pub use laws::{
+    control_leaves_the_rest, declared_is_there, facts_follow_control, first_is_least,
+    named_is_whole, numbers_tell_names,
+};
 pub use meanings::Meanings;
 pub use name_spaces::{ConstructorMeaning, FunctionMeaning, NameSpaces, Taking, TypeMeaning};
 pub use named::Named;
