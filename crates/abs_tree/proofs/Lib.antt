@@ -17,3 +17,4 @@ pub mod ListPartLemmas
 pub mod PointLemmas
 pub mod LeftLemmas
 pub mod FlowLemmas
+pub mod InstructionLemmas

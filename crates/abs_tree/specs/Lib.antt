@@ -5,6 +5,9 @@ pub mod Values
 pub mod Numbers
 pub mod Evaluation
 pub mod Control
+pub mod Instructions
+pub mod InstructionViews
+pub mod MadeInstructions
 pub mod Left
 pub mod Flows
 pub mod Refusals

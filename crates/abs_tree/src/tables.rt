@@ -10,6 +10,8 @@ ghost use Rattle.abs_tree.specs.Supertypes.{supertypes};
 ghost use Rattle.abs_tree.specs.SyntaxViews.{decl_tree};
 ghost use Rattle.abs_tree.specs.TableFacts.{AreTables};
 
+pub mod control;
+pub mod effects;
 pub mod fields;
 pub mod holders;
 pub mod members;
