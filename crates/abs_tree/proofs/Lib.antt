@@ -18,3 +18,6 @@ pub mod PointLemmas
 pub mod LeftLemmas
 pub mod FlowLemmas
 pub mod InstructionLemmas
+pub mod CountLemmas
+pub mod MakerLemmas
+pub mod BackwardLemmas

@@ -14,6 +14,8 @@ pub mod control;
 pub mod effects;
 pub mod fields;
 pub mod holders;
+pub mod instructions;
+pub mod loop_sizes;
 pub mod members;
 pub mod methods;
 pub mod signatures;
