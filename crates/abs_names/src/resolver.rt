@@ -55,7 +55,7 @@ pub fn resolve<'a>(alloc: Global, program: Program<'a>) -> Result<Named<'a>, Nam
     if let Some(offence) = first {
         return Err(NameError::Refused(offence.refusal()));
     }
-    let tables = Tables::new(alloc, &symbols, spaces, declarations.as_slice())?;
+    let tables = Tables::new(alloc, &symbols, spaces, declarations.as_slice(), &main)?;
     Ok(Named {
         symbols,
         declarations,

@@ -1,8 +1,9 @@
 //! The program `abs_show WHAT FILE`: prints what the lexer, the parser and the resolver make of a source, for tests to
-//! compare. WHAT is `tree`, `resolved`, `declared`, `names`, `symbols`, `tokens`, `fits`, `towers` or `prelude`. A
-//! source that is refused prints its refusal, and ends with status 4.
+//! compare. WHAT is `tree`, `resolved`, `declared`, `names`, `symbols`, `tokens`, `fits`, `control`, `towers` or
+//! `prelude`. A source that is refused prints its refusal, and ends with status 4.
 #![tactic(auto)]
 
+mod control;
 mod declarations;
 mod expressions;
 mod failure;

@@ -32,6 +32,11 @@ impl<'s, 'a> Printer<'s, 'a> {
         Ok(out)
     }
 
+    /// What was printed, whose lines are whole.
+    pub(crate) fn into_lines(self) -> String {
+        self.out
+    }
+
     /// A piece as it is.
     pub(crate) fn push(&mut self, piece: &str) -> Result<(), AllocError> {
         self.out.push_str(piece)

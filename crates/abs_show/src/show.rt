@@ -2,6 +2,7 @@
 ghost use Rattle.std.specs.Prelude.{◌≤◌, length};
 ghost use Rattle.abs_tree.specs.Limits.{source_limit};
 
+use crate::control::control_lines;
 use crate::failure::Failure;
 use crate::fits::fit_lines;
 use crate::printer::Printer;
@@ -33,6 +34,8 @@ pub(crate) enum What {
     Tokens,
     /// Which types fit which, for those that its declarations write.
     Fits,
+    /// Where control goes, for its classes, its methods, its main block and its statements.
+    Control,
     /// What a table of types answers for them, and for towers of pairs over them.
     Towers,
     /// The tree of the prelude, whatever the source is: as its text is read, and as it is made by hand.
@@ -50,6 +53,7 @@ impl What {
             "symbols" => Some(What::Symbols),
             "tokens" => Some(What::Tokens),
             "fits" => Some(What::Fits),
+            "control" => Some(What::Control),
             "towers" => Some(What::Towers),
             "prelude" => Some(What::Prelude),
             _ => None,
@@ -72,9 +76,12 @@ pub(crate) fn show(alloc: Global, what: What, source: &[u8]) -> Result<String, F
     let program = parse(alloc, &list)?;
     match what {
         What::Names => Ok(name_lines(alloc, &program.symbols)?),
-        What::Resolved | What::Declared | What::Symbols | What::Fits | What::Towers => {
-            Ok(resolved_lines(alloc, what, &resolve(alloc, program)?)?)
-        }
+        What::Resolved
+        | What::Declared
+        | What::Symbols
+        | What::Fits
+        | What::Control
+        | What::Towers => { Ok(resolved_lines(alloc, what, &resolve(alloc, program)?)?) }
         What::Prelude => prelude_lines(alloc),
         What::Tree | What::Tokens => {
             Ok(tree_line(
@@ -95,6 +102,7 @@ fn resolved_lines(alloc: Global, what: What, named: &Named<'_>) -> Result<String
         What::Symbols => name_lines(alloc, &named.symbols),
         What::Declared => tree_line(alloc, &named.symbols, all, &named.main),
         What::Fits => fit_lines(alloc, named, own),
+        What::Control => control_lines(alloc, named, PRELUDE_DECLARATIONS),
         What::Towers => tower_lines(alloc, named, own),
         _ => tree_line(alloc, &named.symbols, own, &named.main),
     }

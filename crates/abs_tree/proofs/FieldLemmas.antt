@@ -1,8 +1,9 @@
 -- The rows of the table of fields.
-use Rattle.std.proofs.Common.{◌≡◌, ℕ, zero, suc, ◌+◌, ◌<◌, ◌≤◌, List, [], ◌∷◌, ◌++◌, refl, sym, ap, ◌∙◌, length, get_or, drop, map, append_assoc}
+use Rattle.std.proofs.Common.{◌≡◌, ℕ, ◌+◌, ◌<◌, ◌≤◌, List, [], ◌∷◌, ◌++◌, refl, sym, ap, ◌∙◌, length, get_or, drop, map, append_assoc}
 use Rattle.std.specs.Prelude.{Option, option_and_then, slice_get}
 use Rattle.std.proofs.lemmas.List.{append-nil, drop_all, map-append}
 use Rattle.abs_tree.proofs.EntryLemmas.{drop_item}
+use Rattle.abs_tree.proofs.TableLemmas.{look_up-map}
 use Rattle.abs_tree.specs.FieldRows.{own_index, IsFieldRow}
 use Rattle.abs_tree.specs.KeptMembers.{field_at}
 use Rattle.abs_tree.specs.Members.{field_indices, params_in, fields_in, field_among, field_of}
@@ -100,14 +101,6 @@ rows_step {declarations} {index} {rows} {after} declaration row h there is added
       (sym (drop_item declarations index declaration there is))
       ∙ h.so_far names))));
 }
-
--- a look-up in one list is a look-up in the mapped list
-look_up-map : {A B C : Type 0} (view : A → B) (find : B → Option C) (items : List A) (index : ℕ)
-    → option_and_then (λ item. find (view item)) (slice_get items index)
-    ≡ option_and_then find (slice_get (map view items) index)
-look_up-map view find [] index = refl
-look_up-map view find (item ∷ others) zero = refl
-look_up-map view find (item ∷ others) (suc index) = look_up-map view find others index
 
 -- all declarations have their rows, and so each field is found
 pub rows_done : {declarations : List Decl} {index : ℕ} {rows : List FieldRow} (names : List Name) (fields : Fields)

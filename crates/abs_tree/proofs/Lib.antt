@@ -21,3 +21,6 @@ pub mod InstructionLemmas
 pub mod CountLemmas
 pub mod MakerLemmas
 pub mod BackwardLemmas
+pub mod StatementCountLemmas
+pub mod BodyRowLemmas
+pub mod ClassEntryLemmas

@@ -1,6 +1,7 @@
 -- A search in a list gives the same result as a search in the mapped list.
-use Rattle.std.proofs.Common.{◌≡◌, ◌+◌, Bool, true, false, List, [], ◌∷◌, ◌++◌, refl, ap, map, cond, ◌||◌, not}
+use Rattle.std.proofs.Common.{◌≡◌, ℕ, zero, suc, ◌+◌, Bool, true, false, List, [], ◌∷◌, ◌++◌, refl, ap, map, cond, ◌||◌, not}
 use Rattle.std.proofs.lemmas.List.{length-map, map-append}
+use Rattle.std.specs.Prelude.{Option, option_and_then, slice_get}
 use Rattle.std.specs.List.{list_any, position, position_or_len}
 
 pub list_any-map : {A B : Type 0} (f : A → B) (p : B → Bool) (xs : List A)
@@ -28,3 +29,11 @@ pub inserted-map : {A B : Type 0} (f : A → B) (p : B → Bool) (xs : List A) (
     → map f (cond (list_any (λ y. p (f y)) xs) xs (xs ++ x ∷ []))
     ≡ cond (list_any p (map f xs)) (map f xs) (map f xs ++ f x ∷ [])
 inserted-map f p xs x = rw list_any-map (added-map f (list_any (λ y. p (f y)) xs) xs x)
+
+-- a look-up in one list is a look-up in the mapped list
+pub look_up-map : {A B C : Type 0} (view : A → B) (find : B → Option C) (items : List A) (index : ℕ)
+    → option_and_then (λ item. find (view item)) (slice_get items index)
+    ≡ option_and_then find (slice_get (map view items) index)
+look_up-map view find [] index = refl
+look_up-map view find (item ∷ others) zero = refl
+look_up-map view find (item ∷ others) (suc index) = look_up-map view find others index

@@ -3,13 +3,20 @@
 --   `exprs_tree`               the expressions of an instruction
 --   `effect_tree`, `goes_tree`         its effect, and where control goes
 --   `instruction_tree`         the instruction
-use Rattle.std.specs.Prelude.{List, drop}
+--   `shared_phrases`           expressions that are shared one by one
+--   `class_entry_tree`         what a new object of a class takes
+use Rattle.std.specs.Prelude.{List, [], ◌∷◌, drop}
 use Rattle.std.specs.Option.{option_map}
+use Rattle.std.specs.declared.alloc.Global.{Global}
+use Rattle.std.specs.declared.sync.Arc.{Arc}
+use Rattle.abs_tree.specs.Bodies.{ClassEntryTree}
 use Rattle.abs_tree.specs.Control.{Goes, Next, ByAnswer}
 use Rattle.abs_tree.specs.Instructions.{EffectTree, Skips, Suspends, Awaits, Chooses, Returns, Prints, Clears, Stores, Makes, Sends, CallsOwn, CallsOther, Gets, InstructionTree, one_phrase}
 use Rattle.abs_tree.specs.Names.{name_of}
-use Rattle.abs_tree.specs.Syntax.{Name, Phrases, NoPhrase}
+use Rattle.abs_tree.specs.Syntax.{Name, Phrases, NoPhrase, NextPhrase}
 use Rattle.abs_tree.specs.SyntaxViews.{variable_tree, phrase, phrases}
+use Rattle.abs_tree.specs.declared.syntax.expression.Expr.{Expr}
+use Rattle.abs_tree.specs.declared.tables.control.ClassEntry.{ClassEntry}
 use Rattle.abs_tree.specs.declared.tables.control.Exprs.{Exprs}
 use Rattle.abs_tree.specs.declared.tables.control.Exprs.TheVariants as exprs
 use Rattle.abs_tree.specs.declared.tables.control.Effect.{Effect}
@@ -55,4 +62,17 @@ instruction_tree names instruction = record {
   phrases = exprs_tree names instruction.exprs;
   effect = effect_tree names instruction.effect;
   goes = goes_tree instruction.goes;
+}
+
+-- expressions that are shared one by one
+abbrev pub shared_phrases : List Name → List (Arc Expr Global) → Phrases
+shared_phrases names [] = NoPhrase
+shared_phrases names (expr ∷ others) = NextPhrase (phrase names expr.value) (shared_phrases names others)
+
+-- what a new object of a class takes
+abbrev pub class_entry_tree : List Name → ClassEntry → ClassEntryTree
+class_entry_tree names entry = record {
+  params = entry.params;
+  initials = shared_phrases names entry.initials.value.items;
+  run = entry.run;
 }

@@ -6,8 +6,12 @@ pub mod Numbers
 pub mod Evaluation
 pub mod Control
 pub mod Instructions
+pub mod Bodies
 pub mod InstructionViews
+pub mod KeptControl
 pub mod MadeInstructions
+pub mod BodyRows
+pub mod TreeSets
 pub mod Left
 pub mod Flows
 pub mod Refusals

@@ -43,6 +43,7 @@ mutual
     BottomType : TypeTree
     NullType : TypeTree
     ClassType : (name : Name) → TypeTree
+    deriving IsSet as TypeTree-set
 
   pub data TypeTrees : Type 0 where
     NoType : TypeTrees
@@ -56,6 +57,7 @@ mutual
     SameNumber : (place : Place) (number : ℤ) → PatternTree
     SameString : (place : Place) (string : List ℕ) → PatternTree
     Built : (place : Place) (constructor : Name) (arguments : PatternTrees) → PatternTree
+    deriving IsSet as PatternTree-set
 
   pub data PatternTrees : Type 0 where
     NoPattern : PatternTrees
@@ -84,6 +86,7 @@ mutual
   pub data Phrases : Type 0 where
     NoPhrase : Phrases
     NextPhrase : (first : Phrase) (others : Phrases) → Phrases
+    deriving IsSet as Phrases-set
 
   -- operators of one precedence, each with its right operand
   pub data Operands : Type 0 where

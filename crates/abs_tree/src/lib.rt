@@ -35,7 +35,7 @@ pub use syntax::{
     Pattern, Prefix, Program, RightSide, Signature, Slot, Stmt, Target, Test, TypeTerm, Variable,
 };
 pub use tables::Tables;
-pub use tables::control::{Effect, Exprs, Instruction, Successor};
+pub use tables::control::{BodyEntry, ClassEntry, Effect, Exprs, Instruction, Successor};
 pub use tables::members::{FieldAt, SignatureAt};
 pub use tables::supertypes::supertype_graph;
 pub use text::Text;

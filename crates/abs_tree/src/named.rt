@@ -1,13 +1,12 @@
 //! A source whose names are resolved, and what its names stand for.
 ghost use Rattle.std.specs.Prelude.{◌≤◌, All, length};
-ghost use Rattle.std.proofs.Props.{props};
 ghost use Rattle.abs_tree.specs.Limits.{table_limit};
 ghost use Rattle.abs_tree.specs.SlotViews.{BodyHasSlots, DeclHasSlots};
 ghost use Rattle.abs_tree.specs.SyntaxSizes.{all_statements, body_sizes, class_sizes};
 ghost use Rattle.abs_tree.specs.SyntaxViews.{tree_of_parts};
 ghost use Rattle.abs_tree.specs.TableFacts.{HaveTables};
+ghost use Rattle.abs_tree.specs.TreeSets.{table_props};
 ghost use Rattle.abs_tree.specs.Whole.{IsWhole};
-ghost use Rattle.abs_tree.specs.KeptSpaces.{proper-prop};
 
 use crate::syntax::{Body, Decl};
 use crate::{Symbols, Tables};
@@ -33,5 +32,5 @@ pub struct Named<'a> {
     ghost main_has_slots: { BodyHasSlots symbols 0 main },
     ghost methods_have_slots: { ∥ All (DeclHasSlots symbols) declarations.items ∥₁ },
     ghost is_whole: { ∥ IsWhole (tree_of_parts symbols declarations.items main) ∥₁ },
-    ghost has_tables: { HaveTables symbols declarations.items tables } by { Prim.hlevel (props, proper-prop) },
+    ghost has_tables: { HaveTables symbols declarations.items main tables } by { Prim.hlevel table_props },
 }

@@ -1,8 +1,12 @@
-//! What the names of a resolved source stand for. No reader but [`Named::above`] takes memory, and none walks over a
-//! list. A declaration is known by its index.
-ghost use Rattle.std.specs.Prelude.{◌≡◌, ℕ, false, get_or, IfOk};
+//! What the names of a resolved source stand for, and what its statements do. No reader but [`Named::above`] takes
+//! memory, and none walks over a list. A declaration is known by its index.
+ghost use Rattle.std.specs.Prelude.{◌≡◌, ℕ, false, get_or, slice_get, IfOk};
+ghost use Rattle.std.specs.Option.{option_map};
 ghost use Rattle.abs_graph.specs.Graphs.{is_listed};
+ghost use Rattle.abs_tree.specs.Bodies.{class_entry as class_entry_of, main_entry, method_entry};
 ghost use Rattle.abs_tree.specs.Holdings.{holders};
+ghost use Rattle.abs_tree.specs.InstructionViews.{class_entry_tree, instruction_tree};
+ghost use Rattle.abs_tree.specs.Instructions.{instructions};
 ghost use Rattle.abs_tree.specs.Members.{field_of, method_of, signatures_of};
 ghost use Rattle.abs_tree.specs.Names.{name_of};
 ghost use Rattle.abs_tree.specs.NameSpaces.{spaces_of};
@@ -10,6 +14,7 @@ ghost use Rattle.abs_tree.specs.SourceViews.{named_tree};
 ghost use Rattle.abs_tree.specs.Supertypes.{is_below};
 ghost use Rattle.abs_tree.specs.Tables.{meaning_of};
 
+use crate::tables::control::{BodyEntry, ClassEntry, Instruction};
 use crate::tables::members::{FieldAt, SignatureAt};
 use crate::{ConstructorMeaning, FunctionMeaning, Named, Symbol, Taking, TypeMeaning};
 use abs_graph::is_marked;
@@ -94,5 +99,35 @@ impl Named<'_> {
         ensures { result ≡ field_of (named_tree self.now).declarations class number }
     {
         self.tables.fields.find(class, number)
+    }
+
+    /// What the statement with an index does, and where control goes.
+    pub fn instruction(&self, index: u32) -> Option<&Instruction>
+        ensures { option_map (λ found. instruction_tree self.now.symbols found.now) result
+            ≡ slice_get (instructions (named_tree self.now)) index }
+    {
+        self.tables.control.instruction(index)
+    }
+
+    /// Where the main block begins, and how many slots it has.
+    pub fn main_body(&self) -> BodyEntry
+        ensures { result ≡ main_entry (named_tree self.now) }
+    {
+        self.tables.control.main()
+    }
+
+    /// The body of the method at an index among the members of the class with this index.
+    pub fn body(&self, class: u32, member: u32) -> Option<BodyEntry>
+        ensures { result ≡ method_entry (named_tree self.now).declarations class member }
+    {
+        self.tables.control.method(class, member)
+    }
+
+    /// What a new object of the class with this index takes.
+    pub fn class_entry(&self, class: u32) -> Option<&ClassEntry>
+        ensures { option_map (λ found. class_entry_tree self.now.symbols found.now) result
+            ≡ class_entry_of (named_tree self.now).declarations class }
+    {
+        self.tables.control.class(class)
     }
 }

@@ -17,8 +17,17 @@ use Rattle.abs_tree.specs.contracts.syntax.declaration.Signature as Signature
 use Rattle.abs_tree.specs.contracts.syntax.statement.Stmt as Stmt
 use Rattle.abs_tree.specs.contracts.syntax.statement.Test as Test
 use Rattle.abs_tree.specs.contracts.syntax.types.TypeTerm as TypeTerm
+use Rattle.abs_tree.specs.contracts.tables.Tables as Tables
+use Rattle.abs_tree.specs.contracts.tables.control.ClassEntry as ClassEntry
+use Rattle.abs_tree.specs.contracts.tables.control.Control as Control
+use Rattle.abs_tree.specs.contracts.tables.control.Effect as Effect
+use Rattle.abs_tree.specs.contracts.tables.control.Exprs as Exprs
+use Rattle.abs_tree.specs.contracts.tables.control.Instruction as Instruction
+use Rattle.abs_tree.proofs.name_spaces.NameSpaces.TheSendSync as SpacesShared
 use Rattle.abs_tree.proofs.symbol.Symbols.TheSendSync as SymbolsShared
-use Rattle.abs_tree.proofs.tables.Tables.TheSendSync as TablesShared
+use Rattle.abs_tree.proofs.tables.fields.Fields.TheSendSync as FieldsShared
+use Rattle.abs_tree.proofs.tables.methods.Methods.TheSendSync as MethodsShared
+use Rattle.abs_tree.proofs.tables.signatures.Signatures.TheSendSync as SignaturesShared
 use Rattle.abs_tree.proofs.syntax.expression.Expr.TheLaws.TheKnot as ExprKnot
 use Rattle.abs_tree.proofs.syntax.pattern.Pattern.TheLaws.TheKnot as PatternKnot
 use Rattle.abs_tree.proofs.syntax.statement.Stmt.TheLaws.TheKnot as StmtKnot
@@ -116,13 +125,61 @@ declaration_send = search (sendable, crosses, type_send, expression_send, expres
 declaration_sync : IsSync (Decl.the_field).row
 declaration_sync = search (sendable, crosses, type_sync, expression_send, expression_sync, parameter_sync, signature_sync, member_sync) depth 20
 
+-- The expressions of a statement can be handed over
+exprs_send : IsSend (Exprs.the_field).row
+exprs_send = search (sendable, crosses, expression_send, expression_sync) depth 20
+
+-- The expressions of a statement can be shared
+exprs_sync : IsSync (Exprs.the_field).row
+exprs_sync = search (sendable, crosses, expression_send, expression_sync) depth 20
+
+-- The effect of a statement can be handed over
+effect_send : IsSend (Effect.the_field).row
+effect_send = search (sendable, crosses) depth 60 fits 20000
+
+-- The effect of a statement can be shared
+effect_sync : IsSync (Effect.the_field).row
+effect_sync = search (sendable, crosses) depth 60 fits 20000
+
+-- An instruction can be handed over
+instruction_send : IsSend (Instruction.the_field).row
+instruction_send = search (sendable, crosses, exprs_send, effect_send) depth 20
+
+-- An instruction can be shared
+instruction_sync : IsSync (Instruction.the_field).row
+instruction_sync = search (sendable, crosses, exprs_sync, effect_sync) depth 20
+
+-- What a new object takes can be handed over
+entry_send : IsSend (ClassEntry.the_field).row
+entry_send = search (sendable, crosses, expression_send, expression_sync) depth 20
+
+-- What a new object takes can be shared
+entry_sync : IsSync (ClassEntry.the_field).row
+entry_sync = search (sendable, crosses, expression_send, expression_sync) depth 20
+
+-- The table of statements can be handed over
+control_send : IsSend (Control.the_field).row
+control_send = search (sendable, crosses, instruction_send, entry_send) depth 20
+
+-- The table of statements can be shared
+control_sync : IsSync (Control.the_field).row
+control_sync = search (sendable, crosses, instruction_sync, entry_sync) depth 20
+
+-- All tables can be handed over
+tables_send : IsSend (Tables.the_field).row
+tables_send = search (sendable, crosses, SpacesShared.the_field_send, MethodsShared.the_field_send, SignaturesShared.the_field_send, FieldsShared.the_field_send, control_send) depth 40
+
+-- All tables can be shared
+tables_sync : IsSync (Tables.the_field).row
+tables_sync = search (sendable, crosses, SpacesShared.the_field_sync, MethodsShared.the_field_sync, SignaturesShared.the_field_sync, FieldsShared.the_field_sync, control_sync) depth 40
+
 -- A resolved program can be handed over
 pub named_send : (a : NamedLft) → IsSend (Named.the_field a).row
-named_send a = search (sendable, crosses, SymbolsShared.the_send, TablesShared.the_field_send, declaration_send, body_send) depth 20
+named_send a = search (sendable, crosses, SymbolsShared.the_send, tables_send, declaration_send, body_send) depth 20
 
 -- A resolved program can be shared
 pub named_sync : (a : NamedLft) → IsSync (Named.the_field a).row
-named_sync a = search (sendable, crosses, SymbolsShared.the_sync, TablesShared.the_field_sync, declaration_sync, body_sync) depth 20
+named_sync a = search (sendable, crosses, SymbolsShared.the_sync, tables_sync, declaration_sync, body_sync) depth 20
 
 -- An accepted program can be handed over
 pub checked_send : (a : NamedLft) → IsSend (Checked.the_field a).row

@@ -28,6 +28,16 @@ new-requires-clause-spaces c =
     ∙ ap (λ (source : SourceTree). source.declarations) c.in_ok-spaces.ensures.found in
     c.in_ok-spaces.ensures.spaces ∙ (sym (spaces_kept (spaces_of all) all) ∙ ap spaces_of (sym made))
 
+pub new-requires-clause-few_statements : goal.new-requires-clause-few_statements
+new-requires-clause-few_statements c =
+    let program = c.args.program in
+    let found = c.in_ok-spaces.ensures.found
+    ∙ ap (λ (names : List Name). resolved (tree_of_parts names program.declarations.items program.main))
+    c.in_ok-readable.ensures.earlier in
+    rw c.as_slice.ensures.value
+    (subst (λ (n : ℕ). n ≤ table_limit) (sym (ap all_statements found ∙ all_statements_kept (source_tree program)))
+    program.few_statements)
+
 pub new-requires-clause-no_cycle : goal.new-requires-clause-no_cycle
 new-requires-clause-no_cycle c =
     let program = c.args.program in

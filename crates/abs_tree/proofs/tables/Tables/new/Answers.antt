@@ -21,4 +21,5 @@ returns c =
       methods_are = c.in_ok-new.ensures;
       signatures_are = c.in_ok-new-2.ensures;
       fields_are = c.in_ok-new-3.ensures c.args.symbols.now;
+      control_is = c.in_ok-new-4.ensures;
     }
