@@ -17,6 +17,7 @@ pub mod ListPartLemmas
 pub mod PointLemmas
 pub mod LeftLemmas
 pub mod FlowLemmas
+pub mod SameValueLemmas
 pub mod InstructionLemmas
 pub mod CountLemmas
 pub mod MakerLemmas

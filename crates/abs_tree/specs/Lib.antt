@@ -1,6 +1,9 @@
 pub mod Limits
 pub mod Places
 pub mod Names
+pub mod ValueTrees
+pub mod ValueCodes
+pub mod Printed
 pub mod Values
 pub mod Numbers
 pub mod Evaluation

@@ -9,6 +9,8 @@
 --   `level_limit`          the levels of evaluation                                             2,000
 --   `application_limit`    the function applications of a statement                         1,000,000
 --   `string_limit`         the bytes of a string that a run makes                              65,536
+--   `node_limit`           the nodes of a value                                               100,000
+--   `depth_limit`          the nodes of a value that are nested                                 5,000
 use Rattle.std.specs.Prelude.{ℕ}
 
 -- the bytes that a source may have
@@ -42,3 +44,11 @@ application_limit = 1000000
 -- the bytes that a string made by a run may have
 abbrev pub string_limit : ℕ
 string_limit = 65536
+
+-- the nodes that a value may have
+abbrev pub node_limit : ℕ
+node_limit = 100000
+
+-- the nodes of a value that may be nested
+abbrev pub depth_limit : ℕ
+depth_limit = 5000

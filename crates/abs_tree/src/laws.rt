@@ -1,5 +1,5 @@
 //! Laws of the definitions, which hold whatever the code does.
-ghost use Rattle.std.specs.Prelude.{◌≡◌, ◌↔◌, ℕ, List, [], ◌∷◌, length, slice_get, Some, None};
+ghost use Rattle.std.specs.Prelude.{◌≡◌, ◌↔◌, ℕ, List, [], ◌∷◌, length, slice_get, true, Some, None};
 ghost use Rattle.abs_tree.specs.declared.name_spaces.ConstructorMeaning.{ConstructorMeaning};
 ghost use Rattle.abs_tree.specs.declared.name_spaces.FunctionMeaning.TheVariants.{Defined};
 ghost use Rattle.abs_tree.specs.declared.name_spaces.Taking.{Taking};
@@ -17,6 +17,7 @@ ghost use Rattle.abs_tree.specs.Control.{Point, entry, points};
 ghost use Rattle.abs_tree.specs.Flows.{Slots, Flow, IsFlow, facts, Lands, Follows};
 ghost use Rattle.abs_tree.specs.Left.{lefts, first_left, IsAt, Steps};
 ghost use Rattle.abs_tree.specs.Syntax.{Statements};
+ghost use Rattle.abs_tree.specs.ValueTrees.{ValueTree, same_value};
 
 use crate::{Named, Symbol, Symbols};
 
@@ -58,6 +59,11 @@ pub fn declared_is_there()
 /// there; and no interface extends itself.
 pub fn named_is_whole(named: &Named<'_>)
     ensures { ∥ IsWhole (named_tree named.now) ∥₁ }
+{}
+
+/// The test whether two values are the same is true exactly where they are.
+pub fn values_are_told_apart()
+    ensures { (one other : ValueTree) → (same_value one other ≡ true) ↔ (one ≡ other) }
 {}
 
 /// What is left of a body agrees with where control goes. The first of what is left at a statement is that statement,

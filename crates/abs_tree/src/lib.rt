@@ -21,7 +21,7 @@ pub mod value;
 pub use arithmetic::negated;
 pub use laws::{
     control_leaves_the_rest, declared_is_there, facts_follow_control, first_is_least,
-    named_is_whole, numbers_tell_names,
+    named_is_whole, numbers_tell_names, values_are_told_apart,
 };
 pub use meanings::Meanings;
 pub use name_spaces::{ConstructorMeaning, FunctionMeaning, NameSpaces, Taking, TypeMeaning};
