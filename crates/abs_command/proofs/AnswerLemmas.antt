@@ -4,7 +4,7 @@ use Rattle.std.specs.Prelude.{Option, Some, None}
 use Rattle.std.specs.Io.KnownBytes.{Appends}
 use Rattle.std.proofs.lemmas.List.{append-nil}
 use Rattle.abs_outside.specs.Counts.{Rose}
-use Rattle.abs_tree.specs.Syntax.{SourceTree}
+use Rattle.abs_tree.specs.Syntax.{ProgramTree}
 use Rattle.abs_tree.specs.declared.refusal.Refusal.{Refusal}
 use Rattle.abs_command.specs.declared.command.Ended.{Ended}
 use Rattle.abs_command.specs.declared.command.Status.{Status}
@@ -88,7 +88,7 @@ refused_as ended other h = record {
   printed = h.printed;
 }
 
-analysed_as : (ended : Ended) (other : Status) {bytes : List ℕ} {program : SourceTree} → IsAnalysed bytes ended program
+analysed_as : (ended : Ended) (other : Status) {bytes : List ℕ} {program : ProgramTree} → IsAnalysed bytes ended program
     → IsAnalysed bytes (as_status ended other) program
 analysed_as ended other h = record {
   accepted = h.accepted;
@@ -173,7 +173,7 @@ delivered words bytes source source' ended result before old new first second fa
     (prefix_after before old new first second written failed.1) (rises failed.2))
 
 -- The analysis found this of the program, and no legal history leads to a configuration in which it is stuck.
-pub analysed_by : (bytes : List ℕ) (ended : Ended) (program : SourceTree) → IsAccepted bytes program
+pub analysed_by : (bytes : List ℕ) (ended : Ended) (program : ProgramTree) → IsAccepted bytes program
     → ended.refusal ≡ None → ended.facts ≡ facts_of program
     → ended.pairs ≡ pairs_of program → ended.report ≡ report_of program → IsAnalysed bytes ended program
 analysed_by bytes ended program accepted refusal facts pairs report = record {

@@ -10,3 +10,4 @@ pub mod TakingLemmas
 pub mod BlockLemmas
 pub mod MachineLemmas
 pub mod StepLemmas
+pub mod SupportedLemmas

@@ -2,11 +2,10 @@
 use Rattle.std.proofs.Common.{◌≡◌, ℕ, ◌<◌, ◌≤◌, List, [], ◌∷◌, length, refl, sym, ◌∙◌, true, false, arith}
 use Rattle.std.specs.Prelude.{Option, Some, None, IsSome, ◌==◌, replicate}
 use Rattle.std.proofs.lemmas.Bool.Decides.{nat_tests}
-use Rattle.abs_tree.specs.declared.value.Value.{Value}
-use Rattle.abs_tree.specs.declared.value.Value.TheVariants.{Null}
+use Rattle.abs_tree.specs.ValueTrees.{ValueTree, NullValue}
 use Rattle.abs_tree.specs.declared.syntax.statement.Stmt.{Stmt}
 use Rattle.abs_tree.specs.Slots.{body_slots}
-use Rattle.abs_tree.specs.Syntax.{Name, SourceTree}
+use Rattle.abs_tree.specs.Syntax.{Name, ProgramTree}
 use Rattle.abs_tree.specs.SyntaxViews.{statements}
 use Rattle.abs_command.specs.declared.runtime.config.Cog.{Cog}
 use Rattle.abs_command.specs.declared.runtime.config.Frame.{Frame}
@@ -18,7 +17,7 @@ use Rattle.abs_command.specs.Runs.{first, first_statement, HasStep}
 use Rattle.abs_command.proofs.StepLemmas.{event_there}
 
 -- where no task below a number that is past the last one has an event, none has
-pub no_step : (program : SourceTree) (config : Config) (n : ℕ) → length config.tasks ≤ n
+pub no_step : (program : ProgramTree) (config : Config) (n : ℕ) → length config.tasks ≤ n
     → ((task : ℕ) → task < n → IsSome (event_of program config task) → ⊥) → HasStep program config → ⊥
 no_step program config n all none (number, some) =
     none number (omega (arith, event_there program config number some)) some
@@ -55,9 +54,9 @@ first_if_not_empty names items n n_is test =
     let above : 0 < n = above_tested n test in first_some names items (omega arith)
 
 -- a configuration whose parts are those of the first configuration is the first configuration
-pub first_made : (program : SourceTree) (next : Option ℕ) (slots : List Value) (frames : List Frame) (cogs : List Cog)
+pub first_made : (program : ProgramTree) (next : Option ℕ) (slots : List ValueTree) (frames : List Frame) (cogs : List Cog)
     (tasks : List TaskCell)
-    → next ≡ first_statement (listed program.main) → slots ≡ replicate (length (body_slots 0 program.main)) Null
+    → next ≡ first_statement (listed program.source.main) → slots ≡ replicate (length (body_slots 0 program.source.main)) NullValue
     → frames ≡ record { next = next; slots = slots } ∷ [] → cogs ≡ record { holder = None } ∷ []
     → tasks ≡ record { cog = 0; frames = frames; state = Ready; outcome = None } ∷ []
     → (let config : Config = record { cogs = cogs; tasks = tasks } in config) ≡ first program

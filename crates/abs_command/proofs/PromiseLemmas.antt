@@ -1,7 +1,7 @@
 -- From the answer of a call to its other promises: each status is returned when its cause holds.
 use Rattle.std.proofs.Common.{◌≡◌, ◌≢◌, ℕ, ◌<◌, ◌≤◌, List, [], refl, sym, ap, subst, ◌∙◌, length, inl, inr, arith, ⊎_elim}
 use Rattle.std.specs.Prelude.{Some, ◌⊎◌, Bool, true, false}
-use Rattle.abs_tree.specs.Syntax.{SourceTree}
+use Rattle.abs_tree.specs.Syntax.{ProgramTree}
 use Rattle.abs_command.specs.declared.command.Ended.{Ended}
 use Rattle.abs_command.specs.declared.command.Status.{Status}
 use Rattle.abs_command.specs.declared.command.Status.TheVariants as status
@@ -96,7 +96,7 @@ refused_comes (exhausted is written) named small offence = inr (gave_up is tt)
 
 accepted_comes : {words : List (List ℕ)} {bytes : List ℕ} {source source' : SourceView} {sink sink' : SinkView}
     {ended : Ended}
-    → Answer words bytes source source' sink sink' ended → AreCommandWords words → (program : SourceTree)
+    → Answer words bytes source source' sink sink' ended → AreCommandWords words → (program : ProgramTree)
     → IsAccepted bytes program
     → IsOfRun ended.status ⊎ GivesUp ended.status
 accepted_comes (whole output (misused h) written) named program accepted = absurd (h.cause named)
@@ -116,7 +116,7 @@ same_due : {words : List (List ℕ)} {bytes : List ℕ} {ended : Ended} {s due :
 same_due {words} {bytes} {ended} {s} {due} x y =
     let program : x.program ≡ y.program = one_program x.analysed.accepted.read y.analysed.accepted.read in
     let legal : Some x.ran ≡ Some y.ran =
-    sym x.legal ∙ (ap (λ (p : SourceTree). run_of p ended.history.tasks) program ∙ y.legal) in
+    sym x.legal ∙ (ap (λ (p : ProgramTree). run_of p ended.history.tasks) program ∙ y.legal) in
     let ran : x.ran ≡ y.ran = cc in
     let ends : Some x.end ≡ Some y.end = sym x.end_is ∙ y.end_is in
     let end : x.end ≡ y.end = cc in

@@ -5,7 +5,7 @@ use Rattle.std.specs.List.{All, Contains}
 use Rattle.std.proofs.lemmas.Option.{none-some, same_Some}
 use Rattle.std.specs.Prelude.{Option, Some, None}
 use Rattle.abs_tree.specs.Names.{by_first_appearance, with_name}
-use Rattle.abs_tree.specs.Syntax.{Name, SourceTree}
+use Rattle.abs_tree.specs.Syntax.{Name, SourceTree, ProgramTree}
 use Rattle.abs_tree.specs.declared.place.Place.{Place}
 use Rattle.abs_tree.specs.declared.refusal.Code.{Code}
 use Rattle.abs_tree.specs.declared.refusal.Code.TheVariants.{S1}
@@ -61,9 +61,21 @@ one_of_tree : {text : List ℕ} {names others : List Name} {tree next : SourceTr
     → IsTree text names tree → IsTree text others next → gives tree ≡ gives next
 one_of_tree gives x y = ap gives (one_tree x y).tree_is
 
+-- the program with these names and this tree
+abbrev program : List Name → SourceTree → ProgramTree
+program names tree = record { names = names; source = tree }
+
+-- the same names and the same tree are the same program
+same_program : (p q : ProgramTree) → p.names ≡ q.names → p.source ≡ q.source → p ≡ q
+same_program p q names source = ap (λ (known : List Name). program known p.source) names ∙ ap (program q.names) source
+
 -- Two programs of a source are equal.
-pub one_program : {text : List ℕ} {p q : SourceTree} → IsProgramOf text p → IsProgramOf text q → p ≡ q
-one_program x y = x.is ∙ (one_of_tree resolved x.read y.read ∙ sym y.is)
+pub one_program : {text : List ℕ} {p q : ProgramTree} → IsProgramOf text p → IsProgramOf text q → p ≡ q
+one_program {text} {p} {q} x y =
+    same_program p q
+    (x.names_are ∙ (ap (λ (names : List Name). fold with_name names prelude_names) (one_tree x.read y.read).names_are
+    ∙ sym y.names_are))
+    (x.is ∙ (one_of_tree resolved x.read y.read ∙ sym y.is))
 
 -- the first of two offences that may be there: the second one only if the first one is not
 abbrev in_turn : Option Offence → Option Offence → Option Offence
@@ -102,7 +114,7 @@ in_three_ways (unsupported_part names tree place read named typed waits is) =
     offending_tree names tree (unsupported_at place) read (rw (named, typed, waits) refl) is
 
 -- the tree of a source with a program has no offence
-none_of_tree : {text : List ℕ} {program : SourceTree} (accepted : IsProgramOf text program)
+none_of_tree : {text : List ℕ} {program : ProgramTree} (accepted : IsProgramOf text program)
     → first_of_tree accepted.tree ≡ None
 none_of_tree {text} {program} accepted =
     let typed = ap type_offences (sym accepted.is) ∙ accepted.typed in
@@ -117,7 +129,7 @@ no_stop {refusal = refusal} x tokens stops =
     x.is.accepted.no_stop stop.before stop.mark stop.code stop.stops
 
 -- a source with a program is refused in none of the three ways
-not_refused : {text : List ℕ} {program : SourceTree} {refusal : Refusal} → IsProgramOf text program
+not_refused : {text : List ℕ} {program : ProgramTree} {refusal : Refusal} → IsProgramOf text program
     → Refused text refusal → ⊥
 not_refused accepted (unlexed_source lexing) = list_or_first accepted.read.tokens lexing.is_first
 not_refused accepted (unread_source list tokens stops) = no_stop accepted.read tokens stops
@@ -125,7 +137,7 @@ not_refused accepted (offending_tree names tree first read is_first is) =
     none-some first (sym (none_of_tree accepted) ∙ (one_of_tree first_of_tree accepted.read read ∙ is_first))
 
 -- A source with a program has no offence.
-pub no_offence : {text : List ℕ} {program : SourceTree} {refusal : Refusal} → IsProgramOf text program
+pub no_offence : {text : List ℕ} {program : ProgramTree} {refusal : Refusal} → IsProgramOf text program
     → FirstOffence text refusal → ⊥
 no_offence accepted offence = not_refused accepted (in_three_ways offence)
 

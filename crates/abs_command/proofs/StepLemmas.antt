@@ -9,11 +9,12 @@ use Rattle.std.proofs.lemmas.Bool.{lt-ltb, ltb-true, le-ltb}
 use Rattle.std.proofs.lemmas.Bool.Decides.{nat_tests}
 use Rattle.std.proofs.lemmas.List.{append-nil}
 use Rattle.std.proofs.lemmas.Option.{slice_get_read}
-use Rattle.abs_tree.specs.declared.value.Evaluated.{Evaluated}
-use Rattle.abs_tree.specs.declared.value.Evaluated.TheVariants.{Good, Bad}
-use Rattle.abs_tree.specs.declared.value.Value.{Value}
-use Rattle.abs_tree.specs.declared.value.Value.TheVariants.{Int, Text, Null}
-use Rattle.abs_tree.specs.declared.value.Fault.TheVariants as fault
+use Rattle.abs_tree.specs.declared.evaluated.Evaluated.{Evaluated}
+use Rattle.abs_tree.specs.declared.evaluated.Evaluated.TheVariants.{Good, Bad}
+use Rattle.abs_tree.specs.declared.evaluated.Fault.TheVariants as fault
+use Rattle.abs_tree.specs.declared.value.Value.TheVariants.{Null}
+use Rattle.abs_tree.specs.Results.{Result, Gives, Fails}
+use Rattle.abs_tree.specs.ValueTrees.{ValueTree, IntValue, StringValue, BuiltValue, ObjectValue, FutureValue, NullValue}
 use Rattle.abs_tree.specs.declared.place.Place.{Place}
 use Rattle.abs_tree.specs.declared.syntax.expression.Expr.{Expr}
 use Rattle.abs_tree.specs.declared.syntax.types.TypeTerm.{TypeTerm}
@@ -23,16 +24,15 @@ use Rattle.abs_tree.specs.declared.syntax.statement.Stmt.{Stmt}
 use Rattle.abs_tree.specs.declared.syntax.statement.RightSide.TheVariants as code_side
 use Rattle.abs_tree.specs.declared.syntax.statement.RightSide.{RightSide}
 use Rattle.abs_tree.specs.declared.syntax.statement.Target.{Target}
-use Rattle.abs_tree.specs.Syntax.{Name, VariableTree, Unresolved, AtSlot, AtBound, AtField, ValueOf, ToVariable, SomeSide, Statement, PrintOf, DeclareOf, AssignOf, SourceTree}
+use Rattle.abs_tree.specs.Syntax.{Name, VariableTree, Unresolved, AtSlot, AtBound, AtField, ValueOf, ToVariable, SomeSide, Statement, PrintOf, DeclareOf, AssignOf, ProgramTree}
 use Rattle.abs_tree.specs.SyntaxViews.{variable_tree, phrase, side_tree, statement, statements}
-use Rattle.abs_tree.specs.Evaluation.{result_of}
 use Rattle.abs_command.specs.declared.runtime.config.Cog.{Cog}
 use Rattle.abs_command.specs.declared.runtime.config.Frame.{Frame}
 use Rattle.abs_command.specs.declared.runtime.config.State.{State}
 use Rattle.abs_command.specs.declared.runtime.config.State.TheVariants.{Ready, Running}
 use Rattle.abs_command.specs.declared.runtime.config.TaskCell.{TaskCell}
 use Rattle.abs_command.specs.declared.runtime.config.Config.{Config}
-use Rattle.abs_command.specs.Events.{Change, listed, ended_change, continued_change, take_change, assign_change, print_change, statement_change, body_change, running_change, slots_of, change_by_state, change_by_outcome, task_change, change_of, with_holder, step_of, event_of, Steps, Makes}
+use Rattle.abs_command.specs.Events.{Change, listed, ended_change, continued_change, take_change, expression_result, assign_change, print_change, statement_change, body_change, running_change, slots_of, change_by_state, change_by_outcome, task_change, change_of, with_holder, step_of, event_of, Steps, Makes}
 use Rattle.abs_command.proofs.BlockLemmas.{listed_get}
 
 -- a value that a test lets through is a choice between it and nothing
@@ -67,7 +67,7 @@ is_some_get (x ∷ xs) zero = sym (lt-ltb 0 (suc (length xs)) (omega arith))
 is_some_get (x ∷ xs) (suc i) = is_some_get xs i ∙ sym (lt_both i (length xs))
 
 -- a statement has a change exactly where it exists
-is_some_statement : (program : SourceTree) (number : ℕ) (task : TaskCell) (at : ℕ) (slots : List Value)
+is_some_statement : (program : ProgramTree) (number : ℕ) (task : TaskCell) (at : ℕ) (slots : List ValueTree)
     (found : Option Statement) → is_some (statement_change program number task at slots found) ≡ is_some found
 is_some_statement program number task at slots None = refl
 is_some_statement program number task at slots
@@ -82,17 +82,17 @@ equal_tests : (a b : Bool) → a ≡ b → IsTrue b ↔ (a ≡ true)
 equal_tests a b e = (λ h. e ∙ h, λ h. sym e ∙ h)
 
 -- a task at a statement has a change exactly where the statement exists
-is_some_running : (program : SourceTree) (number : ℕ) (task : TaskCell) (frame : Frame) (at : ℕ)
+is_some_running : (program : ProgramTree) (number : ℕ) (task : TaskCell) (frame : Frame) (at : ℕ)
     → frame.next ≡ Some at
-    → is_some (running_change program number task (frame ∷ [])) ≡ nat_lt at (length (listed program.main))
+    → is_some (running_change program number task (frame ∷ [])) ≡ nat_lt at (length (listed program.source.main))
 is_some_running program number task frame at next_is =
     ap (λ (next : Option ℕ). is_some (body_change program number task frame.slots next)) next_is
-    ∙ (is_some_statement program number task at frame.slots (slice_get (listed program.main) at)
-    ∙ is_some_get (listed program.main) at)
+    ∙ (is_some_statement program number task at frame.slots (slice_get (listed program.source.main) at)
+    ∙ is_some_get (listed program.source.main) at)
 
 -- a task at a statement has an event exactly where the statement exists
-pub running_at : (program : SourceTree) (number : ℕ) (task : TaskCell) (frames : List Frame) (frame : Frame) (at n : ℕ)
-    → frames ≡ frame ∷ [] → frame.next ≡ Some at → n ≡ length (listed program.main)
+pub running_at : (program : ProgramTree) (number : ℕ) (task : TaskCell) (frames : List Frame) (frame : Frame) (at n : ℕ)
+    → frames ≡ frame ∷ [] → frame.next ≡ Some at → n ≡ length (listed program.source.main)
     → IsTrue (nat_lt at n) ↔ IsSome (running_change program number task frames)
 running_at program number task frames frame at n frames_is next_is n_is =
     equal_tests (is_some (running_change program number task frames)) (nat_lt at n)
@@ -104,17 +104,17 @@ lt_of_test : (a b : ℕ) → nat_lt a b ≡ true → a < b
 lt_of_test a b h = ltb-true a b h
 
 -- a task with an event that is at a statement is at one that exists
-pub running_there : (program : SourceTree) (number : ℕ) (task : TaskCell) (frames : List Frame) (frame : Frame) (at : ℕ)
+pub running_there : (program : ProgramTree) (number : ℕ) (task : TaskCell) (frames : List Frame) (frame : Frame) (at : ℕ)
     → IsSome (running_change program number task frames) → frame ≡ get_or frames 0 frame → frame.next ≡ Some at
-    → at < length (listed program.main)
+    → at < length (listed program.source.main)
 running_there program number task [] frame at some is next_is = absurd (cc)
 running_there program number task (first ∷ []) frame at some is next_is =
-    lt_of_test at (length (listed program.main))
+    lt_of_test at (length (listed program.source.main))
     (sym (is_some_running program number task first at (ap (λ (f : Frame). f.next) (sym is) ∙ next_is)) ∙ some)
 running_there program number task (first ∷ other ∷ frames) frame at some is next_is = absurd (cc)
 
 -- the change of an unfinished task that works is that of its body
-change_of_running : (program : SourceTree) (config : Config) (number : ℕ) (task : TaskCell)
+change_of_running : (program : ProgramTree) (config : Config) (number : ℕ) (task : TaskCell)
     → slice_get config.tasks number ≡ Some task → task.outcome ≡ None → task.state ≡ Running
     → change_of program config number ≡ running_change program number task task.frames
 change_of_running program config number task there open_still state_is =
@@ -123,7 +123,7 @@ change_of_running program config number task there open_still state_is =
     ∙ ap (change_by_state program config.cogs number task) state_is)
 
 -- an unfinished task that works has an event exactly where its body has one
-pub event_of_running : (program : SourceTree) (config : Config) (number : ℕ) (task : TaskCell) (found : Bool)
+pub event_of_running : (program : ProgramTree) (config : Config) (number : ℕ) (task : TaskCell) (found : Bool)
     → slice_get config.tasks number ≡ Some task → task.outcome ≡ None → task.state ≡ Running
     → (IsTrue found ↔ IsSome (running_change program number task task.frames))
     → (IsTrue found ↔ IsSome (event_of program config number))
@@ -140,55 +140,58 @@ either_cog one other cog true h k = h
 either_cog one other cog false h k = k
 
 -- an assignment keeps the cog of its task
-assign_cog : (program : SourceTree) (number : ℕ) (task : TaskCell) (at : ℕ) (slots : List Value)
-    (target : VariableTree) (found : Evaluated)
+assign_cog : (program : ProgramTree) (number : ℕ) (task : TaskCell) (at : ℕ) (slots : List ValueTree)
+    (target : VariableTree) (found : Result)
     → (assign_change program number task at slots target found).task.cog ≡ task.cog
-assign_cog program number task at slots (AtSlot slot) (Good value) =
+assign_cog program number task at slots (AtSlot slot) (Gives value) =
     either_cog (continued_change program number task at (set slots slot value) [])
     (ended_change task (Bad fault.Mistyped)) task.cog (nat_lt slot (length slots)) refl refl
-assign_cog program number task at slots (Unresolved name) (Good value) = refl
-assign_cog program number task at slots (AtBound depth) (Good value) = refl
-assign_cog program number task at slots (AtField field) (Good value) = refl
-assign_cog program number task at slots target (Bad cause) = refl
+assign_cog program number task at slots (Unresolved name) (Gives value) = refl
+assign_cog program number task at slots (AtBound depth) (Gives value) = refl
+assign_cog program number task at slots (AtField field) (Gives value) = refl
+assign_cog program number task at slots target (Fails cause) = refl
 
 -- a print keeps the cog of its task
-print_cog : (program : SourceTree) (number : ℕ) (task : TaskCell) (at : ℕ) (slots : List Value) (found : Evaluated)
+print_cog : (program : ProgramTree) (number : ℕ) (task : TaskCell) (at : ℕ) (slots : List ValueTree) (found : Result)
     → (print_change program number task at slots found).task.cog ≡ task.cog
-print_cog program number task at slots (Good (Int value)) = refl
-print_cog program number task at slots (Good (Text text)) = refl
-print_cog program number task at slots (Good Null) = refl
-print_cog program number task at slots (Bad cause) = refl
+print_cog program number task at slots (Gives (IntValue value)) = refl
+print_cog program number task at slots (Gives (StringValue text)) = refl
+print_cog program number task at slots (Gives (BuiltValue constructor parts)) = refl
+print_cog program number task at slots (Gives (ObjectValue object)) = refl
+print_cog program number task at slots (Gives (FutureValue future)) = refl
+print_cog program number task at slots (Gives NullValue) = refl
+print_cog program number task at slots (Fails cause) = refl
 
 -- a change that equals another has its cog
 same_cog : (found made : Change) (cog : ℕ) → Some found ≡ Some made → found.task.cog ≡ cog → made.task.cog ≡ cog
 same_cog found made cog e h = let same : found ≡ made = cc in subst (λ (c : Change). c.task.cog ≡ cog) same h
 
 -- a statement keeps the cog of its task
-statement_cog : (program : SourceTree) (number : ℕ) (task : TaskCell) (at : ℕ) (slots : List Value)
+statement_cog : (program : ProgramTree) (number : ℕ) (task : TaskCell) (at : ℕ) (slots : List ValueTree)
     (found : Option Statement) (made : Change)
     → statement_change program number task at slots found ≡ Some made → made.task.cog ≡ task.cog
 statement_cog program number task at slots None made e = absurd (cc)
 statement_cog program number task at slots
     (Some (DeclareOf index place type begin target (SomeSide (ValueOf from value)))) made e =
-    same_cog _ made task.cog e (assign_cog program number task at slots target (result_of slots value))
+    same_cog _ made task.cog e (assign_cog program number task at slots target (expression_result program slots value))
 statement_cog program number task at slots (Some (AssignOf index place (ToVariable begin target) (ValueOf from value)))
     made e =
-    same_cog _ made task.cog e (assign_cog program number task at slots target (result_of slots value))
+    same_cog _ made task.cog e (assign_cog program number task at slots target (expression_result program slots value))
 statement_cog program number task at slots (Some (PrintOf index place value)) made e =
-    same_cog _ made task.cog e (print_cog program number task at slots (result_of slots value))
+    same_cog _ made task.cog e (print_cog program number task at slots (expression_result program slots value))
 statement_cog program number task at slots (Some _) made e =
     same_cog (ended_change task (Bad fault.Mistyped)) made task.cog e refl
 
 -- a body keeps the cog of its task
-body_cog : (program : SourceTree) (number : ℕ) (task : TaskCell) (slots : List Value) (next : Option ℕ) (made : Change)
+body_cog : (program : ProgramTree) (number : ℕ) (task : TaskCell) (slots : List ValueTree) (next : Option ℕ) (made : Change)
     → body_change program number task slots next ≡ Some made → made.task.cog ≡ task.cog
 body_cog program number task slots None made e =
     same_cog (ended_change task (Good Null)) made task.cog e refl
 body_cog program number task slots (Some at) made e =
-    statement_cog program number task at slots (slice_get (listed program.main) at) made e
+    statement_cog program number task at slots (slice_get (listed program.source.main) at) made e
 
 -- a task that works keeps its cog
-running_cog : (program : SourceTree) (number : ℕ) (task : TaskCell) (frames : List Frame) (made : Change)
+running_cog : (program : ProgramTree) (number : ℕ) (task : TaskCell) (frames : List Frame) (made : Change)
     → running_change program number task frames ≡ Some made → made.task.cog ≡ task.cog
 running_cog program number task [] made e = absurd (cc)
 running_cog program number task (frame ∷ []) made e = body_cog program number task frame.slots frame.next made e
@@ -207,13 +210,13 @@ take_cog number task None made e = absurd (cc)
 take_cog number task (Some cog) made e = take_cog_if_free number task cog.holder made e
 
 -- a task keeps its cog
-state_cog : (program : SourceTree) (cogs : List Cog) (number : ℕ) (task : TaskCell) (state : State) (made : Change)
+state_cog : (program : ProgramTree) (cogs : List Cog) (number : ℕ) (task : TaskCell) (state : State) (made : Change)
     → change_by_state program cogs number task state ≡ Some made → made.task.cog ≡ task.cog
 state_cog program cogs number task Ready made e = take_cog number task (slice_get cogs task.cog) made e
 state_cog program cogs number task Running made e = running_cog program number task task.frames made e
 
 -- a task with an event has no result
-event_open : (program : SourceTree) (config : Config) (number : ℕ) (task : TaskCell) (outcome : Option Evaluated)
+event_open : (program : ProgramTree) (config : Config) (number : ℕ) (task : TaskCell) (outcome : Option Evaluated)
     → task.outcome ≡ outcome → slice_get config.tasks number ≡ Some task → IsSome (event_of program config number)
     → task.outcome ≡ None
 event_open program config number task None is there some = is
@@ -236,7 +239,7 @@ makes_same e makes = record {
 }
 
 -- the change of a task makes its step
-step_made : (program : SourceTree) (before : Config) (number : ℕ) (task after : TaskCell) (holder : Option ℕ)
+step_made : (program : ProgramTree) (before : Config) (number : ℕ) (task after : TaskCell) (holder : Option ℕ)
     (cogs : List Cog) (lines new : List (List ℕ))
     → slice_get before.tasks number ≡ Some task → IsSome (event_of program before number)
     → Makes (change_by_state program before.cogs number task task.state) after holder lines new
@@ -267,13 +270,13 @@ step_made program before number task after holder cogs lines new there some make
     }
 
 -- a task that has a change exists
-task_some : (program : SourceTree) (cogs : List Cog) (number : ℕ) (found : Option TaskCell)
+task_some : (program : ProgramTree) (cogs : List Cog) (number : ℕ) (found : Option TaskCell)
     → IsSome (task_change program cogs number found) → IsSome found
 task_some program cogs number None some = some
 task_some program cogs number (Some task) some = refl
 
 -- a task that has an event exists
-pub event_there : (program : SourceTree) (before : Config) (number : ℕ) → IsSome (event_of program before number)
+pub event_there : (program : ProgramTree) (before : Config) (number : ℕ) → IsSome (event_of program before number)
     → number < length before.tasks
 event_there program before number some =
     lt_of_test number (length before.tasks)
@@ -282,7 +285,7 @@ event_there program before number some =
     (sym (is_some_mapped (step_of before number) (change_of program before number)) ∙ some))
 
 -- the change of a task makes its step, where the tasks and the cogs before are given by themselves
-pub step_made_of : (program : SourceTree) (before : Config) (number : ℕ) (task after : TaskCell) (holder : Option ℕ)
+pub step_made_of : (program : ProgramTree) (before : Config) (number : ℕ) (task after : TaskCell) (holder : Option ℕ)
     (tasks : List TaskCell) (cogs_before cogs : List Cog) (lines new : List (List ℕ))
     → tasks ≡ before.tasks → cogs_before ≡ before.cogs
     → task ≡ get_or tasks number task → IsSome (event_of program before number)
@@ -327,17 +330,19 @@ slots_here : (frames : List Frame) (frame : Frame) → length frames ≡ 1 → f
 slots_here frames frame one is = ap slots_of (one_item frames frame one is)
 
 -- the result of an expression in memory is that of its tree, for the slots of the one body
-pub found_here : (names : List Name) (frames : List Frame) (frame : Frame) (slots : List Value) (expr other : Expr)
-    (found : Evaluated)
+pub found_here : (program : ProgramTree) (names : List Name) (frames : List Frame) (frame : Frame)
+    (slots : List ValueTree) (expr other : Expr) (found : Result)
     → length frames ≡ 1 → frame ≡ get_or frames 0 frame → slots ≡ frame.slots → expr ≡ other
-    → found ≡ result_of slots (phrase names expr) → found ≡ result_of (slots_of frames) (phrase names other)
-found_here names frames frame slots expr other found one is slots_are same found_is =
+    → found ≡ expression_result program slots (phrase names expr)
+    → found ≡ expression_result program (slots_of frames) (phrase names other)
+found_here program names frames frame slots expr other found one is slots_are same found_is =
     found_is
-    ∙ (ap (λ (s : List Value). result_of s (phrase names expr)) (slots_are ∙ sym (slots_here frames frame one is))
-    ∙ ap (λ (e : Expr). result_of (slots_of frames) (phrase names e)) same)
+    ∙ (ap (λ (s : List ValueTree). expression_result program s (phrase names expr))
+    (slots_are ∙ sym (slots_here frames frame one is))
+    ∙ ap (λ (e : Expr). expression_result program (slots_of frames) (phrase names e)) same)
 
 -- a declaration in memory makes the change of the assignment with its right side
-declare_as_assign : (program : SourceTree) (number : ℕ) (task : TaskCell) (at : ℕ) (slots : List Value)
+declare_as_assign : (program : ProgramTree) (number : ℕ) (task : TaskCell) (at : ℕ) (slots : List ValueTree)
     (names : List Name) (index : ℕ) (place : Place) (type : TypeTerm) (begin : Place) (variable : Variable)
     (side : RightSide)
     → statement_change program number task at slots
@@ -355,20 +360,20 @@ declare_as_assign program number task at slots names index place type begin vari
     (code_side.Call from method row slot) = refl
 
 -- a print in memory runs as its tree does
-pub print_runs : (program : SourceTree) (number : ℕ) (task : TaskCell) (at : ℕ) (slots : List Value)
+pub print_runs : (program : ProgramTree) (number : ℕ) (task : TaskCell) (at : ℕ) (slots : List ValueTree)
     (names : List Name) (items : List Stmt) (item : Stmt) (index : ℕ) (place : Place) (value : Arc Expr Global)
-    (found : Evaluated)
+    (found : Result)
     → at < length items → item ≡ get_or items at item → item ≡ code_stmt.Print index place value
-    → found ≡ result_of slots (phrase names value.value)
+    → found ≡ expression_result program slots (phrase names value.value)
     → statement_change program number task at slots (slice_get (listed (statements names items)) at)
     ≡ Some (print_change program number task at slots found)
 print_runs program number task at slots names items item index place value found inside there is found_is =
     ap (statement_change program number task at slots)
     (statement_here names items at item inside there ∙ ap (λ (s : Stmt). Some (statement names s)) is)
-    ∙ ap (λ (e : Evaluated). Some (print_change program number task at slots e)) (sym found_is)
+    ∙ ap (λ (e : Result). Some (print_change program number task at slots e)) (sym found_is)
 
 -- a declaration in memory with a right side runs as an assignment does
-pub declare_runs : (program : SourceTree) (number : ℕ) (task : TaskCell) (at : ℕ) (slots : List Value)
+pub declare_runs : (program : ProgramTree) (number : ℕ) (task : TaskCell) (at : ℕ) (slots : List ValueTree)
     (names : List Name) (items : List Stmt) (item : Stmt) (index : ℕ) (place : Place) (type : TypeTerm)
     (begin : Place) (variable : Variable) (side : RightSide)
     → at < length items → item ≡ get_or items at item
@@ -382,7 +387,7 @@ declare_runs program number task at slots names items item index place type begi
     ∙ declare_as_assign program number task at slots names index place type begin variable side
 
 -- a statement in memory runs as its tree does
-pub item_runs : (program : SourceTree) (number : ℕ) (task : TaskCell) (at : ℕ) (slots : List Value)
+pub item_runs : (program : ProgramTree) (number : ℕ) (task : TaskCell) (at : ℕ) (slots : List ValueTree)
     (names : List Name) (items : List Stmt) (item other : Stmt)
     → at < length items → item ≡ get_or items at item → item ≡ other
     → statement_change program number task at slots (slice_get (listed (statements names items)) at)
@@ -392,20 +397,20 @@ item_runs program number task at slots names items item other inside there is =
     (statement_here names items at item inside there ∙ ap (λ (s : Stmt). Some (statement names s)) is)
 
 -- an assignment in memory of an expression to a variable makes the change for the result of that
-pub side_runs : (program : SourceTree) (number : ℕ) (task : TaskCell) (at : ℕ) (slots : List Value)
+pub side_runs : (program : ProgramTree) (number : ℕ) (task : TaskCell) (at : ℕ) (slots : List ValueTree)
     (names : List Name) (index : ℕ) (place begin : Place) (target : VariableTree) (side : RightSide)
-    (from : Place) (value : Arc Expr Global) (found : Evaluated)
-    → side ≡ code_side.Value from value → found ≡ result_of slots (phrase names value.value)
+    (from : Place) (value : Arc Expr Global) (found : Result)
+    → side ≡ code_side.Value from value → found ≡ expression_result program slots (phrase names value.value)
     → statement_change program number task at slots
     (Some (AssignOf index place (ToVariable begin target) (side_tree names side)))
     ≡ Some (assign_change program number task at slots target found)
 side_runs program number task at slots names index place begin target side from value found is found_is =
     ap (λ (s : RightSide). statement_change program number task at slots
     (Some (AssignOf index place (ToVariable begin target) (side_tree names s)))) is
-    ∙ ap (λ (e : Evaluated). Some (assign_change program number task at slots target e)) (sym found_is)
+    ∙ ap (λ (e : Result). Some (assign_change program number task at slots target e)) (sym found_is)
 
 -- an unsupported statement in memory ends the task
-pub others_end : (program : SourceTree) (number : ℕ) (task : TaskCell) (at : ℕ) (slots : List Value)
+pub others_end : (program : ProgramTree) (number : ℕ) (task : TaskCell) (at : ℕ) (slots : List ValueTree)
     (names : List Name) (item : Stmt)
     → ((index : ℕ) (place : Place) (type : TypeTerm) (begin : Place) (variable : Variable) (initial : Option RightSide)
     → item ≡ code_stmt.Declare index place type begin variable initial → ⊥)

@@ -1,6 +1,8 @@
 pub mod Analysis
 pub mod Bytes
+pub mod Evaluated
 pub mod Events
+pub mod FrameCodes
 pub mod Machine
 pub mod Promises
 pub mod Recorded
@@ -9,5 +11,6 @@ pub mod Runs
 pub mod Sources
 pub mod Statuses
 pub mod Taking
+pub mod TaskCodes
 pub mod Texts
 pub mod Words

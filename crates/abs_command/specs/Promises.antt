@@ -13,7 +13,7 @@ use Rattle.std.specs.Prelude.{◌≡◌, ◌≢◌, ◌<◌, ◌≤◌, ◌+◌,
 use Rattle.std.specs.Io.KnownBytes.{Appends, Consumes}
 use Rattle.abs_outside.specs.Counts.{Rose}
 use Rattle.abs_outside.specs.Names.{Under, Absent, Holding, IsNotHeld}
-use Rattle.abs_tree.specs.Syntax.{SourceTree}
+use Rattle.abs_tree.specs.Syntax.{ProgramTree}
 use Rattle.abs_tree.specs.declared.refusal.Refusal.{Refusal}
 use Rattle.abs_command.specs.declared.command.Ended.{Ended}
 use Rattle.abs_command.specs.declared.command.Status.{Status}
@@ -95,13 +95,13 @@ pub record IsRefused (words : List (List ℕ)) (bytes : List ℕ) (ended : Ended
   pub printed : output ≡ refusal_line first
 
 -- The source is accepted, and this is its program.
-pub record IsAccepted (bytes : List ℕ) (program : SourceTree) : Type 0 where
+pub record IsAccepted (bytes : List ℕ) (program : ProgramTree) : Type 0 where
   pub small : length bytes ≤ source_limit
   pub read : IsProgramOf bytes program
 
 -- The program was analysed. If its report names no circular chain, every configuration that a legal history reaches has
 -- a step while a task in it is unfinished.
-pub record IsAnalysed (bytes : List ℕ) (ended : Ended) (program : SourceTree) : Type 0 where
+pub record IsAnalysed (bytes : List ℕ) (ended : Ended) (program : ProgramTree) : Type 0 where
   pub accepted : IsAccepted bytes program
   pub refusal : ended.refusal ≡ None
   pub facts : ended.facts ≡ facts_of program
@@ -113,7 +113,7 @@ pub record IsAnalysed (bytes : List ℕ) (ended : Ended) (program : SourceTree) 
 pub record IsReported (words : List (List ℕ)) (bytes : List ℕ) (ended : Ended) (due : Option Status) (output : List ℕ)
     : Type 0 where
   pub named : AreCommandWords words
-  pub program : SourceTree
+  pub program : ProgramTree
   pub analysed : IsAnalysed bytes ended program
   pub history : ended.history.tasks ≡ []
   pub end : ended.end ≡ None
@@ -125,7 +125,7 @@ pub record IsReported (words : List (List ℕ)) (bytes : List ℕ) (ended : Ende
 pub record HasRun (words : List (List ℕ)) (bytes : List ℕ) (ended : Ended) (due : Option Status) (output : List ℕ)
     : Type 0 where
   pub named : AreCommandWords words
-  pub program : SourceTree
+  pub program : ProgramTree
   pub analysed : IsAnalysed bytes ended program
   pub ran : Ran
   pub legal : run_of program ended.history.tasks ≡ Some ran
@@ -150,7 +150,7 @@ pub data CameTo (words : List (List ℕ)) (bytes : List ℕ) (source source' : S
 -- Before memory ran out, nothing was written, or the whole report of the source's own program.
 pub data WrittenBefore (words : List (List ℕ)) (bytes : List ℕ) (old new : Option (List ℕ)) : Type 0 where
   nothing : Appends old new [] → WrittenBefore words bytes old new
-  report : AreCommandWords words → (program : SourceTree) → IsAccepted bytes program
+  report : AreCommandWords words → (program : ProgramTree) → IsAccepted bytes program
       → Appends old new (report_lines (report_of program))
       → WrittenBefore words bytes old new
 
@@ -204,7 +204,7 @@ pub record Causes (words : List (List ℕ)) (bytes : List ℕ) (source source' :
   pub too_large : AreCommandWords words → source_limit < length bytes → ComesTo ended.status status.TooLarge
   pub refused : AreCommandWords words → length bytes ≤ source_limit → HasOffence bytes
       → ComesTo ended.status status.Refused
-  pub accepted : AreCommandWords words → (program : SourceTree) → IsAccepted bytes program
+  pub accepted : AreCommandWords words → (program : ProgramTree) → IsAccepted bytes program
       → IsOfRun ended.status ⊎ GivesUp ended.status
   pub ran : (due : Status) (output : List ℕ) → HasRun words bytes ended (Some due) output → ComesTo ended.status due
   pub stalled : ended.status ≡ status.Stalled → ended.report ≢ []

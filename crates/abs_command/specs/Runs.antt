@@ -7,9 +7,9 @@
 --   `EndsAs`                           how a run ended
 --   `NeverStuck`                       no legal history leads to a configuration in which the program is stuck
 use Rattle.std.specs.Prelude.{◌≡◌, ◌≢◌, ℕ, List, [], ◌∷◌, ◌++◌, length, slice_get, replicate, Option, Some, None, IsSome, fold}
-use Rattle.abs_tree.specs.declared.value.Value.TheVariants.{Null}
 use Rattle.abs_tree.specs.Slots.{body_slots}
-use Rattle.abs_tree.specs.Syntax.{SourceTree}
+use Rattle.abs_tree.specs.Syntax.{ProgramTree}
+use Rattle.abs_tree.specs.ValueTrees.{NullValue}
 use Rattle.abs_command.specs.declared.runtime.config.Config.{Config}
 use Rattle.abs_command.specs.declared.runtime.config.TaskCell.{TaskCell}
 use Rattle.abs_command.specs.declared.runtime.config.State.TheVariants.{Ready}
@@ -23,15 +23,15 @@ first_statement [] = None
 first_statement (statement ∷ statements) = Some 0
 
 -- the first configuration: the task of the main block is ready, with null in each slot, and its cog is free
-abbrev pub first : SourceTree → Config
+abbrev pub first : ProgramTree → Config
 first program = record {
   cogs = record { holder = None } ∷ [];
   tasks = record {
     cog = 0;
     frames =
         record {
-          next = first_statement (listed program.main);
-          slots = replicate (length (body_slots 0 program.main)) Null;
+          next = first_statement (listed program.source.main);
+          slots = replicate (length (body_slots 0 program.source.main)) NullValue;
         } ∷ [];
     state =
         Ready;
@@ -49,16 +49,16 @@ abbrev pub run_with_step : Ran → Option Step → Option Ran
 run_with_step ran None = None
 run_with_step ran (Some step) = Some (record { config = step.config; lines = ran.lines ++ step.lines })
 
-abbrev pub run_after_event : SourceTree → Option Ran → ℕ → Option Ran
+abbrev pub run_after_event : ProgramTree → Option Ran → ℕ → Option Ran
 run_after_event program None task = None
 run_after_event program (Some ran) task = run_with_step ran (event_of program ran.config task)
 
 -- the run of a history: the events of its tasks in order, from the first configuration on
-abbrev pub run_of : SourceTree → List ℕ → Option Ran
+abbrev pub run_of : ProgramTree → List ℕ → Option Ran
 run_of program history = fold (run_after_event program) (Some (record { config = first program; lines = [] })) history
 
 -- each event of the history exists
-abbrev pub IsLegal : SourceTree → List ℕ → Type 0
+abbrev pub IsLegal : ProgramTree → List ℕ → Type 0
 IsLegal program history = IsSome (run_of program history)
 
 -- the task exists and has no result
@@ -76,17 +76,17 @@ abbrev pub IsOpen : Config → Type 0
 IsOpen config = (number : ℕ) × IsUnfinished config number
 
 -- some task has an event
-abbrev pub HasStep : SourceTree → Config → Type 0
+abbrev pub HasStep : ProgramTree → Config → Type 0
 HasStep program config = (number : ℕ) × IsSome (event_of program config number)
 
 -- how a run of at most this many events ended; one that is both spent and stalled is spent
-abbrev pub EndsAs : SourceTree → ℕ → List ℕ → Config → End → Type 0
+abbrev pub EndsAs : ProgramTree → ℕ → List ℕ → Config → End → Type 0
 EndsAs program steps history config Done = IsDone config
 EndsAs program steps history config Spent = (length history ≡ steps) × IsOpen config
 EndsAs program steps history config Stalled = (length history ≢ steps) × IsOpen config × (HasStep program config → ⊥)
 
 -- Every configuration that a legal history reaches has a step while a task in it is unfinished. No task can wait yet,
 -- so this holds of every program.
-abbrev pub NeverStuck : SourceTree → Type 0
+abbrev pub NeverStuck : ProgramTree → Type 0
 NeverStuck program = (history : List ℕ) (ran : Ran) → run_of program history ≡ Some ran → IsOpen ran.config
     → HasStep program ran.config

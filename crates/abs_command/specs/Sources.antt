@@ -6,9 +6,10 @@
 --   `IsTree`                                           the tree of an accepted source, and its names
 --   `HasOneFirstOffence`                               that a source is refused for at most one offence
 --   `IsPiece`, `IsNameOf`                              a piece of a source, a name of its program
-use Rattle.std.specs.Prelude.{◌≡◌, ◌⊎◌, ℕ, List, [], ◌++◌, Some, None, Contains}
+use Rattle.std.specs.Prelude.{◌≡◌, ◌⊎◌, ℕ, List, [], ◌++◌, Some, None, Contains, fold}
+use Rattle.abs_tree.specs.Names.{with_name}
 use Rattle.abs_tree.specs.Refusals.{refusal_of}
-use Rattle.abs_tree.specs.Syntax.{Name, SourceTree}
+use Rattle.abs_tree.specs.Syntax.{Name, SourceTree, ProgramTree}
 use Rattle.abs_tree.specs.declared.place.Place.{Place}
 use Rattle.abs_tree.specs.declared.refusal.Code.TheVariants.{S1}
 use Rattle.abs_tree.specs.declared.refusal.Refusal.{Refusal}
@@ -28,16 +29,17 @@ pub record IsTree (text : List ℕ) (names : List Name) (tree : SourceTree) : Ty
   pub tokens : TokensOf text list
   pub is : IsTextOf list names tree
 
--- The source has a tree in which no name offends. This is its program, whose names are resolved. It has no offence by
--- its types, and no part of it is unsupported.
-pub record IsProgramOf (text : List ℕ) (program : SourceTree) : Type 0 where
+-- The source has a tree in which no name offends. This is its program, whose names are resolved; its table has the names
+-- of the source, followed by those of the prelude. It has no offence by its types, and no part of it is unsupported.
+pub record IsProgramOf (text : List ℕ) (program : ProgramTree) : Type 0 where
   pub names : List Name
   pub tree : SourceTree
   pub read : IsTree text names tree
   pub no_offence : name_offences tree ≡ []
-  pub is : program ≡ resolved tree
-  pub typed : type_offences program ≡ []
-  pub runs : unsupported program ≡ None
+  pub is : program.source ≡ resolved tree
+  pub names_are : program.names ≡ fold with_name names prelude_names
+  pub typed : type_offences program.source ≡ []
+  pub runs : unsupported program.source ≡ None
 
 -- The source is refused for its first offence, in one of five ways. It has a lexical offence, and this is the first. It
 -- has tokens, and the parser fails at one of them or at the end. It has a tree, and this is the first of its name

@@ -1,7 +1,7 @@
 -- What the exit statuses mean: which of them a run ends with, and which say that the call gave up.
 use Rattle.std.specs.Prelude.{⊤, Bool, true, false, Option, Some, None, slice_get}
-use Rattle.abs_tree.specs.declared.value.Evaluated.{Evaluated}
-use Rattle.abs_tree.specs.declared.value.Evaluated.TheVariants.{Good, Bad}
+use Rattle.abs_tree.specs.declared.evaluated.Evaluated.{Evaluated}
+use Rattle.abs_tree.specs.declared.evaluated.Evaluated.TheVariants.{Good, Bad}
 use Rattle.abs_command.specs.declared.command.Status.{Status}
 use Rattle.abs_command.specs.declared.command.Status.TheVariants as status
 use Rattle.abs_command.specs.declared.runtime.config.Config.{Config}

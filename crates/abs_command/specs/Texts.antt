@@ -7,8 +7,8 @@
 use Rattle.std.specs.Prelude.{ℕ, ◌+◌, List, [], ◌∷◌, ◌++◌, length, Option, Some, None, codes, decimal, count_by, is_none}
 use Rattle.std.specs.List.{flat_map}
 use Rattle.abs_tree.specs.declared.refusal.Refusal.{Refusal}
-use Rattle.abs_tree.specs.declared.value.Evaluated.{Evaluated}
-use Rattle.abs_tree.specs.declared.value.Evaluated.TheVariants.{Good, Bad}
+use Rattle.abs_tree.specs.declared.evaluated.Evaluated.{Evaluated}
+use Rattle.abs_tree.specs.declared.evaluated.Evaluated.TheVariants.{Good, Bad}
 use Rattle.abs_tree.specs.Faults.{fault_name}
 use Rattle.abs_tree.specs.Refusals.{code_name, code_words}
 use Rattle.abs_command.specs.declared.analysis.report.Chain.{Chain}

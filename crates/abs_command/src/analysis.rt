@@ -1,6 +1,6 @@
 //! What is known of a program before any run.
 ghost use Rattle.std.specs.Prelude.{◌≡◌};
-ghost use Rattle.abs_tree.specs.SourceViews.{named_tree};
+ghost use Rattle.abs_tree.specs.SourceViews.{program_tree};
 ghost use Rattle.abs_command.specs.Analysis.{facts_of, pairs_of, report_of};
 
 pub mod report;
@@ -22,9 +22,9 @@ pub struct Analysis {
 
 /// Analyses a program. No statement that runs today waits for a task, so no program has a pair.
 pub fn analyse(alloc: Global, _program: &Named<'_>) -> Analysis
-    ensures facts { result.facts ≡ facts_of (named_tree _program.now) }
-    ensures pairs { result.pairs ≡ pairs_of (named_tree _program.now) }
-    ensures report { result.report ≡ report_of (named_tree _program.now) }
+    ensures facts { result.facts ≡ facts_of (program_tree _program.now) }
+    ensures pairs { result.pairs ≡ pairs_of (program_tree _program.now) }
+    ensures report { result.report ≡ report_of (program_tree _program.now) }
 {
     Analysis {
         facts: 1,

@@ -1,13 +1,14 @@
 //! The command: from its words and a source to what is written and to a status.
 ghost use Rattle.std.specs.Prelude.{◌≡◌, ◌≢◌, ◌≤◌, Option, ℕ, List, [], None, Some, length, IfOk, IfSome, IfNone, OnOk, OnErr, IsErrOf};
 ghost use Rattle.std.specs.Io.KnownBytes.{Appends};
-ghost use Rattle.abs_tree.specs.SourceViews.{named_tree};
+ghost use Rattle.abs_tree.specs.SourceViews.{program_tree};
 ghost use Rattle.abs_outside.specs.Counts.{Rose};
 ghost use Rattle.abs_tree.specs.Limits.{source_limit};
 ghost use Rattle.abs_command.specs.Promises.{Promises, SourceView, source_view, sink_view, Answer, WrittenBefore, IsAccepted};
 ghost use Rattle.abs_command.specs.Sources.{IsProgramOf, FirstOffence};
 ghost use Rattle.abs_command.specs.Statuses.{status_of as status_for, main_failed as main_failed_in};
 ghost use Rattle.abs_command.specs.Taking.{Delivers, TookWhole, TookSome, SourceFailed};
+ghost use Rattle.abs_command.specs.Unsupported.{unsupported};
 ghost use Rattle.abs_command.specs.Words.{spelled, Names, AreCommandWords};
 
 use crate::analysis::report::Report;
@@ -257,13 +258,14 @@ fn answer_program<K: Sink>(
     program: &Named<'_>,
     sink: &mut K,
 ) -> Result<Ended, AllocError>
+    requires { unsupported (program_tree program.now).source ≡ None }
     ensures answered { IfOk result (λ ended. (words : List (List ℕ)) (bytes : List ℕ) (source source' : SourceView)
         → AreCommandWords words
-        → IsAccepted bytes (named_tree program.now) → Answer words bytes source source'
+        → IsAccepted bytes (program_tree program.now) → Answer words bytes source source'
         (sink_view (K.written sink.old) (K.faults sink.old))
         (sink_view (K.written sink.new) (K.faults sink.new)) ended) }
     ensures exhausted { OnErr result ((words : List (List ℕ)) (bytes : List ℕ) → AreCommandWords words
-        → IsAccepted bytes (named_tree program.now)
+        → IsAccepted bytes (program_tree program.now)
         → WrittenBefore words bytes (K.written sink.old) (K.written sink.new)) }
 {
     let analysis = analyse(alloc, program);

@@ -2,7 +2,7 @@
 ghost use Rattle.std.specs.Prelude.{◌≤◌, ℕ, List, length, All, IfOk, IfErr};
 ghost use Rattle.abs_tree.specs.Limits.{source_limit};
 ghost use Rattle.abs_tree.specs.SourceErrors.{HasCause};
-ghost use Rattle.abs_tree.specs.SourceViews.{named_tree};
+ghost use Rattle.abs_tree.specs.SourceViews.{program_tree};
 ghost use Rattle.abs_command.specs.Sources.{IsProgramOf, FirstOffence, IsNameOf, HasOneFirstOffence};
 
 pub mod unsupported;
@@ -24,7 +24,7 @@ use std::alloc::Global;
 /// types.
 pub fn program_of<'a>(alloc: Global, text: &'a [u8]) -> Result<Checked<'a>, SourceError>
     requires { length text.now ≤ source_limit }
-    ensures found { IfOk result (λ checked. IsProgramOf text.now (named_tree checked.named)) }
+    ensures found { IfOk result (λ checked. IsProgramOf text.now (program_tree checked.named)) }
     ensures names { IfOk result (λ checked. All (IsNameOf text.now) checked.named.symbols) }
     ensures refused { IfErr result (HasCause (FirstOffence text.now)) }
 {

@@ -18,6 +18,7 @@ pub mod PointLemmas
 pub mod LeftLemmas
 pub mod FlowLemmas
 pub mod SameValueLemmas
+pub mod ComparisonLemmas
 pub mod InstructionLemmas
 pub mod CountLemmas
 pub mod MakerLemmas

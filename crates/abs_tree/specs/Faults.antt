@@ -2,8 +2,8 @@
 --
 --   `fault_name`           the name of a fault
 use Rattle.std.specs.Prelude.{ℕ, List, codes}
-use Rattle.abs_tree.specs.declared.value.Fault.{Fault}
-use Rattle.abs_tree.specs.declared.value.Fault.TheVariants as fault
+use Rattle.abs_tree.specs.declared.evaluated.Fault.{Fault}
+use Rattle.abs_tree.specs.declared.evaluated.Fault.TheVariants as fault
 
 -- the name of a fault
 abbrev pub fault_name : Fault → List ℕ

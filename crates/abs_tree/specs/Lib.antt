@@ -3,9 +3,16 @@ pub mod Places
 pub mod Names
 pub mod ValueTrees
 pub mod ValueCodes
+pub mod ValueViews
+pub mod ValueSizes
+pub mod Measures
+pub mod Results
+pub mod EvaluatedCodes
 pub mod Printed
-pub mod Values
+pub mod PrintedWithin
 pub mod Numbers
+pub mod Operations
+pub mod Scopes
 pub mod Evaluation
 pub mod Control
 pub mod Instructions

@@ -2,7 +2,8 @@
 --
 --   `source_tree`          the tree of a source, from the code's tree
 --   `named_tree`           that of a source whose variables are resolved
-use Rattle.abs_tree.specs.Syntax.{SourceTree}
+--   `program_tree`         the same with the table of its names
+use Rattle.abs_tree.specs.Syntax.{SourceTree, ProgramTree}
 use Rattle.abs_tree.specs.SyntaxViews.{tree_of_parts}
 use Rattle.abs_tree.specs.declared.syntax.declaration.Program.{Program}
 use Rattle.abs_tree.specs.declared.named.Named.{Named}
@@ -14,3 +15,7 @@ source_tree program = tree_of_parts program.symbols program.declarations.items p
 -- the same where variables are resolved
 abbrev pub named_tree : Named → SourceTree
 named_tree named = tree_of_parts named.symbols named.declarations.items named.main
+
+-- the same with the table of its names
+abbrev pub program_tree : Named → ProgramTree
+program_tree named = record { names = named.symbols; source = named_tree named }

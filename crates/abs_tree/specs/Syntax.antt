@@ -9,6 +9,7 @@
 --   `SideTree`, `Tests`, `TargetTree`                  right sides, guards, where a value goes
 --   `Statement`                                        statements
 --   `MemberTree`, `DeclTree`, `SourceTree`             members, declarations, a source
+--   `ProgramTree`                                      a resolved source with its names
 use Rattle.std.specs.Prelude.{ℕ, ℤ, Bool, List, Option}
 use Rattle.abs_tree.specs.declared.place.Place.{Place}
 use Rattle.abs_tree.specs.declared.syntax.expression.Operator.{Operator}
@@ -190,3 +191,8 @@ pub record SourceTree : Type 0 where
   pub declarations : List DeclTree
   pub main : Statements
   pub end : Place
+
+-- a program: a source whose names are resolved, with the table of all its names
+pub record ProgramTree : Type 0 where
+  pub names : List Name
+  pub source : SourceTree

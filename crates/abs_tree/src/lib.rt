@@ -3,14 +3,19 @@
 #![tactic(auto)]
 
 pub mod arithmetic;
+pub mod comparison;
+pub mod evaluated;
 pub mod laws;
 pub mod limits;
 pub mod meanings;
 pub mod name_spaces;
 pub mod named;
 pub mod place;
+pub mod printed;
 pub mod readers;
 pub mod refusal;
+pub mod row;
+pub mod sharing;
 pub mod source_error;
 pub mod symbol;
 pub mod syntax;
@@ -19,6 +24,8 @@ pub mod text;
 pub mod value;
 
 pub use arithmetic::negated;
+pub use comparison::value_equal;
+pub use evaluated::{Env, Evaluated, Fault, Output};
 pub use laws::{
     control_leaves_the_rest, declared_is_there, facts_follow_control, first_is_least,
     named_is_whole, numbers_tell_names, values_are_told_apart,
@@ -27,7 +34,10 @@ pub use meanings::Meanings;
 pub use name_spaces::{ConstructorMeaning, FunctionMeaning, NameSpaces, Taking, TypeMeaning};
 pub use named::Named;
 pub use place::Place;
+pub use printed::{value_text, value_text_within};
 pub use refusal::{Code, Offence, Refusal};
+pub use row::Values;
+pub use sharing::values_are_shared;
 pub use source_error::SourceError;
 pub use symbol::{Symbol, Symbols};
 pub use syntax::{
@@ -39,4 +49,4 @@ pub use tables::control::{BodyEntry, ClassEntry, Effect, Exprs, Instruction, Suc
 pub use tables::members::{FieldAt, SignatureAt};
 pub use tables::supertypes::supertype_graph;
 pub use text::Text;
-pub use value::{Evaluated, Fault, Output, Value, Values, value_text};
+pub use value::{Parts, Value, value_depth, value_size};

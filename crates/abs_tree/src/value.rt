@@ -1,65 +1,157 @@
-//! Values, the results of evaluation, and the output for a value.
-ghost use Rattle.std.specs.Prelude.{◌≡◌, ◌<◌, ◌==◌, length, slice_get, slice_set, replicate, Some, IfOk, OnOk, OnErr};
-ghost use Rattle.abs_tree.specs.Faults.{fault_name};
-ghost use Rattle.abs_tree.specs.Values.{string_of};
+//! Values. The parts of a constructor are shared by all copies, and know how many nodes they have and how deep they
+//! are. So a copy, a part and a size cost the same whatever the size of the value.
+ghost use Rattle.std.specs.Prelude.{◌≡◌, ◌<◌, ◌≤◌, IfOk};
+ghost use Rattle.std.specs.Option.{option_map};
+ghost use Rattle.abs_tree.specs.Limits.{node_limit, depth_limit};
+ghost use Rattle.abs_tree.specs.ValueTrees.{parts_nodes, parts_depth, value_nodes, value_depth, built_value};
+ghost use Rattle.abs_tree.specs.ValueViews.{value_tree, value_trees};
+ghost use Rattle.abs_tree.specs.Measures.{Measures, parts_within};
 
-use crate::Text;
+use crate::limits::{DEPTH_LIMIT, NODE_LIMIT};
+use crate::{Symbol, Text};
 use std::alloc::{AllocError, Global};
-use std::fmt;
 use std::marker::Model;
 use std::sync::Arc;
 
-/// Why an evaluation or an event failed.
-#[derive(Clone, Copy, Debug, PartialEq, Eq)]
-pub enum Fault {
-    /// A receiver or a future is null.
-    Null,
-    /// No branch of a `case` matches.
-    Match,
-    /// A divisor is 0.
-    Zero,
-    /// A number does not fit in 128 bits.
-    Overflow,
-    /// A statement applies more than [`APPLICATION_LIMIT`](crate::limits::APPLICATION_LIMIT) functions.
-    Calls,
-    /// There are more than [`LEVEL_LIMIT`](crate::limits::LEVEL_LIMIT) levels of evaluation.
-    Levels,
-    /// A string is longer than [`STRING_LIMIT`](crate::limits::STRING_LIMIT), or a value is too large.
-    Large,
-    /// A value has another type than is needed.
-    Mistyped,
-}
-
-/// The fault's name.
-impl fmt::Display for Fault {
-    ghost output = { λ fault. Some (fault_name fault) };
-
-    fn fmt<W: fmt::Write>(&self, f: &mut fmt::Formatter<W>) -> fmt::Result {
-        f.write_str(match self {
-            Fault::Null => "Null",
-            Fault::Match => "Match",
-            Fault::Zero => "Zero",
-            Fault::Overflow => "Overflow",
-            Fault::Calls => "Calls",
-            Fault::Levels => "Levels",
-            Fault::Large => "Large",
-            Fault::Mistyped => "Mistyped",
-        })
-    }
-}
-
-/// A value of a program. A copy costs the same whatever its size.
+/// A value of a program. It has at most [`NODE_LIMIT`](crate::limits::NODE_LIMIT) nodes, of which at most
+/// [`DEPTH_LIMIT`](crate::limits::DEPTH_LIMIT) are nested. Contracts see its tree.
 #[derive(Drop)]
+#[cycle(values)]
 pub enum Value {
     /// A number.
     Int(i128),
     /// A string.
     Text(Text),
+    /// A constructor with its parts.
+    Built(Symbol, Parts),
+    /// An object, by its index.
+    Object(u32),
+    /// A future, by the index of its task.
+    Future(u32),
     /// `null`, which is no object and no future.
     Null,
 }
 
+/// The parts of a constructor. Without a part there is no allocation. Contracts see the trees of the parts.
+#[derive(Drop)]
+#[cycle(values)]
+pub struct Parts {
+    items: Option<Arc<Vec<Value>>>,
+    nodes: u32,
+    depth: u32,
+}
+
+impl Model for Parts {
+    ghost use Rattle.std.specs.Prelude.{◌≡◌, ◌<◌};
+    ghost use Rattle.abs_tree.specs.Limits.{node_limit, depth_limit};
+    ghost use Rattle.abs_tree.specs.ValueTrees.{ValueTrees, parts_nodes, parts_depth};
+    ghost use Rattle.abs_tree.specs.ValueCodes.{parts_code};
+
+    ghost Value = { ValueTrees };
+
+    ghost coded = { parts_code };
+
+    ghost use Rattle.abs_tree.specs.ValueViews.{parts_behind};
+
+    ghost view = { λ p. parts_behind p.items };
+
+    ghost invariant = { λ p. (p.nodes ≡ parts_nodes (parts_behind p.items))
+        × (p.depth ≡ parts_depth (parts_behind p.items)) × (p.nodes < node_limit) × (p.depth < depth_limit) };
+
+    ghost size = { parts_nodes };
+
+    ghost use Rattle.abs_tree.specs.ValueSizes.{parts_are_deeper};
+
+    ghost size_decreases = { λ a h. parts_are_deeper a };
+}
+
+impl Parts {
+    /// The parts with these values, or `None` if a constructor with them is past a limit.
+    ///
+    /// # Errors
+    /// [`AllocError`] if an allocation fails.
+    pub fn new(alloc: Global, items: Vec<Value>) -> Result<Option<Parts>, AllocError>
+        ensures { IfOk result (λ found. found ≡ parts_within (value_trees items.items)) }
+    {
+        let Some(measure) = measured(items.as_slice()) else {
+            return Ok(None);
+        };
+        let items = if items.is_empty() {
+            None
+        } else {
+            Some(Arc::new(alloc, items)?)
+        };
+        Ok(Some(Parts {
+            items,
+            nodes: measure.nodes,
+            depth: measure.depth,
+        }))
+    }
+
+    /// How many nodes they have in all.
+    pub fn nodes(&self) -> u32
+        ensures nodes { result ≡ parts_nodes self.now }
+        ensures few { result < node_limit }
+    {
+        self.nodes
+    }
+
+    /// How many of their nodes are nested, at most.
+    pub fn depth(&self) -> u32
+        ensures depth { result ≡ parts_depth self.now }
+        ensures few { result < depth_limit }
+    {
+        self.depth
+    }
+
+    /// The parts in order.
+    pub fn as_slice(&self) -> &[Value]
+        ensures { value_trees result.now ≡ self.now }
+    {
+        match &self.items {
+            Some(items) => items.as_slice(),
+            None => &[],
+        }
+    }
+
+    /// A copy, which shares the parts.
+    ///
+    /// # Errors
+    /// [`AllocError`] if there are as many copies already as can be counted.
+    pub fn share(&self) -> Result<Parts, AllocError>
+        ensures { IfOk result (λ parts. parts ≡ self.now) }
+    {
+        let items = match &self.items {
+            Some(items) => Some(items.clone()?),
+            None => None,
+        };
+        Ok(Parts {
+            items,
+            nodes: self.nodes,
+            depth: self.depth,
+        })
+    }
+}
+
 impl Value {
+    /// A constructor with these parts, or `None` if it is past a limit.
+    ///
+    /// # Errors
+    /// [`AllocError`] if an allocation fails.
+    pub fn built(
+        alloc: Global,
+        constructor: Symbol,
+        parts: Vec<Value>,
+    ) -> Result<Option<Value>, AllocError>
+        ensures { IfOk result (λ found. option_map value_tree found
+            ≡ built_value constructor.0 (value_trees parts.items)) }
+    {
+        match Parts::new(alloc, parts)? {
+            Some(parts) => Ok(Some(Value::Built(constructor, parts))),
+            None => Ok(None),
+        }
+    }
+
     /// A copy, which shares its parts with this value.
     ///
     /// # Errors
@@ -70,152 +162,74 @@ impl Value {
         match self {
             Value::Int(number) => Ok(Value::Int(*number)),
             Value::Text(text) => Ok(Value::Text(text.share()?)),
+            Value::Built(constructor, parts) => Ok(Value::Built(*constructor, parts.share()?)),
+            Value::Object(object) => Ok(Value::Object(*object)),
+            Value::Future(task) => Ok(Value::Future(*task)),
             Value::Null => Ok(Value::Null),
         }
     }
 }
 
-/// The result of an evaluation.
-#[derive(Drop)]
-pub enum Evaluated {
-    /// A value.
-    Good(Value),
-    /// The fault that ended it.
-    Bad(Fault),
-}
-
-/// A list of values. All copies share it, so a copy costs the same whatever its length. Contracts see the list of the
-/// values.
-#[derive(Drop)]
-pub struct Values {
-    items: Arc<Vec<Value>>,
-}
-
-impl Model for Values {
-    ghost use Rattle.std.specs.Prelude.{List};
-    ghost use Rattle.abs_tree.specs.declared.value.Value.{Value as Item};
-
-    ghost Value = { List Item };
-
-    ghost view = { λ v. v.items.value.items };
-}
-
-impl Values {
-    /// The list of these values.
-    ///
-    /// # Errors
-    /// [`AllocError`] if an allocation fails.
-    pub fn new(alloc: Global, items: Vec<Value>) -> Result<Values, AllocError>
-        ensures { IfOk result (λ values. values ≡ items.items) }
-    {
-        let items = Arc::new(alloc, items)?;
-        Ok(Values { items })
-    }
-
-    /// A list of `count` values, each of them `null`.
-    ///
-    /// # Errors
-    /// [`AllocError`] if an allocation fails.
-    pub fn nulls(alloc: Global, count: usize) -> Result<Values, AllocError>
-        ensures { IfOk result (λ values. values ≡ replicate count Value.Null) }
-    {
-        let mut items = Vec::with_capacity(alloc, count)?;
-        for _ in 0..count {
-            items.push(Value::Null)?;
-        }
-        Values::new(alloc, items)
-    }
-
-    /// The number of values.
-    pub fn len(&self) -> usize
-        ensures { result ≡ length self.now }
-    {
-        self.items.len()
-    }
-
-    /// Whether there is no value.
-    pub fn is_empty(&self) -> bool
-        ensures { result ≡ (length self.now == 0) }
-    {
-        self.items.is_empty()
-    }
-
-    /// The value at an index.
-    pub fn at(&self, index: usize) -> &Value
-        requires { index < length self.now }
-        ensures { slice_get self.now index ≡ Some result.now }
-    {
-        &self.items[index]
-    }
-
-    /// The values in order.
-    pub fn as_slice(&self) -> &[Value]
-        ensures { result.now ≡ self.now }
-    {
-        self.items.as_slice()
-    }
-
-    /// A copy, which shares its values with this list.
-    ///
-    /// # Errors
-    /// [`AllocError`] if there are as many copies already as can be counted.
-    pub fn share(&self) -> Result<Values, AllocError>
-        ensures { IfOk result (λ values. values ≡ self.now) }
-    {
-        let items = self.items.clone()?;
-        Ok(Values { items })
-    }
-
-    /// Replaces the value at an index. If a copy shares the values, it keeps the old ones.
-    ///
-    /// # Errors
-    /// [`AllocError`] if an allocation fails. The values are unchanged then.
-    pub fn set(&mut self, alloc: Global, index: usize, value: Value) -> Result<(), AllocError>
-        requires { index < length self.old }
-        ensures ok { OnOk result (self.new ≡ slice_set self.old index value) }
-        ensures err { OnErr result (self.new ≡ self.old) }
-    {
-        if let Some(items) = Arc::get_mut(&mut self.items) {
-            items[index] = value;
-            return Ok(());
-        }
-        let mut items = copies(alloc, self.items.as_slice())?;
-        items[index] = value;
-        self.items = Arc::new(alloc, items)?;
-        Ok(())
-    }
-}
-
-/// A copy of each value.
-fn copies(alloc: Global, values: &[Value]) -> Result<Vec<Value>, AllocError>
-    ensures { IfOk result (λ copies. copies.items ≡ values.now) }
+/// How many nodes a value has: one for each number, string, object, future or null in it, and for each constructor. It
+/// takes no memory, and the same time for every value.
+pub fn value_size(value: &Value) -> u64
+    ensures nodes { result ≡ value_nodes (value_tree value.now) }
+    ensures few { result ≤ node_limit }
 {
-    let mut copies = Vec::with_capacity(alloc, values.len())?;
-    for value in values {
-        copies.push(value.share()?)?;
-    }
-    Ok(copies)
+    u64::from(nodes_of(value))
 }
 
-/// The result of the evaluation of a list of expressions.
-#[derive(Drop)]
-pub enum Output {
-    /// All their values.
-    Values(Values),
-    /// The first fault.
-    Bad(Fault),
+/// How many nodes of a value are nested, at most. It takes no memory, and the same time for every value.
+pub fn value_depth(value: &Value) -> u64
+    ensures depth { result ≡ value_depth (value_tree value.now) }
+    ensures few { result ≤ depth_limit }
+{
+    u64::from(depth_of(value))
 }
 
-/// The string of a value: a number in decimal, with `-` if it is negative; a string as it is; `null`.
-///
-/// # Errors
-/// [`AllocError`] if an allocation fails.
-pub fn value_text(alloc: Global, value: &Value) -> Result<Text, AllocError>
-    ensures { IfOk result (λ text. text ≡ string_of value.now) }
+/// How many nodes a value has.
+#[tactic(auto, unfolding(crate::specs::ValueTrees::value_nodes))]
+fn nodes_of(value: &Value) -> u32
+    ensures nodes { result ≡ value_nodes (value_tree value.now) }
+    ensures few { result ≤ node_limit }
 {
     match value {
-        Value::Int(number) => Text::new(alloc, format!(in alloc; "{number}")?.into_bytes()),
-        Value::Text(text) => text.share(),
-        Value::Null => Text::new(alloc, format!(in alloc; "null")?.into_bytes()),
+        Value::Built(_, parts) => parts.nodes() + 1,
+        _ => 1,
     }
+}
+
+/// How many nodes of a value are nested, at most.
+#[tactic(auto, unfolding(crate::specs::ValueTrees::value_depth))]
+fn depth_of(value: &Value) -> u32
+    ensures depth { result ≡ value_depth (value_tree value.now) }
+    ensures few { result ≤ depth_limit }
+{
+    match value {
+        Value::Built(_, parts) => parts.depth() + 1,
+        _ => 1,
+    }
+}
+
+/// How many nodes some values have in all, and how many of these are nested, at most.
+#[derive(Clone, Copy)]
+struct Measure {
+    nodes: u32,
+    depth: u32,
+}
+
+/// The measure of these values, or `None` if a constructor with these parts is past a limit.
+#[tactic(auto, unfolding(crate::specs::ValueTrees::value_nodes, crate::specs::ValueTrees::value_depth))]
+fn measured(values: &[Value]) -> Option<Measure>
+    ensures { Measures (value_trees values.now) result }
+{
+    let mut measure = Measure { nodes: 0, depth: 0 };
+    for value in values {
+        measure.nodes += nodes_of(value);
+        measure.depth = measure.depth.max(depth_of(value));
+        if measure.nodes >= NODE_LIMIT || measure.depth >= DEPTH_LIMIT {
+            return None;
+        }
+    }
+    Some(measure)
 }

@@ -67,6 +67,11 @@ impl Model for Frames {
 
     ghost Value = { List Frame };
 
+    ghost use Rattle.std.specs.Coded.{coded_list};
+    ghost use Rattle.abs_command.specs.FrameCodes.{frame_code};
+
+    ghost coded = { coded_list frame_code };
+
     ghost view = { λ f. f.items.items };
 }
 
@@ -81,6 +86,11 @@ impl Model for Tasks {
     ghost use Rattle.abs_command.specs.declared.runtime.config.TaskCell.{TaskCell};
 
     ghost Value = { List TaskCell };
+
+    ghost use Rattle.std.specs.Coded.{coded_list};
+    ghost use Rattle.abs_command.specs.TaskCodes.{task_code};
+
+    ghost coded = { coded_list task_code };
 
     ghost use Rattle.std.specs.Prelude.{◌<◌, ◌^◌, length};
 

@@ -1,17 +1,26 @@
-//! Evaluates expressions by recursion, in the same way as the definition of evaluation.
-ghost use Rattle.std.specs.Prelude.{◌≡◌, List, IfOk};
-ghost use Rattle.abs_tree.specs.Syntax.{Name};
-ghost use Rattle.abs_tree.specs.SyntaxViews.{variable_tree, phrase, phrases, operand_trees};
-ghost use Rattle.abs_tree.specs.Evaluation.{evaluate as evaluated, variable_result, negation_result, operator_result, operand_outcome, operators_outcome, outcomes_of, application_outcome, function_result, string_result, result_of};
+//! Evaluates the supported expressions by recursion, in the same way as the definition of evaluation.
+ghost use Rattle.std.specs.Prelude.{◌≡◌, ◌++◌, List, true, None, map, IfOk};
+ghost use Rattle.abs_tree.specs.Evaluation.{read_result};
+ghost use Rattle.abs_tree.specs.Operations.{negation_result, operation_result};
+ghost use Rattle.abs_tree.specs.Printed.{printed_form};
+ghost use Rattle.abs_tree.specs.Results.{result_tree, string_result};
+ghost use Rattle.abs_tree.specs.Scopes.{own_scope, location_of};
+ghost use Rattle.abs_tree.specs.Syntax.{Name, ProgramTree};
+ghost use Rattle.abs_tree.specs.SyntaxViews.{variable_tree, phrase, operand_trees};
+ghost use Rattle.abs_tree.specs.ValueTrees.{IntValue, StringValue};
+ghost use Rattle.abs_tree.specs.ValueViews.{value_tree};
+ghost use Rattle.abs_command.specs.Evaluated.{AreSupported, HasResult, OperandHasResult, OperatorsHaveResult, result_then};
+ghost use Rattle.abs_command.specs.Events.{expression_result};
+ghost use Rattle.abs_command.specs.Unsupported.{unsupported_phrase, unsupported_text, is_supported};
 
-use abs_tree::limits::{APPLICATION_LIMIT, LEVEL_LIMIT, STRING_LIMIT};
+use abs_tree::limits::{LEVEL_LIMIT, STRING_LIMIT};
 use abs_tree::{
-    Evaluated, Expr, Fault, Operand, Operator, Output, Prefix, Symbols, Text, Value, Values,
-    Variable, negated, value_text,
+    Evaluated, Expr, Fault, Operand, Operator, Symbols, Text, Value, Variable, negated,
+    value_text_within,
 };
 use std::alloc::{AllocError, Global};
 
-/// The result of a statement's own expression, in a program with these names, where the slots have these values.
+/// The result of a statement's own expression, where the slots have these values.
 ///
 /// # Errors
 /// [`AllocError`] where memory runs out.
@@ -21,25 +30,49 @@ pub fn eval(
     slots: &[Value],
     expr: &Expr,
 ) -> Result<Evaluated, AllocError>
-    ensures { IfOk result (λ found. found ≡ result_of slots.now (phrase names.now expr.now)) }
+    requires { unsupported_phrase (phrase names.now expr.now) ≡ None }
+    ensures { IfOk result (λ found. (program : ProgramTree) → program.names ≡ names.now
+        → result_tree found ≡ expression_result program (map value_tree slots.now) (phrase names.now expr.now)) }
 {
-    let mut made = 0;
-    evaluate(alloc, names, slots, LEVEL_LIMIT, expr, &mut made)
+    evaluate(alloc, names, slots, LEVEL_LIMIT, expr)
 }
 
-/// The result of an expression with `left` levels left. `made` counts the applications of its statement.
+/// The result of `toString` of an expression, which is what a statement prints.
+///
+/// # Errors
+/// [`AllocError`] where memory runs out.
+pub fn string_of(
+    alloc: Global,
+    names: &Symbols<'_>,
+    slots: &[Value],
+    expr: &Expr,
+) -> Result<Evaluated, AllocError>
+    requires { unsupported_text (phrase names.now expr.now) ≡ None }
+    ensures { IfOk result (λ found. (program : ProgramTree) → program.names ≡ names.now
+        → result_tree found ≡ expression_result program (map value_tree slots.now) (phrase names.now expr.now)) }
+{
+    let Expr::Apply { arguments, .. } = expr else {
+        return Ok(Evaluated::Bad(Fault::Mistyped));
+    };
+    if arguments.len() != 1 {
+        return Ok(Evaluated::Bad(Fault::Mistyped));
+    }
+    let value = evaluate(alloc, names, slots, LEVEL_LIMIT - 1, &arguments[0])?;
+    printed(alloc, names, value)
+}
+
+/// The result of an expression with `left` levels left.
 #[cycle(evaluation)]
-#[tactic(auto, unfolding(abs_tree::specs::Evaluation::evaluate))]
 fn evaluate(
     alloc: Global,
     names: &Symbols<'_>,
     slots: &[Value],
     left: u32,
     expr: &Expr,
-    made: &mut u32,
 ) -> Result<Evaluated, AllocError>
-    ensures { IfOk result (λ found. evaluated slots.now left (phrase names.now expr.now) made.old
-        ≡ record { result = found; applications = made.new }) }
+    requires { unsupported_phrase (phrase names.now expr.now) ≡ None }
+    ensures { IfOk result (λ found. HasResult names.now (map value_tree slots.now) left (phrase names.now expr.now)
+        (result_tree found)) }
 {
     if left == 0 {
         return Ok(Evaluated::Bad(Fault::Levels));
@@ -47,20 +80,8 @@ fn evaluate(
     match expr {
         Expr::Number(_, number) => Ok(Evaluated::Good(Value::Int(*number))),
         Expr::Variable(_, variable) => value_of(slots, *variable),
-        Expr::Apply {
-            function,
-            arguments,
-            ..
-        } => {
-            let output = evaluate_all(alloc, names, slots, left - 1, arguments, made)?;
-            apply(alloc, names.name(*function), output, made)
-        }
-        Expr::Prefixed {
-            prefix: Prefix::Minus,
-            operand,
-            ..
-        } => {
-            let found = evaluate(alloc, names, slots, left - 1, operand, made)?;
+        Expr::Prefixed { operand, .. } => {
+            let found = evaluate(alloc, names, slots, left - 1, operand)?;
             Ok(negation(found))
         }
         Expr::Operators {
@@ -68,8 +89,8 @@ fn evaluate(
             operands,
             ..
         } => {
-            let first = evaluate(alloc, names, slots, left - 1, first, made)?;
-            operators(alloc, names, slots, left - 1, first, operands, made)
+            let first = evaluate(alloc, names, slots, left - 1, first)?;
+            operators(alloc, names, slots, left - 1, first, operands)
         }
         _ => Ok(Evaluated::Bad(Fault::Mistyped)),
     }
@@ -84,15 +105,14 @@ fn operators(
     left: u32,
     first: Evaluated,
     operands: &[Operand],
-    made: &mut u32,
 ) -> Result<Evaluated, AllocError>
-    ensures { IfOk result (λ found. operators_outcome (evaluated slots.now left)
-        (record { result = first; applications = made.old }) (operand_trees names.now operands.now)
-        ≡ record { result = found; applications = made.new }) }
+    requires { AreSupported (operand_trees names.now operands.now) }
+    ensures { IfOk result (λ found. OperatorsHaveResult names.now (map value_tree slots.now) left (result_tree first)
+        (operand_trees names.now operands.now) (result_tree found)) }
 {
     let mut so_far = first;
     for operand in operands {
-        so_far = with_operand(alloc, names, slots, left, so_far, operand, made)?;
+        so_far = with_operand(alloc, names, slots, left, so_far, operand)?;
     }
     Ok(so_far)
 }
@@ -106,49 +126,102 @@ fn with_operand(
     left: u32,
     so_far: Evaluated,
     operand: &Operand,
-    made: &mut u32,
 ) -> Result<Evaluated, AllocError>
-    ensures { IfOk result (λ found. operand_outcome (evaluated slots.now left) operand.now.operator
-        (phrase names.now operand.now.right) so_far made.old ≡ record { result = found; applications = made.new }) }
+    requires operator { is_supported operand.now.operator ≡ true }
+    requires right { unsupported_phrase (phrase names.now operand.now.right) ≡ None }
+    ensures { IfOk result (λ found. OperandHasResult names.now (map value_tree slots.now) left (result_tree so_far)
+        operand.now.operator (phrase names.now operand.now.right) (result_tree found)) }
 {
     match so_far {
-        Evaluated::Good(value) => {
-            let right = evaluate(alloc, names, slots, left, &operand.right, made)?;
-            Ok(operate(operand.operator, value, right))
-        }
+        Evaluated::Good(value) => match evaluate(alloc, names, slots, left, &operand.right)? {
+            Evaluated::Good(right) => operate(alloc, operand.operator, value, right),
+            Evaluated::Bad(fault) => Ok(Evaluated::Bad(fault)),
+        },
         Evaluated::Bad(fault) => Ok(Evaluated::Bad(fault)),
     }
 }
 
-/// The result of an operator, given the value of its left operand and the result of its right one.
-fn operate(operator: Operator, left: Value, right: Evaluated) -> Evaluated
-    ensures { result ≡ operator_result operator left right }
+/// The result of an operator between two values.
+fn operate(
+    alloc: Global,
+    operator: Operator,
+    left: Value,
+    right: Value,
+) -> Result<Evaluated, AllocError>
+    requires { is_supported operator ≡ true }
+    ensures { (names : List Name) → IfOk result (λ found. result_tree found
+        ≡ operation_result names operator (value_tree left) (value_tree right)) }
 {
-    match right {
-        Evaluated::Good(Value::Int(right)) => match left {
-            Value::Int(left) => operator.apply(left, right),
-            Value::Text(_) | Value::Null => Evaluated::Bad(Fault::Mistyped),
+    match left {
+        Value::Int(left) => match right {
+            Value::Int(right) => Ok(on_numbers(operator, left, right)),
+            _ => Ok(Evaluated::Bad(Fault::Mistyped)),
         },
-        Evaluated::Good(Value::Text(_) | Value::Null) => Evaluated::Bad(Fault::Mistyped),
-        Evaluated::Bad(fault) => Evaluated::Bad(fault),
+        Value::Text(left) => match right {
+            Value::Text(right) => on_strings(alloc, operator, &left, &right),
+            _ => Ok(Evaluated::Bad(Fault::Mistyped)),
+        },
+        _ => Ok(Evaluated::Bad(Fault::Mistyped)),
     }
+}
+
+/// The result of an operator between two numbers.
+fn on_numbers(operator: Operator, left: i128, right: i128) -> Evaluated
+    requires { is_supported operator ≡ true }
+    ensures { (names : List Name) → result_tree result
+        ≡ operation_result names operator (IntValue left) (IntValue right) }
+{
+    match operator.arithmetic(left, right) {
+        Some(result) => result,
+        None => Evaluated::Bad(Fault::Mistyped),
+    }
+}
+
+/// The result of an operator between two strings.
+fn on_strings(
+    alloc: Global,
+    operator: Operator,
+    left: &Text,
+    right: &Text,
+) -> Result<Evaluated, AllocError>
+    requires { is_supported operator ≡ true }
+    ensures { (names : List Name) → IfOk result (λ found. result_tree found
+        ≡ operation_result names operator (StringValue left.now) (StringValue right.now)) }
+{
+    match operator {
+        Operator::Plus => joined(alloc, left, right),
+        _ => Ok(Evaluated::Bad(Fault::Mistyped)),
+    }
+}
+
+/// A sum of two strings, or the fault Large.
+fn joined(alloc: Global, left: &Text, right: &Text) -> Result<Evaluated, AllocError>
+    ensures { IfOk result (λ found. result_tree found ≡ string_result (left.now ++ right.now)) }
+{
+    if left.len() > STRING_LIMIT || right.len() > STRING_LIMIT - left.len() {
+        return Ok(Evaluated::Bad(Fault::Large));
+    }
+    let mut bytes = Vec::with_capacity(alloc, left.len() + right.len())?;
+    bytes.extend_from_slice(left.as_bytes())?;
+    bytes.extend_from_slice(right.as_bytes())?;
+    Ok(Evaluated::Good(Value::Text(Text::new(alloc, bytes)?)))
 }
 
 /// The result of a minus, given that of its operand.
 fn negation(operand: Evaluated) -> Evaluated
-    ensures { result ≡ negation_result operand }
+    ensures { result_tree result ≡ result_then (result_tree operand) negation_result }
 {
     match operand {
         Evaluated::Good(Value::Int(number)) => negated(number),
-        Evaluated::Good(Value::Text(_) | Value::Null) => Evaluated::Bad(Fault::Mistyped),
+        Evaluated::Good(_) => Evaluated::Bad(Fault::Mistyped),
         Evaluated::Bad(fault) => Evaluated::Bad(fault),
     }
 }
 
-/// The result of a variable: the value of its slot. One that is no slot is unsupported.
+/// The result of a variable: the value of its slot. There is no other one to read.
 fn value_of(slots: &[Value], variable: Variable) -> Result<Evaluated, AllocError>
-    ensures { (names : List Name) → IfOk result
-        (λ found. found ≡ variable_result slots.now (variable_tree names variable)) }
+    ensures { (names : List Name) → IfOk result (λ found. result_tree found
+        ≡ read_result (own_scope (map value_tree slots.now)) (location_of (variable_tree names variable))) }
 {
     let Variable::Slot(slot) = variable else {
         return Ok(Evaluated::Bad(Fault::Mistyped));
@@ -159,68 +232,17 @@ fn value_of(slots: &[Value], variable: Variable) -> Result<Evaluated, AllocError
     }
 }
 
-/// The values of expressions, evaluated from the left, or the first fault.
-#[cycle(evaluation)]
-fn evaluate_all(
-    alloc: Global,
-    names: &Symbols<'_>,
-    slots: &[Value],
-    left: u32,
-    exprs: &[Expr],
-    made: &mut u32,
-) -> Result<Output, AllocError>
-    ensures { IfOk result (λ found. outcomes_of (evaluated slots.now left) (phrases names.now exprs.now) made.old
-        ≡ record { output = found; applications = made.new }) }
+/// The result of `toString`, given that of its argument.
+fn printed(alloc: Global, names: &Symbols<'_>, value: Evaluated) -> Result<Evaluated, AllocError>
+    ensures { IfOk result (λ found. result_tree found
+        ≡ result_then (result_tree value) (λ value. string_result (printed_form names.now value))) }
 {
-    let mut values = Vec::new(alloc);
-    for expr in exprs {
-        match evaluate(alloc, names, slots, left, expr, made)? {
-            Evaluated::Good(value) => values.push(value)?,
-            Evaluated::Bad(fault) => return Ok(Output::Bad(fault)),
-        }
-    }
-    Ok(Output::Values(Values::new(alloc, values)?))
-}
-
-/// The result of an application, given the output of its arguments. It is counted in `made`.
-fn apply(
-    alloc: Global,
-    name: &[u8],
-    arguments: Output,
-    made: &mut u32,
-) -> Result<Evaluated, AllocError>
-    ensures { IfOk result (λ found. application_outcome name.now arguments made.old
-        ≡ record { result = found; applications = made.new }) }
-{
-    match arguments {
-        Output::Bad(fault) => Ok(Evaluated::Bad(fault)),
-        Output::Values(values) => {
-            if *made >= APPLICATION_LIMIT {
-                return Ok(Evaluated::Bad(Fault::Calls));
-            }
-            *made += 1;
-            call(alloc, name, values.as_slice())
-        }
-    }
-}
-
-/// The result of a function for these arguments.
-fn call(alloc: Global, name: &[u8], arguments: &[Value]) -> Result<Evaluated, AllocError>
-    ensures { IfOk result (λ found. found ≡ function_result name.now arguments.now) }
-{
-    match arguments {
-        [value] if name == b"toString".as_slice() => Ok(string(value_text(alloc, value)?)),
-        _ => Ok(Evaluated::Bad(Fault::Mistyped)),
-    }
-}
-
-/// A string as a value, or the fault for one that is too large.
-fn string(text: Text) -> Evaluated
-    ensures { result ≡ string_result text }
-{
-    if text.as_bytes().len() <= STRING_LIMIT {
-        Evaluated::Good(Value::Text(text))
-    } else {
-        Evaluated::Bad(Fault::Large)
+    let value = match value {
+        Evaluated::Good(value) => value,
+        Evaluated::Bad(fault) => return Ok(Evaluated::Bad(fault)),
+    };
+    match value_text_within(alloc, names, &value, STRING_LIMIT)? {
+        Some(text) => Ok(Evaluated::Good(Value::Text(text))),
+        None => Ok(Evaluated::Bad(Fault::Large)),
     }
 }

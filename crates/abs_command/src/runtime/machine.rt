@@ -1,10 +1,11 @@
 //! Runs a program: makes one event after the other, and records whose event it was.
-ghost use Rattle.std.specs.Prelude.{◌≡◌, ◌<◌, ℕ, List, IfOk, IfSome, IfNone, IsSome, MatchBool};
-ghost use Rattle.abs_tree.specs.SourceViews.{named_tree};
-ghost use Rattle.abs_tree.specs.Syntax.{SourceTree};
+ghost use Rattle.std.specs.Prelude.{◌≡◌, ◌<◌, ℕ, List, None, IfOk, IfSome, IfNone, IsSome, MatchBool};
+ghost use Rattle.abs_tree.specs.SourceViews.{program_tree};
+ghost use Rattle.abs_tree.specs.Syntax.{ProgramTree};
 ghost use Rattle.abs_command.specs.Events.{event_of};
 ghost use Rattle.abs_command.specs.Runs.{first as first_of, IsDone, IsOpen, HasStep, NeverStuck};
 ghost use Rattle.abs_command.specs.Machine.{IsRun, Settles};
+ghost use Rattle.abs_command.specs.Unsupported.{unsupported};
 
 use crate::runtime::config::{Cog, Cogs, Config, Frame, Frames, Lines, State, TaskCell, Tasks};
 use crate::runtime::history::History;
@@ -32,12 +33,13 @@ pub struct Ran {
     pub end: End,
 }
 
-/// Runs a program for at most `steps` events.
+/// Runs a supported program for at most `steps` events.
 ///
 /// # Errors
 /// [`AllocError`] where memory runs out.
 pub fn run(alloc: Global, program: &Named<'_>, steps: u64) -> Result<Ran, AllocError>
-    ensures { IfOk result (λ ran. IsRun (named_tree program.now) steps ran) }
+    requires { unsupported (program_tree program.now).source ≡ None }
+    ensures { IfOk result (λ ran. IsRun (program_tree program.now) steps ran) }
 {
     let mut config = first(alloc, program)?;
     let mut history = History::new(alloc, steps)?;
@@ -70,7 +72,7 @@ pub fn run(alloc: Global, program: &Named<'_>, steps: u64) -> Result<Ran, AllocE
 
 /// The first configuration: the main block's task is ready, with null in each slot, and its cog is free.
 fn first(alloc: Global, program: &Named<'_>) -> Result<Config, AllocError>
-    ensures { IfOk result (λ config. config ≡ first_of (named_tree program.now)) }
+    ensures { IfOk result (λ config. config ≡ first_of (program_tree program.now)) }
 {
     let next = if program.main.statements.is_empty() {
         None
@@ -101,8 +103,8 @@ fn first(alloc: Global, program: &Named<'_>) -> Result<Config, AllocError>
 
 /// The index of the first task that has an event.
 fn next_task(program: &Named<'_>, config: &Config) -> Option<u32>
-    ensures some { IfSome result (λ task. IsSome (event_of (named_tree program.now) config.now task)) }
-    ensures none { IfNone result (HasStep (named_tree program.now) config.now → ⊥) }
+    ensures some { IfSome result (λ task. IsSome (event_of (program_tree program.now) config.now task)) }
+    ensures none { IfNone result (HasStep (program_tree program.now) config.now → ⊥) }
 {
     for number in 0..config.tasks.items.len() {
         let task = number as u32;
@@ -138,5 +140,5 @@ fn is_done(config: &Config) -> bool
 
 /// Whatever legal history comes, the configuration that it reaches has a step while a task in it is unfinished.
 pub fn never_stuck()
-    ensures { (program : SourceTree) → NeverStuck program }
+    ensures { (program : ProgramTree) → NeverStuck program }
 {}

@@ -1,10 +1,12 @@
 //! The events of tasks: whether a task has one, and what it changes.
 ghost use Rattle.std.specs.Prelude.{◌≡◌, ◌<◌, ℕ, List, length, Option, slice_get, Some, None, IsTrue, IsSome, ◌↔◌, IfOk, OnOk, OnErr};
-ghost use Rattle.abs_tree.specs.SourceViews.{named_tree};
+ghost use Rattle.abs_tree.specs.SourceViews.{program_tree};
+ghost use Rattle.abs_tree.specs.Results.{Result as ResultTree, result_tree};
 ghost use Rattle.abs_tree.specs.Syntax.{AssignOf, ToVariable};
 ghost use Rattle.abs_tree.specs.SyntaxViews.{side_tree, variable_tree};
 ghost use Rattle.abs_tree.specs.declared.place.Place.{Place};
 ghost use Rattle.abs_command.specs.Events.{listed, take_change, ended_change, assign_change, print_change, statement_change, slots_of, body_change, running_change, change_by_state, event_of, with_holder, statement_after, Steps, Makes};
+ghost use Rattle.abs_command.specs.Unsupported.{unsupported, unsupported_statements, unsupported_side};
 ghost use Rattle.abs_command.specs.declared.runtime.config.TaskCell.{TaskCell};
 
 use crate::runtime::config::{Cog, Config, Lines, State, TaskCell};
@@ -14,7 +16,7 @@ use std::alloc::{AllocError, Global};
 
 /// Whether a task has an event.
 pub fn has_step(program: &Named<'_>, config: &Config, task: u32) -> bool
-    ensures { IsTrue result ↔ IsSome (event_of (named_tree program.now) config.now task) }
+    ensures { IsTrue result ↔ IsSome (event_of (program_tree program.now) config.now task) }
 {
     let Some(cell) = config.tasks.items.get(task as usize) else {
         return false;
@@ -42,7 +44,7 @@ fn is_free(cogs: &[Cog], cog: u32) -> bool
 /// Whether a task that holds its cog has one body, and is at a statement of it or at its end.
 fn body_has_step(program: &Named<'_>, cell: &TaskCell) -> bool
     ensures { (number : ℕ) → IsTrue result ↔ IsSome (running_change
-        (named_tree program.now) number cell.now cell.now.frames) }
+        (program_tree program.now) number cell.now cell.now.frames) }
 {
     match cell.frames.items.as_slice() {
         [frame] => match frame.next {
@@ -64,8 +66,9 @@ pub fn step(
     task: u32,
     lines: &mut Lines,
 ) -> Result<(), AllocError>
-    requires { IsSome (event_of (named_tree program.now) config.old task) }
-    ensures ok { OnOk result (Steps (named_tree program.now) config.old task config.new lines.old lines.new) }
+    requires event { IsSome (event_of (program_tree program.now) config.old task) }
+    requires supported { unsupported_statements (program_tree program.now).source.main ≡ None }
+    ensures ok { OnOk result (Steps (program_tree program.now) config.old task config.new lines.old lines.new) }
     ensures config_err { OnErr result (config.new ≡ config.old) }
     ensures lines_err { OnErr result (lines.new ≡ lines.old) }
 {
@@ -86,9 +89,10 @@ fn advance(
     cell: &mut TaskCell,
     lines: &mut Lines,
 ) -> Result<Option<u32>, AllocError>
-    requires { IsSome (change_by_state (named_tree program.now) cogs.now task cell.old cell.old.state) }
+    requires change { IsSome (change_by_state (program_tree program.now) cogs.now task cell.old cell.old.state) }
+    requires supported { unsupported_statements (program_tree program.now).source.main ≡ None }
     ensures ok { IfOk result (λ holder. Makes (change_by_state
-        (named_tree program.now) cogs.now task cell.old cell.old.state) cell.new holder lines.old lines.new) }
+        (program_tree program.now) cogs.now task cell.old cell.old.state) cell.new holder lines.old lines.new) }
     ensures cell_err { OnErr result (cell.new ≡ cell.old) }
     ensures lines_err { OnErr result (lines.new ≡ lines.old) }
 {
@@ -109,9 +113,10 @@ fn run_body(
     cell: &mut TaskCell,
     lines: &mut Lines,
 ) -> Result<Option<u32>, AllocError>
-    requires { IsSome (running_change (named_tree program.now) task cell.old cell.old.frames) }
+    requires change { IsSome (running_change (program_tree program.now) task cell.old cell.old.frames) }
+    requires supported { unsupported_statements (program_tree program.now).source.main ≡ None }
     ensures ok { IfOk result (λ holder. Makes (running_change
-        (named_tree program.now) task cell.old cell.old.frames) cell.new holder lines.old lines.new) }
+        (program_tree program.now) task cell.old cell.old.frames) cell.new holder lines.old lines.new) }
     ensures cell_err { OnErr result (cell.new ≡ cell.old) }
     ensures lines_err { OnErr result (lines.new ≡ lines.old) }
 {
@@ -131,11 +136,12 @@ fn execute(
     statement: u32,
     lines: &mut Lines,
 ) -> Result<Option<u32>, AllocError>
+    requires supported { unsupported_statements (program_tree program.now).source.main ≡ None }
     requires body { length cell.old.frames ≡ 1 }
     requires statement { statement < length program.now.main.statements.items }
-    ensures ok { IfOk result (λ holder. Makes (statement_change (named_tree program.now) task cell.old statement
-        (slots_of cell.old.frames) (slice_get (listed (named_tree program.now).main) statement)) cell.new holder
-        lines.old lines.new) }
+    ensures ok { IfOk result (λ holder. Makes (statement_change (program_tree program.now) task cell.old statement
+        (slots_of cell.old.frames) (slice_get (listed (program_tree program.now).source.main) statement)) cell.new
+        holder lines.old lines.new) }
     ensures cell_err { OnErr result (cell.new ≡ cell.old) }
     ensures lines_err { OnErr result (lines.new ≡ lines.old) }
 {
@@ -162,7 +168,7 @@ fn execute(
         },
         Stmt::Print { value, .. } => {
             let slots = cell.frames.items[0].slots.as_slice();
-            let found = evaluator::eval(alloc, &program.symbols, slots, value)?;
+            let found = evaluator::string_of(alloc, &program.symbols, slots, value)?;
             print(program, task, cell, statement, found, lines)
         }
         _ => {
@@ -182,10 +188,11 @@ fn store(
     target: Variable,
     side: &RightSide,
 ) -> Result<Option<u32>, AllocError>
+    requires supported { unsupported_side (side_tree program.now.symbols side.now) ≡ None }
     requires body { length cell.old.frames ≡ 1 }
     requires statement { statement < length program.now.main.statements.items }
     ensures ok { IfOk result (λ holder. (index : ℕ) (place at : Place) (lines : List (List ℕ))
-        → Makes (statement_change (named_tree program.now) task cell.old statement (slots_of cell.old.frames)
+        → Makes (statement_change (program_tree program.now) task cell.old statement (slots_of cell.old.frames)
         (Some (AssignOf index place (ToVariable at (variable_tree program.now.symbols target))
         (side_tree program.now.symbols side.now)))) cell.new holder lines lines) }
     ensures cell_err { OnErr result (cell.new ≡ cell.old) }
@@ -194,7 +201,7 @@ fn store(
         RightSide::Value(_, value) => {
             let slots = cell.frames.items[0].slots.as_slice();
             let found = evaluator::eval(alloc, &program.symbols, slots, value)?;
-            assign(alloc, program, task, cell, statement, target, found)
+            assign(program, task, cell, statement, target, found)
         }
         _ => {
             finish(cell, Evaluated::Bad(Fault::Mistyped));
@@ -205,7 +212,6 @@ fn store(
 
 /// The same for a task at a declaration or an assignment, with the result of its expression. It prints nothing.
 fn assign(
-    alloc: Global,
     program: &Named<'_>,
     task: u32,
     cell: &mut TaskCell,
@@ -216,8 +222,9 @@ fn assign(
     requires body { length cell.old.frames ≡ 1 }
     requires statement { statement < length program.now.main.statements.items }
     ensures ok { IfOk result (λ holder. (lines : List (List ℕ))
-        → Makes (Some (assign_change (named_tree program.now) task cell.old statement
-        (slots_of cell.old.frames) (variable_tree program.now.symbols target) found)) cell.new holder lines lines) }
+        → Makes (Some (assign_change (program_tree program.now) task cell.old statement
+        (slots_of cell.old.frames) (variable_tree program.now.symbols target) (result_tree found))) cell.new holder
+        lines lines) }
     ensures cell_err { OnErr result (cell.new ≡ cell.old) }
 {
     let value = match found {
@@ -230,9 +237,8 @@ fn assign(
     let frame = &mut cell.frames.items[0];
     match target {
         Variable::Slot(slot) if (slot as usize) < frame.slots.len() => {
-            let next = following(program, statement)?;
-            frame.slots.set(alloc, slot as usize, value)?;
-            frame.next = next;
+            frame.next = following(program, statement)?;
+            frame.slots.set(slot as usize, value);
             Ok(Some(task))
         }
         _ => {
@@ -253,8 +259,8 @@ fn print(
 ) -> Result<Option<u32>, AllocError>
     requires body { length cell.old.frames ≡ 1 }
     requires statement { statement < length program.now.main.statements.items }
-    ensures ok { IfOk result (λ holder. Makes (Some (print_change (named_tree program.now) task cell.old statement
-        (slots_of cell.old.frames) found)) cell.new holder lines.old lines.new) }
+    ensures ok { IfOk result (λ holder. Makes (Some (print_change (program_tree program.now) task cell.old statement
+        (slots_of cell.old.frames) (result_tree found))) cell.new holder lines.old lines.new) }
     ensures cell_err { OnErr result (cell.new ≡ cell.old) }
     ensures lines_err { OnErr result (lines.new ≡ lines.old) }
 {
@@ -265,7 +271,7 @@ fn print(
             cell.frames.items[0].next = next;
             Ok(Some(task))
         }
-        Evaluated::Good(Value::Int(_) | Value::Null) => {
+        Evaluated::Good(_) => {
             finish(cell, Evaluated::Bad(Fault::Mistyped));
             Ok(None)
         }
@@ -281,7 +287,7 @@ fn print(
 /// # Errors
 /// [`AllocError`] if no index is left.
 fn following(program: &Named<'_>, statement: u32) -> Result<Option<u32>, AllocError>
-    ensures { IfOk result (λ next. next ≡ statement_after (named_tree program.now) statement) }
+    ensures { IfOk result (λ next. next ≡ statement_after (program_tree program.now) statement) }
 {
     if statement == u32::MAX {
         return Err(AllocError);

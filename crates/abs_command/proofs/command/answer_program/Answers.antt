@@ -1,7 +1,7 @@
 use Rattle.std.proofs.Common.{◌≡◌, ◌≤◌, ◌∙◌, ◌++◌, refl, ap, sym, subst, ℕ, List, length, arith}
 use Rattle.std.specs.Io.KnownBytes.{Appends}
 use Rattle.std.specs.Prelude.{Some, None}
-use Rattle.abs_tree.specs.SourceViews.{named_tree}
+use Rattle.abs_tree.specs.SourceViews.{program_tree}
 use Rattle.abs_tree.specs.Limits.{event_limit}
 use Rattle.abs_command.specs.Promises.Answer.{prefix}
 use Rattle.abs_command.specs.Promises.CameTo.{reported, ran}
@@ -18,8 +18,8 @@ returns-in_default-clause-answered g c = λ words bytes source source' named acc
     prefix None c.as_bytes.result.now
     (reported (record {
       named = named;
-      program = named_tree c.args.program.now;
-      analysed = analysed_by bytes c.unwritten.result (named_tree c.args.program.now) accepted
+      program = program_tree c.args.program.now;
+      analysed = analysed_by bytes c.unwritten.result (program_tree c.args.program.now) accepted
           c.unwritten.ensures.refusal
           (c.unwritten.ensures.facts ∙ c.analyse-analysis.ensures.facts)
           (c.unwritten.ensures.pairs ∙ c.analyse-analysis.ensures.pairs)
@@ -34,7 +34,7 @@ returns-in_default-clause-answered g c = λ words bytes source source' named acc
 pub returns-in_err-config-clause-exhausted : goal.returns-in_err-config-clause-exhausted
 returns-in_err-config-clause-exhausted g c =
     on_error c.from_residual-in_err-config.result (λ words bytes named accepted.
-    report named (named_tree c.args.program.now) accepted
+    report named (program_tree c.args.program.now) accepted
     (subst (Appends (g.K.Sink.written c.args.sink.now) (g.K.Sink.written c.write_all.new.sink))
     (c.as_bytes.ensures ∙ (c.in_ok-text.ensures ∙ ap report_lines c.analyse-analysis.ensures.report))
     c.in-Ok.ensures.whole))
@@ -42,7 +42,7 @@ returns-in_err-config-clause-exhausted g c =
 pub returns-in_err-text-2-clause-exhausted : goal.returns-in_err-text-2-clause-exhausted
 returns-in_err-text-2-clause-exhausted g c =
     on_error c.from_residual-in_err-text-2.result (λ words bytes named accepted.
-    report named (named_tree c.args.program.now) accepted
+    report named (program_tree c.args.program.now) accepted
     (subst (Appends (g.K.Sink.written c.args.sink.now) (g.K.Sink.written c.write_all.new.sink))
     (c.as_bytes.ensures ∙ (c.in_ok-text.ensures ∙ ap report_lines c.analyse-analysis.ensures.report))
     c.in-Ok.ensures.whole))
@@ -55,7 +55,7 @@ returns-clause-answered g c = λ words bytes source source' named accepted.
     ∙ ap (λ (n : ℕ). end_text run.lines run.end n run.config.tasks) c.len.ensures) in
     let tasks : run.history.tasks ≡ c.ran-ended.result.history.tasks =
     ap (λ (history : Recorded). history.tasks) (sym c.ran-ended.ensures.history) in
-    let program = named_tree c.args.program.now in
+    let program = program_tree c.args.program.now in
     delivered words bytes source source' c.ran-ended.result c.deliver.result _ _ _ c.as_bytes.result.now
     c.as_bytes-2.result.now _ _ _
     (ran (record {

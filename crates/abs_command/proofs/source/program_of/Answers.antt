@@ -30,6 +30,7 @@ returns-clause-found c =
           record { list = c.in_ok-list.list; tokens = c.in_ok-list.ensures.found; is = c.in_ok-tree.ensures.found };
       no_offence = c.in_ok-program.ensures.accepted;
       is = ap named_tree c.in_ok-checked.ensures.same ∙ c.in_ok-program.ensures.found;
+      names_are = ap (λ (named : Named). named.symbols) c.in_ok-checked.ensures.same ∙ c.in_ok-program.ensures.symbols;
       typed = rw c.in_ok-checked.ensures.same c.in_ok-checked.ensures.accepted;
       runs =
           sym (ap (λ (program : Named). unsupported (named_tree program)) c.named.ensures.program)

@@ -1,5 +1,5 @@
 use Rattle.std.proofs.Common.{◌≡◌, length, true, false, below_more, ap, ◌∙◌, arith}
-use Rattle.abs_tree.specs.SourceViews.{named_tree}
+use Rattle.abs_tree.specs.SourceViews.{program_tree}
 use Rattle.abs_command.specs.declared.runtime.config.Config.{Config}
 use Rattle.abs_command.proofs.MachineLemmas.{no_step}
 use Rattle.abs_command.proofs.runtime.machine.next_task.Goals as goal
@@ -14,5 +14,5 @@ returns-clause-none c =
     let all : c.len-number-end.result ≡ length c.args.config.now.tasks =
     c.len-number-end.ensures
     ∙ (c.config.inside.0.1.0.items.ok.0 ∙ ap (λ (f : Config). length f.tasks) c.config.view_is) in
-    no_step (named_tree c.args.program.now) c.args.config.now c.loop-number.number (omega arith)
+    no_step (program_tree c.args.program.now) c.args.config.now c.loop-number.number (omega arith)
     c.loop-number.invariant

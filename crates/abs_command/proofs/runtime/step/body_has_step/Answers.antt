@@ -1,5 +1,5 @@
 use Rattle.std.proofs.Common.{◌≡◌, length, ap, arith, sym, ◌∙◌}
-use Rattle.abs_tree.specs.SourceViews.{named_tree}
+use Rattle.abs_tree.specs.SourceViews.{program_tree}
 use Rattle.abs_tree.specs.SyntaxViews.{statements}
 use Rattle.abs_command.specs.declared.runtime.config.TaskCell.{TaskCell}
 use Rattle.abs_command.specs.Events.{listed}
@@ -16,5 +16,5 @@ returns-in-Some c =
     let frames : c.as_slice.result.now ≡ c.args.cell.now.frames =
     c.as_slice.ensures.value ∙ ap (λ (t : TaskCell). t.frames) c.cell.view_is in
     let one = one_item c.as_slice.result.now c.frame-item.result (omega arith) c.frame-item.is in
-    λ number. running_at (named_tree program) number c.args.cell.now c.args.cell.now.frames c.frame-item.result
+    λ number. running_at (program_tree program) number c.args.cell.now c.args.cell.now.frames c.frame-item.result
     c.in-Some.statement c.len.result (sym frames ∙ one) c.in-Some.is n

@@ -1,24 +1,51 @@
-use Rattle.std.proofs.Common.{◌≡◌, Option, None, get_or, refl, ap, ◌∙◌}
+use Rattle.std.proofs.Common.{◌≡◌, Option, None, get_or, map, refl, ap, ◌∙◌}
 use Rattle.std.proofs.lemmas.Result.{IfOk-weaker}
-use Rattle.abs_tree.specs.SourceViews.{named_tree}
+use Rattle.abs_tree.specs.Results.{result_tree}
+use Rattle.abs_tree.specs.SourceViews.{program_tree}
+use Rattle.abs_tree.specs.ValueViews.{value_tree}
 use Rattle.abs_tree.specs.declared.syntax.statement.RightSide.{RightSide}
 use Rattle.abs_tree.specs.declared.syntax.statement.Stmt as code_stmt
 use Rattle.abs_tree.specs.declared.syntax.statement.Stmt.{Stmt}
 use Rattle.abs_tree.specs.declared.syntax.statement.Target.{Target}
 use Rattle.abs_tree.specs.declared.syntax.statement.Target.TheVariants as code_target
-use Rattle.abs_tree.specs.declared.value.Evaluated.TheVariants.{Bad}
-use Rattle.abs_tree.specs.declared.value.Fault.TheVariants as fault
+use Rattle.abs_tree.specs.declared.evaluated.Evaluated.TheVariants.{Bad}
+use Rattle.abs_tree.specs.declared.evaluated.Fault.TheVariants as fault
 use Rattle.abs_command.specs.declared.runtime.config.TaskCell.{TaskCell}
 use Rattle.abs_command.specs.Events.{slots_of}
+use Rattle.abs_command.proofs.SupportedLemmas.{declared_supported, assigned_supported, printed_supported}
 use Rattle.abs_command.proofs.StepLemmas.{makes_same, makes_end, found_here, print_runs, declare_runs, item_runs, others_end}
 use Rattle.abs_command.proofs.runtime.step.execute.Goals as goal
+
+pub store-requires-clause-supported : goal.store-requires-clause-supported
+store-requires-clause-supported c =
+    let d = c.in-Declare in
+    declared_supported c.args.program.now.symbols c.args.program.now.main.statements.items c.args.statement
+    c.index.result.now d.index d.place d.type_of d.variable_place d.variable c.in-Some.side c.requires.statement
+    c.index.ensures
+    (d.is ∙ ap (λ (o : Option RightSide). code_stmt.Declare d.index d.place d.type_of d.variable_place d.variable o)
+    c.in-Some.is) c.requires.supported
+
+pub store-requires-in-Variable-clause-supported : goal.store-requires-in-Variable-clause-supported
+store-requires-in-Variable-clause-supported c =
+    let a = c.in-Assign in
+    assigned_supported c.args.program.now.symbols c.args.program.now.main.statements.items c.args.statement
+    c.index.result.now a.index a.place c.in-Variable.field-0 c.in-Variable.variable a.side c.requires.statement
+    c.index.ensures (a.is ∙ ap (λ (t : Target). code_stmt.Assign a.index a.place t a.side) c.in-Variable.is)
+    c.requires.supported
+
+pub string_of-requires : goal.string_of-requires
+string_of-requires c =
+    let p = c.in-Print in
+    rw c.deref.ensures
+    (printed_supported c.args.program.now.symbols c.args.program.now.main.statements.items c.args.statement
+    c.index.result.now p.index p.place p.value c.requires.statement c.index.ensures p.is c.requires.supported)
 
 pub returns-in-Some-clause-ok : goal.returns-in-Some-clause-ok
 returns-in-Some-clause-ok c =
     let d = c.in-Declare in
     IfOk-weaker c.store.result _ _
     (λ holder made.
-    makes_same (declare_runs (named_tree c.args.program.now) c.args.task c.args.cell.now c.args.statement
+    makes_same (declare_runs (program_tree c.args.program.now) c.args.task c.args.cell.now c.args.statement
     (slots_of c.args.cell.now.frames) c.args.program.now.symbols c.args.program.now.main.statements.items
     c.index.result.now d.index d.place d.type_of d.variable_place d.variable c.in-Some.side c.requires.statement
     c.index.ensures
@@ -29,7 +56,7 @@ returns-in-Some-clause-ok c =
 pub returns-in-None-clause-ok : goal.returns-in-None-clause-ok
 returns-in-None-clause-ok c =
     let d = c.in-Declare in
-    makes_same (item_runs (named_tree c.args.program.now) c.args.task c.args.cell.now c.args.statement
+    makes_same (item_runs (program_tree c.args.program.now) c.args.task c.args.cell.now c.args.statement
     (slots_of c.args.cell.now.frames) c.args.program.now.symbols c.args.program.now.main.statements.items
     c.index.result.now (code_stmt.Declare d.index d.place d.type_of d.variable_place d.variable None)
     c.requires.statement c.index.ensures
@@ -42,7 +69,7 @@ returns-in-Variable-clause-ok c =
     let a = c.in-Assign in
     IfOk-weaker c.store-in-Variable.result _ _
     (λ holder made.
-    makes_same (item_runs (named_tree c.args.program.now) c.args.task c.args.cell.now c.args.statement
+    makes_same (item_runs (program_tree c.args.program.now) c.args.task c.args.cell.now c.args.statement
     (slots_of c.args.cell.now.frames) c.args.program.now.symbols c.args.program.now.main.statements.items
     c.index.result.now
     (code_stmt.Assign a.index a.place (code_target.Variable c.in-Variable.field-0 c.in-Variable.variable) a.side)
@@ -55,7 +82,7 @@ pub returns-in-Field-clause-ok : goal.returns-in-Field-clause-ok
 returns-in-Field-clause-ok c =
     let a = c.in-Assign in
     let f = c.in-Field in
-    makes_same (item_runs (named_tree c.args.program.now) c.args.task c.args.cell.now c.args.statement
+    makes_same (item_runs (program_tree c.args.program.now) c.args.task c.args.cell.now c.args.statement
     (slots_of c.args.cell.now.frames) c.args.program.now.symbols c.args.program.now.main.statements.items
     c.index.result.now (code_stmt.Assign a.index a.place (code_target.Field f.place f.name_place f.name) a.side)
     c.requires.statement c.index.ensures
@@ -70,14 +97,15 @@ returns-in_ok-found-in-Print-clause-ok c =
     let frame = c.index-in-Print.result.now in
     let there : frame ≡ get_or frames 0 frame =
     c.index-in-Print.ensures ∙ ap (λ (t : TaskCell). get_or t.frames 0 frame) c.cell.view_is in
-    let found = found_here names frames frame c.as_slice-slots.result.now c.deref.result.now c.in-Print.value.value
-    c.in_ok-found-in-Print.found c.requires.body there c.as_slice-slots.ensures c.deref.ensures
-    c.in_ok-found-in-Print.ensures in
+    let program = program_tree c.args.program.now in
+    let found = found_here program names frames frame (map value_tree c.as_slice-slots.result.now) c.deref.result.now
+    c.in-Print.value.value (result_tree c.in_ok-found-in-Print.found) c.requires.body there c.as_slice-slots.ensures
+    c.deref.ensures (c.in_ok-found-in-Print.ensures program refl) in
     IfOk-weaker c.print.result _ _
     (λ holder made.
-    makes_same (print_runs (named_tree c.args.program.now) c.args.task c.args.cell.now c.args.statement
+    makes_same (print_runs (program_tree c.args.program.now) c.args.task c.args.cell.now c.args.statement
     (slots_of frames) names c.args.program.now.main.statements.items c.index.result.now c.in-Print.index
-    c.in-Print.place c.in-Print.value c.in_ok-found-in-Print.found c.requires.statement c.index.ensures
+    c.in-Print.place c.in-Print.value (result_tree c.in_ok-found-in-Print.found) c.requires.statement c.index.ensures
     c.in-Print.is found) made)
     c.print.ensures.ok
 
@@ -86,10 +114,10 @@ returns-in_default-clause-ok c =
     let names = c.args.program.now.symbols in
     let slots = slots_of c.args.cell.now.frames in
     makes_same
-    (item_runs (named_tree c.args.program.now) c.args.task c.args.cell.now c.args.statement slots names
+    (item_runs (program_tree c.args.program.now) c.args.task c.args.cell.now c.args.statement slots names
     c.args.program.now.main.statements.items c.index.result.now c.index.result.now
     c.requires.statement c.index.ensures refl
-    ∙ others_end (named_tree c.args.program.now) c.args.task c.args.cell.now c.args.statement slots names
+    ∙ others_end (program_tree c.args.program.now) c.args.task c.args.cell.now c.args.statement slots names
     c.index.result.now c.in_default.not-Declare c.in_default.not-Assign c.in_default.not-Print)
     (makes_end c.args.cell.now c.finish-in_default.new.cell (Bad fault.Mistyped) c.args.lines.now
     c.finish-in_default.ensures)

@@ -2,7 +2,7 @@ use Rattle.std.proofs.Common.{◌≡◌, List, Some, length, refl, sym, ap, ◌�
 use Rattle.std.specs.Prelude.{slice_get}
 use Rattle.std.proofs.lemmas.Bool.{ltb-true}
 use Rattle.std.proofs.lemmas.Option.{slice_get_read}
-use Rattle.abs_tree.specs.SourceViews.{named_tree}
+use Rattle.abs_tree.specs.SourceViews.{program_tree}
 use Rattle.abs_command.specs.declared.runtime.config.Config.{Config}
 use Rattle.abs_command.specs.declared.runtime.config.TaskCell.{TaskCell}
 use Rattle.abs_command.proofs.StepLemmas.{event_of_running, none_of_test}
@@ -16,6 +16,6 @@ returns-in-Running c =
     (sym (c.deref.ensures.value ∙ ap (λ (f : Config). f.tasks) c.config.view_is))
     ∙ slice_get_read c.deref.result.now (length c.deref.result.now) c.args.task c.in-Some.cell.now refl
     (ltb-true _ _ (sym found.0)) found.1 in
-    event_of_running (named_tree c.args.program.now) c.args.config.now c.args.task c.in-Some.cell.now
+    event_of_running (program_tree c.args.program.now) c.args.config.now c.args.task c.in-Some.cell.now
     c.body_has_step.result there (none_of_test _ (sym c.is_some.ensures ∙ c.if-is_some.false)) c.in-Running.is
     (c.body_has_step.ensures c.args.task)

@@ -1,6 +1,0 @@
-use Rattle.std.proofs.Common.{◌≡◌, take}
-use Rattle.abs_tree.proofs.value.copies.Given as goal
-
--- the copies so far are the values so far
-abbrev pub invariant-loop-value : goal.invariant-loop-value
-invariant-loop-value l = l.copies.items ≡ take l.value-index l.values
