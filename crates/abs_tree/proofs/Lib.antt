@@ -19,6 +19,14 @@ pub mod LeftLemmas
 pub mod FlowLemmas
 pub mod SameValueLemmas
 pub mod ComparisonLemmas
+pub mod ResultLemmas
+pub mod IndexLemmas
+pub mod ListOutcomeLemmas
+pub mod InsideLemmas
+pub mod MatchingLemmas
+pub mod OperationLemmas
+pub mod ReferenceLemmas
+pub mod EarlierLemmas
 pub mod InstructionLemmas
 pub mod CountLemmas
 pub mod MakerLemmas

@@ -14,6 +14,7 @@ pub mod Numbers
 pub mod Operations
 pub mod Scopes
 pub mod Evaluation
+pub mod References
 pub mod Control
 pub mod Instructions
 pub mod Bodies

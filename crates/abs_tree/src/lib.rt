@@ -28,7 +28,8 @@ pub use comparison::value_equal;
 pub use evaluated::{Env, Evaluated, Fault, Output};
 pub use laws::{
     control_leaves_the_rest, declared_is_there, facts_follow_control, first_is_least,
-    named_is_whole, numbers_tell_names, values_are_told_apart,
+    lists_give_their_values, named_is_whole, numbers_tell_names, references_are_read,
+    values_are_told_apart,
 };
 pub use meanings::Meanings;
 pub use name_spaces::{ConstructorMeaning, FunctionMeaning, NameSpaces, Taking, TypeMeaning};
