@@ -2,7 +2,7 @@
 -- give. Each part of an expression is at the start of a source.
 --
 --   `names`, `library`, `scope`        the names of a program, its one function, and values that can be read
---   `just`, `cons`, `nil`, `unit`      values
+--   `just`, `cons`, `nil`, `pair`, `unit`  values
 --   `sum_of_products`, ..              the expressions, each after its text
 use Rattle.std.specs.Prelude.{ℕ, pos, negsuc, List, [], ◌∷◌, codes, Some}
 use Rattle.abs_tree.specs.Places.{start}
@@ -31,6 +31,9 @@ cons first rest = BuiltValue 3 (two_parts first rest)
 
 abbrev pub nil : ValueTree
 nil = BuiltValue 2 NoPart
+
+abbrev pub pair : ValueTree → ValueTree → ValueTree
+pair first second = BuiltValue 5 (two_parts first second)
 
 abbrev pub unit : ValueTree
 unit = BuiltValue 6 NoPart

@@ -1,9 +1,10 @@
 //! That the calls can succeed, of which no contract speaks, and that the clauses mean what they should.
 use abs_tree::{
-    Symbol, Symbols, Text, Value, Values, value_depth, value_equal, value_size, value_text,
-    value_text_within,
+    Expr, Exprs, Place, Symbol, Symbols, Text, Value, Values, value_depth, value_equal, value_size,
+    value_text, value_text_within,
 };
 use std::alloc::{AllocError, Global};
+use std::sync::Arc;
 use std::test::Fail;
 
 /// A name is numbered at its first appearance, and keeps that number.
@@ -174,6 +175,29 @@ fn rows_own_their_values(rt: HostRuntime) -> Result<(), Fail> {
     assert!(rt; matches!(copy.at(0), Value::Null));
     assert_eq!(rt; copy.len(), 3);
     assert_eq!(rt; row.into_items().len(), 3);
+    Ok(())
+}
+
+/// The expressions of a statement can be shared: none, one, a row, and a row without its receiver.
+#[test]
+fn expressions_are_shared(rt: HostRuntime) -> Result<(), Fail> {
+    let alloc = rt.alloc();
+    let place = Place {
+        offset: 0,
+        line: 1,
+        column: 1,
+    };
+    assert_eq!(rt; Exprs::None.share()?.as_slice().len(), 0);
+    let one = Exprs::One(Arc::new(alloc, Expr::Null(place))?);
+    assert_eq!(rt; one.share()?.as_slice().len(), 1);
+    let row = Arc::new(
+        alloc,
+        vec![in alloc; Expr::This(place), Expr::Number(place, 7)]?,
+    )?;
+    assert_eq!(rt; Exprs::Row(row.clone()?).share()?.as_slice().len(), 2);
+    let arguments = Exprs::Arguments(row).share()?;
+    assert_eq!(rt; arguments.as_slice().len(), 1);
+    assert!(rt; matches!(arguments.as_slice(), [Expr::Number(_, 7)]));
     Ok(())
 }
 

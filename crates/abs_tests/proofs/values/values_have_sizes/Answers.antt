@@ -6,6 +6,34 @@ pub returns-clause-number : goal.returns-clause-number
 unfolding value_nodes value_depth
 returns-clause-number c = refl
 
+pub returns-clause-string : goal.returns-clause-string
+unfolding value_nodes value_depth
+returns-clause-string c = refl
+
+pub returns-clause-object : goal.returns-clause-object
+unfolding value_nodes value_depth
+returns-clause-object c = refl
+
+pub returns-clause-future : goal.returns-clause-future
+unfolding value_nodes value_depth
+returns-clause-future c = refl
+
+pub returns-clause-null : goal.returns-clause-null
+unfolding value_nodes value_depth
+returns-clause-null c = refl
+
+pub returns-clause-number_depth : goal.returns-clause-number_depth
+unfolding value_nodes value_depth
+returns-clause-number_depth c = refl
+
+pub returns-clause-string_depth : goal.returns-clause-string_depth
+unfolding value_nodes value_depth
+returns-clause-string_depth c = refl
+
+pub returns-clause-empty_depth : goal.returns-clause-empty_depth
+unfolding value_nodes value_depth
+returns-clause-empty_depth c = refl
+
 pub returns-clause-empty : goal.returns-clause-empty
 unfolding value_nodes value_depth
 returns-clause-empty c = refl

@@ -23,6 +23,14 @@ pub returns-clause-list : goal.returns-clause-list
 unfolding inner_form digits
 returns-clause-list c = refl
 
+pub returns-clause-empty : goal.returns-clause-empty
+unfolding inner_form digits
+returns-clause-empty c = refl
+
+pub returns-clause-strings : goal.returns-clause-strings
+unfolding inner_form digits
+returns-clause-strings c = refl
+
 pub returns-clause-object : goal.returns-clause-object
 unfolding inner_form digits
 returns-clause-object c = refl
