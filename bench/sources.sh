@@ -416,3 +416,15 @@ inherited_of() {
         print "}"
     }'
 }
+
+# Prints a main block of $1 statements, in hundreds: $2 nested `if`, and assignments in the innermost one. Before them
+# are a `skip` and the declaration of `x`, and after them is an assignment to the local $3.
+control_of() {
+    LC_ALL=C awk -v statements="$1" -v depth="$2" -v last="$3" 'BEGIN {
+        for (n = 0; n < depth; n++) { open = open "if(True){"; close_all = close_all "}" }
+        for (n = depth; n < 100; n++) assignments = assignments "x=1;"
+        print "{skip;Int x=0;"
+        for (n = 0; n < statements; n += 100) print open assignments close_all
+        print last "=1;}"
+    }'
+}
