@@ -1,0 +1,4 @@
+pub mod FrameLemmas
+pub mod LibraryLemmas
+pub mod PatternLemmas
+pub mod RowLemmas
