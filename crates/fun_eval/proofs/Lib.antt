@@ -1,4 +1,13 @@
+pub mod ApplicationLemmas
+pub mod BranchLemmas
+pub mod FormLemmas
 pub mod FrameLemmas
+pub mod FunctionLemmas
+pub mod InitialLemmas
 pub mod LibraryLemmas
+pub mod ListLemmas
+pub mod OutcomeLemmas
 pub mod PatternLemmas
 pub mod RowLemmas
+pub mod SoFarLemmas
+pub mod ValueLemmas

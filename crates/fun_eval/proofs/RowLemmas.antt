@@ -1,9 +1,14 @@
--- The trees of a row of branches from an index on: the one at the index and those after it.
+-- The trees of a row of expressions, operators or branches from an index on: the one at the index and those after it.
 use Rattle.std.proofs.Common.{◌≡◌, ℕ, suc, ◌+◌, ◌<◌, ◌≤◌, List, ◌∷◌, arith, ap, ◌∙◌, sym, length, get_or, drop, drop_of_length-le}
 use Rattle.std.proofs.Math.Seq.{drop-cons}
-use Rattle.abs_tree.specs.Syntax.{Name, NoBranch, NextBranch}
-use Rattle.abs_tree.specs.SyntaxViews.{phrase, pattern_tree, branches as branch_trees}
+use Rattle.std.specs.declared.alloc.Global.{Global}
+use Rattle.std.specs.declared.sync.Arc.{Arc}
+use Rattle.abs_tree.specs.InstructionViews.{shared_phrases}
+use Rattle.abs_tree.specs.Syntax.{Name, NoPhrase, NextPhrase, NoOperands, NextOperand, NoBranch, NextBranch}
+use Rattle.abs_tree.specs.SyntaxViews.{phrase, phrases, operand_trees, pattern_tree, branches as branch_trees}
 use Rattle.abs_tree.specs.declared.syntax.expression.Branch.{Branch}
+use Rattle.abs_tree.specs.declared.syntax.expression.Expr.{Expr}
+use Rattle.abs_tree.specs.declared.syntax.expression.Operand.{Operand}
 
 -- the items of a row from an index on
 pub row_at : {A : Type 0} (items : List A) (index : ℕ) (item : A) → index < length items
@@ -12,6 +17,25 @@ row_at items index item there is =
     drop-cons items index item there
     ∙ (ap (λ (one : _). one ∷ drop (suc index) items) (sym is)
     ∙ ap (λ (next : ℕ). item ∷ drop next items) (let after : suc index ≡ index + 1 = omega arith in after))
+
+pub phrases_at : (names : List Name) (exprs : List Expr) (index : ℕ) (item : Expr) → index < length exprs
+    → item ≡ get_or exprs index item
+    → phrases names (drop index exprs) ≡ NextPhrase (phrase names item) (phrases names (drop (index + 1) exprs))
+phrases_at names exprs index item there is = ap (phrases names) (row_at exprs index item there is)
+
+pub phrases_end : (names : List Name) (exprs : List Expr) (index : ℕ) → length exprs ≤ index
+    → phrases names (drop index exprs) ≡ NoPhrase
+phrases_end names exprs index past = ap (phrases names) (drop_of_length-le exprs past)
+
+pub operands_at : (names : List Name) (operands : List Operand) (index : ℕ) (item : Operand) → index < length operands
+    → item ≡ get_or operands index item
+    → operand_trees names (drop index operands)
+    ≡ NextOperand item.operator (phrase names item.right) (operand_trees names (drop (index + 1) operands))
+operands_at names operands index item there is = ap (operand_trees names) (row_at operands index item there is)
+
+pub operands_end : (names : List Name) (operands : List Operand) (index : ℕ) → length operands ≤ index
+    → operand_trees names (drop index operands) ≡ NoOperands
+operands_end names operands index past = ap (operand_trees names) (drop_of_length-le operands past)
 
 pub branches_at : (names : List Name) (branches : List Branch) (index : ℕ) (item : Branch) → index < length branches
     → item ≡ get_or branches index item
@@ -23,3 +47,13 @@ branches_at names branches index item there is = ap (branch_trees names) (row_at
 pub branches_end : (names : List Name) (branches : List Branch) (index : ℕ) → length branches ≤ index
     → branch_trees names (drop index branches) ≡ NoBranch
 branches_end names branches index past = ap (branch_trees names) (drop_of_length-le branches past)
+
+pub shared_at : (names : List Name) (exprs : List (Arc Expr Global)) (index : ℕ) (item : Arc Expr Global)
+    → index < length exprs → item ≡ get_or exprs index item
+    → shared_phrases names (drop index exprs)
+    ≡ NextPhrase (phrase names item.value) (shared_phrases names (drop (index + 1) exprs))
+shared_at names exprs index item there is = ap (shared_phrases names) (row_at exprs index item there is)
+
+pub shared_end : (names : List Name) (exprs : List (Arc Expr Global)) (index : ℕ) → length exprs ≤ index
+    → shared_phrases names (drop index exprs) ≡ NoPhrase
+shared_end names exprs index past = ap (shared_phrases names) (drop_of_length-le exprs past)

@@ -1,2 +1,3 @@
+pub mod Evaluating
 pub mod Matching
 pub mod Reading
