@@ -2,7 +2,7 @@
 --
 --   `counted`                  an application within the limit is counted
 --   `applied`                  the arguments on the stack are those of the function
---   `to_string_one`, ..        `toString` takes one argument
+--   `to_string_named`, ..      `toString` takes one argument
 --   `body_entered`, ..         a function that is declared takes as many as it has parameters
 --   `value_parts`              the values of arguments as parts
 use Rattle.std.proofs.Common.{◌≡◌, ◌≢◌, ℕ, ◌+◌, ◌-◌, ◌<◌, ◌≤◌, nat_lt, nat_eq, true, false, List, [], ◌∷◌, codes, drop, get_or, length, map, Option, Some, None, refl, sym, ap, ◌∙◌, arith, drop_of_length-le, length-drop}

@@ -3,10 +3,9 @@
 --   `gives_bound`              with more bound variables each expression gives what it gives in the wider scope
 --   `let_taken`, `case_taken`  the outcome is that of the body, or of the branch
 --   `if_taken`                 the outcome is that of the branch that the condition chooses
---   `other_operand`            an operator other than `&&` and `||` asks for both operands
-use Rattle.std.proofs.Common.{◌≡◌, ℕ, ◌+◌, Bool, List, [], ◌∷◌, ◌++◌, Some, drop, length, refl, sym, ap, ◌∙◌, arith, length-append}
-use Rattle.abs_tree.specs.Evaluation.{Outcome, branches_outcome, chosen_outcome, ends_with, evaluate, operand_outcome, outcome_after, result_after}
-use Rattle.abs_tree.specs.Operations.{operation_result, truth_of}
+use Rattle.std.proofs.Common.{◌≡◌, ℕ, ◌+◌, Bool, List, [], ◌∷◌, ◌++◌, Some, drop, length, sym, ap, ◌∙◌, arith, length-append}
+use Rattle.abs_tree.specs.Evaluation.{Outcome, branches_outcome, chosen_outcome, ends_with, evaluate, outcome_after}
+use Rattle.abs_tree.specs.Operations.{truth_of}
 use Rattle.abs_tree.specs.Results.{Gives}
 use Rattle.abs_tree.specs.Scopes.{Library, Scope, with_bound}
 use Rattle.abs_tree.specs.Syntax.{Name, Phrase}
@@ -15,12 +14,11 @@ use Rattle.abs_tree.specs.ValueTrees.{ValueTree}
 use Rattle.abs_tree.specs.ValueViews.{value_tree}
 use Rattle.abs_tree.specs.declared.syntax.expression.Branch.{Branch}
 use Rattle.abs_tree.specs.declared.syntax.expression.Expr.{Expr}
-use Rattle.abs_tree.specs.declared.syntax.expression.Operator.{Operator}
-use Rattle.abs_tree.specs.declared.syntax.expression.Operator.TheVariants as operator
 use Rattle.abs_tree.specs.declared.value.Value.{Value}
-use Rattle.fun_eval.proofs.FrameLemmas.{arguments_counted, begins_added, bound_counted, scope_bound, within_longer, within_trees}
+use Rattle.fun_eval.proofs.FrameLemmas.{arguments_counted, bound_counted, scope_bound, within_longer, within_trees}
 use Rattle.fun_eval.proofs.OutcomeLemmas.{after_value}
 use Rattle.fun_eval.proofs.SoFarLemmas.{gives_stays, library_stays, names_stay}
+use Rattle.fun_eval.proofs.StackLemmas.{begins_added}
 use Rattle.fun_eval.proofs.ValueLemmas.{one_stays}
 use Rattle.fun_eval.specs.Evaluating.{arguments_in, bound_in, gives_in, library_in, names_in, outcome_in, scope_in, scope_of, Binds, ChosenBranch, IsWithin, Stays}
 use Rattle.fun_eval.specs.declared.evaluator.Evaluator.{Evaluator}
@@ -113,22 +111,3 @@ if_taken within left before now found value answer first second taken stays give
     (phrase (names_in before) second) one now.applications)
     (ap (λ (names : List Name). truth_of names value) (sym (names_stay before now stays.library_is)) ∙ truth)
     ∙ (chooses ∙ one_stays within left taken before now stays.library_is (gives_stays within left stays)))
-
--- an operator other than `&&` and `||` asks for both operands
-pub other_operand : (names : List Name) (give : Phrase → ℕ → Outcome) (operation : Operator) (right : Phrase)
-    (left : ValueTree) (made : ℕ) → (operation ≡ operator.And → ⊥) → (operation ≡ operator.Or → ⊥)
-    → operand_outcome names give operation right left made
-    ≡ result_after (give right made) (operation_result names operation left)
-other_operand names give operator.Or right left made and or = absurd (or refl)
-other_operand names give operator.And right left made and or = absurd (and refl)
-other_operand names give operator.Equal right left made and or = refl
-other_operand names give operator.NotEqual right left made and or = refl
-other_operand names give operator.Less right left made and or = refl
-other_operand names give operator.LessEqual right left made and or = refl
-other_operand names give operator.Greater right left made and or = refl
-other_operand names give operator.GreaterEqual right left made and or = refl
-other_operand names give operator.Plus right left made and or = refl
-other_operand names give operator.Minus right left made and or = refl
-other_operand names give operator.Times right left made and or = refl
-other_operand names give operator.Divide right left made and or = refl
-other_operand names give operator.Remainder right left made and or = refl

@@ -4,40 +4,16 @@
 --   `scope_bound`                  values above its variables are bound too
 --   `scope_call`, `within_call`    the body of a function reads its arguments, which are on the stack
 --   `scope_stays`, `within_stays`  where the stacks are as before
-use Rattle.std.proofs.Common.{◌≡◌, ℕ, ◌+◌, ◌-◌, ◌≤◌, List, [], ◌∷◌, ◌++◌, map, take, drop, length, arith, refl, sym, ap, ◌∙◌, subst, None, length-drop}
-use Rattle.std.proofs.lemmas.List.{drop-append-le, length-map, map-append, take-append-drop, take-append-le, take-map}
-use Rattle.std.proofs.Math.Seq.{take-length}
+use Rattle.std.proofs.Common.{◌≡◌, ℕ, ◌+◌, ◌-◌, ◌≤◌, List, [], ◌++◌, take, drop, length, arith, refl, sym, ap, ◌∙◌, subst, None, length-drop}
+use Rattle.std.proofs.lemmas.List.{drop-append-le, length-map, take-append-le}
+use Rattle.std.proofs.Math.Seq.{drop-length, take-length}
 use Rattle.abs_tree.specs.Scopes.{Scope, own_scope, with_bound}
 use Rattle.abs_tree.specs.ValueTrees.{ValueTree}
 use Rattle.abs_tree.specs.ValueViews.{value_tree}
-use Rattle.abs_tree.specs.declared.value.Value.{Value}
 use Rattle.fun_eval.specs.Evaluating.{arguments_in, bound_in, scope_in, scope_of, AreWithin, IsWithin, Stays}
-use Rattle.fun_eval.specs.Matching.{Begins}
 use Rattle.fun_eval.specs.declared.evaluator.Evaluator.{Evaluator}
 use Rattle.fun_eval.specs.declared.scope.Frame.{Frame}
 use Rattle.fun_eval.specs.declared.scope.Frame.TheVariants as frame
-
--- a list that begins with another one is that one and what was added
-pub begins_added : {before now : List ValueTree} → Begins before now → now ≡ before ++ drop (length before) now
-begins_added {before} {now} begins =
-    sym (take-append-drop (length before) now) ∙ ap (λ (first : List ValueTree). first ++ drop (length before) now) begins
-
--- one value is pushed
-pub pushed : (items now : List Value) (value : Value) → now ≡ items ++ value ∷ []
-    → map value_tree now ≡ map value_tree items ++ value_tree value ∷ []
-pushed items now value is = ap (map value_tree) is ∙ map-append value_tree items (value ∷ [])
-
--- what is above is dropped
-pub dropped : (items now : List Value) (count : ℕ) → now ≡ take count items
-    → map value_tree now ≡ take count (map value_tree items)
-dropped items now count is = ap (map value_tree) is ∙ sym (take-map value_tree count items)
-
--- what was added is dropped
-pub restored : (before between now : List Value) (count : ℕ) → count ≡ length before → now ≡ take count between
-    → Begins (map value_tree before) (map value_tree between) → map value_tree now ≡ map value_tree before
-restored before between now count counted is begins =
-    dropped between now count is
-    ∙ (ap (λ (n : ℕ). take n (map value_tree between)) (counted ∙ sym (length-map before value_tree)) ∙ begins)
 
 -- what the body of a function reads
 abbrev called : List ValueTree → List ValueTree → Scope
@@ -74,18 +50,13 @@ rest_whole first arguments =
     ap (λ (count : ℕ). take count (drop first arguments)) (sym (length-drop first arguments))
     ∙ take-length (drop first arguments)
 
--- nothing is left after all
-none_left : (items : List ValueTree) → drop (length items) items ≡ []
-none_left [] = refl
-none_left (one ∷ others) = none_left others
-
 pub scope_call : (first count from : ℕ) (arguments bound : List ValueTree) → count ≡ length arguments - first
     → from ≡ length bound
     → scope_in (frame.Function first count from) arguments bound ≡ own_scope (drop first arguments)
 scope_call first count from arguments bound counted all =
     ap (λ (n : ℕ). called (take n (drop first arguments)) (drop from bound)) counted
     ∙ (ap (λ (items : List ValueTree). called items (drop from bound)) (rest_whole first arguments)
-    ∙ ap (called (drop first arguments)) (ap (λ (n : ℕ). drop n bound) all ∙ none_left bound))
+    ∙ ap (called (drop first arguments)) (ap (λ (n : ℕ). drop n bound) all ∙ drop-length bound))
 
 -- the arguments of a function are on the stack when it is entered
 pub within_call : (first count from : ℕ) (evaluator : Evaluator) → first ≤ length evaluator.arguments.items

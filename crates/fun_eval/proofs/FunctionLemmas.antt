@@ -4,56 +4,54 @@
 --   `defined_is_first`         this is so of what the name spaces say
 --   `to_string_is_named`, `unknown_has_none`       the two other cases
 use Rattle.std.proofs.Common.{◌≡◌, ℕ, suc, ◌+◌, Bool, true, false, List, [], ◌∷◌, codes, length, Option, Some, None, refl, sym, ap, ◌∙◌, subst, arith}
+use Rattle.std.specs.Option.{option_or}
 use Rattle.std.specs.Prelude.{if◌then◌else◌, slice_get}
 use Rattle.std.specs.Str.{bytes_eq}
 use Rattle.std.proofs.lemmas.Slice.Eq.{bytes_eq-Decides}
 use Rattle.abs_tree.specs.NameSpaces.{NameSpaces, built_in, spaces_of, with_declaration, with_declarations}
+use Rattle.abs_tree.specs.NamedDeclarations.{IsFunction}
 use Rattle.abs_tree.specs.Scopes.{FunctionBody, function_named, functions_of}
-use Rattle.abs_tree.specs.Syntax.{Name, TypeTree, Phrase, ParamTree, DeclaredTree, DeclTree, DataTree, FunctionTree, InterfaceTree, ClassTree}
+use Rattle.abs_tree.specs.Syntax.{Name, DeclTree, DataTree, FunctionTree, InterfaceTree, ClassTree}
 use Rattle.abs_tree.specs.Tables.{Table, meaning_of, with_first}
 use Rattle.abs_tree.specs.declared.name_spaces.FunctionMeaning.{FunctionMeaning}
 use Rattle.abs_tree.specs.declared.name_spaces.FunctionMeaning.TheVariants as function
 use Rattle.abs_tree.specs.declared.name_spaces.Taking.{Taking}
-use Rattle.abs_tree.specs.declared.place.Place.{Place}
 
--- what a name means, or else
-abbrev or_else : {A : Type 0} → Option A → Option A → Option A
-or_else (Some meaning) other = Some meaning
-or_else None other = other
+-- without another meaning
+option_or-none : {A : Type 0} (meaning : Option A) → option_or meaning None ≡ meaning
+option_or-none (Some meaning) = refl
+option_or-none None = refl
 
-or_none : {A : Type 0} (meaning : Option A) → or_else meaning None ≡ meaning
-or_none (Some meaning) = refl
-or_none None = refl
-
-or_assoc : {A : Type 0} (one other third : Option A) → or_else (or_else one other) third ≡ or_else one (or_else other third)
-or_assoc (Some meaning) other third = refl
-or_assoc None other third = refl
+-- the first of three meanings
+option_or-assoc : {A : Type 0} (one other third : Option A) → option_or (option_or one other) third ≡ option_or one (option_or other third)
+option_or-assoc (Some meaning) other third = refl
+option_or-assoc None other third = refl
 
 -- what a table says of a name, with one more name of which the first meaning counts
 first_meaning : {A : Type 0} (known : Table A) (own name : Name) (meaning : A)
     → meaning_of (with_first known own meaning) name
-    ≡ or_else (meaning_of known name) (if bytes_eq own name then Some meaning else None)
+    ≡ option_or (meaning_of known name) (if bytes_eq own name then Some meaning else None)
 first_meaning known own name meaning = by_own (meaning_of known own) refl (bytes_eq own name) refl
   where
     by_own : (found : Option _) → meaning_of known own ≡ found → (same : Bool) → bytes_eq own name ≡ same
         → meaning_of (with_first known own meaning) name
-        ≡ or_else (meaning_of known name) (if bytes_eq own name then Some meaning else None)
+        ≡ option_or (meaning_of known name) (if bytes_eq own name then Some meaning else None)
     by_own (Some other) has true same =
         let is : own ≡ name = (bytes_eq-Decides own name).0 same in
         let here : meaning_of known name ≡ Some other = ap (meaning_of known) (sym is) ∙ has in
         rw (has, here) refl
-    by_own (Some other) has false same = rw (has, same) (sym (or_none (meaning_of known name)))
+    by_own (Some other) has false same = rw (has, same) (sym (option_or-none (meaning_of known name)))
     by_own None has true same =
         let is : own ≡ name = (bytes_eq-Decides own name).0 same in
         let here : meaning_of known name ≡ None = ap (meaning_of known) (sym is) ∙ has in
         rw (has, same, here) refl
-    by_own None has false same = rw (has, same) (sym (or_none (meaning_of known name)))
+    by_own None has false same = rw (has, same) (sym (option_or-none (meaning_of known name)))
 
 -- what the first function of a name among declarations means, where the first declaration has this index
 abbrev first_function : ℕ → List DeclTree → Name → Option FunctionMeaning
 first_function index [] name = None
 first_function index (FunctionTree place result declared type_params params value ∷ others) name =
-    or_else (if bytes_eq declared.name name then Some (function.Defined (record {
+    option_or (if bytes_eq declared.name name then Some (function.Defined (record {
       declaration = index;
       arity = length params;
     })) else None) (first_function (index + 1) others name)
@@ -62,15 +60,15 @@ first_function index (declaration ∷ others) name = first_function (index + 1) 
 -- the name spaces say just that of functions
 functions_say : (index : ℕ) (known : NameSpaces) (rest : List DeclTree) (name : Name)
     → meaning_of (with_declarations index known rest).functions name
-    ≡ or_else (meaning_of known.functions name) (first_function index rest name)
-functions_say index known [] name = sym (or_none (meaning_of known.functions name))
+    ≡ option_or (meaning_of known.functions name) (first_function index rest name)
+functions_say index known [] name = sym (option_or-none (meaning_of known.functions name))
 functions_say index known (FunctionTree place result declared type_params params value ∷ others) name =
     let meaning : FunctionMeaning = function.Defined (record { declaration = index; arity = length params }) in
     functions_say (index + 1)
     (with_declaration index known (FunctionTree place result declared type_params params value)) others name
-    ∙ (ap (λ (found : Option FunctionMeaning). or_else found (first_function (index + 1) others name))
+    ∙ (ap (λ (found : Option FunctionMeaning). option_or found (first_function (index + 1) others name))
     (first_meaning known.functions declared.name name meaning)
-    ∙ or_assoc (meaning_of known.functions name) (if bytes_eq declared.name name then Some meaning else None)
+    ∙ option_or-assoc (meaning_of known.functions name) (if bytes_eq declared.name name then Some meaning else None)
     (first_function (index + 1) others name))
 functions_say index known (DataTree place declared type_params constructors ∷ others) name =
     functions_say (index + 1) (with_declaration index known (DataTree place declared type_params constructors)) others name
@@ -80,20 +78,12 @@ functions_say index known (ClassTree place declared params implemented members �
     functions_say (index + 1) (with_declaration index known (ClassTree place declared params implemented members)) others
     name
 
--- A function is declared at the index, and is the first one of this name among these.
+-- A function of this name is declared at the index, and is the first one of this name among these.
 pub record IsFirstFunction (declarations : List DeclTree) (functions : List FunctionBody) (name : Name)
     (taking : Taking) : Type 0 where
-  pub place : Place
-  pub result : TypeTree
-  pub declared : DeclaredTree
-  pub type_params : List DeclaredTree
-  pub params : List ParamTree
-  pub value : Phrase
-  pub there : slice_get declarations taking.declaration
-      ≡ Some (FunctionTree place result declared type_params params value)
-  pub arity_is : length params ≡ taking.arity
+  pub function : IsFunction declarations name taking
   pub first : function_named functions name
-      ≡ Some (record { name = declared.name; arity = length params; value = value })
+      ≡ Some (record { name = function.declared.name; arity = length function.params; value = function.value })
 
 -- the declarations from an index on
 abbrev IsRest : List DeclTree → ℕ → List DeclTree → Type 0
@@ -110,14 +100,7 @@ later_first : (declarations : List DeclTree) (functions : List FunctionBody) (ow
     (taking : Taking) → bytes_eq own.name name ≡ false → IsFirstFunction declarations functions name taking
     → IsFirstFunction declarations (own ∷ functions) name taking
 later_first declarations functions own name taking other is = record {
-  place = is.place;
-  result = is.result;
-  declared = is.declared;
-  type_params = is.type_params;
-  params = is.params;
-  value = is.value;
-  there = is.there;
-  arity_is = is.arity_is;
+  function = is.function;
   first = rw other is.first;
 }
 
@@ -139,27 +122,30 @@ first_is_first declarations index (FunctionTree place result declared type_param
         → IsFirstFunction declarations (own ∷ functions_of others) name taking
     by_name later true same =
         let here : Some (function.Defined (record { declaration = index; arity = length params }))
-        ≡ Some (function.Defined taking) = subst (λ (b : Bool). or_else (if b then Some (function.Defined (record {
+        ≡ Some (function.Defined taking) = subst (λ (b : Bool). option_or (if b then Some (function.Defined (record {
           declaration = index;
           arity = length params;
         })) else None) (first_function (index + 1) others name) ≡ Some (function.Defined taking)) same found in
         let taken : record { declaration = index; arity = length params } ≡ taking = cc in
         let at : index + 0 ≡ index = omega arith in
         subst (IsFirstFunction declarations (own ∷ functions_of others) name) taken (record {
-          place = place;
-          result = result;
-          declared = declared;
-          type_params = type_params;
-          params = params;
-          value = value;
-          there = ap (slice_get declarations) (sym at) ∙ sym (is 0);
-          arity_is = refl;
+          function = record {
+            place = place;
+            result = result;
+            declared = declared;
+            type_params = type_params;
+            params = params;
+            value = value;
+            there = ap (slice_get declarations) (sym at) ∙ sym (is 0);
+            name_is = (bytes_eq-Decides declared.name name).0 same;
+            arity_is = refl;
+          };
           first = rw same refl;
         })
     by_name later false same =
         later_first declarations (functions_of others) own name taking same
         (later
-        (subst (λ (b : Bool). or_else (if b then Some (function.Defined (record {
+        (subst (λ (b : Bool). option_or (if b then Some (function.Defined (record {
           declaration = index;
           arity = length params;
         })) else None) (first_function (index + 1) others name) ≡ Some (function.Defined taking)) same found))
@@ -172,7 +158,7 @@ first_is_first declarations index (ClassTree place declared params implemented m
 
 -- of one declaration and the others, where neither is `toString` itself
 either_defined : (same : Bool) (taking : Taking) (rest : Option FunctionMeaning) → (rest ≡ Some function.ToString → ⊥)
-    → or_else (if same then Some (function.Defined taking) else None) rest ≡ Some function.ToString → ⊥
+    → option_or (if same then Some (function.Defined taking) else None) rest ≡ Some function.ToString → ⊥
 either_defined true taking rest other found = absurd (cc)
 either_defined false taking rest other found = other found
 
@@ -193,7 +179,7 @@ first_is_defined index (ClassTree place declared params implemented members ∷ 
 -- of one declaration and the others, where neither is of the name
 neither_named : (same : Bool) (meaning : FunctionMeaning) (rest : Option FunctionMeaning) (own : FunctionBody)
     (functions : Option FunctionBody) → (rest ≡ None → functions ≡ None)
-    → or_else (if same then Some meaning else None) rest ≡ None → (if same then Some own else functions) ≡ None
+    → option_or (if same then Some meaning else None) rest ≡ None → (if same then Some own else functions) ≡ None
 neither_named true meaning rest own functions others none = absurd (cc)
 neither_named false meaning rest own functions others none = others none
 
@@ -217,7 +203,7 @@ none_is_first index (ClassTree place declared params implemented members ∷ oth
 -- what name spaces say of a name: `toString` is built in
 spaces_say : (declarations : List DeclTree) (name : Name) (meaning : Option FunctionMeaning)
     → meaning_of (spaces_of declarations).functions name ≡ meaning
-    → or_else (if bytes_eq (codes "toString") name then Some function.ToString else None)
+    → option_or (if bytes_eq (codes "toString") name then Some function.ToString else None)
     (first_function 0 declarations name) ≡ meaning
 spaces_say declarations name meaning is = sym (functions_say 0 built_in declarations name) ∙ is
 
@@ -245,7 +231,7 @@ defined_is_first declarations name taking found =
     by_name (bytes_eq (codes "toString") name) refl (spaces_say declarations name (Some (function.Defined taking)) found)
   where
     by_name : (same : Bool) → bytes_eq (codes "toString") name ≡ same
-        → or_else (if same then Some function.ToString else None) (first_function 0 declarations name)
+        → option_or (if same then Some function.ToString else None) (first_function 0 declarations name)
         ≡ Some (function.Defined taking) → IsDefined declarations name taking
     by_name true same is = absurd (cc)
     by_name false same is = record {
@@ -262,7 +248,7 @@ to_string_is_named declarations name found =
     by_name (bytes_eq (codes "toString") name) refl (spaces_say declarations name (Some function.ToString) found)
   where
     by_name : (same : Bool) → bytes_eq (codes "toString") name ≡ same
-        → or_else (if same then Some function.ToString else None) (first_function 0 declarations name)
+        → option_or (if same then Some function.ToString else None) (first_function 0 declarations name)
         ≡ Some function.ToString → bytes_eq name (codes "toString") ≡ true
     by_name true same is = same_turned name true same
     by_name false same is = absurd (first_is_defined 0 declarations name is)
@@ -277,7 +263,7 @@ unknown_has_none declarations name found =
     by_name (bytes_eq (codes "toString") name) refl (spaces_say declarations name None found)
   where
     by_name : (same : Bool) → bytes_eq (codes "toString") name ≡ same
-        → or_else (if same then Some function.ToString else None) (first_function 0 declarations name) ≡ None
+        → option_or (if same then Some function.ToString else None) (first_function 0 declarations name) ≡ None
         → IsUnknown declarations name
     by_name true same is = absurd (cc)
     by_name false same is =

@@ -3,7 +3,7 @@
 --   `statement_scope`, ..      what they read
 --   `first_outcome`, ..        the outcomes of a statement's own expressions
 --   `InitialsSoFar`            the initial values that are left follow the values so far
---   `initials_begin`, ..       after the arguments, after one more value, at a fault, and at the end
+--   `initials_step`, ..        after one more value, at a fault, and at the end
 use Rattle.std.proofs.Common.{◌≡◌, ℕ, ◌+◌, ◌<◌, ◌≤◌, List, [], ◌∷◌, ◌++◌, drop, get_or, length, map, refl, sym, ap, ◌∙◌, subst}
 use Rattle.abs_tree.specs.Evaluation.{Outcome, Outcomes, all_end_with, all_outcomes, ends_with, evaluate, initial_outcomes, outcomes_of, results_of}
 use Rattle.std.specs.declared.alloc.Global.{Global}
@@ -20,10 +20,10 @@ use Rattle.abs_tree.specs.ValueViews.{value_tree}
 use Rattle.abs_tree.specs.declared.named.Named.{Named}
 use Rattle.abs_tree.specs.declared.syntax.expression.Expr.{Expr}
 use Rattle.abs_tree.specs.declared.value.Value.{Value}
-use Rattle.fun_eval.proofs.FrameLemmas.{pushed}
 use Rattle.fun_eval.proofs.ListLemmas.{initial_step, initial_stop}
 use Rattle.fun_eval.proofs.RowLemmas.{shared_at, shared_end}
 use Rattle.fun_eval.proofs.SoFarLemmas.{library_stays, names_stay, stays_further}
+use Rattle.fun_eval.proofs.StackLemmas.{pushed}
 use Rattle.fun_eval.specs.Evaluating.{bound_in, gives_in, library_in, names_in, outcome_in, scope_of, AreStopped, IsStopped, Stays}
 use Rattle.fun_eval.specs.Reading.{scope_tree}
 use Rattle.fun_eval.specs.declared.evaluator.Evaluator.{Evaluator}

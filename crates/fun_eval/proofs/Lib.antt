@@ -10,4 +10,5 @@ pub mod OutcomeLemmas
 pub mod PatternLemmas
 pub mod RowLemmas
 pub mod SoFarLemmas
+pub mod StackLemmas
 pub mod ValueLemmas

@@ -5,14 +5,18 @@
 --   `after_value`, ..          after a value the next step is taken
 --   `after_stop`, ..           after a fault nothing else is evaluated
 --   `operators_stop`           so it is in an operator list
+--   `other_operand`            an operator other than `&&` and `||` asks for both operands
 use Rattle.std.proofs.Common.{◌≡◌, ℕ, List, refl, sym, subst}
 use Rattle.std.proofs.lemmas.Result.{err_from_is_err_and}
 use Rattle.std.specs.Prelude.{Result, Ok, Err}
 use Rattle.std.specs.Result.{IsErrAnd, OnOk}
-use Rattle.abs_tree.specs.Evaluation.{Outcome, Outcomes, ends_with, outcome_after, outcome_after_all, operand_outcome, operators_outcome}
+use Rattle.abs_tree.specs.Evaluation.{Outcome, Outcomes, ends_with, outcome_after, outcome_after_all, operand_outcome, operators_outcome, result_after}
+use Rattle.abs_tree.specs.Operations.{operation_result}
 use Rattle.abs_tree.specs.Results.{Result as ResultTree, Gives, AllGive}
 use Rattle.abs_tree.specs.Syntax.{Name, Phrase, Operands, NoOperands, NextOperand}
 use Rattle.abs_tree.specs.ValueTrees.{ValueTree}
+use Rattle.abs_tree.specs.declared.syntax.expression.Operator.{Operator}
+use Rattle.abs_tree.specs.declared.syntax.expression.Operator.TheVariants as operator
 use Rattle.abs_tree.specs.declared.value.Value.{Value}
 use Rattle.fun_eval.specs.Evaluating.{AreStopped, IsOutcome, IsStopped}
 use Rattle.fun_eval.specs.Reading.{IsResult}
@@ -71,3 +75,22 @@ operators_stop names give left NoOperands cause is = is
 operators_stop names give left (NextOperand operation right others) cause is =
     operators_stop names give (outcome_after left (operand_outcome names give operation right)) others cause
     (after_stop left cause (operand_outcome names give operation right) is)
+
+-- an operator other than `&&` and `||` asks for both operands
+pub other_operand : (names : List Name) (give : Phrase → ℕ → Outcome) (operation : Operator) (right : Phrase)
+    (left : ValueTree) (made : ℕ) → (operation ≡ operator.And → ⊥) → (operation ≡ operator.Or → ⊥)
+    → operand_outcome names give operation right left made
+    ≡ result_after (give right made) (operation_result names operation left)
+other_operand names give operator.Or right left made and or = absurd (or refl)
+other_operand names give operator.And right left made and or = absurd (and refl)
+other_operand names give operator.Equal right left made and or = refl
+other_operand names give operator.NotEqual right left made and or = refl
+other_operand names give operator.Less right left made and or = refl
+other_operand names give operator.LessEqual right left made and or = refl
+other_operand names give operator.Greater right left made and or = refl
+other_operand names give operator.GreaterEqual right left made and or = refl
+other_operand names give operator.Plus right left made and or = refl
+other_operand names give operator.Minus right left made and or = refl
+other_operand names give operator.Times right left made and or = refl
+other_operand names give operator.Divide right left made and or = refl
+other_operand names give operator.Remainder right left made and or = refl

@@ -1,15 +1,14 @@
 -- What matching adds to the bound variables, pattern by pattern and branch by branch.
 --
 --   `matches_any`, `matches_binds`, ..     the forms of a pattern
---   `matches_parts`                    the patterns of a constructor's arguments
+--   `so_far_more`, ..                  the patterns of a constructor's arguments
 --   `other_length`                     as many patterns as parts
 --   `first_matches`, `none_matches`    a branch whose pattern matches, and one whose does not
-use Rattle.std.proofs.Common.{◌≡◌, ◌≢◌, ℕ, ℤ, Bool, true, false, List, [], ◌∷◌, ◌++◌, take, drop, length, Option, Some, None, refl, sym, ap, ◌∙◌, subst, append_assoc, append-nil, arith, nat_eq, suc, ◌⊎◌, ⊎_elim}
+use Rattle.std.proofs.Common.{◌≡◌, ◌≢◌, ℕ, ℤ, Bool, true, false, List, [], ◌∷◌, ◌++◌, drop, length, Option, Some, None, refl, sym, ap, ◌∙◌, subst, append_assoc, append-nil, arith, nat_eq, suc, ◌⊎◌, ⊎_elim}
 use Rattle.std.specs.Option.{option_and_then}
 use Rattle.std.specs.Prelude.{if◌then◌else◌}
 use Rattle.std.specs.declared.alloc.Global.{Global}
 use Rattle.std.specs.declared.vec.Vec.{Vec}
-use Rattle.std.proofs.Math.Seq.{drop-append_seam, take-append_seam}
 use Rattle.abs_tree.specs.Evaluation.{Outcome, branches_outcome}
 use Rattle.abs_tree.proofs.SyntaxLemmas.{pattern_tree-built}
 use Rattle.abs_tree.specs.Names.{name_of, number_of_name}
@@ -23,25 +22,8 @@ use Rattle.abs_tree.specs.declared.symbol.Symbol.{Symbol}
 use Rattle.abs_tree.specs.declared.syntax.pattern.Pattern as code
 use Rattle.abs_tree.specs.declared.syntax.pattern.Pattern.{Pattern}
 use Rattle.abs_tree.specs.declared.value.Value.{Value}
-use Rattle.fun_eval.proofs.FrameLemmas.{begins_added}
+use Rattle.fun_eval.proofs.StackLemmas.{added_after, added_twice, begins_added, begins_further, begins_more, begins_same}
 use Rattle.fun_eval.specs.Matching.{is_number, is_string, parts_with, Begins, Matches}
-
--- the values so far, and those that are added to them
-pub begins_same : (items : List ValueTree) → Begins items items
-begins_same items = subst (λ (all : List ValueTree). take (length items) all ≡ items) (append-nil items) (take-append_seam items [])
-
-pub begins_more : (before more : List ValueTree) → Begins before (before ++ more)
-begins_more before more = take-append_seam before more
-
-pub begins_further : (before more now : List ValueTree) → Begins (before ++ more) now → Begins before now
-begins_further before more now begins =
-    let rest = drop (length (before ++ more)) now in
-    subst (λ (all : List ValueTree). take (length before) all ≡ before)
-    (sym (begins_added begins ∙ append_assoc before more rest)) (take-append_seam before (more ++ rest))
-
--- what follows the values so far
-pub added_after : (before more : List ValueTree) → drop (length before) (before ++ more) ≡ more
-added_after before more = drop-append_seam before more
 
 -- a pattern that binds nothing takes no value exactly where it matches
 pub matches_if : (takes : Option (List ValueTree)) (answer : Bool) (items : List ValueTree)
@@ -143,24 +125,11 @@ pub record PatternsSoFar (names : List Name) (all : Option (List ValueTree)) (pa
   pub so_far : all ≡ both_matched (Some (drop (length before) now))
       (all_matched names (pattern_trees names patterns) (value_trees values))
 
--- nothing before
-both_none : (others : Option (List ValueTree)) → others ≡ both_matched (Some []) others
-both_none (Some values) = refl
-both_none None = refl
-
 -- one after the other
 both_assoc : (first second : List ValueTree) (others : Option (List ValueTree))
     → both_matched (Some first) (both_matched (Some second) others) ≡ both_matched (Some (first ++ second)) others
 both_assoc first second (Some values) = ap Some (sym (append_assoc first second values))
 both_assoc first second None = refl
-
--- what was added to a list is what was added to it first, and then what followed
-pub added_twice : (before between more : List ValueTree) → Begins before between
-    → drop (length before) (between ++ more) ≡ drop (length before) between ++ more
-added_twice before between more begins =
-    let added = drop (length before) between in
-    ap (λ (items : List ValueTree). drop (length before) (items ++ more)) (begins_added begins)
-    ∙ (ap (drop (length before)) (append_assoc before added more) ∙ drop-append_seam before (added ++ more))
 
 -- the first of the patterns that are left, and its value
 first_left : {names : List Name} {all : Option (List ValueTree)} {patterns : List Pattern} {values : List Value}

@@ -4,7 +4,8 @@
 --   `values_begin`, ..         before the first one, after one more, at a fault, and at the end
 --   `ArgumentsSoFar`           the expressions that are left follow the values on the stack
 --   `arguments_begin`, ..      the same for these
-use Rattle.std.proofs.Common.{◌≡◌, ℕ, ◌+◌, ◌<◌, ◌≤◌, List, [], ◌∷◌, ◌++◌, drop, get_or, length, map, refl, sym, ap, ◌∙◌, subst, arith, length-append, append_assoc}
+use Rattle.std.proofs.Common.{◌≡◌, ℕ, ◌+◌, ◌<◌, ◌≤◌, List, [], ◌∷◌, ◌++◌, drop, get_or, length, map, refl, sym, ap, ◌∙◌, subst, arith, append_assoc}
+use Rattle.std.proofs.Math.Seq.{drop-length}
 use Rattle.abs_tree.specs.Evaluation.{Outcome, Outcomes, all_end_with, ends_with, evaluate, outcomes_of}
 use Rattle.abs_tree.specs.Results.{Gives, AllGive}
 use Rattle.abs_tree.specs.Scopes.{Library, Scope}
@@ -14,11 +15,11 @@ use Rattle.abs_tree.specs.ValueTrees.{ValueTree}
 use Rattle.abs_tree.specs.ValueViews.{value_tree}
 use Rattle.abs_tree.specs.declared.syntax.expression.Expr.{Expr}
 use Rattle.abs_tree.specs.declared.value.Value.{Value}
-use Rattle.fun_eval.proofs.FrameLemmas.{arguments_counted, begins_added, bound_counted, pushed, scope_arguments, within_longer, within_trees}
+use Rattle.fun_eval.proofs.FrameLemmas.{arguments_counted, bound_counted, scope_arguments, within_longer, within_trees}
 use Rattle.fun_eval.proofs.ListLemmas.{earlier_begin, earlier_end, earlier_step, earlier_stop, with_earlier}
-use Rattle.fun_eval.proofs.PatternLemmas.{added_twice, begins_more, begins_same}
 use Rattle.fun_eval.proofs.RowLemmas.{phrases_at, phrases_end}
 use Rattle.fun_eval.proofs.SoFarLemmas.{gives_stays, library_stays, names_stay, stays_further}
+use Rattle.fun_eval.proofs.StackLemmas.{added_twice, begins_added, begins_longer, begins_more, begins_same, pushed}
 use Rattle.fun_eval.specs.Evaluating.{arguments_in, bound_in, gives_in, library_in, names_in, scope_in, scope_of, AddedArguments, AreStopped, IsStopped, IsWithin, Stays}
 use Rattle.fun_eval.specs.Matching.{Begins}
 use Rattle.fun_eval.specs.declared.evaluator.Evaluator.{Evaluator}
@@ -131,11 +132,6 @@ pub record ArgumentsSoFar (expected : Outcomes) (within : Frame) (left : ℕ) (e
   pub follow : Follow expected (gives_in before within left) (names_in before)
       (drop (length (arguments_in before)) (arguments_in now)) exprs now.applications
 
--- nothing is left after all
-none_added : (items : List ValueTree) → drop (length items) items ≡ []
-none_added [] = refl
-none_added (one ∷ others) = none_added others
-
 pub arguments_begin : (within : Frame) (left : ℕ) (exprs : List Expr) (before : Evaluator)
     → ArgumentsSoFar (outcomes_of (gives_in before within left) (phrases (names_in before) exprs) before.applications)
     within left exprs before before
@@ -143,7 +139,7 @@ arguments_begin within left exprs before = record {
   library_is = refl;
   bound_are = refl;
   begins = begins_same (arguments_in before);
-  follow = record { is = rw (none_added (arguments_in before)) (earlier_begin _) };
+  follow = record { is = rw (drop-length (arguments_in before)) (earlier_begin _) };
 }
 
 -- values above the arguments change nothing
@@ -157,12 +153,6 @@ gives_added within left before now library bound begins is =
     ∙ (ap (scope_in within (arguments_in before ++ drop (length (arguments_in before)) (arguments_in now))) bound
     ∙ scope_arguments within (arguments_in before) (drop (length (arguments_in before)) (arguments_in now))
     (bound_in before) (within_trees within before is)))
-
--- a list that begins with another one is not shorter
-pub begins_longer : (before now : List ValueTree) → Begins before now → length before ≤ length now
-begins_longer before now begins =
-    let counted : length now ≡ length before + length (drop (length before) now) =
-    ap length (begins_added begins) ∙ length-append before (drop (length before) now) in omega (arith, counted)
 
 pub within_added : (within : Frame) (before now : Evaluator) → bound_in now ≡ bound_in before
     → Begins (arguments_in before) (arguments_in now) → IsWithin within before → IsWithin within now

@@ -60,7 +60,7 @@ impl Evaluator<'_> {
         }
     }
 
-    /// The value of `&&` or `||`. The answer that decides is the value, and the right operand is not evaluated then.
+    /// The value of `&&` or `||`. A left value that decides is the value, and the right operand is not evaluated then.
     #[cycle(evaluation)]
     #[inline(never)]
     fn logical(
@@ -81,7 +81,7 @@ impl Evaluator<'_> {
             return Err(Stop::Fault(Fault::Mistyped));
         };
         if answer == decides {
-            return self.library.truth_value(decides);
+            return Ok(so_far);
         }
         let right = self.evaluate(frame, left, right)?;
         self.library.answered(self.library.truth_of(&right))

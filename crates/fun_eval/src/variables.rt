@@ -57,7 +57,7 @@ impl Frame<'_> {
 }
 
 /// The value of a slot, if there is one: of the statement, or of the function whose arguments are among these.
-pub fn slot_in<'v>(arguments: &'v [Value], frame: &'v Frame<'_>, slot: u32) -> Option<&'v Value>
+fn slot_in<'v>(arguments: &'v [Value], frame: &'v Frame<'_>, slot: u32) -> Option<&'v Value>
     ensures { (variables : List ValueTree) → option_map (λ found. value_tree found.now) result
         ≡ value_at (scope_in frame.now (map value_tree arguments.now) variables) (InSlot slot) }
 {

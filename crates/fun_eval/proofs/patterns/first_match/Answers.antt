@@ -6,9 +6,9 @@ use Rattle.abs_tree.specs.SyntaxViews.{pattern_tree, phrase}
 use Rattle.abs_tree.specs.ValueTrees.{ValueTree}
 use Rattle.abs_tree.specs.ValueViews.{value_tree}
 use Rattle.fun_eval.specs.Matching.{Matches}
-use Rattle.fun_eval.proofs.FrameLemmas.{restored}
 use Rattle.fun_eval.proofs.PatternLemmas.{first_begins, first_matches, none_matches}
 use Rattle.fun_eval.proofs.RowLemmas.{branches_at, branches_end}
+use Rattle.fun_eval.proofs.StackLemmas.{restored}
 use Rattle.fun_eval.proofs.patterns.first_match.Goals as goal
 
 pub returns-then-branch : goal.returns-then-branch

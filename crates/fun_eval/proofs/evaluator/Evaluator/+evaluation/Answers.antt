@@ -14,13 +14,13 @@ use Rattle.abs_tree.specs.SyntaxViews.{decl_tree, operand_trees, phrase}
 use Rattle.abs_tree.specs.ValueTrees.{ValueTree}
 use Rattle.abs_tree.specs.ValueViews.{value_tree}
 use Rattle.fun_eval.proofs.ApplicationLemmas.{applied, body_entered, body_other, built_given, built_large, counted, defined_named, left_counted, to_string_named}
-use Rattle.fun_eval.proofs.BranchLemmas.{case_taken, if_taken, let_taken, other_operand}
+use Rattle.fun_eval.proofs.BranchLemmas.{case_taken, if_taken, let_taken}
 use Rattle.fun_eval.proofs.FormLemmas.{apply_form, build_form, case_form, destiny_form, field_form, if_form, let_form, no_level, null_form, number_form, operators_form, own_call_form, prefixed_form, string_form, this_form, variable_form}
-use Rattle.fun_eval.proofs.FrameLemmas.{arguments_counted, bound_counted, restored, scope_call}
+use Rattle.fun_eval.proofs.FrameLemmas.{arguments_counted, bound_counted, scope_call}
 use Rattle.fun_eval.proofs.FunctionLemmas.{defined_is_first, to_string_is_named, unknown_has_none}
-use Rattle.fun_eval.proofs.OutcomeLemmas.{after_value, after_values, if_succeeds, operators_stop, result_outcome, same_outcome, stopped_outcome}
-use Rattle.fun_eval.proofs.PatternLemmas.{begins_more}
+use Rattle.fun_eval.proofs.OutcomeLemmas.{after_value, after_values, if_succeeds, operators_stop, other_operand, result_outcome, same_outcome, stopped_outcome}
 use Rattle.fun_eval.proofs.SoFarLemmas.{names_stay, operators_step, operators_stopped}
+use Rattle.fun_eval.proofs.StackLemmas.{begins_more, restored}
 use Rattle.fun_eval.proofs.ValueLemmas.{arguments_step, arguments_stopped, values_step, values_stopped}
 use Rattle.fun_eval.specs.Evaluating.{arguments_in, bound_in, declarations_in, gives_in, library_in, names_in, scope_in, scope_of, AreStopped, IsStopped}
 use Rattle.fun_eval.specs.Matching.{Begins}
@@ -228,14 +228,15 @@ apply-returns-clause-stays t c =
 pub body-returns-then-count-taking-clause-outcome : goal.body-returns-then-count-taking-clause-outcome
 body-returns-then-count-taking-clause-outcome t c name means =
     let first = (defined_is_first (declarations_in c.args.self.now) name c.args.taking means).first in
+    let function = first.function in
     ap (λ (o : Outcome). o.result)
     (body_other (λ values. evaluate (library_in c.args.self.now) (own_scope values) c.args.left)
     (drop c.args.first (arguments_in c.args.self.now)) _
-    (record { name = first.declared.name; arity = length first.params; value = first.value }) c.args.self.now.applications
+    (record { name = function.declared.name; arity = length function.params; value = function.value }) c.args.self.now.applications
     first.first (λ same. c.if-count-taking.true (omega (
       arith,
       same,
-      first.arity_is,
+      function.arity_is,
       c.len.ensures,
       c.args.self.now.arguments.ok.0,
       left_counted c.args.self.now.arguments.items c.args.first,
@@ -244,29 +245,30 @@ body-returns-then-count-taking-clause-outcome t c name means =
 pub body-returns-in-Some-clause-outcome : goal.body-returns-in-Some-clause-outcome
 body-returns-in-Some-clause-outcome t c name means =
     let first = (defined_is_first (declarations_in c.args.self.now) name c.args.taking means).first in
+    let function = first.function in
     let library = library_in c.args.self.now in
     let arguments = arguments_in c.args.self.now in
     let made = c.args.self.now.applications in
     let shown : value_of_function (slice_get (map (decl_tree (names_in c.args.self.now)) c.deref.result.now)
-    c.args.taking.declaration) ≡ Some first.value =
-    rw c.deref.ensures.value (ap value_of_function first.there) in
-    let same : Some (phrase (names_in c.args.self.now) c.in-Some.value.now) ≡ Some first.value =
+    c.args.taking.declaration) ≡ Some function.value =
+    rw c.deref.ensures.value (ap value_of_function function.there) in
+    let same : Some (phrase (names_in c.args.self.now) c.in-Some.value.now) ≡ Some function.value =
     ap (option_map (λ found. phrase (names_in c.args.self.now) found.now)) (sym c.in-Some.is)
     ∙ (c.function_value.ensures (names_in c.args.self.now) ∙ shown) in
-    let value : phrase (names_in c.args.self.now) c.in-Some.value.now ≡ first.value = cc in
-    let counted_first : length (drop c.args.first arguments) ≡ length first.params =
+    let value : phrase (names_in c.args.self.now) c.in-Some.value.now ≡ function.value = cc in
+    let counted_first : length (drop c.args.first arguments) ≡ length function.params =
     omega (
       arith,
       c.if-count-taking.false,
-      first.arity_is,
+      function.arity_is,
       c.len.ensures,
       c.args.self.now.arguments.ok.0,
       left_counted c.args.self.now.arguments.items c.args.first,
     ) in
     same_outcome _ _ c.evaluate.result c.evaluate.new.self
     (body_entered (λ values. evaluate library (own_scope values) c.args.left) (drop c.args.first arguments) _
-    (record { name = first.declared.name; arity = length first.params; value = first.value }) made first.first counted_first
-    ∙ (ap (λ (scope : Scope). evaluate library scope c.args.left first.value made)
+    (record { name = function.declared.name; arity = length function.params; value = function.value }) made first.first counted_first
+    ∙ (ap (λ (scope : Scope). evaluate library scope c.args.left function.value made)
     (sym (scope_call c.args.first (c.len.result - c.args.first) c.len-in-Some.result arguments (bound_in c.args.self.now)
     (ap (λ (n : ℕ). n - c.args.first) (c.len.ensures ∙ (c.args.self.now.arguments.ok.0 ∙ sym (arguments_counted c.args.self.now))))
     (c.len-in-Some.ensures ∙ (c.args.self.now.bound.ok.0 ∙ sym (bound_counted c.args.self.now)))))
@@ -276,11 +278,11 @@ body-returns-in-Some-clause-outcome t c name means =
 
 pub body-returns-in-None-clause-outcome : goal.body-returns-in-None-clause-outcome
 body-returns-in-None-clause-outcome t c name means =
-    let first = (defined_is_first (declarations_in c.args.self.now) name c.args.taking means).first in
+    let function = (defined_is_first (declarations_in c.args.self.now) name c.args.taking means).first.function in
     let shown : value_of_function (slice_get (map (decl_tree (names_in c.args.self.now)) c.deref.result.now)
-    c.args.taking.declaration) ≡ Some first.value =
-    rw c.deref.ensures.value (ap value_of_function first.there) in
-    absurd (none-some first.value (ap (option_map (λ found. phrase (names_in c.args.self.now) found.now)) (sym c.in-None.is)
+    c.args.taking.declaration) ≡ Some function.value =
+    rw c.deref.ensures.value (ap value_of_function function.there) in
+    absurd (none-some function.value (ap (option_map (λ found. phrase (names_in c.args.self.now) found.now)) (sym c.in-None.is)
     ∙ (c.function_value.ensures (names_in c.args.self.now) ∙ shown)))
 
 pub build-returns-in-Some-clause-outcome : goal.build-returns-in-Some-clause-outcome
