@@ -2,8 +2,8 @@
 from planting import Mark, Site, applied, apart, call, planting
 from typed_expressions import BOOL, INT, STRING, UNIT, Expressions, Scope, parens, written
 
-# the kind of the refusal of a program in which nothing offends
-FIRST = "S1 first declaration"
+# the kind of the place that a program in which nothing offends has alone
+NOTHING = "nothing offends"
 
 
 def further_anywhere(fresh):
@@ -318,7 +318,7 @@ class Maker(Expressions):
         plan = [(self.data_of, name) for name in self.data] + [(self.interface_of, name) for name in self.interfaces]
         plan += [(self.function_of, name) for name in self.functions] + [(self.class_of, name) for name in self.classes]
         self.rng.shuffle(plan)
-        items = [Mark(FIRST)]
+        items = [Mark(NOTHING)]
         for make, name in plan:
             items += [make(name), self.further_declaration()]
         return [*items, self.block(Scope("main", result=UNIT), 2, 9)]

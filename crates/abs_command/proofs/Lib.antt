@@ -1,13 +1,10 @@
-pub mod EvaluationLemmas
 pub mod ByteLemmas
 pub mod ProgressLemmas
 pub mod AnswerLemmas
 pub mod SourceLemmas
-pub mod UnsupportedLemmas
 pub mod PromiseLemmas
 pub mod ResultLemmas
 pub mod TakingLemmas
 pub mod BlockLemmas
 pub mod MachineLemmas
 pub mod StepLemmas
-pub mod SupportedLemmas

@@ -9,12 +9,12 @@ use Rattle.abs_tree.specs.declared.value.Value.TheVariants.{Null}
 use Rattle.abs_tree.specs.Results.{Result, Gives, Fails}
 use Rattle.abs_tree.specs.ValueTrees.{ValueTree, IntValue, StringValue, BuiltValue, ObjectValue, FutureValue, NullValue}
 use Rattle.abs_tree.specs.Slots.{body_slots}
-use Rattle.abs_tree.specs.Syntax.{VariableTree, Unresolved, AtSlot, AtBound, AtField, ValueOf, ToVariable, SomeSide, Statement, PrintOf, DeclareOf, AssignOf, ProgramTree}
+use Rattle.abs_tree.specs.Syntax.{VariableTree, Unresolved, AtSlot, AtBound, AtField, ValueOf, ToVariable, SomeSide, Statement, PrintOf, DeclareOf, AssignOf, DoOf, ProgramTree}
 use Rattle.abs_command.specs.declared.runtime.config.Config.{Config}
 use Rattle.abs_command.specs.declared.runtime.config.State.TheVariants.{Ready, Running}
 use Rattle.std.specs.Option.{option_map}
 use Rattle.abs_command.specs.declared.runtime.config.TaskCell.{TaskCell}
-use Rattle.abs_command.specs.Events.{Change, Step, listed, event_of, statement_after, ended_change, continued_change, expression_result, assign_change, print_change, statement_change, step_of, configuration_after}
+use Rattle.abs_command.specs.Events.{Change, Step, listed, event_of, statement_after, ended_change, continued_change, expression_result, assign_change, do_change, print_change, statement_change, step_of, configuration_after}
 use Rattle.abs_command.specs.Runs.{Ran, first, first_statement, run_after_event, run_with_step, IsOpen, HasStep, NeverStuck}
 
 -- the statement exists, or none is left
@@ -94,6 +94,14 @@ shape_prints program statement slots (Gives (FutureValue task)) = ended (Bad fau
 shape_prints program statement slots (Gives NullValue) = ended (Bad fault.Mistyped)
 shape_prints program statement slots (Fails cause) = ended (Bad cause)
 
+-- an expression keeps the shape
+shape_does : (program : ProgramTree) (statement : ℕ) (slots : List ValueTree) (found : Result)
+    → Shape program (configuration_after (at_work (Some statement) slots) 0
+    (do_change program 0 (working (Some statement) slots) statement slots found))
+shape_does program statement slots (Gives value) =
+    works (statement_after program statement) slots (following_there program statement)
+shape_does program statement slots (Fails cause) = ended (Bad cause)
+
 -- a choice between two changes has a shape that both have
 shape_either : (program : ProgramTree) (config : Config) (one other : Change) (b : Bool)
     → Shape program (configuration_after config 0 one) → Shape program (configuration_after config 0 other)
@@ -135,6 +143,8 @@ shape_executes program statement slots
 shape_executes program statement slots
     (Some (AssignOf index place (ToVariable at target) (ValueOf begin value))) step e =
     same_shape program _ step e (shape_assigns program statement slots target (expression_result program slots value))
+shape_executes program statement slots (Some (DoOf index place (ValueOf begin value))) step e =
+    same_shape program _ step e (shape_does program statement slots (expression_result program slots value))
 shape_executes program statement slots (Some (PrintOf index place text)) step e =
     same_shape program _ step e (shape_prints program statement slots (expression_result program slots text))
 shape_executes program statement slots (Some _) step e = shape_ends program statement slots step e
@@ -165,6 +175,7 @@ executes_some program statement slots None h = h
 executes_some program statement slots
     (Some (DeclareOf index place type at target (SomeSide (ValueOf begin value)))) h = h
 executes_some program statement slots (Some (AssignOf index place (ToVariable at target) (ValueOf begin value))) h = h
+executes_some program statement slots (Some (DoOf index place (ValueOf begin value))) h = h
 executes_some program statement slots (Some (PrintOf index place text)) h = h
 executes_some program statement slots (Some _) h = h
 

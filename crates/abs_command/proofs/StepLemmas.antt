@@ -24,7 +24,7 @@ use Rattle.abs_tree.specs.declared.syntax.statement.Stmt.{Stmt}
 use Rattle.abs_tree.specs.declared.syntax.statement.RightSide.TheVariants as code_side
 use Rattle.abs_tree.specs.declared.syntax.statement.RightSide.{RightSide}
 use Rattle.abs_tree.specs.declared.syntax.statement.Target.{Target}
-use Rattle.abs_tree.specs.Syntax.{Name, VariableTree, Unresolved, AtSlot, AtBound, AtField, ValueOf, ToVariable, SomeSide, Statement, PrintOf, DeclareOf, AssignOf, ProgramTree}
+use Rattle.abs_tree.specs.Syntax.{Name, Phrase, VariableTree, Unresolved, AtSlot, AtBound, AtField, ValueOf, ToVariable, SomeSide, Statement, PrintOf, DeclareOf, AssignOf, DoOf, ProgramTree}
 use Rattle.abs_tree.specs.SyntaxViews.{variable_tree, phrase, side_tree, statement, statements}
 use Rattle.abs_command.specs.declared.runtime.config.Cog.{Cog}
 use Rattle.abs_command.specs.declared.runtime.config.Frame.{Frame}
@@ -32,7 +32,7 @@ use Rattle.abs_command.specs.declared.runtime.config.State.{State}
 use Rattle.abs_command.specs.declared.runtime.config.State.TheVariants.{Ready, Running}
 use Rattle.abs_command.specs.declared.runtime.config.TaskCell.{TaskCell}
 use Rattle.abs_command.specs.declared.runtime.config.Config.{Config}
-use Rattle.abs_command.specs.Events.{Change, listed, ended_change, continued_change, take_change, expression_result, assign_change, print_change, statement_change, body_change, running_change, slots_of, change_by_state, change_by_outcome, task_change, change_of, with_holder, step_of, event_of, Steps, Makes}
+use Rattle.abs_command.specs.Events.{Change, listed, ended_change, continued_change, take_change, expression_result, assign_change, do_change, print_change, statement_change, body_change, running_change, slots_of, change_by_state, change_by_outcome, task_change, change_of, with_holder, step_of, event_of, Steps, Makes}
 use Rattle.abs_command.proofs.BlockLemmas.{listed_get}
 
 -- a value that a test lets through is a choice between it and nothing
@@ -74,6 +74,7 @@ is_some_statement program number task at slots
     (Some (DeclareOf index place type begin target (SomeSide (ValueOf from value)))) = refl
 is_some_statement program number task at slots
     (Some (AssignOf index place (ToVariable begin target) (ValueOf from value))) = refl
+is_some_statement program number task at slots (Some (DoOf index place (ValueOf from value))) = refl
 is_some_statement program number task at slots (Some (PrintOf index place value)) = refl
 is_some_statement program number task at slots (Some _) = refl
 
@@ -151,6 +152,12 @@ assign_cog program number task at slots (AtBound depth) (Gives value) = refl
 assign_cog program number task at slots (AtField field) (Gives value) = refl
 assign_cog program number task at slots target (Fails cause) = refl
 
+-- an expression keeps the cog of its task
+do_cog : (program : ProgramTree) (number : ℕ) (task : TaskCell) (at : ℕ) (slots : List ValueTree) (found : Result)
+    → (do_change program number task at slots found).task.cog ≡ task.cog
+do_cog program number task at slots (Gives value) = refl
+do_cog program number task at slots (Fails cause) = refl
+
 -- a print keeps the cog of its task
 print_cog : (program : ProgramTree) (number : ℕ) (task : TaskCell) (at : ℕ) (slots : List ValueTree) (found : Result)
     → (print_change program number task at slots found).task.cog ≡ task.cog
@@ -177,6 +184,8 @@ statement_cog program number task at slots
 statement_cog program number task at slots (Some (AssignOf index place (ToVariable begin target) (ValueOf from value)))
     made e =
     same_cog _ made task.cog e (assign_cog program number task at slots target (expression_result program slots value))
+statement_cog program number task at slots (Some (DoOf index place (ValueOf from value))) made e =
+    same_cog _ made task.cog e (do_cog program number task at slots (expression_result program slots value))
 statement_cog program number task at slots (Some (PrintOf index place value)) made e =
     same_cog _ made task.cog e (print_cog program number task at slots (expression_result program slots value))
 statement_cog program number task at slots (Some _) made e =
@@ -329,17 +338,14 @@ slots_here : (frames : List Frame) (frame : Frame) → length frames ≡ 1 → f
     → slots_of frames ≡ frame.slots
 slots_here frames frame one is = ap slots_of (one_item frames frame one is)
 
--- the result of an expression in memory is that of its tree, for the slots of the one body
-pub found_here : (program : ProgramTree) (names : List Name) (frames : List Frame) (frame : Frame)
-    (slots : List ValueTree) (expr other : Expr) (found : Result)
-    → length frames ≡ 1 → frame ≡ get_or frames 0 frame → slots ≡ frame.slots → expr ≡ other
-    → found ≡ expression_result program slots (phrase names expr)
-    → found ≡ expression_result program (slots_of frames) (phrase names other)
-found_here program names frames frame slots expr other found one is slots_are same found_is =
+-- the result of an expression over the slots of the one body in memory
+pub result_here : (program : ProgramTree) (frames : List Frame) (frame : Frame) (slots : List ValueTree) (tree : Phrase)
+    (found : Result)
+    → length frames ≡ 1 → frame ≡ get_or frames 0 frame → slots ≡ frame.slots → found ≡ expression_result program slots tree
+    → found ≡ expression_result program (slots_of frames) tree
+result_here program frames frame slots tree found one is slots_are found_is =
     found_is
-    ∙ (ap (λ (s : List ValueTree). expression_result program s (phrase names expr))
-    (slots_are ∙ sym (slots_here frames frame one is))
-    ∙ ap (λ (e : Expr). expression_result program (slots_of frames) (phrase names e)) same)
+    ∙ ap (λ (s : List ValueTree). expression_result program s tree) (slots_are ∙ sym (slots_here frames frame one is))
 
 -- a declaration in memory makes the change of the assignment with its right side
 declare_as_assign : (program : ProgramTree) (number : ℕ) (task : TaskCell) (at : ℕ) (slots : List ValueTree)
@@ -409,6 +415,17 @@ side_runs program number task at slots names index place begin target side from 
     (Some (AssignOf index place (ToVariable begin target) (side_tree names s)))) is
     ∙ ap (λ (e : Result). Some (assign_change program number task at slots target e)) (sym found_is)
 
+-- an expression in memory that is a statement makes the change for its result
+pub expression_runs : (program : ProgramTree) (number : ℕ) (task : TaskCell) (at : ℕ) (slots : List ValueTree)
+    (names : List Name) (index : ℕ) (place : Place) (side : RightSide) (from : Place) (value : Arc Expr Global)
+    (found : Result)
+    → side ≡ code_side.Value from value → found ≡ expression_result program slots (phrase names value.value)
+    → statement_change program number task at slots (Some (DoOf index place (side_tree names side)))
+    ≡ Some (do_change program number task at slots found)
+expression_runs program number task at slots names index place side from value found is found_is =
+    ap (λ (s : RightSide). statement_change program number task at slots (Some (DoOf index place (side_tree names s)))) is
+    ∙ ap (λ (e : Result). Some (do_change program number task at slots e)) (sym found_is)
+
 -- an unsupported statement in memory ends the task
 pub others_end : (program : ProgramTree) (number : ℕ) (task : TaskCell) (at : ℕ) (slots : List ValueTree)
     (names : List Name) (item : Stmt)
@@ -416,19 +433,20 @@ pub others_end : (program : ProgramTree) (number : ℕ) (task : TaskCell) (at : 
     → item ≡ code_stmt.Declare index place type begin variable initial → ⊥)
     → ((index : ℕ) (place : Place) (target : Target) (side : RightSide)
     → item ≡ code_stmt.Assign index place target side → ⊥)
+    → ((index : ℕ) (place : Place) (side : RightSide) → item ≡ code_stmt.Do index place side → ⊥)
     → ((index : ℕ) (place : Place) (value : Arc Expr Global) → item ≡ code_stmt.Print index place value → ⊥)
     → statement_change program number task at slots (Some (statement names item))
     ≡ Some (ended_change task (Bad fault.Mistyped))
-others_end program number task at slots names (code_stmt.Block' place shape block) d a p = refl
-others_end program number task at slots names (code_stmt.Skip index place) d a p = refl
-others_end program number task at slots names (code_stmt.Suspend index place) d a p = refl
-others_end program number task at slots names (code_stmt.Await index place guard) d a p = refl
-others_end program number task at slots names (code_stmt.Return index place value) d a p = refl
-others_end program number task at slots names (code_stmt.Print index place value) d a p = absurd (p _ _ _ refl)
-others_end program number task at slots names (code_stmt.If' index place test shape first second) d a p = refl
-others_end program number task at slots names (code_stmt.While' index place test shape body) d a p = refl
-others_end program number task at slots names (code_stmt.Declare index place type begin variable initial) d a p =
+others_end program number task at slots names (code_stmt.Block' place shape block) d a e p = refl
+others_end program number task at slots names (code_stmt.Skip index place) d a e p = refl
+others_end program number task at slots names (code_stmt.Suspend index place) d a e p = refl
+others_end program number task at slots names (code_stmt.Await index place guard) d a e p = refl
+others_end program number task at slots names (code_stmt.Return index place value) d a e p = refl
+others_end program number task at slots names (code_stmt.Print index place value) d a e p = absurd (p _ _ _ refl)
+others_end program number task at slots names (code_stmt.If' index place test shape first second) d a e p = refl
+others_end program number task at slots names (code_stmt.While' index place test shape body) d a e p = refl
+others_end program number task at slots names (code_stmt.Declare index place type begin variable initial) d a e p =
     absurd (d _ _ _ _ _ _ refl)
-others_end program number task at slots names (code_stmt.Assign index place target side) d a p =
+others_end program number task at slots names (code_stmt.Assign index place target side) d a e p =
     absurd (a _ _ _ _ refl)
-others_end program number task at slots names (code_stmt.Do index place side) d a p = refl
+others_end program number task at slots names (code_stmt.Do index place side) d a e p = absurd (e _ _ _ refl)

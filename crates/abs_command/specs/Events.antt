@@ -6,14 +6,14 @@
 --   `Step`, `Change`                       what an event leads to, and what it changes
 --   `change_of`, `change_by_state`                the change of a task: take, or what its body does
 --   `expression_result`                    the result of an expression of the main block
---   `statement_change`, `assign_change`, `print_change`        the change of a statement
+--   `statement_change`, `assign_change`, `do_change`, `print_change`   the change of a statement
 --   `Steps`, `Makes`, `slots_of`           what contracts of the code say of events; they serve proofs only
 use Rattle.std.specs.Prelude.{◌≡◌, ℕ, ◌+◌, nat_lt, if◌then◌else◌, List, [], ◌∷◌, ◌++◌, set, length, slice_get, Option, Some, None}
 use Rattle.std.specs.Option.{option_map}
 use Rattle.abs_tree.specs.Evaluation.{result_of}
 use Rattle.abs_tree.specs.Results.{Result, Gives, Fails}
 use Rattle.abs_tree.specs.Scopes.{library_of, own_scope}
-use Rattle.abs_tree.specs.Syntax.{VariableTree, AtSlot, Phrase, ValueOf, ToVariable, SomeSide, Statement, PrintOf, DeclareOf, AssignOf, Statements, NoStatement, NextStatement, ProgramTree}
+use Rattle.abs_tree.specs.Syntax.{VariableTree, AtSlot, Phrase, ValueOf, ToVariable, SomeSide, Statement, PrintOf, DeclareOf, AssignOf, DoOf, Statements, NoStatement, NextStatement, ProgramTree}
 use Rattle.abs_tree.specs.ValueTrees.{ValueTree, StringValue}
 use Rattle.abs_tree.specs.declared.evaluated.Evaluated.{Evaluated}
 use Rattle.abs_tree.specs.declared.evaluated.Evaluated.TheVariants.{Good, Bad}
@@ -86,6 +86,12 @@ assign_change program number task statement slots (AtSlot slot) (Gives value) =
 assign_change program number task statement slots _ (Gives value) = ended_change task (Bad fault.Mistyped)
 assign_change program number task statement slots target (Fails cause) = ended_change task (Bad cause)
 
+-- do: the value of an expression goes nowhere. A fault ends the task
+abbrev pub do_change : ProgramTree → ℕ → TaskCell → ℕ → List ValueTree → Result → Change
+do_change program number task statement slots (Gives value) =
+    continued_change program number task statement slots []
+do_change program number task statement slots (Fails cause) = ended_change task (Bad cause)
+
 -- print: a string is one line; any other value and a fault end the task
 abbrev pub print_change : ProgramTree → ℕ → TaskCell → ℕ → List ValueTree → Result → Change
 print_change program number task statement slots (Gives (StringValue text)) =
@@ -106,6 +112,8 @@ statement_change program number task statement slots
 statement_change program number task statement slots
     (Some (AssignOf index place (ToVariable at target) (ValueOf begin value))) =
     Some (assign_change program number task statement slots target (expression_result program slots value))
+statement_change program number task statement slots (Some (DoOf index place (ValueOf begin value))) =
+    Some (do_change program number task statement slots (expression_result program slots value))
 statement_change program number task statement slots (Some (PrintOf index place value)) =
     Some (print_change program number task statement slots (expression_result program slots value))
 statement_change program number task statement slots (Some _) = Some (ended_change task (Bad fault.Mistyped))

@@ -1,6 +1,5 @@
 pub mod Analysis
 pub mod Bytes
-pub mod Evaluated
 pub mod Events
 pub mod FrameCodes
 pub mod Machine

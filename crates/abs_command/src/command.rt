@@ -8,7 +8,6 @@ ghost use Rattle.abs_command.specs.Promises.{Promises, SourceView, source_view, 
 ghost use Rattle.abs_command.specs.Sources.{IsProgramOf, FirstOffence};
 ghost use Rattle.abs_command.specs.Statuses.{status_of as status_for, main_failed as main_failed_in};
 ghost use Rattle.abs_command.specs.Taking.{Delivers, TookWhole, TookSome, SourceFailed};
-ghost use Rattle.abs_command.specs.Unsupported.{unsupported};
 ghost use Rattle.abs_command.specs.Words.{spelled, Names, AreCommandWords};
 
 use crate::analysis::report::Report;
@@ -258,7 +257,6 @@ fn answer_program<K: Sink>(
     program: &Named<'_>,
     sink: &mut K,
 ) -> Result<Ended, AllocError>
-    requires { unsupported (program_tree program.now).source ≡ None }
     ensures answered { IfOk result (λ ended. (words : List (List ℕ)) (bytes : List ℕ) (source source' : SourceView)
         → AreCommandWords words
         → IsAccepted bytes (program_tree program.now) → Answer words bytes source source'

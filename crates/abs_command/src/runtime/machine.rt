@@ -5,7 +5,6 @@ ghost use Rattle.abs_tree.specs.Syntax.{ProgramTree};
 ghost use Rattle.abs_command.specs.Events.{event_of};
 ghost use Rattle.abs_command.specs.Runs.{first as first_of, IsDone, IsOpen, HasStep, NeverStuck};
 ghost use Rattle.abs_command.specs.Machine.{IsRun, Settles};
-ghost use Rattle.abs_command.specs.Unsupported.{unsupported};
 
 use crate::runtime::config::{Cog, Cogs, Config, Frame, Frames, Lines, State, TaskCell, Tasks};
 use crate::runtime::history::History;
@@ -33,12 +32,11 @@ pub struct Ran {
     pub end: End,
 }
 
-/// Runs a supported program for at most `steps` events.
+/// Runs a program for at most `steps` events.
 ///
 /// # Errors
 /// [`AllocError`] where memory runs out.
 pub fn run(alloc: Global, program: &Named<'_>, steps: u64) -> Result<Ran, AllocError>
-    requires { unsupported (program_tree program.now).source ≡ None }
     ensures { IfOk result (λ ran. IsRun (program_tree program.now) steps ran) }
 {
     let mut config = first(alloc, program)?;

@@ -2,16 +2,15 @@
 ghost use Rattle.std.specs.Prelude.{◌≡◌, ◌<◌, ℕ, List, length, Option, slice_get, Some, None, IsTrue, IsSome, ◌↔◌, IfOk, OnOk, OnErr};
 ghost use Rattle.abs_tree.specs.SourceViews.{program_tree};
 ghost use Rattle.abs_tree.specs.Results.{Result as ResultTree, result_tree};
-ghost use Rattle.abs_tree.specs.Syntax.{AssignOf, ToVariable};
-ghost use Rattle.abs_tree.specs.SyntaxViews.{side_tree, variable_tree};
+ghost use Rattle.abs_tree.specs.Syntax.{AssignOf, DoOf, ToVariable};
+ghost use Rattle.abs_tree.specs.SyntaxViews.{phrase, side_tree, variable_tree};
 ghost use Rattle.abs_tree.specs.declared.place.Place.{Place};
-ghost use Rattle.abs_command.specs.Events.{listed, take_change, ended_change, assign_change, print_change, statement_change, slots_of, body_change, running_change, change_by_state, event_of, with_holder, statement_after, Steps, Makes};
-ghost use Rattle.abs_command.specs.Unsupported.{unsupported, unsupported_statements, unsupported_side};
+ghost use Rattle.abs_command.specs.Events.{listed, take_change, ended_change, assign_change, do_change, expression_result, print_change, statement_change, slots_of, body_change, running_change, change_by_state, event_of, with_holder, statement_after, Steps, Makes};
 ghost use Rattle.abs_command.specs.declared.runtime.config.TaskCell.{TaskCell};
 
 use crate::runtime::config::{Cog, Config, Lines, State, TaskCell};
-use crate::runtime::evaluator;
-use abs_tree::{Evaluated, Fault, Named, RightSide, Stmt, Target, Text, Value, Variable};
+use abs_tree::{Evaluated, Expr, Fault, Named, RightSide, Stmt, Target, Text, Value, Variable};
+use fun_eval::{Scope, eval_in};
 use std::alloc::{AllocError, Global};
 
 /// Whether a task has an event.
@@ -67,7 +66,6 @@ pub fn step(
     lines: &mut Lines,
 ) -> Result<(), AllocError>
     requires event { IsSome (event_of (program_tree program.now) config.old task) }
-    requires supported { unsupported_statements (program_tree program.now).source.main ≡ None }
     ensures ok { OnOk result (Steps (program_tree program.now) config.old task config.new lines.old lines.new) }
     ensures config_err { OnErr result (config.new ≡ config.old) }
     ensures lines_err { OnErr result (lines.new ≡ lines.old) }
@@ -90,7 +88,6 @@ fn advance(
     lines: &mut Lines,
 ) -> Result<Option<u32>, AllocError>
     requires change { IsSome (change_by_state (program_tree program.now) cogs.now task cell.old cell.old.state) }
-    requires supported { unsupported_statements (program_tree program.now).source.main ≡ None }
     ensures ok { IfOk result (λ holder. Makes (change_by_state
         (program_tree program.now) cogs.now task cell.old cell.old.state) cell.new holder lines.old lines.new) }
     ensures cell_err { OnErr result (cell.new ≡ cell.old) }
@@ -114,7 +111,6 @@ fn run_body(
     lines: &mut Lines,
 ) -> Result<Option<u32>, AllocError>
     requires change { IsSome (running_change (program_tree program.now) task cell.old cell.old.frames) }
-    requires supported { unsupported_statements (program_tree program.now).source.main ≡ None }
     ensures ok { IfOk result (λ holder. Makes (running_change
         (program_tree program.now) task cell.old cell.old.frames) cell.new holder lines.old lines.new) }
     ensures cell_err { OnErr result (cell.new ≡ cell.old) }
@@ -136,7 +132,6 @@ fn execute(
     statement: u32,
     lines: &mut Lines,
 ) -> Result<Option<u32>, AllocError>
-    requires supported { unsupported_statements (program_tree program.now).source.main ≡ None }
     requires body { length cell.old.frames ≡ 1 }
     requires statement { statement < length program.now.main.statements.items }
     ensures ok { IfOk result (λ holder. Makes (statement_change (program_tree program.now) task cell.old statement
@@ -166,9 +161,9 @@ fn execute(
                 Ok(None)
             }
         },
+        Stmt::Do { side, .. } => discard(alloc, program, task, cell, statement, side),
         Stmt::Print { value, .. } => {
-            let slots = cell.frames.items[0].slots.as_slice();
-            let found = evaluator::string_of(alloc, &program.symbols, slots, value)?;
+            let found = result_of(alloc, program, cell, value)?;
             print(program, task, cell, statement, found, lines)
         }
         _ => {
@@ -188,7 +183,6 @@ fn store(
     target: Variable,
     side: &RightSide,
 ) -> Result<Option<u32>, AllocError>
-    requires supported { unsupported_side (side_tree program.now.symbols side.now) ≡ None }
     requires body { length cell.old.frames ≡ 1 }
     requires statement { statement < length program.now.main.statements.items }
     ensures ok { IfOk result (λ holder. (index : ℕ) (place at : Place) (lines : List (List ℕ))
@@ -199,8 +193,7 @@ fn store(
 {
     match side {
         RightSide::Value(_, value) => {
-            let slots = cell.frames.items[0].slots.as_slice();
-            let found = evaluator::eval(alloc, &program.symbols, slots, value)?;
+            let found = result_of(alloc, program, cell, value)?;
             assign(program, task, cell, statement, target, found)
         }
         _ => {
@@ -208,6 +201,49 @@ fn store(
             Ok(None)
         }
     }
+}
+
+/// The same for a task at a right side that is a statement of its own. It prints nothing.
+fn discard(
+    alloc: Global,
+    program: &Named<'_>,
+    task: u32,
+    cell: &mut TaskCell,
+    statement: u32,
+    side: &RightSide,
+) -> Result<Option<u32>, AllocError>
+    requires body { length cell.old.frames ≡ 1 }
+    requires statement { statement < length program.now.main.statements.items }
+    ensures ok { IfOk result (λ holder. (index : ℕ) (place : Place) (lines : List (List ℕ))
+        → Makes (statement_change (program_tree program.now) task cell.old statement (slots_of cell.old.frames)
+        (Some (DoOf index place (side_tree program.now.symbols side.now)))) cell.new holder lines lines) }
+    ensures cell_err { OnErr result (cell.new ≡ cell.old) }
+{
+    match side {
+        RightSide::Value(_, value) => {
+            let found = result_of(alloc, program, cell, value)?;
+            pass(program, task, cell, statement, found)
+        }
+        _ => {
+            finish(cell, Evaluated::Bad(Fault::Mistyped));
+            Ok(None)
+        }
+    }
+}
+
+/// The result of an expression, over the slots of the task's one body.
+fn result_of(
+    alloc: Global,
+    program: &Named<'_>,
+    cell: &TaskCell,
+    expr: &Expr,
+) -> Result<Evaluated, AllocError>
+    requires body { length cell.now.frames ≡ 1 }
+    ensures { IfOk result (λ found. result_tree found ≡ expression_result (program_tree program.now)
+        (slots_of cell.now.frames) (phrase program.now.symbols expr.now)) }
+{
+    let slots = cell.frames.items[0].slots.as_slice();
+    eval_in(alloc, program, Scope::of_values(slots), expr)
 }
 
 /// The same for a task at a declaration or an assignment, with the result of its expression. It prints nothing.
@@ -243,6 +279,33 @@ fn assign(
         }
         _ => {
             finish(cell, Evaluated::Bad(Fault::Mistyped));
+            Ok(None)
+        }
+    }
+}
+
+/// The same for a task at an expression that is a statement of its own, with its result. It prints nothing.
+fn pass(
+    program: &Named<'_>,
+    task: u32,
+    cell: &mut TaskCell,
+    statement: u32,
+    found: Evaluated,
+) -> Result<Option<u32>, AllocError>
+    requires body { length cell.old.frames ≡ 1 }
+    requires statement { statement < length program.now.main.statements.items }
+    ensures ok { IfOk result (λ holder. (lines : List (List ℕ))
+        → Makes (Some (do_change (program_tree program.now) task cell.old statement (slots_of cell.old.frames)
+        (result_tree found))) cell.new holder lines lines) }
+    ensures cell_err { OnErr result (cell.new ≡ cell.old) }
+{
+    match found {
+        Evaluated::Good(_) => {
+            cell.frames.items[0].next = following(program, statement)?;
+            Ok(Some(task))
+        }
+        Evaluated::Bad(fault) => {
+            finish(cell, Evaluated::Bad(fault));
             Ok(None)
         }
     }

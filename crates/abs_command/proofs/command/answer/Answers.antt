@@ -20,9 +20,6 @@ returns-then-bytes-gt-SOURCE_LIMIT-clause-answered g c = λ words source source'
       printed = c.as_bytes.ensures.value;
     })) (appends_nothing _) c.deliver.ensures.delivered (λ rose. rose)
 
-pub answer_program-requires : goal.answer_program-requires
-answer_program-requires g c = rw c.named.ensures.program c.in-Ok.ensures.found.runs
-
 pub returns-in-Ok-clause-answered : goal.returns-in-Ok-clause-answered
 returns-in-Ok-clause-answered g c = ok_follows c.answer_program.result c.answer_program.ensures.answered
     (λ ended answer words source source' named.

@@ -1,8 +1,9 @@
-use Rattle.std.proofs.Common.{◌≡◌, Option, None, get_or, map, refl, ap, ◌∙◌}
+use Rattle.std.proofs.Common.{Option, None, refl, ap, ◌∙◌}
 use Rattle.std.proofs.lemmas.Result.{IfOk-weaker}
 use Rattle.abs_tree.specs.Results.{result_tree}
 use Rattle.abs_tree.specs.SourceViews.{program_tree}
-use Rattle.abs_tree.specs.ValueViews.{value_tree}
+use Rattle.abs_tree.specs.SyntaxViews.{phrase}
+use Rattle.abs_tree.specs.declared.syntax.expression.Expr.{Expr}
 use Rattle.abs_tree.specs.declared.syntax.statement.RightSide.{RightSide}
 use Rattle.abs_tree.specs.declared.syntax.statement.Stmt as code_stmt
 use Rattle.abs_tree.specs.declared.syntax.statement.Stmt.{Stmt}
@@ -10,35 +11,9 @@ use Rattle.abs_tree.specs.declared.syntax.statement.Target.{Target}
 use Rattle.abs_tree.specs.declared.syntax.statement.Target.TheVariants as code_target
 use Rattle.abs_tree.specs.declared.evaluated.Evaluated.TheVariants.{Bad}
 use Rattle.abs_tree.specs.declared.evaluated.Fault.TheVariants as fault
-use Rattle.abs_command.specs.declared.runtime.config.TaskCell.{TaskCell}
-use Rattle.abs_command.specs.Events.{slots_of}
-use Rattle.abs_command.proofs.SupportedLemmas.{declared_supported, assigned_supported, printed_supported}
-use Rattle.abs_command.proofs.StepLemmas.{makes_same, makes_end, found_here, print_runs, declare_runs, item_runs, others_end}
+use Rattle.abs_command.specs.Events.{expression_result, slots_of}
+use Rattle.abs_command.proofs.StepLemmas.{makes_same, makes_end, print_runs, declare_runs, item_runs, others_end}
 use Rattle.abs_command.proofs.runtime.step.execute.Goals as goal
-
-pub store-requires-clause-supported : goal.store-requires-clause-supported
-store-requires-clause-supported c =
-    let d = c.in-Declare in
-    declared_supported c.args.program.now.symbols c.args.program.now.main.statements.items c.args.statement
-    c.index.result.now d.index d.place d.type_of d.variable_place d.variable c.in-Some.side c.requires.statement
-    c.index.ensures
-    (d.is ∙ ap (λ (o : Option RightSide). code_stmt.Declare d.index d.place d.type_of d.variable_place d.variable o)
-    c.in-Some.is) c.requires.supported
-
-pub store-requires-in-Variable-clause-supported : goal.store-requires-in-Variable-clause-supported
-store-requires-in-Variable-clause-supported c =
-    let a = c.in-Assign in
-    assigned_supported c.args.program.now.symbols c.args.program.now.main.statements.items c.args.statement
-    c.index.result.now a.index a.place c.in-Variable.field-0 c.in-Variable.variable a.side c.requires.statement
-    c.index.ensures (a.is ∙ ap (λ (t : Target). code_stmt.Assign a.index a.place t a.side) c.in-Variable.is)
-    c.requires.supported
-
-pub string_of-requires : goal.string_of-requires
-string_of-requires c =
-    let p = c.in-Print in
-    rw c.deref.ensures
-    (printed_supported c.args.program.now.symbols c.args.program.now.main.statements.items c.args.statement
-    c.index.result.now p.index p.place p.value c.requires.statement c.index.ensures p.is c.requires.supported)
 
 pub returns-in-Some-clause-ok : goal.returns-in-Some-clause-ok
 returns-in-Some-clause-ok c =
@@ -90,23 +65,30 @@ returns-in-Field-clause-ok c =
     (makes_end c.args.cell.now c.finish-in-Field.new.cell (Bad fault.Mistyped) c.args.lines.now
     c.finish-in-Field.ensures)
 
+pub returns-in-Do-clause-ok : goal.returns-in-Do-clause-ok
+returns-in-Do-clause-ok c =
+    let d = c.in-Do in
+    IfOk-weaker c.discard.result _ _
+    (λ holder made.
+    makes_same (item_runs (program_tree c.args.program.now) c.args.task c.args.cell.now c.args.statement
+    (slots_of c.args.cell.now.frames) c.args.program.now.symbols c.args.program.now.main.statements.items
+    c.index.result.now (code_stmt.Do d.index d.place d.side) c.requires.statement c.index.ensures d.is)
+    (made d.index d.place c.args.lines.now))
+    c.discard.ensures.ok
+
 pub returns-in_ok-found-in-Print-clause-ok : goal.returns-in_ok-found-in-Print-clause-ok
 returns-in_ok-found-in-Print-clause-ok c =
     let names = c.args.program.now.symbols in
-    let frames = c.args.cell.now.frames in
-    let frame = c.index-in-Print.result.now in
-    let there : frame ≡ get_or frames 0 frame =
-    c.index-in-Print.ensures ∙ ap (λ (t : TaskCell). get_or t.frames 0 frame) c.cell.view_is in
+    let p = c.in-Print in
+    let slots = slots_of c.args.cell.now.frames in
     let program = program_tree c.args.program.now in
-    let found = found_here program names frames frame (map value_tree c.as_slice-slots.result.now) c.deref.result.now
-    c.in-Print.value.value (result_tree c.in_ok-found-in-Print.found) c.requires.body there c.as_slice-slots.ensures
-    c.deref.ensures (c.in_ok-found-in-Print.ensures program refl) in
+    let found = c.in_ok-found-in-Print.ensures
+    ∙ ap (λ (e : Expr). expression_result program slots (phrase names e)) c.deref.ensures in
     IfOk-weaker c.print.result _ _
     (λ holder made.
-    makes_same (print_runs (program_tree c.args.program.now) c.args.task c.args.cell.now c.args.statement
-    (slots_of frames) names c.args.program.now.main.statements.items c.index.result.now c.in-Print.index
-    c.in-Print.place c.in-Print.value (result_tree c.in_ok-found-in-Print.found) c.requires.statement c.index.ensures
-    c.in-Print.is found) made)
+    makes_same (print_runs program c.args.task c.args.cell.now c.args.statement slots names
+    c.args.program.now.main.statements.items c.index.result.now p.index p.place p.value
+    (result_tree c.in_ok-found-in-Print.found) c.requires.statement c.index.ensures p.is found) made)
     c.print.ensures.ok
 
 pub returns-in_default-clause-ok : goal.returns-in_default-clause-ok
@@ -118,6 +100,7 @@ returns-in_default-clause-ok c =
     c.args.program.now.main.statements.items c.index.result.now c.index.result.now
     c.requires.statement c.index.ensures refl
     ∙ others_end (program_tree c.args.program.now) c.args.task c.args.cell.now c.args.statement slots names
-    c.index.result.now c.in_default.not-Declare c.in_default.not-Assign c.in_default.not-Print)
+    c.index.result.now c.in_default.not-Declare c.in_default.not-Assign c.in_default.not-Do
+    c.in_default.not-Print)
     (makes_end c.args.cell.now c.finish-in_default.new.cell (Bad fault.Mistyped) c.args.lines.now
     c.finish-in_default.ensures)
