@@ -428,3 +428,45 @@ control_of() {
         print last "=1;}"
     }'
 }
+
+# Prints a program that applies functions: `fib` of 27; `length` or `append` again and again, for a list of 600 numbers;
+# or `tail`, which takes 100 numbers off a list of 100 or of 4,990, again and again. The second argument is the number of
+# statements that do so.
+evaluation_of() {
+    awk -v name="$1" -v times="$2" 'BEGIN {
+        print "def Int fib(Int n) = if n < 2 then n else fib(n - 1) + fib(n - 2);"
+        print "def List<Int> made(Int n, List<Int> l) = if n == 0 then l else made(n - 1, Cons(n, l));"
+        print "def Int lengths(Int n, List<Int> l, Int m) = if n == 0 then m else lengths(n - 1, l, m + length(l));"
+        print "def Int all_lengths(Int n, List<Int> l) = if n == 0 then 0 else lengths(30, l, 0) + all_lengths(n - 1, l);"
+        print "def List<Int> appended(Int n, List<Int> l) = if n == 0 then l else appended(n - 1, append(l, Nil));"
+        print "def Int all_appended(Int n, List<Int> l) ="
+        print "  if n == 0 then 0 else head(appended(30, l)) + all_appended(n - 1, l);"
+        print "def List<Int> taken(Int n, List<Int> l) = if n == 0 then l else taken(n - 1, tail(l));"
+        print "def Int all_taken(Int n, List<Int> l) = if n == 0 then 0 else head(taken(99, l)) + all_taken(n - 1, l);"
+        print "{\n  List<Int> l = made(600, Nil);"
+        print "  List<Int> short = made(100, Nil);\n  List<Int> long = Nil;"
+        for (n = 1; n <= 5; n++) print "  long = made(998, long);"
+        call["tail_of_100"] = "all_taken(500, short)"; call["tail_of_4990"] = "all_taken(500, long)"
+        call["fib"] = "fib(27)"; call["length"] = "all_lengths(20, l)"; call["append"] = "all_appended(20, l)"
+        for (n = 1; n <= times; n++) print "  " call[name] ";"
+        print "}"
+    }'
+}
+
+# Prints the same for Python, where a list is nothing, or a pair of a number and a list.
+python_evaluation_of() {
+    awk -v name="$1" -v times="$2" 'BEGIN {
+        print "import sys\nsys.setrecursionlimit(10000)"
+        print "def fib(n): return n if n < 2 else fib(n - 1) + fib(n - 2)"
+        print "def made(n, l): return l if n == 0 else made(n - 1, (n, l))"
+        print "def length(l): return 0 if l is None else 1 + length(l[1])"
+        print "def append(l, m): return m if l is None else (l[0], append(l[1], m))"
+        print "def lengths(n, l, m): return m if n == 0 else lengths(n - 1, l, m + length(l))"
+        print "def all_lengths(n, l): return 0 if n == 0 else lengths(30, l, 0) + all_lengths(n - 1, l)"
+        print "def appended(n, l): return l if n == 0 else appended(n - 1, append(l, None))"
+        print "def all_appended(n, l): return 0 if n == 0 else appended(30, l)[0] + all_appended(n - 1, l)"
+        print "l = made(600, None)"
+        call["fib"] = "fib(27)"; call["length"] = "all_lengths(20, l)"; call["append"] = "all_appended(20, l)"
+        for (n = 1; n <= times; n++) print call[name]
+    }'
+}
