@@ -1,0 +1,9 @@
+pub mod Codes
+pub mod TaskCodes
+pub mod Configurations
+pub mod Views
+pub mod ConfigViews
+pub mod WellFormed
+pub mod Bodies
+pub mod OfProgram
+pub mod First
