@@ -1,0 +1,5 @@
+pub mod EachLemmas
+pub mod SpanLemmas
+pub mod BodyLemmas
+pub mod FirstLemmas
+pub mod StatementLemmas

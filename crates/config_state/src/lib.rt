@@ -5,6 +5,7 @@
 pub mod cog;
 pub mod config;
 pub mod frame;
+pub mod initial;
 pub mod lines;
 pub mod object;
 pub mod sharing;
@@ -13,6 +14,7 @@ pub mod task;
 pub use cog::{Cog, Cogs};
 pub use config::Config;
 pub use frame::{Frame, Frames, Target};
+pub use initial::first;
 pub use lines::Lines;
 pub use object::{ObjectCell, Objects};
 pub use sharing::configurations_are_shared;
