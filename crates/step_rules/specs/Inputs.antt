@@ -1,0 +1,84 @@
+-- The first two steps of an event: what is evaluated, and what that gives.
+--
+--   `scope_of`                         what the expressions of a frame can read
+--   `phrases_at`, `initials_at`        the expressions of a statement, and for `new` the initial values of fields
+--   `Input`, `input_of`                the input of a task: its scope and its expressions; none unless it runs
+--   `output_of`                        the output: what evaluation gives for an input
+use Rattle.std.specs.Prelude.{ℕ, List, [], ◌∷◌, slice_get, Option, Some, None}
+use Rattle.abs_tree.specs.Bodies.{ClassEntryTree}
+use Rattle.abs_tree.specs.Control.{Point}
+use Rattle.abs_tree.specs.Evaluation.{results_of}
+use Rattle.abs_tree.specs.Instructions.{EffectTree, Makes, phrases_of, effect_of}
+use Rattle.abs_tree.specs.Results.{Results}
+use Rattle.abs_tree.specs.Scopes.{Scope, library_of}
+use Rattle.abs_tree.specs.Syntax.{Phrases, NoPhrase, ProgramTree}
+use Rattle.config_state.specs.Bodies.{class_taking}
+use Rattle.config_state.specs.Configurations.{FrameState, TaskState, Configuration, object_at, fields_of}
+use Rattle.config_state.specs.OfProgram.{next_point}
+use Rattle.config_state.specs.declared.task.State.{State}
+use Rattle.config_state.specs.declared.task.State.TheVariants.{Ready, Running, Awaiting}
+
+-- what the expressions of a frame can read: its object, its slots, and the fields of its object
+abbrev pub scope_of : Configuration → FrameState → Scope
+scope_of config frame = record {
+  this = frame.object;
+  slots = frame.slots;
+  fields = fields_of (object_at config frame.object);
+  bound = [];
+}
+
+-- what a task evaluates for its event: the scope, the expressions of its next statement, and for `new` also the initial
+-- values of the fields of the class
+pub record Input : Type 0 where
+  pub scope : Scope
+  pub phrases : Phrases
+  pub initials : Phrases
+
+-- the expressions of a statement; none where no statement is left
+abbrev pub phrases_at : Option Point → Phrases
+phrases_at None = NoPhrase
+phrases_at (Some point) = phrases_of point.statement
+
+-- the initial values of the fields of a class, if there is that class
+abbrev pub initials_of : Option ClassEntryTree → Phrases
+initials_of None = NoPhrase
+initials_of (Some class) = class.initials
+
+-- those that a statement needs: for `new` those of its class
+abbrev pub initials_for : ProgramTree → EffectTree → Phrases
+initials_for program (Makes mode class target) = initials_of (class_taking program class)
+initials_for program _ = NoPhrase
+
+abbrev pub initials_at : ProgramTree → Option Point → Phrases
+initials_at program None = NoPhrase
+initials_at program (Some point) = initials_for program (effect_of point.statement)
+
+-- the input in a frame where nothing is evaluated
+abbrev pub idle_input : Configuration → FrameState → Input
+idle_input config frame = record { scope = scope_of config frame; phrases = NoPhrase; initials = NoPhrase }
+
+-- the input in the innermost frame of a task; only a task that runs evaluates something
+abbrev pub input_in : ProgramTree → Configuration → State → FrameState → Input
+input_in program config Running frame = record {
+  scope = scope_of config frame;
+  phrases = phrases_at (next_point program frame);
+  initials = initials_at program (next_point program frame);
+}
+input_in program config Ready frame = idle_input config frame
+input_in program config Awaiting frame = idle_input config frame
+
+abbrev pub input_with : ProgramTree → Configuration → State → List FrameState → Option Input
+input_with program config state [] = None
+input_with program config state (frame ∷ others) = Some (input_in program config state frame)
+
+abbrev pub input_of_task : ProgramTree → Configuration → Option TaskState → Option Input
+input_of_task program config None = None
+input_of_task program config (Some task) = input_with program config task.state task.frames
+
+-- the input of the task with an index, if it is there and has a frame
+unfoldable pub input_of : ProgramTree → Configuration → ℕ → Option Input
+input_of program config index = input_of_task program config (slice_get config.tasks index)
+
+-- the output for an input
+unfoldable pub output_of : ProgramTree → Input → Results
+output_of program input = results_of (library_of program) input.scope input.phrases input.initials

@@ -1,0 +1,16 @@
+pub mod Inputs
+pub mod Targets
+pub mod Changes
+pub mod Lookups
+pub mod LocalRows
+pub mod NewEntries
+pub mod ObjectRows
+pub mod WaitRows
+pub mod Events
+pub mod Runs
+pub mod RowParts
+pub mod FaultCauses
+pub mod Rows
+pub mod Stays
+pub mod Homes
+pub mod Blocked

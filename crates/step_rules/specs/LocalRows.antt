@@ -1,0 +1,119 @@
+-- The rows of the table whose events touch nothing but the frames of their task and the fields of its object. They are
+-- a function of these and of the output alone.
+--
+--   `Local`                        frames, fields and lines after such an event, or a fault
+--   `skip_row`, `store_row`        skip, assign
+--   `choose_row`, `print_row`      if and while, print
+--   `call_own_row`, `pop_row`      own call, return of an inner frame
+--   `local_row`                    the row of the next statement, if it is one of these
+use Rattle.std.specs.Prelude.{ℕ, Bool, true, List, [], ◌∷◌, length, slice_get, Option, Some, None, if◌then◌else◌, option_and_then}
+use Rattle.abs_tree.specs.Control.{Point, program_points}
+use Rattle.abs_tree.specs.Instructions.{EffectTree, Skips, Chooses, Returns, Prints, Clears, Stores, CallsOwn, effect_of}
+use Rattle.abs_tree.specs.Operations.{truth_of}
+use Rattle.abs_tree.specs.Results.{Results, AllGive, OneFails}
+use Rattle.abs_tree.specs.Syntax.{Name, VariableTree, ProgramTree}
+use Rattle.abs_tree.specs.ValueTrees.{ValueTree, StringValue, NullValue}
+use Rattle.abs_tree.specs.declared.evaluated.Fault.{Fault}
+use Rattle.abs_tree.specs.declared.evaluated.Fault.TheVariants as fault
+use Rattle.config_state.specs.Bodies.{BodyAt, entry_of_body}
+use Rattle.config_state.specs.Configurations.{FrameState}
+use Rattle.config_state.specs.First.{frame_for}
+use Rattle.step_rules.specs.Lookups.{successor, callable, unit_value, same_object}
+use Rattle.step_rules.specs.Targets.{Own, target_of, put, advanced}
+use Rattle.step_rules.specs.declared.kind.Did.{Did}
+use Rattle.step_rules.specs.declared.kind.Did.TheVariants as did
+
+-- what such an event leaves: frames and fields, what it printed, and its kind; or a fault
+pub data Local : Type 0 where
+  Leaves : (own : Own) (lines : List (List ℕ)) (kind : Did) → Local
+  Faults : (fault : Fault) → Local
+
+-- skip: nothing else changes
+abbrev pub skip_row : Option ℕ → FrameState → List FrameState → List ValueTree → Local
+skip_row next frame others fields = Leaves (advanced next frame others fields) [] did.Went
+
+-- assign: the value of a declaration, an assignment or an expression statement goes to its target
+abbrev pub store_row : Option VariableTree → Option ℕ → FrameState → List FrameState → List ValueTree
+    → List ValueTree → Local
+store_row target next frame others fields (value ∷ []) =
+    Leaves (put (target_of target) value next frame others fields) [] did.Went
+store_row target next frame others fields values = Faults fault.Mistyped
+
+-- if, while: control goes by the answer of the condition, which must be a Bool
+abbrev pub choose_by : (Bool → Option ℕ) → FrameState → List FrameState → List ValueTree → Option Bool → Local
+choose_by next frame others fields (Some answer) = Leaves (advanced (next answer) frame others fields) [] did.Went
+choose_by next frame others fields None = Faults fault.Mistyped
+
+abbrev pub choose_row : List Name → (Bool → Option ℕ) → FrameState → List FrameState → List ValueTree
+    → List ValueTree → Local
+choose_row names next frame others fields (value ∷ []) = choose_by next frame others fields (truth_of names value)
+choose_row names next frame others fields values = Faults fault.Mistyped
+
+-- print: the value, which must be a string, is a line
+abbrev pub print_row : Option ℕ → FrameState → List FrameState → List ValueTree → List ValueTree → Local
+print_row next frame others fields (StringValue string ∷ []) =
+    Leaves (advanced next frame others fields) (string ∷ []) did.Printed
+print_row next frame others fields values = Faults fault.Mistyped
+
+-- own call: a frame of the method is pushed, whose first slots are the arguments. There must be an object, and its
+-- class must have a method with this name and number of parameters
+abbrev pub push_row : Name → Option VariableTree → Option ℕ → FrameState → List FrameState → List ValueTree
+    → List ValueTree → Option BodyAt → Local
+push_row method target next frame others fields values (Some body) = Leaves (record {
+  frames = frame_for (entry_of_body body) (Some method) frame.object values (target_of target)
+      ∷ record frame { next = next } ∷ others;
+  fields = fields;
+}) [] did.Called
+push_row method target next frame others fields values None = Faults fault.Mistyped
+
+abbrev pub call_own_row : ProgramTree → Option Name → Name → Option VariableTree → Option ℕ → FrameState
+    → List FrameState → List ValueTree → List ValueTree → Local
+call_own_row program class method target next frame others fields values =
+    push_row method target next frame others fields values
+    (option_and_then (λ name. callable program name method (length values)) class)
+
+-- return of an inner frame to one of the same object: the frame is popped, and its value goes to its target
+abbrev pub pop_row : FrameState → List FrameState → List ValueTree → ValueTree → Option Local
+pop_row frame [] fields value = None
+pop_row frame (below ∷ others) fields value =
+    if same_object below.object frame.object
+    then Some (Leaves (put frame.target value below.next below others fields) [] did.Went)
+    else None
+
+abbrev pub return_row : FrameState → List FrameState → List ValueTree → List ValueTree → Option Local
+return_row frame others fields (value ∷ []) = pop_row frame others fields value
+return_row frame others fields values = Some (Faults fault.Mistyped)
+
+-- the row of a statement, if it is one of these
+abbrev pub statement_row : ProgramTree → Option Name → FrameState → List FrameState → List ValueTree → Point
+    → List ValueTree → EffectTree → Option Local
+statement_row program class frame others fields point values Skips =
+    Some (skip_row (successor point.goes true) frame others fields)
+statement_row program class frame others fields point values (Stores target) =
+    Some (store_row target (successor point.goes true) frame others fields values)
+statement_row program class frame others fields point values (Clears target) =
+    Some (store_row (Some target) (successor point.goes true) frame others fields (NullValue ∷ []))
+statement_row program class frame others fields point values Chooses =
+    Some (choose_row program.names (successor point.goes) frame others fields values)
+statement_row program class frame others fields point values Prints =
+    Some (print_row (successor point.goes true) frame others fields values)
+statement_row program class frame others fields point values (CallsOwn method target) =
+    Some (call_own_row program class method target (successor point.goes true) frame others fields values)
+statement_row program class frame others fields point values Returns = return_row frame others fields values
+statement_row program class frame others fields point values effect = None
+
+-- that of what is next in a frame: its next statement, or its end, where it returns `Unit`
+abbrev pub next_row : ProgramTree → Option Name → FrameState → List FrameState → List ValueTree → List ValueTree
+    → Option ℕ → Option Local
+next_row program class frame others fields values None = pop_row frame others fields (unit_value program.names)
+next_row program class frame others fields values (Some index) = option_and_then
+    (λ point. statement_row program class frame others fields point values (effect_of point.statement))
+    (slice_get (program_points program.source) index)
+
+-- the row of what a task does next, given the class of the object of its innermost frame, its frames with the fields of
+-- that object, and the output; a fault of the output is its fault
+unfoldable pub local_row : ProgramTree → Option Name → List FrameState → List ValueTree → Results → Option Local
+local_row program class [] fields results = None
+local_row program class (frame ∷ others) fields (OneFails cause) = Some (Faults cause)
+local_row program class (frame ∷ others) fields (AllGive values) =
+    next_row program class frame others fields values frame.next
