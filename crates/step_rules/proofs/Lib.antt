@@ -1,0 +1,5 @@
+pub mod ListLemmas
+pub mod AfterLemmas
+pub mod LocalRowLemmas
+pub mod RowLemmas
+pub mod StayLemmas

@@ -2,5 +2,7 @@
 #![tactic(auto)]
 
 pub mod kind;
+pub mod laws;
 
 pub use kind::{Did, End};
+pub use laws::{events_are_rows, events_leave_the_rest};

@@ -1,0 +1,37 @@
+//! Laws of the table of events, which hold whatever the code does.
+ghost use Rattle.std.specs.Prelude.{◌≡◌, ℕ, slice_get, Some};
+ghost use Rattle.abs_tree.specs.Syntax.{ProgramTree};
+ghost use Rattle.config_state.specs.Configurations.{ObjectState, TaskState, Configuration};
+ghost use Rattle.config_state.specs.declared.cog.Cog.{Cog};
+ghost use Rattle.step_rules.specs.Changes.{Change, Written, configuration_after};
+ghost use Rattle.step_rules.specs.Events.{change_of};
+ghost use Rattle.step_rules.specs.Homes.{IsHoused};
+ghost use Rattle.step_rules.specs.Rows.{Row};
+ghost use Rattle.step_rules.specs.Stays.{TaskAfter, ObjectAfter, CogAfter, Stays};
+
+/// Every event is one of the rows of the table.
+pub fn events_are_rows()
+    ensures { (program : ProgramTree) (config : Configuration) (index : ℕ) (change : Change)
+        → change_of program config index ≡ Some change → Row program config index change }
+{}
+
+/// An event changes its task, the holder of its cog and the fields of the object of one of its frames, and nothing else
+/// of what was there. That object is in its cog. It adds at most one cog, one object and one task, each at the end of
+/// its list. A result never changes.
+pub fn events_leave_the_rest()
+    ensures stays { (program : ProgramTree) (config : Configuration) (index : ℕ) (change : Change)
+        → change_of program config index ≡ Some change → Stays config index change }
+    ensures written { (program : ProgramTree) (config : Configuration) (index : ℕ) (change : Change) (written : Written)
+        → IsHoused program config → change_of program config index ≡ Some change → change.written ≡ Some written
+        → (object : ObjectState) × (slice_get config.objects written.object ≡ Some object)
+        × (object.cog ≡ change.task.cog) }
+    ensures tasks { (config : Configuration) (index : ℕ) (change : Change) (other : ℕ) (task : TaskState)
+        → slice_get (configuration_after config index change).tasks other ≡ Some task
+        → TaskAfter config index change other task }
+    ensures objects { (config : Configuration) (index : ℕ) (change : Change) (other : ℕ) (object : ObjectState)
+        → slice_get (configuration_after config index change).objects other ≡ Some object
+        → ObjectAfter config change other object }
+    ensures cogs { (config : Configuration) (index : ℕ) (change : Change) (other : ℕ) (cog : Cog)
+        → slice_get (configuration_after config index change).cogs other ≡ Some cog
+        → CogAfter config change other cog }
+{}
