@@ -3,3 +3,9 @@ pub mod AfterLemmas
 pub mod LocalRowLemmas
 pub mod RowLemmas
 pub mod StayLemmas
+pub mod OutputLemmas
+pub mod FrameLemmas
+pub mod FormedLemmas
+pub mod FormedPartLemmas
+pub mod FormedChangeLemmas
+pub mod FormedRowLemmas

@@ -3,8 +3,9 @@ ghost use Rattle.std.specs.Prelude.{◌≡◌, ℕ, slice_get, Some};
 ghost use Rattle.abs_tree.specs.Syntax.{ProgramTree};
 ghost use Rattle.config_state.specs.Configurations.{ObjectState, TaskState, Configuration};
 ghost use Rattle.config_state.specs.declared.cog.Cog.{Cog};
+ghost use Rattle.config_state.specs.WellFormed.{IsWellFormed};
 ghost use Rattle.step_rules.specs.Changes.{Change, Written, configuration_after};
-ghost use Rattle.step_rules.specs.Events.{change_of};
+ghost use Rattle.step_rules.specs.Events.{Step, change_of, event_of};
 ghost use Rattle.step_rules.specs.Homes.{IsHoused};
 ghost use Rattle.step_rules.specs.Rows.{Row};
 ghost use Rattle.step_rules.specs.Stays.{TaskAfter, ObjectAfter, CogAfter, Stays};
@@ -34,4 +35,10 @@ pub fn events_leave_the_rest()
     ensures cogs { (config : Configuration) (index : ℕ) (change : Change) (other : ℕ) (cog : Cog)
         → slice_get (configuration_after config index change).cogs other ≡ Some cog
         → CogAfter config change other cog }
+{}
+
+/// Each event of a well-formed configuration leads to one.
+pub fn events_keep_configurations()
+    ensures formed { (program : ProgramTree) (config : Configuration) (index : ℕ) (step : Step)
+        → IsWellFormed config → event_of program config index ≡ Some step → IsWellFormed step.config }
 {}

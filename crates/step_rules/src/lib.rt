@@ -5,4 +5,4 @@ pub mod kind;
 pub mod laws;
 
 pub use kind::{Did, End};
-pub use laws::{events_are_rows, events_leave_the_rest};
+pub use laws::{events_are_rows, events_keep_configurations, events_leave_the_rest};
