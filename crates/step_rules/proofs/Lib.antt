@@ -9,3 +9,8 @@ pub mod FormedLemmas
 pub mod FormedPartLemmas
 pub mod FormedChangeLemmas
 pub mod FormedRowLemmas
+pub mod GrowthLemmas
+pub mod UseLemmas
+pub mod KeepLemmas
+pub mod HouseLemmas
+pub mod ReachLemmas

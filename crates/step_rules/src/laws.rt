@@ -1,13 +1,16 @@
 //! Laws of the table of events, which hold whatever the code does.
 ghost use Rattle.std.specs.Prelude.{◌≡◌, ℕ, slice_get, Some};
 ghost use Rattle.abs_tree.specs.Syntax.{ProgramTree};
+ghost use Rattle.abs_tree.specs.Whole.{IsWhole};
 ghost use Rattle.config_state.specs.Configurations.{ObjectState, TaskState, Configuration};
 ghost use Rattle.config_state.specs.declared.cog.Cog.{Cog};
+ghost use Rattle.config_state.specs.OfProgram.{IsConfigOf};
 ghost use Rattle.config_state.specs.WellFormed.{IsWellFormed};
 ghost use Rattle.step_rules.specs.Changes.{Change, Written, configuration_after};
 ghost use Rattle.step_rules.specs.Events.{Step, change_of, event_of};
 ghost use Rattle.step_rules.specs.Homes.{IsHoused};
 ghost use Rattle.step_rules.specs.Rows.{Row};
+ghost use Rattle.step_rules.specs.Runs.{IsReachable};
 ghost use Rattle.step_rules.specs.Stays.{TaskAfter, ObjectAfter, CogAfter, Stays};
 
 /// Every event is one of the rows of the table.
@@ -37,8 +40,18 @@ pub fn events_leave_the_rest()
         → CogAfter config change other cog }
 {}
 
-/// Each event of a well-formed configuration leads to one.
+/// Each event of a well-formed configuration leads to one, and so does each event of a configuration of the program. So
+/// each configuration that a legal history reaches is both. It is also housed: objects were made by a `new` of their
+/// class at their place, each task runs on objects of its cog, and its outermost frame has its own object and method.
 pub fn events_keep_configurations()
     ensures formed { (program : ProgramTree) (config : Configuration) (index : ℕ) (step : Step)
         → IsWellFormed config → event_of program config index ≡ Some step → IsWellFormed step.config }
+    ensures of_program { (program : ProgramTree) (config : Configuration) (index : ℕ) (step : Step)
+        → IsWhole program.source → IsConfigOf program config → event_of program config index ≡ Some step
+        → IsConfigOf program step.config }
+    ensures housed { (program : ProgramTree) (config : Configuration) (index : ℕ) (step : Step)
+        → IsHoused program config → event_of program config index ≡ Some step → IsHoused program step.config }
+    ensures reachable { (program : ProgramTree) (config : Configuration) → IsWhole program.source
+        → IsReachable program config
+        → IsWellFormed config × IsConfigOf program config × IsHoused program config }
 {}
