@@ -14,3 +14,7 @@ pub mod UseLemmas
 pub mod KeepLemmas
 pub mod HouseLemmas
 pub mod ReachLemmas
+pub mod GetLemmas
+pub mod CauseLemmas
+pub mod BlockedLemmas
+pub mod HasStepLemmas

@@ -1,11 +1,13 @@
 //! Laws of the table of events, which hold whatever the code does.
-ghost use Rattle.std.specs.Prelude.{◌≡◌, ℕ, slice_get, Some};
+ghost use Rattle.std.specs.Prelude.{◌≡◌, ◌↔◌, ℕ, slice_get, Some, None, IsSome};
 ghost use Rattle.abs_tree.specs.Syntax.{ProgramTree};
 ghost use Rattle.abs_tree.specs.Whole.{IsWhole};
 ghost use Rattle.config_state.specs.Configurations.{ObjectState, TaskState, Configuration};
 ghost use Rattle.config_state.specs.declared.cog.Cog.{Cog};
+ghost use Rattle.config_state.specs.declared.task.State.TheVariants.{Ready, Running, Awaiting};
 ghost use Rattle.config_state.specs.OfProgram.{IsConfigOf};
 ghost use Rattle.config_state.specs.WellFormed.{IsWellFormed};
+ghost use Rattle.step_rules.specs.Blocked.{IsAtOpenGet, IsFree, AreResolved};
 ghost use Rattle.step_rules.specs.Changes.{Change, Written, configuration_after};
 ghost use Rattle.step_rules.specs.Events.{Step, change_of, event_of};
 ghost use Rattle.step_rules.specs.Homes.{IsHoused};
@@ -38,6 +40,24 @@ pub fn events_leave_the_rest()
     ensures cogs { (config : Configuration) (index : ℕ) (change : Change) (other : ℕ) (cog : Cog)
         → slice_get (configuration_after config index change).cogs other ≡ Some cog
         → CogAfter config change other cog }
+{}
+
+/// Who has an event. A task with a result has none. One that runs has none exactly where its next statement gets a
+/// future that is unresolved. A ready one has one exactly where nobody holds its cog, and an awaiting one exactly where
+/// besides all futures that it names are resolved.
+pub fn events_have_causes()
+    ensures ended { (program : ProgramTree) (config : Configuration) (index : ℕ) (task : TaskState)
+        → slice_get config.tasks index ≡ Some task → IsSome task.outcome → event_of program config index ≡ None }
+    ensures running { (program : ProgramTree) (config : Configuration) (index : ℕ) (task : TaskState)
+        → IsWellFormed config → IsConfigOf program config → slice_get config.tasks index ≡ Some task
+        → task.state ≡ Running → (event_of program config index ≡ None) ↔ IsAtOpenGet program config task }
+    ensures ready { (program : ProgramTree) (config : Configuration) (index : ℕ) (task : TaskState)
+        → IsWellFormed config → slice_get config.tasks index ≡ Some task → task.outcome ≡ None
+        → task.state ≡ Ready → IsSome (event_of program config index) ↔ IsFree config task.cog }
+    ensures awaiting { (program : ProgramTree) (config : Configuration) (index : ℕ) (task : TaskState)
+        → IsWellFormed config → IsConfigOf program config → slice_get config.tasks index ≡ Some task
+        → task.state ≡ Awaiting → IsSome (event_of program config index)
+        ↔ (IsFree config task.cog × AreResolved program config task) }
 {}
 
 /// Each event of a well-formed configuration leads to one, and so does each event of a configuration of the program. So

@@ -1,8 +1,12 @@
 //! The table of events: what each event of a task changes, and which tasks have one.
 #![tactic(auto)]
 
+pub mod enabled;
 pub mod kind;
 pub mod laws;
 
+pub use enabled::has_step;
 pub use kind::{Did, End};
-pub use laws::{events_are_rows, events_keep_configurations, events_leave_the_rest};
+pub use laws::{
+    events_are_rows, events_have_causes, events_keep_configurations, events_leave_the_rest,
+};
