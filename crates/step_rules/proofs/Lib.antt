@@ -18,3 +18,5 @@ pub mod GetLemmas
 pub mod CauseLemmas
 pub mod BlockedLemmas
 pub mod HasStepLemmas
+pub mod ApartLemmas
+pub mod ProgressLemmas

@@ -1,5 +1,5 @@
 //! Laws of the table of events, which hold whatever the code does.
-ghost use Rattle.std.specs.Prelude.{◌≡◌, ◌↔◌, ℕ, slice_get, Some, None, IsSome};
+ghost use Rattle.std.specs.Prelude.{◌≡◌, ◌≢◌, ◌↔◌, ℕ, slice_get, Some, None, IsSome};
 ghost use Rattle.abs_tree.specs.Syntax.{ProgramTree};
 ghost use Rattle.abs_tree.specs.Whole.{IsWhole};
 ghost use Rattle.config_state.specs.Configurations.{ObjectState, TaskState, Configuration};
@@ -7,12 +7,13 @@ ghost use Rattle.config_state.specs.declared.cog.Cog.{Cog};
 ghost use Rattle.config_state.specs.declared.task.State.TheVariants.{Ready, Running, Awaiting};
 ghost use Rattle.config_state.specs.OfProgram.{IsConfigOf};
 ghost use Rattle.config_state.specs.WellFormed.{IsWellFormed};
-ghost use Rattle.step_rules.specs.Blocked.{IsAtOpenGet, IsFree, AreResolved};
+ghost use Rattle.step_rules.specs.Blocked.{IsAtOpenGet, IsFree, AreResolved, NeverWaits};
 ghost use Rattle.step_rules.specs.Changes.{Change, Written, configuration_after};
 ghost use Rattle.step_rules.specs.Events.{Step, change_of, event_of};
 ghost use Rattle.step_rules.specs.Homes.{IsHoused};
+ghost use Rattle.step_rules.specs.Inputs.{input_of};
 ghost use Rattle.step_rules.specs.Rows.{Row};
-ghost use Rattle.step_rules.specs.Runs.{IsReachable};
+ghost use Rattle.step_rules.specs.Runs.{IsReachable, IsOpen, HasStep};
 ghost use Rattle.step_rules.specs.Stays.{TaskAfter, ObjectAfter, CogAfter, Stays};
 
 /// Every event is one of the rows of the table.
@@ -74,4 +75,27 @@ pub fn events_keep_configurations()
     ensures reachable { (program : ProgramTree) (config : Configuration) → IsWhole program.source
         → IsReachable program config
         → IsWellFormed config × IsConfigOf program config × IsHoused program config }
+{}
+
+/// An event of a task of another cog leaves the input of a task as it was, and an event that this task had it still
+/// has.
+pub fn events_stay_apart()
+    ensures input { (program : ProgramTree) (config : Configuration) (index other : ℕ) (step : Step)
+        (task moved : TaskState) → IsHoused program config → slice_get config.tasks index ≡ Some moved
+        → slice_get config.tasks other ≡ Some task → task.cog ≢ moved.cog
+        → event_of program config index ≡ Some step
+        → input_of program step.config other ≡ input_of program config other }
+    ensures event { (program : ProgramTree) (config : Configuration) (index other : ℕ) (step : Step)
+        (task moved : TaskState) → IsWellFormed config → IsConfigOf program config → IsHoused program config
+        → IsWhole program.source
+        → slice_get config.tasks index ≡ Some moved → slice_get config.tasks other ≡ Some task
+        → task.cog ≢ moved.cog → event_of program config index ≡ Some step
+        → IsSome (event_of program config other) → IsSome (event_of program step.config other) }
+{}
+
+/// In a program without `await` and `get` every configuration that a legal history reaches has an event while a task is
+/// unfinished.
+pub fn never_stuck_without_waits()
+    ensures { (program : ProgramTree) (config : Configuration) → IsWhole program.source → NeverWaits program
+        → IsReachable program config → IsOpen config → HasStep program config }
 {}

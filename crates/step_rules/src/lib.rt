@@ -9,4 +9,5 @@ pub use enabled::has_step;
 pub use kind::{Did, End};
 pub use laws::{
     events_are_rows, events_have_causes, events_keep_configurations, events_leave_the_rest,
+    events_stay_apart, never_stuck_without_waits,
 };
