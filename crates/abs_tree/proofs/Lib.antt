@@ -6,6 +6,7 @@ pub mod EntryLemmas
 pub mod OffenceLemmas
 pub mod LinkLemmas
 pub mod AddedLemmas
+pub mod AnswerLemmas
 pub mod KeptSpaceLemmas
 pub mod EdgeLemmas
 pub mod HolderLemmas

@@ -59,6 +59,7 @@ goes_tree (successor.ByAnswer when_true when_false) = ByAnswer when_true when_fa
 -- an instruction
 abbrev pub instruction_tree : List Name → Instruction → InstructionTree
 instruction_tree names instruction = record {
+  place = instruction.place;
   phrases = exprs_tree names instruction.exprs;
   effect = effect_tree names instruction.effect;
   goes = goes_tree instruction.goes;

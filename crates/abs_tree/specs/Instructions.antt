@@ -1,7 +1,7 @@
 -- What the statements of a program do, one instruction for each statement that has an index.
 --
 --   `EffectTree`                           what happens with the values of a statement's expressions
---   `InstructionTree`                      a statement's expressions, its effect, and where control goes
+--   `InstructionTree`                      a statement's place, its expressions, its effect, and where control goes
 --   `waits_of`, `slot_of`                  the slots that a guard names, and the slot that an expression is
 --   `side_phrases`, `side_effect`          the expressions and the effect of a right side
 --   `phrases_of`, `effect_of`              those of a statement
@@ -10,6 +10,7 @@ use Rattle.std.specs.Prelude.{ℕ, Bool, List, [], ◌∷◌, map, Option, Some,
 use Rattle.abs_tree.specs.Control.{Goes, Point, program_points}
 use Rattle.abs_tree.specs.Slots.{is_this}
 use Rattle.abs_tree.specs.Syntax.{Name, VariableTree, Unresolved, AtSlot, Phrase, VariableOf, OwnCallOf, Phrases, NoPhrase, NextPhrase, SideTree, NewOf, ValueOf, SendOf, GetOf, CallOf, Tests, NoTest, NextTest, TargetTree, ToVariable, ToField, MaybeSide, NoSide, SomeSide, Statement, BlockOf, SkipOf, SuspendOf, AwaitOf, ReturnOf, PrintOf, IfOf, WhileOf, DeclareOf, AssignOf, DoOf, SourceTree}
+use Rattle.abs_tree.specs.SyntaxPlaces.{statement_place}
 use Rattle.abs_tree.specs.declared.syntax.statement.Mode.{Mode}
 
 -- What happens with the values of a statement's expressions. A target is a variable; a statement without one has none.
@@ -30,9 +31,10 @@ pub data EffectTree : Type 0 where
   CallsOther : (method : Name) (slot : Option ℕ) (target : Option VariableTree) → EffectTree
   Gets : (slot : Option ℕ) (target : Option VariableTree) → EffectTree
 
--- A statement as it is executed: the expressions that it evaluates, in this order, what happens with their values, and
--- where control goes.
+-- A statement as it is executed: its offset in the source, the expressions that it evaluates, in this order, what
+-- happens with their values, and where control goes.
 pub record InstructionTree : Type 0 where
+  pub place : ℕ
   pub phrases : Phrases
   pub effect : EffectTree
   pub goes : Goes
@@ -107,8 +109,12 @@ effect_of (DoOf index place side) = side_effect side None
 
 -- the instruction of a statement with its successors
 abbrev pub instruction_of : Point → InstructionTree
-instruction_of point =
-    record { phrases = phrases_of point.statement; effect = effect_of point.statement; goes = point.goes }
+instruction_of point = record {
+  place = (statement_place point.statement).offset;
+  phrases = phrases_of point.statement;
+  effect = effect_of point.statement;
+  goes = point.goes;
+}
 
 -- the instructions of a program, in the order of the indices of its statements
 unfoldable pub instructions : SourceTree → List InstructionTree

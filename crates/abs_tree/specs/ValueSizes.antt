@@ -2,7 +2,7 @@
 --
 --   `parts_are_deeper`     the parts behind a pointer are at most as deep as they have nodes
 use denote.Param.Weighed.{most}
-use Rattle.std.specs.Prelude.{ℕ, ◌+◌, ◌≤◌, max, List, [], ◌∷◌, Option, Some, None}
+use Rattle.std.specs.Prelude.{ℕ, ◌≤◌, max, List, [], ◌∷◌, Option, Some, None}
 use Rattle.std.proofs.Common.{arith}
 use Rattle.std.specs.declared.alloc.Global.{Global}
 use Rattle.std.specs.declared.sync.Arc.{Arc}

@@ -2,6 +2,7 @@
 //! definition of evaluation.
 #![tactic(auto)]
 
+pub mod answers;
 pub mod arithmetic;
 pub mod comparison;
 pub mod evaluated;
@@ -23,6 +24,7 @@ pub mod tables;
 pub mod text;
 pub mod value;
 
+pub use answers::answer_of;
 pub use arithmetic::negated;
 pub use comparison::value_equal;
 pub use evaluated::{Env, Evaluated, Fault, Output};

@@ -79,6 +79,17 @@ impl<'a> Symbols<'a> {
         }
     }
 
+    /// The symbol of a name. A name that the table does not have gets the symbol after all others.
+    pub fn symbol_of(&self, name: &[u8]) -> Symbol
+        requires { length self.now < 2 ^ 32 }
+        ensures { result.0 ≡ number_of_name self.now name.now }
+    {
+        match self.find(name) {
+            Some(symbol) => symbol,
+            None => Symbol(self.names.len() as u32),
+        }
+    }
+
     /// The symbol of a name. A new name is added after the others.
     ///
     /// # Errors

@@ -4,7 +4,6 @@ pub mod FormLemmas
 pub mod FrameLemmas
 pub mod FunctionLemmas
 pub mod InitialLemmas
-pub mod LibraryLemmas
 pub mod ListLemmas
 pub mod OutcomeLemmas
 pub mod PatternLemmas

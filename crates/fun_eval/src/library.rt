@@ -1,15 +1,13 @@
 //! What evaluation takes from a program: its functions, its names, and the values of the two answers.
-ghost use Rattle.std.specs.Prelude.{◌≡◌, ◌≤◌, codes, length};
-ghost use Rattle.abs_tree.specs.Limits.{table_limit};
+ghost use Rattle.std.specs.Prelude.{◌≡◌, codes};
 ghost use Rattle.abs_tree.specs.Names.{number_of_name};
 ghost use Rattle.abs_tree.specs.Operations.{answer_result, truth_of, truth_value};
 ghost use Rattle.abs_tree.specs.Results.{Gives};
-ghost use Rattle.abs_tree.specs.ValueTrees.{BuiltValue, NoPart};
 ghost use Rattle.abs_tree.specs.ValueViews.{value_tree};
 ghost use Rattle.fun_eval.specs.Reading.{IsResult};
 
 use crate::stop::Stop;
-use abs_tree::{Fault, Named, Symbol, Symbols, Value};
+use abs_tree::{Fault, Named, Symbol, Value, answer_of};
 use std::alloc::{AllocError, Global};
 
 /// A program, and the constructors of its two answers.
@@ -31,8 +29,8 @@ impl<'a> Library<'a> {
         Library {
             alloc,
             program,
-            yes: constructor(&program.symbols, b"True"),
-            no: constructor(&program.symbols, b"False"),
+            yes: program.symbols.symbol_of(b"True"),
+            no: program.symbols.symbol_of(b"False"),
         }
     }
 
@@ -51,29 +49,7 @@ impl<'a> Library<'a> {
     pub fn truth_of(&self, value: &Value) -> Option<bool>
         ensures { result ≡ truth_of self.now.program.now.symbols (value_tree value.now) }
     {
-        match value {
-            Value::Built(symbol, parts) => {
-                if parts.as_slice().is_empty() {
-                    self.answer(*symbol)
-                } else {
-                    None
-                }
-            }
-            _ => None,
-        }
-    }
-
-    /// The answer that a constructor without parts is.
-    fn answer(&self, constructor: Symbol) -> Option<bool>
-        ensures { result ≡ truth_of self.now.program.now.symbols (BuiltValue constructor.0 NoPart) }
-    {
-        if constructor.0 == self.yes.0 {
-            Some(true)
-        } else if constructor.0 == self.no.0 {
-            Some(false)
-        } else {
-            None
-        }
+        answer_of(value, self.yes, self.no)
     }
 
     /// The value of an answer, or the fault Mistyped without one.
@@ -84,16 +60,5 @@ impl<'a> Library<'a> {
             Some(answer) => self.truth_value(answer),
             None => Err(Stop::Fault(Fault::Mistyped)),
         }
-    }
-}
-
-/// The constructor of a name.
-fn constructor(symbols: &Symbols<'_>, name: &[u8]) -> Symbol
-    requires { length symbols.now ≤ table_limit }
-    ensures { result.0 ≡ number_of_name symbols.now name.now }
-{
-    match symbols.find(name) {
-        Some(symbol) => symbol,
-        None => Symbol(symbols.len() as u32),
     }
 }

@@ -123,6 +123,8 @@ pub enum Effect {
 /// A statement as it is executed.
 #[derive(Drop)]
 pub struct Instruction {
+    /// Where the statement begins: how many bytes of the source are before it.
+    pub place: u32,
     /// The expressions that it evaluates, in this order.
     pub exprs: Exprs,
     /// What happens with their values.

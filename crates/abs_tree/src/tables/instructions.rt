@@ -46,6 +46,7 @@ impl Maker {
         let exprs = exprs_of(stmt)?;
         let effect = effect_of(alloc, stmt)?;
         self.instructions.push(Instruction {
+            place: stmt.place().offset,
             exprs,
             effect,
             goes,

@@ -1,4 +1,4 @@
--- The answers that values are.
+-- Which values are answers.
 use Rattle.std.proofs.Common.{◌≡◌, ◌==◌, ℕ, false, List, [], ◌∷◌, length, None, refl}
 use Rattle.abs_tree.specs.Operations.{truth_of}
 use Rattle.abs_tree.specs.Syntax.{Name}
