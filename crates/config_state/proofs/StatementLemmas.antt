@@ -4,7 +4,6 @@
 --   `method_inside`                what the body of a method of a class can use
 --   `class_body-member`            the body of a method of a class is among the members of the class
 --   `class_takes_arguments`        a class takes as many arguments as it has parameters
---   `method_has_class`             the class of a method is there
 --   `method_entry-is`              the method in the table of bodies is that body
 --   `method_statement_is_there`    what a statement of the body of a method can use is there
 --   `main_statement_is_there`      so is what one of the main block can use
@@ -270,29 +269,6 @@ pub class_takes_arguments : (program : ProgramTree) (class : Name) (entry : Clas
 class_takes_arguments program class entry count taken takes =
     named_takes_arguments program class entry count (meaning_of (spaces_of program.source.declarations).classes class)
     refl taken takes
-
--- the class of a method is there, by what its name means
-named_has_class : (program : ProgramTree) (class method : Name) (body : BodyAt) (meaning : Option Taking)
-    → meaning_of (spaces_of program.source.declarations).classes class ≡ meaning
-    → option_and_then (λ (index : ℕ). method_in_class program.source.declarations index method)
-    (option_map (λ (taking : Taking). taking.declaration) meaning) ≡ Some body
-    → (entry : ClassEntryTree) × (option_and_then (class_entry program.source.declarations)
-    (option_map (λ (taking : Taking). taking.declaration) meaning) ≡ Some entry)
-named_has_class program class method body None means found = absurd (none-some body found)
-named_has_class program class method body (Some taking) means found =
-    let declarations = program.source.declarations in
-    let own = class_is_declared declarations class taking means in
-    let is = class_entry-is declarations taking.declaration own.place own.declared own.params own.implemented
-    own.members own.there in
-    (entry_with own.params own.members, is)
-
--- the class of a method is there
-pub method_has_class : (program : ProgramTree) (class method : Name) (body : BodyAt)
-    → method_at program class method ≡ Some body
-    → (entry : ClassEntryTree) × (class_taking program class ≡ Some entry)
-method_has_class program class method body found =
-    named_has_class program class method body (meaning_of (spaces_of program.source.declarations).classes class) refl
-    found
 
 -- the entry of a member is that of its body
 member_entry-is : (index : ℕ) (members : List MemberTree) (member : ℕ)

@@ -1,12 +1,12 @@
 //! Cogs (concurrent object groups): of the tasks of a cog, its holder alone makes steps.
-ghost use Rattle.std.specs.Prelude.{◌≡◌, ◌<◌, ◌==◌, length, slice_get, Some};
+ghost use Rattle.std.specs.Prelude.{◌≡◌, ◌<◌, ◌^◌, ◌==◌, length, slice_get, Some};
 
 use std::marker::Model;
 
 /// A cog, which is known by its index in the configuration.
 #[derive(Drop)]
 pub struct Cog {
-    /// The cog of the object that made it. Cog 0 has none.
+    /// The cog of the task that made it. Cog 0 has none.
     pub parent: Option<u32>,
     /// The offset of the statement that made it; 0 for cog 0.
     pub place: u32,
@@ -34,7 +34,8 @@ impl Model for Cogs {
 impl Cogs {
     /// The number of cogs.
     pub fn len(&self) -> usize
-        ensures { result ≡ length self.now }
+        ensures is { result ≡ length self.now }
+        ensures few { result < 2 ^ 32 }
     {
         self.items.len()
     }

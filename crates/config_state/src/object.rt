@@ -1,5 +1,5 @@
 //! Objects and their fields.
-ghost use Rattle.std.specs.Prelude.{◌≡◌, ◌<◌, ◌==◌, length, slice_get, Some};
+ghost use Rattle.std.specs.Prelude.{◌≡◌, ◌<◌, ◌^◌, ◌==◌, length, slice_get, Some};
 
 use abs_tree::{Symbol, Values};
 use std::marker::Model;
@@ -41,7 +41,8 @@ impl Model for Objects {
 impl Objects {
     /// The number of objects.
     pub fn len(&self) -> usize
-        ensures { result ≡ length self.now }
+        ensures is { result ≡ length self.now }
+        ensures few { result < 2 ^ 32 }
     {
         self.items.len()
     }

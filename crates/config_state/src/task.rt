@@ -1,5 +1,5 @@
 //! Tasks: what executes the bodies of methods.
-ghost use Rattle.std.specs.Prelude.{◌≡◌, ◌<◌, ◌==◌, length, slice_get, Some};
+ghost use Rattle.std.specs.Prelude.{◌≡◌, ◌<◌, ◌^◌, ◌==◌, length, slice_get, Some};
 
 use crate::Frames;
 use abs_tree::{Evaluated, Symbol};
@@ -58,7 +58,8 @@ impl Model for Tasks {
 impl Tasks {
     /// The number of tasks.
     pub fn len(&self) -> usize
-        ensures { result ≡ length self.now }
+        ensures is { result ≡ length self.now }
+        ensures few { result < 2 ^ 32 }
     {
         self.items.len()
     }
