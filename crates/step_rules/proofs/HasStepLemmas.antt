@@ -36,12 +36,12 @@ answer_none false None iff not_so = absurd (not_so (iff.0 refl))
 answer_none false (Some entry) iff not_so = refl
 
 -- without a result of the code a task has none
-no_outcome : (outcome : Option Evaluated) → is_some outcome ≡ false → option_map result_tree outcome ≡ None
+pub no_outcome : (outcome : Option Evaluated) → is_some outcome ≡ false → option_map result_tree outcome ≡ None
 no_outcome None is = refl
 no_outcome (Some result) is = absurd cc
 
 -- with a result of the code a task has one
-some_outcome : (outcome : Option Evaluated) → is_some outcome ≡ true → is_some (option_map result_tree outcome) ≡ true
+pub some_outcome : (outcome : Option Evaluated) → is_some outcome ≡ true → is_some (option_map result_tree outcome) ≡ true
 some_outcome None is = absurd cc
 some_outcome (Some result) is = refl
 

@@ -20,3 +20,7 @@ pub mod BlockedLemmas
 pub mod HasStepLemmas
 pub mod ApartLemmas
 pub mod ProgressLemmas
+pub mod LookupLemmas
+pub mod MoverLemmas
+pub mod RowPlanLemmas
+pub mod WaitPlanLemmas

@@ -18,6 +18,7 @@ use Rattle.step_rules.specs.Events.{local_change, with_output, local_or_other}
 use Rattle.step_rules.specs.LocalRows.{Local, Leaves, Faults, store_row, choose_by, choose_row, print_row, push_row, call_own_row, pop_row, return_row}
 use Rattle.step_rules.specs.Lookups.{Runner, successor, callable, class_of, same_object}
 use Rattle.step_rules.specs.ObjectRows.{mistyped, give_row, return_change}
+use Rattle.step_rules.specs.Plans.{row_or}
 use Rattle.step_rules.specs.Rows.{Row, Faulted, Stored, Chosen, Printed, Pushed, Gave, Popped}
 use Rattle.step_rules.specs.Targets.{put}
 use Rattle.step_rules.specs.RowParts.{IsRunner, IsAt, IsValueOf, ByReturn}
@@ -31,20 +32,15 @@ same_object_is (Some one) (Some other) h = ap Some (eqb-true one other h)
 same_object_is None (Some other) h = absurd cc
 same_object_is (Some one) None h = absurd cc
 
--- the change of a local row where there is one, and otherwise another change
-abbrev pub local_or : Runner → Option Local → Option Change → Option Change
-local_or at None other = other
-local_or at (Some local) other = Some (local_change at local)
-
 -- The change of a task that runs is found so.
-pub local_or_is : (program : ProgramTree) (config : Configuration) (at : Runner) (results : Results)
+pub row_or_is : (program : ProgramTree) (config : Configuration) (at : Runner) (results : Results)
     (row : Option Local) → local_or_other program config at results row
-    ≡ local_or at row (with_output program config at results)
-local_or_is program config at results None = refl
-local_or_is program config at results (Some local) = refl
+    ≡ row_or at row (with_output program config at results)
+row_or_is program config at results None = refl
+row_or_is program config at results (Some local) = refl
 
 -- Several values are not printed.
-print_row_several : (next : Option ℕ) (frame : FrameState) (below : List FrameState) (fields : List ValueTree)
+pub print_row_several : (next : Option ℕ) (frame : FrameState) (below : List FrameState) (fields : List ValueTree)
     (value more : ValueTree) (others : List ValueTree)
     → print_row next frame below fields (value ∷ more ∷ others) ≡ Faults fault.Mistyped
 print_row_several next frame below fields (IntValue number) more others = refl
@@ -87,7 +83,7 @@ module _ (program : ProgramTree) (config : Configuration) (at : Runner) (change 
   -- The end of an inner frame is local where the frame below has the same object.
   ended_above : (value : ValueTree) → IsValueOf program config at value → (below : FrameState) (rest : List FrameState)
       → at.others ≡ below ∷ rest → (same : Bool) → same_object below.object at.frame.object ≡ same
-      → local_or at (if same
+      → row_or at (if same
       then Some (Leaves
       (put at.frame.target value below.next below rest (fields_of (object_at config at.frame.object))) [] did.Went)
       else None) (Some (give_row config at.index at.task at.frame (below ∷ rest) value)) ≡ Some change
@@ -98,7 +94,7 @@ module _ (program : ProgramTree) (config : Configuration) (at : Runner) (change 
 
   -- A frame ends with a value, whether or not its row is local.
   pub ended : (value : ValueTree) → IsValueOf program config at value → (others : List FrameState) → at.others ≡ others
-      → local_or at (pop_row at.frame others (fields_of (object_at config at.frame.object)) value)
+      → row_or at (pop_row at.frame others (fields_of (object_at config at.frame.object)) value)
       (Some (give_row config at.index at.task at.frame others value)) ≡ Some change → Row program config at.index change
   ended value ends [] is h = given value ends [] is (same_Some _ _ h)
   ended value ends (below ∷ rest) is h =
@@ -186,7 +182,7 @@ module _ (program : ProgramTree) (config : Configuration) (at : Runner) (change 
 
     -- A `return` ends its frame, or has the wrong sort.
     pub returned : effect_of point.statement ≡ Returns → (values : List ValueTree) → IsAt program config at point values
-        → local_or at (return_row at.frame at.others (fields_of (object_at config at.frame.object)) values)
+        → row_or at (return_row at.frame at.others (fields_of (object_at config at.frame.object)) values)
         (Some (return_change config at values)) ≡ Some change → Row program config at.index change
     returned does (value ∷ []) is h = ended value (ByReturn point is does) at.others refl h
     returned does [] is h =

@@ -25,11 +25,12 @@ use Rattle.step_rules.specs.Inputs.{Input, scope_of, phrases_at, initials_at, in
 use Rattle.step_rules.specs.LocalRows.{statement_row, next_row, local_row}
 use Rattle.step_rules.specs.Lookups.{Runner, successor, place_of, callable, named_value, unit_value, class_of}
 use Rattle.step_rules.specs.ObjectRows.{mistyped, new_with, call_with, call_on, call_row}
+use Rattle.step_rules.specs.Plans.{row_or}
 use Rattle.step_rules.specs.Rows.{Row, Taken, Skipped, Cleared, Made, Called, Got, Passed, Released, Suspended}
 use Rattle.step_rules.specs.WaitRows.{Guard, Faulty, Unresolved, Resolved, guard_of, take_if_free, take_row, take_if_resolved, wake_by, wake_row, get_by_outcome, get_by_task, get_row, await_row}
 use Rattle.step_rules.specs.RowParts.{IsRunner, IsAt, CanTake, IsReady, IsWoken, AtEnd}
 use Rattle.step_rules.specs.FaultCauses.{HasNoClass, HasNoReceiver, IsNoObject, HasNoEntry, HasNoMethod, IsFarCall, IsNoFuture, HasNoTask, Evaluates, GetsFault, AwaitsFault, CallsNull, GetsNull}
-use Rattle.step_rules.proofs.LocalRowLemmas.{local_or, local_or_is, faulted, missorted, ended, stored, chosen, printed, pushed, returned}
+use Rattle.step_rules.proofs.LocalRowLemmas.{row_or_is, faulted, missorted, ended, stored, chosen, printed, pushed, returned}
 
 -- Nothing is evaluated where no statement is left, and so nothing fails.
 nothing_fails : (program : ProgramTree) (config : Configuration) (at : Runner) (cause : Fault)
@@ -218,7 +219,7 @@ module _ (program : ProgramTree) (config : Configuration) (at : Runner) (change 
 
       -- The event of a statement is the row of its effect.
       row_by_effect : (effect : EffectTree) → effect_of point.statement ≡ effect
-          → local_or at (statement_row program (class_of (object_at config at.frame.object)) at.frame at.others
+          → row_or at (statement_row program (class_of (object_at config at.frame.object)) at.frame at.others
           (fields_of (object_at config at.frame.object)) point values effect)
           (statement_change program config at point values effect) ≡ Some change → Row program config at.index change
       row_by_effect Skips does h = Skipped at point values refl is does (sym (same_Some _ _ h))
@@ -251,7 +252,7 @@ module _ (program : ProgramTree) (config : Configuration) (at : Runner) (change 
   row_at : (values : List ValueTree) → gives_at (next_point program at.frame) ≡ AllGive values → (index : ℕ)
       → at.frame.next ≡ Some index → (point : Option Point)
       → slice_get (program_points program.source) index ≡ point
-      → local_or at (option_and_then (λ (next : Point).
+      → row_or at (option_and_then (λ (next : Point).
       statement_row program (class_of (object_at config at.frame.object)) at.frame at.others
       (fields_of (object_at config at.frame.object)) next values (effect_of next.statement)) point)
       (option_and_then (λ (next : Point).
@@ -271,7 +272,7 @@ module _ (program : ProgramTree) (config : Configuration) (at : Runner) (change 
   -- So is that of what is next in the frame, its end or a statement.
   row_of_next : (values : List ValueTree) → gives_at (next_point program at.frame) ≡ AllGive values → (next : Option ℕ)
       → at.frame.next ≡ next
-      → local_or at (next_row program (class_of (object_at config at.frame.object)) at.frame at.others
+      → row_or at (next_row program (class_of (object_at config at.frame.object)) at.frame at.others
       (fields_of (object_at config at.frame.object)) values next) (other_change program config at values next)
       ≡ Some change → Row program config at.index change
   row_of_next values gives None is h =
@@ -294,7 +295,7 @@ module _ (program : ProgramTree) (config : Configuration) (at : Runner) (change 
   row_of_output (OneFails cause) gives h =
       row_of_fault cause (next_point program at.frame) refl gives (same_Some _ _ h)
   row_of_output (AllGive values) gives h = row_of_next values gives at.frame.next refl
-      (sym (local_or_is program config at (AllGive values)
+      (sym (row_or_is program config at (AllGive values)
       (next_row program (class_of (object_at config at.frame.object)) at.frame at.others
       (fields_of (object_at config at.frame.object)) values at.frame.next)) ∙ h)
 

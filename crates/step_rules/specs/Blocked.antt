@@ -1,8 +1,8 @@
 -- Which tasks have an event.
 --
---   `IsAtOpenGet`              a task runs, and its next statement gets a future that is unresolved
+--   `IsAtOpenGet`              the next statement of a task gets a future that is unresolved
 --   `IsFree`                   nobody holds a cog
---   `AreResolved`              each future that the next statement of an awaiting task names is resolved
+--   `AreResolved`              the next statement of a task is an `await`, and each future that it names is resolved
 --   `NeverWaits`               a program has neither `await` nor `get`
 use Rattle.std.specs.Prelude.{◌≡◌, ◌≢◌, ℕ, List, slice_get, Option, Some, None}
 use Rattle.abs_tree.specs.Control.{Point, program_points}

@@ -95,8 +95,8 @@ change_by program config index results = change_of_task program config index res
 -- the change of its event, if it has one: that with the output of its input
 unfoldable pub change_of : ProgramTree → Configuration → ℕ → Option Change
 change_of program config index =
-    option_and_then (λ (input : Input). change_by program config index (output_of program input)) (input_of program
-    config index)
+    option_and_then (λ (input : Input). change_by program config index (output_of program input))
+    (input_of program config index)
 
 -- what an event leads to: the next configuration, and the lines that are printed
 pub record Step : Type 0 where

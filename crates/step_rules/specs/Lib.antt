@@ -10,6 +10,8 @@ pub mod Events
 pub mod Runs
 pub mod RowParts
 pub mod FaultCauses
+pub mod Plans
+pub mod Moves
 pub mod Rows
 pub mod Stays
 pub mod Homes

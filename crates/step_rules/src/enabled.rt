@@ -45,7 +45,7 @@ fn is_free(config: &Config, cog: u32) -> bool
 }
 
 /// The innermost frame of a task, if it has one.
-fn innermost(cell: &TaskCell) -> Option<&Frame>
+pub(crate) fn innermost(cell: &TaskCell) -> Option<&Frame>
     ensures { (names : List Name) → option_map (λ frame. frame_state names frame.now) result
         ≡ slice_get (task_state names cell.now).frames 0 }
 {

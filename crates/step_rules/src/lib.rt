@@ -2,8 +2,14 @@
 #![tactic(auto)]
 
 pub mod enabled;
+mod guards;
 pub mod kind;
 pub mod laws;
+mod lookups;
+mod mover;
+mod plan;
+mod rows;
+mod waits;
 
 pub use enabled::has_step;
 pub use kind::{Did, End};
