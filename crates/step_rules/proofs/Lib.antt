@@ -21,6 +21,10 @@ pub mod HasStepLemmas
 pub mod ApartLemmas
 pub mod ProgressLemmas
 pub mod LookupLemmas
+pub mod RunLemmas
 pub mod MoverLemmas
 pub mod RowPlanLemmas
 pub mod WaitPlanLemmas
+pub mod MadeLemmas
+pub mod StatementLemmas
+pub mod PlanningLemmas

@@ -12,6 +12,7 @@ pub mod RowParts
 pub mod FaultCauses
 pub mod Plans
 pub mod Moves
+pub mod Memory
 pub mod Rows
 pub mod Stays
 pub mod Homes

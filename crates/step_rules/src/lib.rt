@@ -6,8 +6,10 @@ mod guards;
 pub mod kind;
 pub mod laws;
 mod lookups;
+mod made;
 mod mover;
 mod plan;
+mod planning;
 mod rows;
 mod waits;
 
