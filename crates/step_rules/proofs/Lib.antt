@@ -28,3 +28,6 @@ pub mod WaitPlanLemmas
 pub mod MadeLemmas
 pub mod StatementLemmas
 pub mod PlanningLemmas
+pub mod PlacingLemmas
+pub mod FormedNamesLemmas
+pub mod InstallLemmas

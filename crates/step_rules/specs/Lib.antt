@@ -11,6 +11,7 @@ pub mod Runs
 pub mod RowParts
 pub mod FaultCauses
 pub mod Plans
+pub mod Placing
 pub mod Moves
 pub mod Memory
 pub mod Rows

@@ -3,6 +3,7 @@
 
 pub mod enabled;
 mod guards;
+mod install;
 pub mod kind;
 pub mod laws;
 mod lookups;
@@ -10,7 +11,9 @@ mod made;
 mod mover;
 mod plan;
 mod planning;
+mod room;
 mod rows;
+mod turns;
 mod waits;
 
 pub use enabled::has_step;

@@ -1,0 +1,23 @@
+use Rattle.std.proofs.Common.{List, get_or, ap, arith}
+use Rattle.std.proofs.lemmas.Option.{slice_get-get_or, slice_get_past}
+use Rattle.abs_tree.specs.ValueTrees.{ValueTree}
+use Rattle.abs_tree.specs.ValueViews.{value_tree}
+use Rattle.config_state.specs.declared.frame.Target.TheVariants.{Field}
+use Rattle.step_rules.proofs.PlacingLemmas.{written-past, written-there}
+use Rattle.step_rules.proofs.turns.put_in_field.Goals as goal
+
+pub returns-then-object-objects : goal.returns-then-object-objects
+returns-then-object-objects c = λ names.
+    let objects = c.args.objects.now in
+    let at = c.in-Some.object in
+    let default = c.index-objects-object.result in
+    let cell = get_or objects at default in
+    rw c.in-Some.is (written-there names objects at cell _ (Field c.args.field) (value_tree c.args.value)
+    (slice_get-get_or objects at default (omega arith))
+    (ap (λ (fields : List ValueTree). record cell { fields = fields }) c.put_at.ensures))
+
+pub returns-else-object-objects : goal.returns-else-object-objects
+returns-else-object-objects c = λ names.
+    let objects = c.args.objects.now in
+    rw c.in-Some.is (written-past names objects c.in-Some.object (Field c.args.field) (value_tree c.args.value)
+    (slice_get_past objects c.in-Some.object (omega arith)))
