@@ -22,6 +22,9 @@ pub mod ApartLemmas
 pub mod ProgressLemmas
 pub mod LookupLemmas
 pub mod RunLemmas
+pub mod ReadingLemmas
+pub mod EventPlanLemmas
+pub mod EventMemoryLemmas
 pub mod MoverLemmas
 pub mod RowPlanLemmas
 pub mod WaitPlanLemmas

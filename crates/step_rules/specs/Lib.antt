@@ -14,6 +14,7 @@ pub mod Plans
 pub mod Placing
 pub mod Moves
 pub mod Memory
+pub mod InputViews
 pub mod Rows
 pub mod Stays
 pub mod Homes

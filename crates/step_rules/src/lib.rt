@@ -2,7 +2,9 @@
 #![tactic(auto)]
 
 pub mod enabled;
+pub mod events;
 mod guards;
+pub mod inputs;
 mod install;
 pub mod kind;
 pub mod laws;
@@ -11,14 +13,18 @@ mod made;
 mod mover;
 mod plan;
 mod planning;
+pub mod reading;
 mod room;
 mod rows;
 mod turns;
 mod waits;
 
 pub use enabled::has_step;
+pub use events::{apply, step};
+pub use inputs::{Initials, Input};
 pub use kind::{Did, End};
 pub use laws::{
     events_are_rows, events_have_causes, events_keep_configurations, events_leave_the_rest,
     events_stay_apart, never_stuck_without_waits,
 };
+pub use reading::input;

@@ -1,0 +1,56 @@
+-- The inputs of the code without their memory, and what they are made from.
+--
+--   `initials_tree`            the initial values of fields
+--   `input_tree`               an input
+--   `running_point`            the next statement of a task that runs
+--   `phrases_by`, `class_made`         the expressions of an instruction, and the class of a `new`
+use Rattle.std.specs.Prelude.{List, Option, Some, None}
+use Rattle.abs_tree.specs.Bodies.{ClassEntryTree}
+use Rattle.abs_tree.specs.Control.{Point}
+use Rattle.abs_tree.specs.InstructionViews.{exprs_tree, shared_phrases}
+use Rattle.abs_tree.specs.Instructions.{EffectTree, Makes, InstructionTree}
+use Rattle.abs_tree.specs.Syntax.{Name, Phrases, NoPhrase, ProgramTree}
+use Rattle.config_state.specs.Bodies.{class_taking}
+use Rattle.config_state.specs.Configurations.{FrameState}
+use Rattle.config_state.specs.OfProgram.{next_point}
+use Rattle.config_state.specs.declared.task.State.{State}
+use Rattle.config_state.specs.declared.task.State.TheVariants.{Ready, Running, Awaiting}
+use Rattle.fun_eval.specs.Reading.{env_scope}
+use Rattle.step_rules.specs.Inputs.{Input as InputTree}
+use Rattle.step_rules.specs.declared.inputs.Initials.{Initials}
+use Rattle.step_rules.specs.declared.inputs.Initials.TheVariants as initials
+use Rattle.step_rules.specs.declared.inputs.Input.{Input}
+
+-- the initial values of fields
+abbrev pub initials_tree : List Name → Initials → Phrases
+initials_tree names initials.None = NoPhrase
+initials_tree names (initials.Row row) = shared_phrases names row.value.items
+
+-- an input
+abbrev pub input_tree : List Name → Input → InputTree
+input_tree names input = record {
+  scope = env_scope input.env;
+  phrases = exprs_tree names input.exprs;
+  initials = initials_tree names input.inits;
+}
+
+-- the next statement in the innermost frame of a task; only a task that runs evaluates its expressions
+abbrev pub running_point : ProgramTree → State → FrameState → Option Point
+running_point program Running frame = next_point program frame
+running_point program Ready frame = None
+running_point program Awaiting frame = None
+
+-- the expressions of an instruction, if there is one
+abbrev pub phrases_by : Option InstructionTree → Phrases
+phrases_by None = NoPhrase
+phrases_by (Some instruction) = instruction.phrases
+
+-- what a new object takes, by the effect of a statement: for `new` what its class has, if that is there
+abbrev pub class_by : ProgramTree → EffectTree → Option ClassEntryTree
+class_by program (Makes mode class target) = class_taking program class
+class_by program _ = None
+
+-- the same by its instruction, if there is one
+abbrev pub class_made : ProgramTree → Option InstructionTree → Option ClassEntryTree
+class_made program None = None
+class_made program (Some instruction) = class_by program instruction.effect
