@@ -1,0 +1,4 @@
+pub mod Recorded
+pub mod Replays
+pub mod Turns
+pub mod Ranges

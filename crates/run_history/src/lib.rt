@@ -1,0 +1,10 @@
+//! Histories: whose event came when, the run of a history, and the order of one worker.
+#![tactic(auto)]
+
+pub mod history;
+pub mod order;
+pub mod replays;
+
+pub use history::History;
+pub use order::{next_task, turns_are_one_order};
+pub use replays::{Replayed, replay};
