@@ -37,15 +37,21 @@ def written(type_):
     return applied(type_[0], [written(argument) for argument in type_[1:]], "<>")
 
 
+def has_future(type_):
+    """Whether a future occurs in a type."""
+    return type_[0] == "Fut" or any(has_future(argument) for argument in type_[1:])
+
+
 def parens(items):
     return ["(", items, ")"]
 
 
 class Expressions:
-    """Makes the expressions and the right sides of one program."""
+    """Makes the expressions and the right sides of one program: of any one, or of one that runs, which keeps to the
+    profile of the language and has no `get`."""
 
-    def __init__(self, rng):
-        self.rng, self.number = rng, 0
+    def __init__(self, rng, runs):
+        self.rng, self.runs, self.number = rng, runs, 0
         # data: its parameters, and constructors with the types of their arguments, where ("A",) is the parameter
         self.data, self.functions, self.interfaces, self.classes = {}, {}, {}, {}
 
@@ -72,6 +78,13 @@ class Expressions:
             return (name, *(self.type_of(depth - 1, nullable) for _ in range(self.data[name][0]))) if name else BOOL
         return (way, *(self.type_of(depth - 1, nullable) for _ in range(2 if way == "Pair" else 1)))
 
+    def kept_type(self):
+        """A type of a field or of a parameter of a class. In a program that runs there is no future in it."""
+        type_ = self.type_of()
+        while self.runs and has_future(type_):
+            type_ = self.type_of()
+        return type_
+
     def has_null(self, type_):
         return type_[0] == "Fut" or type_[0] in self.interfaces
 
@@ -97,11 +110,13 @@ class Expressions:
 
     def is_there(self, scope, type_):
         """Whether there is an expression that has this very type."""
-        if any(type_ == other for _, other in scope.variables()):
-            return True
-        if type_ == ("Fut", scope.result) and scope.kind in ("method", "main"):
+        if any(type_ == other for _, other in scope.variables()) or self.is_own_future(scope, type_):
             return True
         return not self.has_null(type_) and all(self.is_there(scope, argument) for argument in type_[1:])
+
+    def is_own_future(self, scope, type_):
+        """Whether `destiny` has this type, where it may be written."""
+        return type_ == ("Fut", scope.result) and scope.kind in ("method", "main") and not self.runs
 
     def exact(self, scope, type_, depth=2):
         """An expression that has this very type, where there is one."""
@@ -113,7 +128,7 @@ class Expressions:
     def leaf(self, scope, type_, depth):
         """A variable, or a value that has no parts of a type that is hard to make."""
         found = [items for items, other in scope.variables() if other == type_]
-        if type_ == ("Fut", scope.result) and scope.kind in ("method", "main"):
+        if self.is_own_future(scope, type_):
             found.append(["destiny"])
         has_parts = not self.has_null(type_) and all(self.is_there(scope, argument) for argument in type_[1:])
         if found and (not has_parts or self.rng.random() < 0.6):
@@ -332,8 +347,9 @@ class Expressions:
 
     def right_side(self, scope):
         """Some right side that is no expression: its type, and its tokens; None where there is none of that kind."""
-        ways = [lambda: self.call_of(scope, "!"), lambda: self.call_of(scope, "."), lambda: self.new_of(scope),
-                lambda: self.get_of(scope)]
+        ways = [lambda: self.call_of(scope, "!"), lambda: self.new_of(scope)]
+        if not self.runs:
+            ways += [lambda: self.call_of(scope, "."), lambda: self.get_of(scope)]
         if scope.kind == "method":
             ways += [lambda: self.own_call_of(scope, "!"), lambda: self.own_call_of(scope, ".")]
         return self.rng.choice(ways)()

@@ -95,6 +95,8 @@ class Maker(Expressions):
             "T1 part of a guard": lambda mark: ["await", first, "?", "&&", mark, self.wrong(BOOL), ";"]})
 
     def guard_of(self, scope):
+        if self.runs:
+            return self.await_of(scope)
         return ["await", self.asked(scope, BOOL, "guard", 0), ";"]
 
     def alone(self, scope):
@@ -224,7 +226,7 @@ class Maker(Expressions):
         """A class. Its members are a name, a type, and what follows; a field has no name here."""
         types, implemented, methods = self.classes[name]
         params, seen = self.params(types)
-        later = {self.fresh("f"): self.type_of() for _ in range(self.rng.randint(0, 3))}
+        later = {self.fresh("f"): self.kept_type() for _ in range(self.rng.randint(0, 3))}
         fields, members = {**seen, **later}, []
         for field, type_ in later.items():
             members.append((None, [], self.field_of(field, type_, Scope("initial", seen))))
@@ -275,6 +277,23 @@ class Maker(Expressions):
 
     # ---- programs ----
 
+    def main_block(self):
+        """The main block. In a program that runs some objects are made first, and their methods are called."""
+        scope = Scope("main", result=UNIT)
+        if not self.runs:
+            return self.block(scope, 2, 9)
+        opening = [items for _ in range(len(self.classes) + 1) for items in self.object_with_calls(scope)]
+        return ["{", *opening, self.block(scope, 2, 9), "}"]
+
+    def object_with_calls(self, scope):
+        """Statements that make an object, and call each method of the interface by which it is known."""
+        type_, made = self.new_of(scope)
+        name = self.fresh("o")
+        scope.slots[name] = type_
+        calls = [self.called(scope, [name], "!", [method], "an interface")
+                 for method in sorted(self.methods_of(type_[0]).items())]
+        return [[*written(type_), name, "=", made, ";"], *(self.declared(scope, *call) for call in calls)]
+
     def planned_data(self):
         for _ in range(self.rng.randint(1, 2)):
             name, count = self.fresh("D"), self.rng.randint(0, 1)
@@ -304,7 +323,7 @@ class Maker(Expressions):
                                             self.rng.choice([UNIT, self.type_of(1)]))
             names = sorted(methods)
             self.rng.shuffle(names)
-            types = [self.type_of() for _ in range(self.rng.randint(0, 2))]
+            types = [self.kept_type() for _ in range(self.rng.randint(0, 2))]
             self.classes[name] = (types, implemented, {method: methods[method] for method in names})
 
     def program(self):
@@ -321,4 +340,4 @@ class Maker(Expressions):
         items = [Mark(NOTHING)]
         for make, name in plan:
             items += [make(name), self.further_declaration()]
-        return [*items, self.block(Scope("main", result=UNIT), 2, 9)]
+        return [*items, self.main_block()]

@@ -9,7 +9,7 @@ use Rattle.abs_tree.specs.declared.refusal.Refusal.{Refusal}
 use Rattle.abs_command.specs.declared.command.Ended.{Ended}
 use Rattle.abs_command.specs.declared.command.Status.{Status}
 use Rattle.abs_command.specs.declared.command.Status.TheVariants as status
-use Rattle.abs_command.specs.Analysis.{facts_of, pairs_of, report_of}
+use Rattle.abs_command.specs.Analysis.{report_of}
 use Rattle.abs_command.specs.Bytes.{WritesPrefix}
 use Rattle.abs_command.specs.Promises.{SourceView, HoldsOnly, IsMisused, IsUnread, IsOversized, IsRefused, IsAnalysed, IsReported, HasRun, CameTo, Answer, IsAccepted}
 use Rattle.abs_command.specs.Promises.CameTo.{misused, unread, oversized, refused, reported, ran}
@@ -17,7 +17,7 @@ use Rattle.abs_command.specs.Promises.Answer.{whole, prefix}
 use Rattle.abs_command.specs.Taking.{Delivers}
 use Rattle.abs_command.specs.Words.{Names}
 use Rattle.abs_command.proofs.ByteLemmas.{Appends-then}
-use Rattle.abs_command.proofs.ProgressLemmas.{never_stuck}
+use Rattle.abs_command.proofs.HeadlineLemmas.{accepted_never_stuck}
 
 -- nothing was written
 pub appends_nothing : (known : Option (List ℕ)) → Appends known known []
@@ -35,8 +35,7 @@ holds_as ended other h = record {
   refusal_is = h.refusal_is;
   facts = h.facts;
   pairs = h.pairs;
-  report =
-      h.report;
+  report = h.report;
   history = h.history;
   end = h.end;
 }
@@ -46,8 +45,7 @@ misused_as : (ended : Ended) (other : Status) {words : List (List ℕ)} {due : O
 misused_as ended other h = record {
   cause = h.cause;
   fields = holds_as ended other h.fields;
-  status =
-      h.status;
+  status = h.status;
   printed = h.printed;
 }
 
@@ -70,8 +68,7 @@ oversized_as ended other h = record {
   named = h.named;
   cause = h.cause;
   fields = holds_as ended other h.fields;
-  status =
-      h.status;
+  status = h.status;
   printed = h.printed;
 }
 
@@ -93,8 +90,6 @@ analysed_as : (ended : Ended) (other : Status) {bytes : List ℕ} {program : Pro
 analysed_as ended other h = record {
   accepted = h.accepted;
   refusal = h.refusal;
-  facts = h.facts;
-  pairs = h.pairs;
   report = h.report;
   headline = h.headline;
 }
@@ -121,6 +116,7 @@ run_as ended other h = record {
   analysed = analysed_as ended other h.analysed;
   ran = h.ran;
   legal = h.legal;
+  in_turn = h.in_turn;
   few = h.few;
   end = h.end;
   end_is = h.end_is;
@@ -172,17 +168,14 @@ delivered words bytes source source' ended result before old new first second fa
     (prefix (Some ended.status) (first ++ second) (came_as ended status.WriteFault came) refl
     (prefix_after before old new first second written failed.1) (rises failed.2))
 
--- The analysis found this of the program, and no legal history leads to a configuration in which it is stuck.
+-- The analysis found this of the program, which is never stuck if no statement of it is an `await`.
 pub analysed_by : (bytes : List ℕ) (ended : Ended) (program : ProgramTree) → IsAccepted bytes program
-    → ended.refusal ≡ None → ended.facts ≡ facts_of program
-    → ended.pairs ≡ pairs_of program → ended.report ≡ report_of program → IsAnalysed bytes ended program
-analysed_by bytes ended program accepted refusal facts pairs report = record {
+    → ended.refusal ≡ None → ended.report ≡ report_of program → IsAnalysed bytes ended program
+analysed_by bytes ended program accepted refusal report = record {
   accepted = accepted;
   refusal = refusal;
-  facts = facts;
-  pairs = pairs;
   report = report;
-  headline = λ empty. never_stuck program;
+  headline = λ empty. accepted_never_stuck bytes program accepted.read;
 }
 
 -- The words name at most one file.

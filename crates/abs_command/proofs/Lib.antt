@@ -1,10 +1,10 @@
 pub mod ByteLemmas
-pub mod ProgressLemmas
+pub mod HeadlineLemmas
 pub mod AnswerLemmas
 pub mod SourceLemmas
 pub mod PromiseLemmas
+pub mod AgreementLemmas
 pub mod ResultLemmas
+pub mod RunLemmas
 pub mod TakingLemmas
-pub mod BlockLemmas
-pub mod MachineLemmas
-pub mod StepLemmas
+pub mod TaskLemmas

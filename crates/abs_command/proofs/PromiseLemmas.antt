@@ -1,24 +1,26 @@
 -- From the answer of a call to its other promises: each status is returned when its cause holds.
-use Rattle.std.proofs.Common.{◌≡◌, ◌≢◌, ℕ, ◌<◌, ◌≤◌, List, [], refl, sym, ap, subst, ◌∙◌, length, inl, inr, arith, ⊎_elim}
+use Rattle.std.proofs.Common.{◌≡◌, ◌≢◌, ℕ, ◌<◌, ◌≤◌, List, sym, ap, subst, ◌∙◌, length, inl, inr, arith, ⊎_elim}
 use Rattle.std.specs.Prelude.{Some, ◌⊎◌, Bool, true, false}
 use Rattle.abs_tree.specs.Syntax.{ProgramTree}
 use Rattle.abs_command.specs.declared.command.Ended.{Ended}
 use Rattle.abs_command.specs.declared.command.Status.{Status}
 use Rattle.abs_command.specs.declared.command.Status.TheVariants as status
-use Rattle.abs_command.specs.declared.runtime.machine.End.{End}
-use Rattle.abs_command.specs.declared.runtime.machine.End.TheVariants as ends
-use Rattle.abs_tree.specs.Limits.{event_limit, source_limit}
+use Rattle.abs_tree.specs.Limits.{source_limit}
 use Rattle.abs_command.specs.Promises.{SourceView, SinkView, HasRun, IsAccepted, Answer, BytesIn, ComesTo, NoneRose, Promises}
 use Rattle.abs_command.specs.Promises.CameTo.{misused, unread, oversized, refused, reported, ran}
 use Rattle.abs_command.specs.Promises.Answer.{whole, prefix, exhausted}
-use Rattle.abs_command.specs.Runs.{Ran, run_of, EndsAs}
 use Rattle.abs_command.specs.Sources.{HasOffence}
 use Rattle.abs_command.specs.Statuses.{status_by, status_of, main_failed, IsOfRun, GivesUp}
 use Rattle.abs_command.specs.Words.{AreCommandWords}
+use Rattle.step_rules.specs.Runs.{Ran, run_of}
+use Rattle.step_rules.specs.declared.kind.End.{End}
+use Rattle.step_rules.specs.declared.kind.End.TheVariants as ends
+use Rattle.abs_command.specs.Headline.{NeverAwaits}
+use Rattle.abs_command.proofs.HeadlineLemmas.{no_stall}
 use Rattle.abs_command.proofs.SourceLemmas.{one_program, no_offence}
 
 -- the status is the one that is due
-due_is : {s due : Status} → Some s ≡ Some due → s ≡ due
+pub due_is : {s due : Status} → Some s ≡ Some due → s ≡ due
 due_is e = cc
 
 -- a status that equals one of a call that gave up is one too
@@ -43,13 +45,6 @@ run_names_no_chain ends.Done true = λ e. absurd (cc)
 run_names_no_chain ends.Done false = λ e. absurd (cc)
 run_names_no_chain ends.Stalled failed = λ e. absurd (cc)
 run_names_no_chain ends.Spent failed = λ e. absurd (cc)
-
--- A run with the status of a stalled one stalled.
-stalled_is : (end : End) (failed : Bool) → status.Stalled ≡ status_by end failed → end ≡ ends.Stalled
-stalled_is ends.Done true e = absurd (cc)
-stalled_is ends.Done false e = absurd (cc)
-stalled_is ends.Stalled failed e = refl
-stalled_is ends.Spent failed e = absurd (cc)
 
 usage_comes : {words : List (List ℕ)} {bytes : List ℕ} {source source' : SourceView} {sink sink' : SinkView}
     {ended : Ended}
@@ -137,26 +132,20 @@ ran_comes (whole output (ran h) written) due other run = inl (same_due h run)
 ran_comes (prefix end output came is written rose) due other run = inr (gave_up is tt)
 ran_comes (exhausted is written) due other run = inr (gave_up is tt)
 
--- A run stalls only if its report names a chain.
-never_stalled : {words : List (List ℕ)} {bytes : List ℕ} {ended : Ended} {output : List ℕ}
-    → HasRun words bytes ended (Some status.Stalled) output → ended.report ≡ [] → ⊥
-never_stalled {words} {bytes} {ended} h empty =
-    let end = stalled_is h.end (main_failed h.ran.config) (due_is h.status) in
-    let stalled = subst (EndsAs h.program event_limit ended.history.tasks h.ran.config) end h.ends in
-    stalled.2 (h.analysed.headline empty ended.history.tasks h.ran h.legal stalled.1)
-
 stalled_comes : {words : List (List ℕ)} {bytes : List ℕ} {source source' : SourceView} {sink sink' : SinkView}
     {ended : Ended}
-    → Answer words bytes source source' sink sink' ended → ended.status ≡ status.Stalled → ended.report ≢ []
-stalled_comes (whole output (misused h) written) is = let status = h.status in absurd (cc)
-stalled_comes (whole output (unread h) written) is = let status = h.status in absurd (cc)
-stalled_comes (whole output (oversized h) written) is = let status = h.status in absurd (cc)
-stalled_comes (whole output (refused h) written) is = let status = h.status in absurd (cc)
-stalled_comes (whole output (reported h) written) is = let status = h.status in absurd (cc)
-stalled_comes {words} {bytes} {source} {source'} {sink} {sink'} {ended} (whole output (ran h) written) is =
-    λ empty. never_stalled (subst (λ (s : Status). HasRun words bytes ended (Some s) output) is h) empty
-stalled_comes (prefix due output came is_fault written rose) is = absurd (cc)
-stalled_comes (exhausted is_memory written) is = absurd (cc)
+    → Answer words bytes source source' sink sink' ended → (program : ProgramTree) → IsAccepted bytes program
+    → NeverAwaits program → ended.status ≢ status.Stalled
+stalled_comes (whole output (misused h) written) program accepted never = λ is. let status = h.status in absurd (cc)
+stalled_comes (whole output (unread h) written) program accepted never = λ is. let status = h.status in absurd (cc)
+stalled_comes (whole output (oversized h) written) program accepted never = λ is. let status = h.status in absurd (cc)
+stalled_comes (whole output (refused h) written) program accepted never = λ is. let status = h.status in absurd (cc)
+stalled_comes (whole output (reported h) written) program accepted never = λ is. let status = h.status in absurd (cc)
+stalled_comes {words} {bytes} {source} {source'} {sink} {sink'} {ended} (whole output (ran h) written) program accepted
+    never =
+    λ is. no_stall program accepted never (subst (λ (s : Status). HasRun words bytes ended (Some s) output) is h)
+stalled_comes (prefix due output came is_fault written rose) program accepted never = λ is. absurd (cc)
+stalled_comes (exhausted is_memory written) program accepted never = λ is. absurd (cc)
 
 chains_never_come : {words : List (List ℕ)} {bytes : List ℕ} {source source' : SourceView} {sink sink' : SinkView}
     {ended : Ended}

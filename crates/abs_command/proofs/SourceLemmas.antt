@@ -3,12 +3,12 @@ use Rattle.std.proofs.Common.{◌≡◌, ℕ, List, [], ◌++◌, refl, sym, ap,
 use Rattle.std.proofs.lemmas.List.Elements.{All-weaker, All-contains, All-contains_itself}
 use Rattle.std.specs.List.{All, Contains}
 use Rattle.std.proofs.lemmas.Option.{none-some, same_Some}
+use Rattle.std.specs.Option.{option_or}
 use Rattle.std.specs.Prelude.{Option, Some, None}
+use Rattle.abs_tree.proofs.OffenceLemmas.{no_offence as no_such_offence}
 use Rattle.abs_tree.specs.Names.{by_first_appearance, with_name}
 use Rattle.abs_tree.specs.Syntax.{Name, SourceTree, ProgramTree}
-use Rattle.abs_tree.specs.declared.place.Place.{Place}
 use Rattle.abs_tree.specs.declared.refusal.Code.{Code}
-use Rattle.abs_tree.specs.declared.refusal.Code.TheVariants.{S1}
 use Rattle.abs_tree.specs.declared.refusal.Offence.{Offence}
 use Rattle.abs_tree.specs.declared.refusal.Refusal.{Refusal}
 use Rattle.abs_tree.specs.Offences.{first_offence}
@@ -30,9 +30,10 @@ use Rattle.abs_names.specs.NameOffences.{name_offences}
 use Rattle.abs_names.specs.Prelude.{prelude_names}
 use Rattle.abs_names.specs.Resolution.{resolved}
 use Rattle.abs_types.specs.TypeOffences.{type_offences}
+use Rattle.abs_profile.specs.Profile.{profile_offences}
 use Rattle.abs_command.specs.Sources.{IsTree, IsProgramOf, IsPiece, IsNameOf, FirstOffence, HasOneFirstOffence}
-use Rattle.abs_command.specs.Sources.FirstOffence.{unlexed, unread, misnamed, mistyped, unsupported_part}
-use Rattle.abs_command.specs.Unsupported.{unsupported}
+use Rattle.abs_command.specs.Sources.FirstOffence.{unlexed, unread, misnamed, mistyped, outside_profile, unsupported}
+use Rattle.abs_command.specs.Unsupported.{get_offences}
 
 -- the names of two trees are equal, and so are the trees
 record OneTree (names others : List Name) (tree next : SourceTree) : Type 0 where
@@ -82,18 +83,20 @@ abbrev in_turn : Option Offence → Option Offence → Option Offence
 in_turn (Some offence) second = Some offence
 in_turn None second = second
 
--- the offence of an unsupported part that begins at a place
-abbrev unsupported_at : Place → Offence
-unsupported_at place = record { place = place; code = S1 }
-
--- the first offence of a tree by its types
+-- the first offences of a tree by its types, of the profile, and of the statements that get a future
 abbrev first_mistyped : SourceTree → Option Offence
 first_mistyped tree = first_offence (type_offences (resolved tree))
 
--- the first offence of a tree: of its names, else by its types, else of what is unsupported
+abbrev first_outside : SourceTree → Option Offence
+first_outside tree = first_offence (profile_offences (resolved tree))
+
+abbrev first_get : SourceTree → Option Offence
+first_get tree = first_offence (get_offences (resolved tree))
+
+-- the first offence of a tree: of its names, else by its types, else of the profile, else of a `get`
 abbrev first_of_tree : SourceTree → Option Offence
-first_of_tree tree = in_turn (first_offence (name_offences tree)) (in_turn (first_mistyped tree)
-    (option_map unsupported_at (unsupported (resolved tree))))
+first_of_tree tree = in_turn (first_offence (name_offences tree))
+    (in_turn (first_mistyped tree) (in_turn (first_outside tree) (first_get tree)))
 
 -- A source is refused in one of three ways: for a token, for what the parser meets, or for an offence of its tree.
 data Refused (text : List ℕ) (refusal : Refusal) : Type 0 where
@@ -110,16 +113,19 @@ in_three_ways (misnamed names tree read first) =
     offending_tree names tree first.first read (rw first.is_first refl) first.refusal_is
 in_three_ways (mistyped names tree read named first) =
     offending_tree names tree first.first read (rw (named, first.is_first) refl) first.refusal_is
-in_three_ways (unsupported_part names tree place read named typed waits is) =
-    offending_tree names tree (unsupported_at place) read (rw (named, typed, waits) refl) is
+in_three_ways (outside_profile names tree read named typed first) =
+    offending_tree names tree first.first read (rw (named, typed, first.is_first) refl) first.refusal_is
+in_three_ways (unsupported names tree read named typed profiled first) =
+    offending_tree names tree first.first read (rw (named, typed, profiled, first.is_first) refl) first.refusal_is
 
 -- the tree of a source with a program has no offence
 none_of_tree : {text : List ℕ} {program : ProgramTree} (accepted : IsProgramOf text program)
     → first_of_tree accepted.tree ≡ None
 none_of_tree {text} {program} accepted =
     let typed = ap type_offences (sym accepted.is) ∙ accepted.typed in
-    let runs = ap unsupported (sym accepted.is) ∙ accepted.runs in
-    rw (accepted.no_offence, typed, runs) refl
+    let profiled = ap profile_offences (sym accepted.is) ∙ accepted.profiled in
+    let runs = ap get_offences (sym accepted.is) ∙ accepted.runs in
+    rw (accepted.no_offence, typed, profiled, runs) refl
 
 -- the parser does not fail on an accepted source
 no_stop : {text : List ℕ} {names : List Name} {tree : SourceTree} {list : TokenList} {refusal : Refusal}
@@ -189,6 +195,28 @@ first_refused offences refusal is = some_if (first_offence offences) refl is
       is_first = first_is;
       refusal_is = same_Some refusal (refusal_of first) is;
     }
+
+-- of two offences that may be there none is, if the first of them is not
+pub neither : (one other : Option Offence) → option_or one other ≡ None → (one ≡ None) × (other ≡ None)
+neither None other is = (refl, is)
+neither (Some offence) other is = absurd cc
+
+-- the offence that is left when names and types have none is one of the profile, or of a statement that gets a future
+pub left_refused : {text : List ℕ} {names : List Name} (tree : SourceTree) (offence : Offence) (refusal : Refusal)
+    → IsTree text names tree → name_offences tree ≡ [] → type_offences (resolved tree) ≡ []
+    → option_or (first_outside tree) (first_get tree) ≡ Some offence → refusal ≡ refusal_of offence
+    → FirstOffence text refusal
+left_refused {text} {names} tree offence refusal read named typed first is =
+    by (first_outside tree) refl first
+  where
+    by : (outside : Option Offence) → first_outside tree ≡ outside
+        → option_or outside (first_get tree) ≡ Some offence → FirstOffence text refusal
+    by (Some own) own_is first =
+        outside_profile names tree read named typed
+        (record { first = offence; is_first = own_is ∙ first; refusal_is = is })
+    by None none first =
+        unsupported names tree read named typed (no_such_offence (profile_offences (resolved tree)) none)
+        (record { first = offence; is_first = first; refusal_is = is })
 
 -- if tokens are pieces of a source, the names that they write are pieces of it too
 names_are_pieces : {text : List ℕ} (tokens : List Lexed) (names : List (List ℕ)) → All (IsPieceAt text) tokens

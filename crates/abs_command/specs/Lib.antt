@@ -1,15 +1,11 @@
 pub mod Analysis
 pub mod Bytes
-pub mod Events
-pub mod FrameCodes
+pub mod Headline
 pub mod Machine
 pub mod Promises
-pub mod Recorded
 pub mod Unsupported
-pub mod Runs
 pub mod Sources
 pub mod Statuses
 pub mod Taking
-pub mod TaskCodes
 pub mod Texts
 pub mod Words

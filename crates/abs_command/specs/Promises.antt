@@ -8,6 +8,7 @@
 --   `CameTo`                        each way that a call can go, with its cause, fields, status and whole output:
 --     `IsMisused`, `IsUnread`, `IsOversized`, `IsRefused`, `IsReported`, `HasRun`
 --   `IsAnalysed`                    a program with its report, and the headline of the project
+--   `IsSame`                        two calls came to the same
 --   `Causes`                        each status is returned when its cause holds
 use Rattle.std.specs.Prelude.{◌≡◌, ◌≢◌, ◌<◌, ◌≤◌, ◌+◌, ◌⊎◌, ℕ, List, [], ◌++◌, length, take, Option, Some, None}
 use Rattle.std.specs.Io.KnownBytes.{Appends, Consumes}
@@ -18,15 +19,17 @@ use Rattle.abs_tree.specs.declared.refusal.Refusal.{Refusal}
 use Rattle.abs_command.specs.declared.command.Ended.{Ended}
 use Rattle.abs_command.specs.declared.command.Status.{Status}
 use Rattle.abs_command.specs.declared.command.Status.TheVariants as status
-use Rattle.abs_command.specs.declared.runtime.machine.End.{End}
-use Rattle.abs_command.specs.Analysis.{facts_of, pairs_of, report_of}
+use Rattle.abs_command.specs.Analysis.{report_of}
 use Rattle.abs_tree.specs.Limits.{event_limit, source_limit}
 use Rattle.abs_command.specs.Bytes.{WritesPrefix}
-use Rattle.abs_command.specs.Runs.{Ran, run_of, EndsAs, NeverStuck}
+use Rattle.abs_command.specs.Headline.{NeverAwaits, NeverStuck}
 use Rattle.abs_command.specs.Sources.{IsProgramOf, FirstOffence, HasOffence}
 use Rattle.abs_command.specs.Statuses.{status_of, IsOfRun, GivesUp, WasRead}
 use Rattle.abs_command.specs.Texts.{usage_line, too_large_line, refusal_line, report_lines, end_text}
 use Rattle.abs_command.specs.Words.{Names, AreCommandWords}
+use Rattle.run_history.specs.Turns.{IsInTurn}
+use Rattle.step_rules.specs.Runs.{Ran, run_of, EndsAs}
+use Rattle.step_rules.specs.declared.kind.End.{End}
 
 -- What a source tells of itself at one moment: what each name holds, what is left to read, its counts of missing names
 -- and of faults.
@@ -99,15 +102,14 @@ pub record IsAccepted (bytes : List ℕ) (program : ProgramTree) : Type 0 where
   pub small : length bytes ≤ source_limit
   pub read : IsProgramOf bytes program
 
--- The program was analysed. If its report names no circular chain, every configuration that a legal history reaches has
--- a step while a task in it is unfinished.
+-- The program was analysed. If its report names no circular chain, and no statement of it is an `await`, every
+-- configuration that a legal history reaches has a step while a task in it is unfinished. Nothing is said of facts and
+-- pairs yet.
 pub record IsAnalysed (bytes : List ℕ) (ended : Ended) (program : ProgramTree) : Type 0 where
   pub accepted : IsAccepted bytes program
   pub refusal : ended.refusal ≡ None
-  pub facts : ended.facts ≡ facts_of program
-  pub pairs : ended.pairs ≡ pairs_of program
   pub report : ended.report ≡ report_of program
-  pub headline : ended.report ≡ [] → NeverStuck program
+  pub headline : ended.report ≡ [] → NeverAwaits program → NeverStuck program
 
 -- The program was analysed and nothing was run. No status is due yet: a fault of the sink leaves a call like this.
 pub record IsReported (words : List (List ℕ)) (bytes : List ℕ) (ended : Ended) (due : Option Status) (output : List ℕ)
@@ -120,8 +122,8 @@ pub record IsReported (words : List (List ℕ)) (bytes : List ℕ) (ended : Ende
   pub status : due ≡ None
   pub printed : output ≡ report_lines ended.report
 
--- The program was analysed and run. Its recorded history is legal and has at most the permitted events. The run ended
--- in this way, and printed this.
+-- The program was analysed and run. Its recorded history is legal, in the order of one worker, and has at most the
+-- permitted events. The run ended in this way, and printed this.
 pub record HasRun (words : List (List ℕ)) (bytes : List ℕ) (ended : Ended) (due : Option Status) (output : List ℕ)
     : Type 0 where
   pub named : AreCommandWords words
@@ -129,6 +131,7 @@ pub record HasRun (words : List (List ℕ)) (bytes : List ℕ) (ended : Ended) (
   pub analysed : IsAnalysed bytes ended program
   pub ran : Ran
   pub legal : run_of program ended.history.tasks ≡ Some ran
+  pub in_turn : IsInTurn program ended.history.tasks
   pub few : length ended.history.tasks ≤ event_limit
   pub end : End
   pub end_is : ended.end ≡ Some end
@@ -146,6 +149,15 @@ pub data CameTo (words : List (List ℕ)) (bytes : List ℕ) (source source' : S
   refused : IsRefused words bytes ended due output → CameTo words bytes source source' ended due output
   reported : IsReported words bytes ended due output → CameTo words bytes source source' ended due output
   ran : HasRun words bytes ended due output → CameTo words bytes source source' ended due output
+
+-- Two calls came to the same: what they wrote, and what they hand back.
+pub record IsSame (one : Ended) (output : List ℕ) (other : Ended) (output' : List ℕ) : Type 0 where
+  pub output_is : output ≡ output'
+  pub status : one.status ≡ other.status
+  pub refusal : one.refusal ≡ other.refusal
+  pub report : one.report ≡ other.report
+  pub history : one.history.tasks ≡ other.history.tasks
+  pub end : one.end ≡ other.end
 
 -- Before memory ran out, nothing was written, or the whole report of the source's own program.
 pub data WrittenBefore (words : List (List ℕ)) (bytes : List ℕ) (old new : Option (List ℕ)) : Type 0 where
@@ -207,7 +219,8 @@ pub record Causes (words : List (List ℕ)) (bytes : List ℕ) (source source' :
   pub accepted : AreCommandWords words → (program : ProgramTree) → IsAccepted bytes program
       → IsOfRun ended.status ⊎ GivesUp ended.status
   pub ran : (due : Status) (output : List ℕ) → HasRun words bytes ended (Some due) output → ComesTo ended.status due
-  pub stalled : ended.status ≡ status.Stalled → ended.report ≢ []
+  pub stalled : (program : ProgramTree) → IsAccepted bytes program → NeverAwaits program
+      → ended.status ≢ status.Stalled
   pub chains : ended.status ≢ status.Chains
   pub memory_alone : NoneRose source source' sink sink' → GivesUp ended.status → ended.status ≡ status.Memory
 

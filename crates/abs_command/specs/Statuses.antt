@@ -1,27 +1,25 @@
 -- What the exit statuses mean: which of them a run ends with, and which say that the call gave up.
 use Rattle.std.specs.Prelude.{⊤, Bool, true, false, Option, Some, None, slice_get}
-use Rattle.abs_tree.specs.declared.evaluated.Evaluated.{Evaluated}
-use Rattle.abs_tree.specs.declared.evaluated.Evaluated.TheVariants.{Good, Bad}
+use Rattle.abs_tree.specs.Results.{Result, Gives, Fails}
 use Rattle.abs_command.specs.declared.command.Status.{Status}
 use Rattle.abs_command.specs.declared.command.Status.TheVariants as status
-use Rattle.abs_command.specs.declared.runtime.config.Config.{Config}
-use Rattle.abs_command.specs.declared.runtime.config.TaskCell.{TaskCell}
-use Rattle.abs_command.specs.declared.runtime.machine.End.{End}
-use Rattle.abs_command.specs.declared.runtime.machine.End.TheVariants as ends
+use Rattle.config_state.specs.Configurations.{TaskState, Configuration}
+use Rattle.step_rules.specs.declared.kind.End.{End}
+use Rattle.step_rules.specs.declared.kind.End.TheVariants as ends
 
 -- whether a result is a fault
-abbrev pub is_fault : Option Evaluated → Bool
+abbrev pub is_fault : Option Result → Bool
 is_fault None = false
-is_fault (Some (Good value)) = false
-is_fault (Some (Bad fault)) = true
+is_fault (Some (Gives value)) = false
+is_fault (Some (Fails cause)) = true
 
 -- whether a task ended by a fault
-abbrev pub ended_by_fault : Option TaskCell → Bool
+abbrev pub ended_by_fault : Option TaskState → Bool
 ended_by_fault None = false
 ended_by_fault (Some task) = is_fault task.outcome
 
 -- whether the task of the main block ended by a fault
-abbrev pub main_failed : Config → Bool
+abbrev pub main_failed : Configuration → Bool
 main_failed config = ended_by_fault (slice_get config.tasks 0)
 
 -- the status of a run without a circular chain, by its end and whether the main block failed
@@ -31,7 +29,7 @@ status_by ends.Done false = status.Clean
 status_by ends.Stalled failed = status.Stalled
 status_by ends.Spent failed = status.Spent
 
-abbrev pub status_of : End → Config → Status
+abbrev pub status_of : End → Configuration → Status
 status_of end config = status_by end (main_failed config)
 
 -- a status that a run may end with

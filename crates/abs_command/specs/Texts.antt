@@ -7,14 +7,13 @@
 use Rattle.std.specs.Prelude.{ℕ, ◌+◌, List, [], ◌∷◌, ◌++◌, length, Option, Some, None, codes, decimal, count_by, is_none}
 use Rattle.std.specs.List.{flat_map}
 use Rattle.abs_tree.specs.declared.refusal.Refusal.{Refusal}
-use Rattle.abs_tree.specs.declared.evaluated.Evaluated.{Evaluated}
-use Rattle.abs_tree.specs.declared.evaluated.Evaluated.TheVariants.{Good, Bad}
+use Rattle.abs_tree.specs.Results.{Result, Gives, Fails}
 use Rattle.abs_tree.specs.Faults.{fault_name}
 use Rattle.abs_tree.specs.Refusals.{code_name, code_words}
 use Rattle.abs_command.specs.declared.analysis.report.Chain.{Chain}
-use Rattle.abs_command.specs.declared.runtime.config.TaskCell.{TaskCell}
-use Rattle.abs_command.specs.declared.runtime.machine.End.{End}
-use Rattle.abs_command.specs.declared.runtime.machine.End.TheVariants.{Done, Stalled, Spent}
+use Rattle.config_state.specs.Configurations.{TaskState}
+use Rattle.step_rules.specs.declared.kind.End.{End}
+use Rattle.step_rules.specs.declared.kind.End.TheVariants.{Done, Stalled, Spent}
 
 -- the line for words that are not a valid command line
 abbrev pub usage_line : List ℕ
@@ -42,12 +41,12 @@ abbrev pub lines_text : List (List ℕ) → List ℕ
 lines_text lines = flat_map (λ line. line ++ codes "\n") lines
 
 -- the tasks that have no result
-abbrev pub unfinished_of : List TaskCell → ℕ
+abbrev pub unfinished_of : List TaskState → ℕ
 unfinished_of tasks = count_by (λ task. is_none task.outcome) tasks
 
 -- how the run ended, and how many tasks it had; if it stalled or was spent, how many of them are unfinished; if it was
 -- spent, how many events it had
-abbrev pub end_line : End → ℕ → List TaskCell → List ℕ
+abbrev pub end_line : End → ℕ → List TaskState → List ℕ
 end_line Done events tasks = codes "done: " ++ (decimal (length tasks) ++ codes " tasks\n")
 end_line Stalled events tasks =
     codes "stalled: " ++ (decimal (length tasks)
@@ -58,17 +57,17 @@ end_line Spent events tasks =
     ++ (codes " tasks, " ++ (decimal (unfinished_of tasks) ++ codes " unfinished\n")))))
 
 -- the line of the task of this index, if it ended by a fault
-abbrev pub fault_line : ℕ → Option Evaluated → List ℕ
+abbrev pub fault_line : ℕ → Option Result → List ℕ
 fault_line number None = []
-fault_line number (Some (Good value)) = []
-fault_line number (Some (Bad cause)) =
+fault_line number (Some (Gives value)) = []
+fault_line number (Some (Fails cause)) =
     codes "fault: task " ++ (decimal number ++ (codes ": " ++ (fault_name cause ++ codes "\n")))
 
 -- those lines in the order of the tasks, the first of which has this index
-abbrev pub fault_lines : ℕ → List TaskCell → List ℕ
+abbrev pub fault_lines : ℕ → List TaskState → List ℕ
 fault_lines number [] = []
 fault_lines number (task ∷ tasks) = fault_line number task.outcome ++ fault_lines (number + 1) tasks
 
 -- what a run printed, how it ended, and the faults of its tasks
-abbrev pub end_text : List (List ℕ) → End → ℕ → List TaskCell → List ℕ
+abbrev pub end_text : List (List ℕ) → End → ℕ → List TaskState → List ℕ
 end_text lines end events tasks = lines_text lines ++ (end_line end events tasks ++ fault_lines 0 tasks)

@@ -1,35 +1,53 @@
--- Where the first unsupported part of a source begins, if there is one. The source is resolved. Declarations of every kind
--- are supported, and expressions of every form, but for what the profile of the language refuses. A supported statement of
--- the main block declares a local with a value, assigns a value to a local, evaluates an expression, or prints one.
+-- What does not run yet: `get`. Each statement that gets a future offends, with the code S1 at the word `get`. The source
+-- is resolved.
 --
---   `unsupported`                                      a source
---   `unsupported_statement`, `unsupported_statements`  statements of the main block
---   `unsupported_side`                                 the right side of a statement
-use Rattle.std.specs.Prelude.{Option, Some, None}
-use Rattle.std.specs.Option.{option_or}
-use Rattle.abs_tree.specs.Syntax.{AtSlot, SideTree, ValueOf, ToVariable, SomeSide, Statement, PrintOf, DeclareOf, AssignOf, DoOf, Statements, NoStatement, NextStatement, SourceTree}
-use Rattle.abs_tree.specs.SyntaxPlaces.{side_place, statement_place}
-use Rattle.abs_tree.specs.declared.place.Place.{Place}
-use Rattle.abs_profile.specs.Profile.{declarations_offence, phrase_offence}
+--   `get_offences`                                     a source
+--   `decl_gets`, `member_gets`                         declarations and members of classes
+--   `statement_gets`, `statements_gets`, `else_gets`   statements
+--   `side_gets`, `initial_gets`                        right sides
+use Rattle.std.specs.Prelude.{List, [], ◌∷◌, ◌++◌}
+use Rattle.std.specs.List.{flat_map}
+use Rattle.abs_tree.specs.Syntax.{SideTree, GetOf, MaybeSide, NoSide, SomeSide, Statement, BlockOf, IfOf, WhileOf, DeclareOf, AssignOf, DoOf, MaybeStatements, NoElse, Else, Statements, NoStatement, NextStatement, MemberTree, MethodTree, DeclTree, ClassTree, SourceTree}
+use Rattle.abs_tree.specs.declared.refusal.Code.TheVariants.{S1}
+use Rattle.abs_tree.specs.declared.refusal.Offence.{Offence}
 
--- a right side that is an expression
-abbrev pub unsupported_side : SideTree → Option Place
-unsupported_side (ValueOf place value) = phrase_offence value
-unsupported_side other = Some (side_place other)
+-- a right side: `get` offends at its word
+abbrev pub side_gets : SideTree → List Offence
+side_gets (GetOf place get_place future) = record { place = get_place; code = S1 } ∷ []
+side_gets other = []
 
--- a declaration with a value, an assignment to a local, an expression, a print
-abbrev pub unsupported_statement : Statement → Option Place
-unsupported_statement (DeclareOf index place type at variable (SomeSide side)) = unsupported_side side
-unsupported_statement (AssignOf index place (ToVariable at (AtSlot slot)) side) = unsupported_side side
-unsupported_statement (DoOf index place side) = unsupported_side side
-unsupported_statement (PrintOf index place text) = phrase_offence text
-unsupported_statement other = Some (statement_place other)
+abbrev pub initial_gets : MaybeSide → List Offence
+initial_gets NoSide = []
+initial_gets (SomeSide side) = side_gets side
 
-abbrev pub unsupported_statements : Statements → Option Place
-unsupported_statements NoStatement = None
-unsupported_statements (NextStatement first others) =
-    option_or (unsupported_statement first) (unsupported_statements others)
+abbrev mutual
+  -- statements
+  pub statement_gets : Statement → List Offence
+  statement_gets (BlockOf place block) = statements_gets block
+  statement_gets (IfOf index place condition first second) = statements_gets first ++ else_gets second
+  statement_gets (WhileOf index place condition body) = statements_gets body
+  statement_gets (DeclareOf index place type variable_place variable initial) = initial_gets initial
+  statement_gets (AssignOf index place target side) = side_gets side
+  statement_gets (DoOf index place side) = side_gets side
+  statement_gets other = []
 
--- a source: its declarations come before its main block
-abbrev pub unsupported : SourceTree → Option Place
-unsupported source = option_or (declarations_offence source.declarations) (unsupported_statements source.main)
+  pub statements_gets : Statements → List Offence
+  statements_gets NoStatement = []
+  statements_gets (NextStatement first others) = statement_gets first ++ statements_gets others
+
+  pub else_gets : MaybeStatements → List Offence
+  else_gets NoElse = []
+  else_gets (Else branch) = statements_gets branch
+
+-- members of classes, and declarations: only methods have statements
+abbrev pub member_gets : MemberTree → List Offence
+member_gets (MethodTree signature end body) = statements_gets body
+member_gets other = []
+
+abbrev pub decl_gets : DeclTree → List Offence
+decl_gets (ClassTree place name params implemented members) = flat_map member_gets members
+decl_gets other = []
+
+-- a source
+abbrev pub get_offences : SourceTree → List Offence
+get_offences source = flat_map decl_gets source.declarations ++ statements_gets source.main

@@ -4,9 +4,11 @@ ghost use Rattle.std.specs.Io.KnownBytes.{Appends};
 ghost use Rattle.abs_tree.specs.SourceViews.{program_tree};
 ghost use Rattle.abs_outside.specs.Counts.{Rose};
 ghost use Rattle.abs_tree.specs.Limits.{source_limit};
-ghost use Rattle.abs_command.specs.Promises.{Promises, SourceView, source_view, sink_view, Answer, WrittenBefore, IsAccepted};
+ghost use Rattle.abs_tree.specs.Syntax.{Name};
+ghost use Rattle.config_state.specs.ConfigViews.{configuration};
+ghost use Rattle.abs_command.specs.Promises.{Promises, SourceView, source_view, sink_view, Answer, CameTo, IsSame, WrittenBefore, IsAccepted};
 ghost use Rattle.abs_command.specs.Sources.{IsProgramOf, FirstOffence};
-ghost use Rattle.abs_command.specs.Statuses.{status_of as status_for, main_failed as main_failed_in};
+ghost use Rattle.abs_command.specs.Statuses.{status_of as status_for, main_failed as main_failed_in, WasRead};
 ghost use Rattle.abs_command.specs.Taking.{Delivers, TookWhole, TookSome, SourceFailed};
 ghost use Rattle.abs_command.specs.Words.{spelled, Names, AreCommandWords};
 
@@ -14,16 +16,17 @@ use crate::analysis::report::Report;
 use crate::analysis::{Analysis, analyse};
 use crate::edge::read::{ReadError, read_rest};
 use crate::edge::write::write_all;
-use crate::runtime::config::Config;
-use crate::runtime::history::History;
-use crate::runtime::machine::{End, Ran, run};
+use crate::run::{Ran, run};
 use crate::source::program_of;
 use crate::texts::outcome::{end_text, report_text};
 use crate::texts::refusal::refusal_text;
 use abs_outside::{Sink, Source};
 use abs_tree::limits::{EVENT_LIMIT, SOURCE_LIMIT};
 use abs_tree::{Evaluated, Named, Refusal, SourceError};
+use config_state::Config;
+use run_history::History;
 use std::alloc::{AllocError, Global};
+use step_rules::End;
 
 /// How a call of the command ended. Its number is the exit status of the process.
 #[derive(Clone, Copy, Debug, PartialEq, Eq)]
@@ -93,8 +96,6 @@ impl Ended {
     fn unwritten(alloc: Global, analysis: Analysis) -> Ended
         ensures status { result.status ≡ Status.WriteFault }
         ensures refusal { result.refusal ≡ None }
-        ensures facts { result.facts ≡ analysis.facts }
-        ensures pairs { result.pairs ≡ analysis.pairs }
         ensures report { result.report ≡ analysis.report }
         ensures history { result.history.tasks ≡ [] }
         ensures end { result.end ≡ None }
@@ -112,10 +113,8 @@ impl Ended {
 
     /// A call whose program was analysed and run.
     fn ran(analysis: Analysis, history: History, end: End, config: &Config) -> Ended
-        ensures status { result.status ≡ status_for end config.now }
+        ensures status { (names : List Name) → result.status ≡ status_for end (configuration names config.now) }
         ensures refusal { result.refusal ≡ None }
-        ensures facts { result.facts ≡ analysis.facts }
-        ensures pairs { result.pairs ≡ analysis.pairs }
         ensures report { result.report ≡ analysis.report }
         ensures history { result.history ≡ history }
         ensures end { result.end ≡ Some end }
@@ -138,6 +137,16 @@ const USAGE: &str =
 
 /// The line for a source that is too large.
 const TOO_LARGE: &str = "too large: source\n";
+
+/// Two calls with the same words and the same bytes come to the same, where neither gave up: what they write, and all
+/// that they hand back.
+pub fn calls_agree()
+    ensures { (words : List (List ℕ)) (bytes : List ℕ) (source source' : SourceView) (ended : Ended)
+        (output : List ℕ) (other other' : SourceView) (ended' : Ended) (output' : List ℕ)
+        → CameTo words bytes source source' ended (Some ended.status) output
+        → CameTo words bytes other other' ended' (Some ended'.status) output'
+        → WasRead ended.status → WasRead ended'.status → IsSame ended output ended' output' }
+{}
 
 /// Does what the words say: reads the file that they name from the source, analyses and runs its program, and writes
 /// what came of it to the sink. The words are the program's name and one file.
@@ -284,7 +293,7 @@ fn answer_program<K: Sink>(
 
 /// The status of a run that ended so.
 fn status_of(end: End, config: &Config) -> Status
-    ensures { result ≡ status_for end config.now }
+    ensures { (names : List Name) → result ≡ status_for end (configuration names config.now) }
 {
     match end {
         End::Done if main_failed(config) => Status::Failed,
@@ -296,7 +305,7 @@ fn status_of(end: End, config: &Config) -> Status
 
 /// Whether the main block's task ended by a fault.
 fn main_failed(config: &Config) -> bool
-    ensures { result ≡ main_failed_in config.now }
+    ensures { (names : List Name) → result ≡ main_failed_in (configuration names config.now) }
 {
     match config.tasks.items.first() {
         Some(task) => matches!(task.outcome, Some(Evaluated::Bad(_))),

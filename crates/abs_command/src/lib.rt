@@ -4,7 +4,7 @@
 pub mod analysis;
 pub mod command;
 pub mod edge;
-pub mod runtime;
+pub mod run;
 pub mod source;
 pub mod texts;
 

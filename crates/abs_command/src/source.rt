@@ -11,7 +11,8 @@ use crate::source::unsupported::unsupported;
 use abs_lexer::lexer::tokens;
 use abs_names::resolve;
 use abs_parser::parse;
-use abs_tree::{Code, Offence, SourceError};
+use abs_profile::profile_offence;
+use abs_tree::SourceError;
 use abs_types::Checked;
 use check_obj::check;
 use std::alloc::Global;
@@ -32,11 +33,9 @@ pub fn program_of<'a>(alloc: Global, text: &'a [u8]) -> Result<Checked<'a>, Sour
     let tree = parse(alloc, &list)?;
     let program = resolve(alloc, tree)?;
     let checked = check(alloc, program)?;
-    match unsupported(checked.named()) {
-        Some(place) => {
-            let code = Code::S1;
-            Err(SourceError::Refused(Offence { place, code }.refusal()))
-        }
+    let named = checked.named();
+    match profile_offence(named).or(unsupported(named)) {
+        Some(offence) => Err(SourceError::Refused(offence.refusal())),
         None => Ok(checked),
     }
 }

@@ -1,6 +1,6 @@
 //! What neither a clause nor a call of the built program shows: what the command hands back, sources and sinks that
-//! fail midway, the pure ones, and the texts of refusals that no source gives yet.
-use abs_command::runtime::machine::{End, run};
+//! fail midway, the pure ones, and the texts of refusals of each code.
+use abs_command::run::run;
 use abs_command::source::program_of;
 use abs_command::texts::outcome::end_text;
 use abs_command::texts::refusal::refusal_text;
@@ -12,16 +12,17 @@ use abs_tree::{Code, Refusal};
 use std::alloc::{AllocError, Global};
 use std::process::Abort;
 use std::test::Fail;
+use step_rules::End;
 
 // More bytes than any test reads or writes.
 const AMPLE: usize = 2_000_000;
 
-// What a call hands back, where its run has one task, and no pair and no circular chain was found.
+// What a call hands back, where its run has one task. Facts and pairs are not counted yet, and no circular chain is
+// found.
 #[derive(Clone, Copy)]
 struct Want {
     status: u8,
     refusal: Option<Refusal>,
-    facts: u64,
     events: u64,
     end: Option<End>,
 }
@@ -31,7 +32,6 @@ const fn before_analysis(status: u8) -> Want {
     Want {
         status,
         refusal: None,
-        facts: 0,
         events: 0,
         end: None,
     }
@@ -41,7 +41,6 @@ const fn before_analysis(status: u8) -> Want {
 const CLEAN: Want = Want {
     status: 0,
     refusal: None,
-    facts: 1,
     events: 2,
     end: Some(End::Done),
 };
@@ -97,7 +96,7 @@ fn call<S: Source, K: Sink>(
     } = abs_run(alloc, &all, source, sink);
     assert_eq!(rt; status as u8, want.status);
     assert_eq!(rt; refusal, want.refusal);
-    assert_eq!(rt; facts, want.facts);
+    assert_eq!(rt; facts, 0);
     assert_eq!(rt; pairs, 0);
     assert!(rt; report.is_empty());
     assert_eq!(rt; history.len(), want.events);
@@ -214,10 +213,7 @@ fn second_read_fails(rt: HostRuntime) -> Result<(), Fail> {
 #[test]
 fn one_write_fails(rt: HostRuntime) -> Result<(), Fail> {
     let alloc = rt.alloc();
-    let before_run = Want {
-        facts: 1,
-        ..before_analysis(8)
-    };
+    let before_run = before_analysis(8);
     let after_run = Want { status: 8, ..CLEAN };
     for (number, written, want) in [
         (1, "", before_run),
@@ -242,7 +238,7 @@ fn one_write_fails(rt: HostRuntime) -> Result<(), Fail> {
     Ok(())
 }
 
-// The texts of the codes for which no source is refused yet.
+// The texts of the codes of names, types and the profile.
 #[test]
 fn refusal_texts(rt: HostRuntime) -> Result<(), Fail> {
     let alloc = rt.alloc();

@@ -1,3 +1,1 @@
-pub mod FirstLemmas
-pub mod ExpressionLemmas
-pub mod StatementLemmas
+pub mod NotedLemmas

@@ -1,26 +1,39 @@
--- What the profile of the language refuses: a Boolean guard, a future in a field, a class parameter or data, `destiny`, a
--- call by "." on another receiver than `this`, and `new local`. Each of these gives the place of the first such offence
--- in the order of the letters, if there is one. Names are resolved.
+-- What the profile of the language refuses: a part of a guard without "?" (P1), a type in which `Fut` occurs of a
+-- field, of a class parameter or of a constructor's argument (P2), `destiny` (P3), a call by "." on another receiver
+-- than `this` (P4), and the word `local` (P5). Each of these gives all offences of a part of a source, whose names are
+-- resolved.
 --
---   `declarations_offence`                             declarations
---   `decl_offence`, `constructor_offence`, `param_offence`, `member_offence`     a declaration and its parts
---   `statement_offence`, `statements_offence`          statements
---   `side_offence`, `call_offence`, `guard_offence`    right sides, calls by ".", guards
---   `phrase_offence`, `phrases_offence`, ..            expressions and their parts
---   `future_offence`, `type_place`                     a type in which `Fut` occurs; where a type begins
---   `first_of`                                         the first offence of a list
-use Rattle.std.specs.Prelude.{List, [], ◌∷◌, Option, Some, None, if◌then◌else◌}
-use Rattle.std.specs.Option.{option_or}
-use Rattle.abs_tree.specs.Syntax.{TypeTree, UnresolvedType, IntType, StringType, FutType, DataType, InterfaceType, ParameterType, BottomType, NullType, ClassType, TypeTrees, NoType, NextType, Phrase, LetIn, IfElse, OperatorsOf, Prefixed, NumberOf, StringOf, NullOf, DestinyOf, ThisOf, FieldOf, OwnCallOf, VariableOf, ApplyOf, BuildOf, CaseOf, Phrases, NoPhrase, NextPhrase, Operands, NoOperands, NextOperand, Branches, NoBranch, NextBranch, SideTree, NewOf, ValueOf, SendOf, GetOf, CallOf, Tests, NoTest, NextTest, MaybeSide, NoSide, SomeSide, Statement, BlockOf, SkipOf, SuspendOf, AwaitOf, ReturnOf, PrintOf, IfOf, WhileOf, DeclareOf, AssignOf, DoOf, MaybeStatements, NoElse, Else, Statements, NoStatement, NextStatement, ParamTree, ConstructorTree, MaybePhrase, NoValue, Value, MemberTree, FieldTree, MethodTree, DeclTree, DataTree, FunctionTree, InterfaceTree, ClassTree}
+--   `profile_offences`                                 a source
+--   `decl_offences`, `constructor_offences`, `param_offences`     a declaration, a constructor, a class parameter
+--   `member_offences`, `value_offences`                a member of a class, and the initial value of a field
+--   `statement_offences`, `statements_offences`, `else_offences`     statements, and the second branch of an `if`
+--   `initial_offences`, `side_offences`                the value of a declaration, and a right side
+--   `receiver_offences`, `mode_offences`               the receiver of a call by ".", and where a new object lives
+--   `guard_offences`, `test_offences`                  a guard, and a part of it
+--   `phrase_offences`, `phrases_offences`              expressions
+--   `operands_offences`, `branches_offences`           the right operands of operators, and the branches of a `case`
+--   `future_offences`, `types_offences`                types in which `Fut` may not occur
+--   `type_place`                                       where a type begins
+--   `offence_at`, `offences_at`                        an offence with a code at a place, which may be missing
+use Rattle.std.specs.Prelude.{Bool, List, [], ◌∷◌, ◌++◌, Option, Some, None, if◌then◌else◌}
+use Rattle.std.specs.List.{flat_map}
+use Rattle.abs_tree.specs.Syntax.{TypeTree, UnresolvedType, IntType, StringType, FutType, DataType, InterfaceType, ParameterType, BottomType, NullType, ClassType, TypeTrees, NoType, NextType, Phrase, LetIn, IfElse, OperatorsOf, Prefixed, NumberOf, StringOf, NullOf, DestinyOf, ThisOf, FieldOf, OwnCallOf, VariableOf, ApplyOf, BuildOf, CaseOf, Phrases, NoPhrase, NextPhrase, Operands, NoOperands, NextOperand, Branches, NoBranch, NextBranch, SideTree, NewOf, ValueOf, SendOf, GetOf, CallOf, Tests, NoTest, NextTest, MaybeSide, NoSide, SomeSide, Statement, BlockOf, SkipOf, SuspendOf, AwaitOf, ReturnOf, PrintOf, IfOf, WhileOf, DeclareOf, AssignOf, DoOf, MaybeStatements, NoElse, Else, Statements, NoStatement, NextStatement, ParamTree, ConstructorTree, MaybePhrase, NoValue, Value, MemberTree, FieldTree, MethodTree, DeclTree, DataTree, FunctionTree, InterfaceTree, ClassTree, SourceTree}
 use Rattle.abs_tree.specs.declared.place.Place.{Place}
+use Rattle.abs_tree.specs.declared.refusal.Code.{Code}
+use Rattle.abs_tree.specs.declared.refusal.Code.TheVariants as code
+use Rattle.abs_tree.specs.declared.refusal.Offence.{Offence}
 use Rattle.abs_tree.specs.declared.syntax.statement.Mode.{Mode}
 use Rattle.abs_tree.specs.declared.syntax.statement.Mode.TheVariants as mode
 use Rattle.abs_types.specs.Holds.{holds_futures_in}
 
--- the first offence of a list, where each entry may have one
-abbrev pub first_of : {A : Type 0} → (A → Option Place) → List A → Option Place
-first_of offence [] = None
-first_of offence (first ∷ others) = option_or (offence first) (first_of offence others)
+-- the offence with this code at this place
+abbrev pub offence_at : Code → Place → List Offence
+offence_at code place = record { place = place; code = code } ∷ []
+
+-- the same at a place that may be missing: where there is none, nothing offends
+abbrev pub offences_at : Code → Option Place → List Offence
+offences_at code None = []
+offences_at code (Some place) = offence_at code place
 
 -- where a type begins; types that no source writes have no place
 abbrev pub type_place : TypeTree → Option Place
@@ -35,122 +48,120 @@ type_place BottomType = None
 type_place NullType = None
 type_place (ClassType name) = None
 
--- the type of a field, of a class parameter or of a part of data: `Fut` may not occur in it
-abbrev pub future_offence : TypeTree → Option Place
-future_offence type = if holds_futures_in type then type_place type else None
+-- the type of a field, of a class parameter or of a constructor's argument: `Fut` may not occur in it
+abbrev pub future_offences : TypeTree → List Offence
+future_offences type = if holds_futures_in type then offences_at code.P2 (type_place type) else []
 
-abbrev pub types_offence : TypeTrees → Option Place
-types_offence NoType = None
-types_offence (NextType first others) = option_or (future_offence first) (types_offence others)
+abbrev pub types_offences : TypeTrees → List Offence
+types_offences NoType = []
+types_offences (NextType first others) = future_offences first ++ types_offences others
 
 abbrev mutual
   -- an expression: `destiny` offends
-  pub phrase_offence : Phrase → Option Place
-  phrase_offence (DestinyOf place) = Some place
-  phrase_offence (LetIn place type variable_place variable value body) =
-      option_or (phrase_offence value) (phrase_offence body)
-  phrase_offence (IfElse place condition first second) =
-      option_or (option_or (phrase_offence condition) (phrase_offence first)) (phrase_offence second)
-  phrase_offence (OperatorsOf place first operands) = option_or (phrase_offence first) (operands_offence operands)
-  phrase_offence (Prefixed place prefix operand) = phrase_offence operand
-  phrase_offence (OwnCallOf place method arguments) = phrases_offence arguments
-  phrase_offence (ApplyOf place function arguments) = phrases_offence arguments
-  phrase_offence (BuildOf place constructor arguments) = phrases_offence arguments
-  phrase_offence (CaseOf place subject branches) = option_or (phrase_offence subject) (branches_offence branches)
-  phrase_offence (NumberOf place number) = None
-  phrase_offence (StringOf place string) = None
-  phrase_offence (NullOf place) = None
-  phrase_offence (ThisOf place) = None
-  phrase_offence (FieldOf place name_place name) = None
-  phrase_offence (VariableOf place variable) = None
+  pub phrase_offences : Phrase → List Offence
+  phrase_offences (DestinyOf place) = offence_at code.P3 place
+  phrase_offences (LetIn place type variable_place variable value body) = phrase_offences value ++ phrase_offences body
+  phrase_offences (IfElse place condition first second) =
+      phrase_offences condition ++ (phrase_offences first ++ phrase_offences second)
+  phrase_offences (OperatorsOf place first operands) = phrase_offences first ++ operands_offences operands
+  phrase_offences (Prefixed place prefix operand) = phrase_offences operand
+  phrase_offences (OwnCallOf place method arguments) = phrases_offences arguments
+  phrase_offences (ApplyOf place function arguments) = phrases_offences arguments
+  phrase_offences (BuildOf place constructor arguments) = phrases_offences arguments
+  phrase_offences (CaseOf place subject branches) = phrase_offences subject ++ branches_offences branches
+  phrase_offences (NumberOf place number) = []
+  phrase_offences (StringOf place string) = []
+  phrase_offences (NullOf place) = []
+  phrase_offences (ThisOf place) = []
+  phrase_offences (FieldOf place name_place name) = []
+  phrase_offences (VariableOf place variable) = []
 
-  pub phrases_offence : Phrases → Option Place
-  phrases_offence NoPhrase = None
-  phrases_offence (NextPhrase first others) = option_or (phrase_offence first) (phrases_offence others)
+  pub phrases_offences : Phrases → List Offence
+  phrases_offences NoPhrase = []
+  phrases_offences (NextPhrase first others) = phrase_offences first ++ phrases_offences others
 
-  pub operands_offence : Operands → Option Place
-  operands_offence NoOperands = None
-  operands_offence (NextOperand operator right others) =
-      option_or (phrase_offence right) (operands_offence others)
+  pub operands_offences : Operands → List Offence
+  operands_offences NoOperands = []
+  operands_offences (NextOperand operator right others) = phrase_offences right ++ operands_offences others
 
-  pub branches_offence : Branches → Option Place
-  branches_offence NoBranch = None
-  branches_offence (NextBranch pattern value others) =
-      option_or (phrase_offence value) (branches_offence others)
+  pub branches_offences : Branches → List Offence
+  branches_offences NoBranch = []
+  branches_offences (NextBranch pattern value others) = phrase_offences value ++ branches_offences others
 
--- a guard: a part without "?" offends
-abbrev pub guard_offence : Tests → Option Place
-guard_offence NoTest = None
-guard_offence (NextTest place value asks others) =
-    if asks then option_or (phrase_offence value) (guard_offence others) else Some place
+-- a part of a guard: without "?" it offends, and what stands in it is looked at too
+abbrev pub test_offences : Place → Phrase → Bool → List Offence
+test_offences place value asks = (if asks then [] else offence_at code.P1 place) ++ phrase_offences value
+
+abbrev pub guard_offences : Tests → List Offence
+guard_offences NoTest = []
+guard_offences (NextTest place value asks others) = test_offences place value asks ++ guard_offences others
 
 -- `local` offends where it stands
-abbrev pub mode_offence : Mode → Option Place
-mode_offence mode.Plain = None
-mode_offence mode.Cog = None
-mode_offence (mode.Local place) = Some place
+abbrev pub mode_offences : Mode → List Offence
+mode_offences mode.Plain = []
+mode_offences mode.Cog = []
+mode_offences (mode.Local place) = offence_at code.P5 place
 
 -- a call by "." that begins here, with its receiver before its arguments: another receiver than `this` offends
-abbrev pub call_offence : Place → Phrases → Option Place
-call_offence place (NextPhrase (ThisOf at) arguments) = phrases_offence arguments
-call_offence place row = Some place
+abbrev pub receiver_offences : Place → Phrases → List Offence
+receiver_offences place (NextPhrase (ThisOf at) arguments) = []
+receiver_offences place row = offence_at code.P4 place
 
-abbrev pub side_offence : SideTree → Option Place
-side_offence (NewOf place mode class_place class arguments) =
-    option_or (mode_offence mode) (phrases_offence arguments)
-side_offence (ValueOf place value) = phrase_offence value
-side_offence (SendOf place method row) = phrases_offence row
-side_offence (GetOf place get_place future) = phrase_offence future
-side_offence (CallOf place method row slot) = call_offence place row
+abbrev pub side_offences : SideTree → List Offence
+side_offences (NewOf place mode class_place class arguments) = mode_offences mode ++ phrases_offences arguments
+side_offences (ValueOf place value) = phrase_offences value
+side_offences (SendOf place method row) = phrases_offences row
+side_offences (GetOf place get_place future) = phrase_offences future
+side_offences (CallOf place method row slot) = receiver_offences place row ++ phrases_offences row
 
-abbrev pub initial_offence : MaybeSide → Option Place
-initial_offence NoSide = None
-initial_offence (SomeSide side) = side_offence side
+abbrev pub initial_offences : MaybeSide → List Offence
+initial_offences NoSide = []
+initial_offences (SomeSide side) = side_offences side
 
 abbrev mutual
-  pub statement_offence : Statement → Option Place
-  statement_offence (BlockOf place block) = statements_offence block
-  statement_offence (SkipOf index place) = None
-  statement_offence (SuspendOf index place) = None
-  statement_offence (AwaitOf index place guard) = guard_offence guard
-  statement_offence (ReturnOf index place value) = phrase_offence value
-  statement_offence (PrintOf index place value) = phrase_offence value
-  statement_offence (IfOf index place condition first second) =
-      option_or (option_or (phrase_offence condition) (statements_offence first)) (else_offence second)
-  statement_offence (WhileOf index place condition body) =
-      option_or (phrase_offence condition) (statements_offence body)
-  statement_offence (DeclareOf index place type variable_place variable initial) = initial_offence initial
-  statement_offence (AssignOf index place target side) = side_offence side
-  statement_offence (DoOf index place side) = side_offence side
+  pub statement_offences : Statement → List Offence
+  statement_offences (BlockOf place block) = statements_offences block
+  statement_offences (SkipOf index place) = []
+  statement_offences (SuspendOf index place) = []
+  statement_offences (AwaitOf index place guard) = guard_offences guard
+  statement_offences (ReturnOf index place value) = phrase_offences value
+  statement_offences (PrintOf index place value) = phrase_offences value
+  statement_offences (IfOf index place condition first second) =
+      phrase_offences condition ++ (statements_offences first ++ else_offences second)
+  statement_offences (WhileOf index place condition body) = phrase_offences condition ++ statements_offences body
+  statement_offences (DeclareOf index place type variable_place variable initial) = initial_offences initial
+  statement_offences (AssignOf index place target side) = side_offences side
+  statement_offences (DoOf index place side) = side_offences side
 
-  pub statements_offence : Statements → Option Place
-  statements_offence NoStatement = None
-  statements_offence (NextStatement first others) = option_or (statement_offence first) (statements_offence others)
+  pub statements_offences : Statements → List Offence
+  statements_offences NoStatement = []
+  statements_offences (NextStatement first others) = statement_offences first ++ statements_offences others
 
-  pub else_offence : MaybeStatements → Option Place
-  else_offence NoElse = None
-  else_offence (Else branch) = statements_offence branch
+  pub else_offences : MaybeStatements → List Offence
+  else_offences NoElse = []
+  else_offences (Else branch) = statements_offences branch
 
-abbrev pub constructor_offence : ConstructorTree → Option Place
-constructor_offence constructor = types_offence constructor.types
+abbrev pub constructor_offences : ConstructorTree → List Offence
+constructor_offences constructor = types_offences constructor.types
 
-abbrev pub param_offence : ParamTree → Option Place
-param_offence param = future_offence param.type_of
+abbrev pub param_offences : ParamTree → List Offence
+param_offences param = future_offences param.type_of
 
-abbrev pub value_offence : MaybePhrase → Option Place
-value_offence NoValue = None
-value_offence (Value value) = phrase_offence value
+abbrev pub value_offences : MaybePhrase → List Offence
+value_offences NoValue = []
+value_offences (Value value) = phrase_offences value
 
-abbrev pub member_offence : MemberTree → Option Place
-member_offence (FieldTree type name initial) = option_or (future_offence type) (value_offence initial)
-member_offence (MethodTree signature end body) = statements_offence body
+abbrev pub member_offences : MemberTree → List Offence
+member_offences (FieldTree type name initial) = future_offences type ++ value_offences initial
+member_offences (MethodTree signature end body) = statements_offences body
 
-abbrev pub decl_offence : DeclTree → Option Place
-decl_offence (DataTree place name type_params constructors) = first_of constructor_offence constructors
-decl_offence (FunctionTree place result name type_params params value) = phrase_offence value
-decl_offence (InterfaceTree place name extended signatures) = None
-decl_offence (ClassTree place name params implemented members) =
-    option_or (first_of param_offence params) (first_of member_offence members)
+abbrev pub decl_offences : DeclTree → List Offence
+decl_offences (DataTree place name type_params constructors) = flat_map constructor_offences constructors
+decl_offences (FunctionTree place result name type_params params value) = phrase_offences value
+decl_offences (InterfaceTree place name extended signatures) = []
+decl_offences (ClassTree place name params implemented members) =
+    flat_map param_offences params ++ flat_map member_offences members
 
-abbrev pub declarations_offence : List DeclTree → Option Place
-declarations_offence declarations = first_of decl_offence declarations
+-- a source
+abbrev pub profile_offences : SourceTree → List Offence
+profile_offences source = flat_map decl_offences source.declarations ++ statements_offences source.main

@@ -1,126 +1,122 @@
-//! The first profile offence of the declarations of a program: a future in a field, a class parameter or data, or what
-//! offends in a body or in a value.
-ghost use Rattle.std.specs.Prelude.{◌≡◌, List, map};
-ghost use Rattle.abs_tree.specs.SourceViews.{named_tree};
+//! The profile offences of declarations: a future in a field, in a class parameter or in data, and what offends in a
+//! body or in a value.
+ghost use Rattle.std.specs.Prelude.{◌≡◌, fold, List, map};
+ghost use Rattle.std.specs.List.{flat_map};
+ghost use Rattle.abs_tree.specs.Offences.{earlier};
 ghost use Rattle.abs_tree.specs.Syntax.{Name};
 ghost use Rattle.abs_tree.specs.SyntaxViews.{constructor_tree, decl_tree, maybe_phrase, member_tree, param_tree, type_tree, type_trees};
-ghost use Rattle.abs_profile.specs.Profile.{constructor_offence as first_in_constructor, decl_offence as first_in_decl, declarations_offence as first_in_declarations, first_of, future_offence as first_in_type, member_offence as first_in_member, param_offence as first_in_param, type_place as place_of_type, types_offence as first_in_types, value_offence as first_in_value};
+ghost use Rattle.abs_profile.specs.Profile.{constructor_offences, decl_offences, future_offences, member_offences, param_offences, type_place as place_of_type, types_offences, value_offences};
 
-use crate::expressions::expression_offence;
-use crate::statements::statements_offence;
-use abs_tree::{Constructor, Decl, Expr, Member, Named, Param, Place, TypeTerm};
+use crate::expressions::{note_at, note_in_expression};
+use crate::statements::note_in_statements;
+use abs_tree::{Code, Constructor, Decl, Expr, Member, Offence, Param, Place, TypeTerm};
 use abs_types::holds_futures;
 use std::sync::Arc;
 
-/// The place of the first profile offence of the declarations of a program, or `None` if they have none.
-pub fn declarations_offence(program: &Named<'_>) -> Option<Place>
-    ensures { result ≡ first_in_declarations (named_tree program.now).declarations }
+/// Notes the profile offences of declarations.
+pub(crate) fn note_in_declarations(declarations: &[Decl], first: &mut Option<Offence>)
+    ensures { (names : List Name) → first.new
+        ≡ fold earlier first.old (flat_map decl_offences (map (decl_tree names) declarations.now)) }
 {
-    for decl in &program.declarations {
-        if let Some(place) = decl_offence(decl) {
-            return Some(place);
-        }
+    for decl in declarations {
+        note_in_declaration(decl, first);
     }
-    None
 }
 
-/// The same of a declaration.
-fn decl_offence(decl: &Decl) -> Option<Place>
-    ensures { (names : List Name) → result ≡ first_in_decl (decl_tree names decl.now) }
+/// Notes those of a declaration.
+fn note_in_declaration(decl: &Decl, first: &mut Option<Offence>)
+    ensures { (names : List Name) → first.new ≡ fold earlier first.old (decl_offences (decl_tree names decl.now)) }
 {
     match decl {
-        Decl::Data { constructors, .. } => constructors_offence(constructors),
-        Decl::Function { value, .. } => expression_offence(value),
-        Decl::Interface { .. } => None,
+        Decl::Data { constructors, .. } => note_in_constructors(constructors, first),
+        Decl::Function { value, .. } => note_in_expression(value, first),
+        Decl::Interface { .. } => {}
         Decl::Class {
             params,
             members,
             ..
-        } => params_offence(params).or(members_offence(members)),
+        } => {
+            note_in_params(params, first);
+            note_in_members(members, first);
+        }
     }
 }
 
-/// The same of the constructors of data.
-fn constructors_offence(constructors: &[Constructor]) -> Option<Place>
-    ensures { (names : List Name) → result
-        ≡ first_of first_in_constructor (map (constructor_tree names) constructors.now) }
+/// Notes those of the constructors of data.
+fn note_in_constructors(constructors: &[Constructor], first: &mut Option<Offence>)
+    ensures { (names : List Name) → first.new
+        ≡ fold earlier first.old (flat_map constructor_offences (map (constructor_tree names) constructors.now)) }
 {
     for constructor in constructors {
-        if let Some(place) = types_offence(&constructor.types) {
-            return Some(place);
-        }
+        note_in_types(&constructor.types, first);
     }
-    None
 }
 
-/// The same of the parameters of a class.
-fn params_offence(params: &[Param]) -> Option<Place>
-    ensures { (names : List Name) → result ≡ first_of first_in_param (map (param_tree names) params.now) }
+/// Notes those of the parameters of a class.
+fn note_in_params(params: &[Param], first: &mut Option<Offence>)
+    ensures { (names : List Name) → first.new
+        ≡ fold earlier first.old (flat_map param_offences (map (param_tree names) params.now)) }
 {
     for param in params {
-        if let Some(place) = future_offence(&param.type_of) {
-            return Some(place);
-        }
+        note_in_type(&param.type_of, first);
     }
-    None
 }
 
-/// The same of the members of a class.
-fn members_offence(members: &[Member]) -> Option<Place>
-    ensures { (names : List Name) → result ≡ first_of first_in_member (map (member_tree names) members.now) }
+/// Notes those of the members of a class.
+fn note_in_members(members: &[Member], first: &mut Option<Offence>)
+    ensures { (names : List Name) → first.new
+        ≡ fold earlier first.old (flat_map member_offences (map (member_tree names) members.now)) }
 {
     for member in members {
-        if let Some(place) = member_offence(member) {
-            return Some(place);
-        }
+        note_in_member(member, first);
     }
-    None
 }
 
-/// The same of a member of a class.
-fn member_offence(member: &Member) -> Option<Place>
-    ensures { (names : List Name) → result ≡ first_in_member (member_tree names member.now) }
+/// Notes those of a member of a class.
+fn note_in_member(member: &Member, first: &mut Option<Offence>)
+    ensures { (names : List Name) → first.new
+        ≡ fold earlier first.old (member_offences (member_tree names member.now)) }
 {
     match member {
         Member::Field {
             type_of,
             initial,
             ..
-        } => future_offence(type_of).or(value_offence(initial)),
-        Member::Method(_, body) => statements_offence(&body.statements),
+        } => {
+            note_in_type(type_of, first);
+            note_in_value(initial, first);
+        }
+        Member::Method(_, body) => note_in_statements(&body.statements, first),
     }
 }
 
-/// The same of the initial value of a field, if it has one.
-fn value_offence(value: &Option<Arc<Expr>>) -> Option<Place>
-    ensures { (names : List Name) → result ≡ first_in_value (maybe_phrase names value.now) }
+/// Notes those of the initial value of a field, if it has one.
+fn note_in_value(value: &Option<Arc<Expr>>, first: &mut Option<Offence>)
+    ensures { (names : List Name) → first.new
+        ≡ fold earlier first.old (value_offences (maybe_phrase names value.now)) }
 {
-    match value {
-        Some(value) => expression_offence(value),
-        None => None,
+    if let Some(value) = value {
+        note_in_expression(value, first);
     }
 }
 
-/// The place of the first of some types in which `Fut` occurs.
-fn types_offence(types: &[TypeTerm]) -> Option<Place>
-    ensures { (names : List Name) → result ≡ first_in_types (type_trees names types.now) }
+/// Notes those of the types of a constructor's arguments.
+fn note_in_types(types: &[TypeTerm], first: &mut Option<Offence>)
+    ensures { (names : List Name) → first.new ≡ fold earlier first.old (types_offences (type_trees names types.now)) }
 {
     for type_of in types {
-        if let Some(place) = future_offence(type_of) {
-            return Some(place);
-        }
+        note_in_type(type_of, first);
     }
-    None
 }
 
-/// The place of a type, if `Fut` occurs in it.
-fn future_offence(type_of: &TypeTerm) -> Option<Place>
-    ensures { (names : List Name) → result ≡ first_in_type (type_tree names type_of.now) }
+/// Notes a type where it begins, if `Fut` occurs in it.
+fn note_in_type(type_of: &TypeTerm, first: &mut Option<Offence>)
+    ensures { (names : List Name) → first.new ≡ fold earlier first.old (future_offences (type_tree names type_of.now)) }
 {
     if holds_futures(type_of) {
-        type_place(type_of)
-    } else {
-        None
+        if let Some(place) = type_place(type_of) {
+            note_at(place, Code::P2, first);
+        }
     }
 }
 

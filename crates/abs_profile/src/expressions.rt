@@ -1,86 +1,100 @@
-//! The first profile offence of an expression, which is a `destiny` in it.
-ghost use Rattle.std.specs.Prelude.{◌≡◌, List};
+//! The profile offences of expressions: each `destiny` in them.
+ghost use Rattle.std.specs.Prelude.{◌≡◌, ◌++◌, fold, List};
+ghost use Rattle.abs_tree.specs.Offences.{earlier};
 ghost use Rattle.abs_tree.specs.Syntax.{Name};
 ghost use Rattle.abs_tree.specs.SyntaxViews.{branches as branch_trees, operand_trees, phrase, phrases};
-ghost use Rattle.abs_profile.specs.Profile.{branches_offence as first_in_branches, operands_offence as first_in_operands, phrase_offence, phrases_offence};
+ghost use Rattle.abs_profile.specs.Profile.{branches_offences, offence_at, operands_offences, phrase_offences, phrases_offences};
 
-use abs_tree::{Branch, Expr, Operand, Place};
+use abs_tree::{Branch, Code, Expr, Offence, Operand, Place};
 
-/// The place of the first profile offence of an expression, or `None` if it has none.
+/// Notes the profile offences of an expression.
 #[cycle(expressions)]
-pub fn expression_offence(expr: &Expr) -> Option<Place>
-    ensures { (names : List Name) → result ≡ phrase_offence (phrase names expr.now) }
+pub(crate) fn note_in_expression(expr: &Expr, first: &mut Option<Offence>)
+    ensures { (names : List Name) → first.new ≡ fold earlier first.old (phrase_offences (phrase names expr.now)) }
 {
     match expr {
-        Expr::Destiny(place) => Some(*place),
-        Expr::Let { value, body, .. } => expression_offence(value).or(expression_offence(body)),
+        Expr::Destiny(place) => note_at(*place, Code::P3, first),
+        Expr::Let { value, body, .. } => note_in_both(value, body, first),
         Expr::If {
             condition,
-            first,
-            second,
+            first: chosen,
+            second: other,
             ..
-        } => expression_offence(condition)
-            .or(expression_offence(first))
-            .or(expression_offence(second)),
+        } => {
+            note_in_expression(condition, first);
+            note_in_both(chosen, other, first);
+        }
         Expr::Operators {
-            first,
+            first: left,
             operands,
             ..
-        } => expression_offence(first).or(operands_offence(operands)),
-        Expr::Prefixed { operand, .. } => expression_offence(operand),
-        Expr::OwnCall { arguments, .. } => expressions_offence(arguments),
-        Expr::Apply { arguments, .. } | Expr::Build { arguments, .. } => expressions_offence(
-            arguments,
-        ),
+        } => note_in_operators(left, operands, first),
+        Expr::Prefixed { operand, .. } => note_in_expression(operand, first),
         Expr::Case {
             subject,
             branches,
             ..
-        } => expression_offence(subject).or(branches_offence(branches)),
+        } => note_in_case(subject, branches, first),
+        Expr::OwnCall { arguments, .. } => note_in_expressions(arguments, first),
+        Expr::Apply { arguments, .. } | Expr::Build { arguments, .. } => {
+            note_in_expressions(arguments, first);
+        }
         Expr::Number(..)
         | Expr::Text(..)
         | Expr::Null(_)
         | Expr::This(_)
         | Expr::Field { .. }
-        | Expr::Variable(..) => None,
+        | Expr::Variable(..) => {}
     }
 }
 
-/// The same of expressions in order.
+/// Notes those of two expressions.
 #[cycle(expressions)]
-pub fn expressions_offence(exprs: &[Expr]) -> Option<Place>
-    ensures { (names : List Name) → result ≡ phrases_offence (phrases names exprs.now) }
+fn note_in_both(one: &Expr, other: &Expr, first: &mut Option<Offence>)
+    ensures { (names : List Name) → first.new ≡ fold earlier first.old
+        (phrase_offences (phrase names one.now) ++ phrase_offences (phrase names other.now)) }
+{
+    note_in_expression(one, first);
+    note_in_expression(other, first);
+}
+
+/// Notes those of several expressions.
+#[cycle(expressions)]
+pub(crate) fn note_in_expressions(exprs: &[Expr], first: &mut Option<Offence>)
+    ensures { (names : List Name) → first.new ≡ fold earlier first.old (phrases_offences (phrases names exprs.now)) }
 {
     for expr in exprs {
-        if let Some(place) = expression_offence(expr) {
-            return Some(place);
-        }
+        note_in_expression(expr, first);
     }
-    None
 }
 
-/// The same of the right operands of an operator list.
+/// Notes those of an operator list.
 #[cycle(expressions)]
-fn operands_offence(operands: &[Operand]) -> Option<Place>
-    ensures { (names : List Name) → result ≡ first_in_operands (operand_trees names operands.now) }
+fn note_in_operators(left: &Expr, operands: &[Operand], first: &mut Option<Offence>)
+    ensures { (names : List Name) → first.new ≡ fold earlier first.old
+        (phrase_offences (phrase names left.now) ++ operands_offences (operand_trees names operands.now)) }
 {
+    note_in_expression(left, first);
     for operand in operands {
-        if let Some(place) = expression_offence(&operand.right) {
-            return Some(place);
-        }
+        note_in_expression(&operand.right, first);
     }
-    None
 }
 
-/// The same of the branches of a `case`.
+/// Notes those of a `case`.
 #[cycle(expressions)]
-fn branches_offence(branches: &[Branch]) -> Option<Place>
-    ensures { (names : List Name) → result ≡ first_in_branches (branch_trees names branches.now) }
+fn note_in_case(subject: &Expr, branches: &[Branch], first: &mut Option<Offence>)
+    ensures { (names : List Name) → first.new ≡ fold earlier first.old
+        (phrase_offences (phrase names subject.now) ++ branches_offences (branch_trees names branches.now)) }
 {
+    note_in_expression(subject, first);
     for branch in branches {
-        if let Some(place) = expression_offence(&branch.value) {
-            return Some(place);
-        }
+        note_in_expression(&branch.value, first);
     }
-    None
+}
+
+/// Notes an offence with this code at this place.
+pub(crate) fn note_at(place: Place, code: Code, first: &mut Option<Offence>)
+    ensures { first.new ≡ fold earlier first.old (offence_at code place) }
+{
+    Offence { place, code }.note(first);
 }

@@ -1,9 +1,9 @@
-//! What the profile of the language refuses in declarations and expressions whose names are resolved.
+//! What the profile of the language refuses in a program whose names are resolved: the first such offence.
 #![tactic(auto)]
 
 mod declarations;
 mod expressions;
+mod program;
 mod statements;
 
-pub use declarations::declarations_offence;
-pub use expressions::expression_offence;
+pub use program::profile_offence;

@@ -1,123 +1,138 @@
-//! The first profile offence of statements: a guard part that asks no future, `destiny`, a call by `.` on another
-//! receiver than `this`, or `new local`.
-ghost use Rattle.std.specs.Prelude.{◌≡◌, List};
+//! The profile offences of statements: a part of a guard without `?`, `destiny`, a call by `.` on another receiver than
+//! `this`, and `local`.
+ghost use Rattle.std.specs.Prelude.{◌≡◌, fold, List};
+ghost use Rattle.abs_tree.specs.Offences.{earlier};
 ghost use Rattle.abs_tree.specs.Syntax.{Name};
-ghost use Rattle.abs_tree.specs.SyntaxViews.{maybe_side, maybe_statements, phrases, side_tree, statement, statements, tests};
-ghost use Rattle.abs_profile.specs.Profile.{call_offence as first_in_call, else_offence as first_in_else, guard_offence as first_in_guard, initial_offence as first_in_initial, mode_offence as first_in_mode, side_offence as first_in_side, statement_offence as first_in_statement, statements_offence as first_in_statements};
+ghost use Rattle.abs_tree.specs.SyntaxViews.{maybe_side, maybe_statements, phrase, phrases, side_tree, statement, statements, tests};
+ghost use Rattle.abs_profile.specs.Profile.{else_offences, guard_offences, initial_offences, mode_offences, receiver_offences, side_offences, statement_offences, statements_offences, test_offences};
 
-use crate::expressions::{expression_offence, expressions_offence};
-use abs_tree::{Expr, Mode, Place, RightSide, Stmt, Test};
+use crate::expressions::{note_at, note_in_expression, note_in_expressions};
+use abs_tree::{Code, Expr, Mode, Offence, Place, RightSide, Stmt, Test};
 
-/// The place of the first profile offence of statements, or `None` if they have none.
+/// Notes the profile offences of statements.
 #[cycle(statements)]
-pub fn statements_offence(stmts: &[Stmt]) -> Option<Place>
-    ensures { (names : List Name) → result ≡ first_in_statements (statements names stmts.now) }
+pub(crate) fn note_in_statements(stmts: &[Stmt], first: &mut Option<Offence>)
+    ensures { (names : List Name) → first.new
+        ≡ fold earlier first.old (statements_offences (statements names stmts.now)) }
 {
     for stmt in stmts {
-        if let Some(place) = statement_offence(stmt) {
-            return Some(place);
-        }
+        note_in_statement(stmt, first);
     }
-    None
 }
 
-/// The same of a statement.
+/// Notes those of a statement.
 #[cycle(statements)]
-fn statement_offence(stmt: &Stmt) -> Option<Place>
-    ensures { (names : List Name) → result ≡ first_in_statement (statement names stmt.now) }
+fn note_in_statement(stmt: &Stmt, first: &mut Option<Offence>)
+    ensures { (names : List Name) → first.new ≡ fold earlier first.old (statement_offences (statement names stmt.now)) }
 {
     match stmt {
-        Stmt::Block(_, block) => statements_offence(block),
-        Stmt::Skip { .. } | Stmt::Suspend { .. } => None,
-        Stmt::Await { guard, .. } => guard_offence(guard),
-        Stmt::Return { value, .. } | Stmt::Print { value, .. } => expression_offence(value),
+        Stmt::Block(_, block) => note_in_statements(block, first),
+        Stmt::Skip { .. } | Stmt::Suspend { .. } => {}
+        Stmt::Await { guard, .. } => note_in_guard(guard, first),
+        Stmt::Return { value, .. } | Stmt::Print { value, .. } => note_in_expression(value, first),
         Stmt::If {
             condition,
-            first,
-            second,
+            first: chosen,
+            second: other,
             ..
-        } => expression_offence(condition)
-            .or(statements_offence(first))
-            .or(else_offence(second)),
+        } => {
+            note_in_expression(condition, first);
+            note_in_statements(chosen, first);
+            note_in_else(other, first);
+        }
         Stmt::While {
             condition,
             body,
             ..
-        } => expression_offence(condition).or(statements_offence(body)),
-        Stmt::Declare { initial, .. } => initial_offence(initial),
-        Stmt::Assign { side, .. } | Stmt::Do { side, .. } => side_offence(side),
+        } => {
+            note_in_expression(condition, first);
+            note_in_statements(body, first);
+        }
+        Stmt::Declare { initial, .. } => note_in_initial(initial, first),
+        Stmt::Assign { side, .. } | Stmt::Do { side, .. } => note_in_side(side, first),
     }
 }
 
-/// The same of the second branch of an `if`, if there is one.
+/// Notes those of the second branch of an `if`, if there is one.
 #[cycle(statements)]
-fn else_offence(branch: &Option<Vec<Stmt>>) -> Option<Place>
-    ensures { (names : List Name) → result ≡ first_in_else (maybe_statements names branch.now) }
+fn note_in_else(branch: &Option<Vec<Stmt>>, first: &mut Option<Offence>)
+    ensures { (names : List Name) → first.new
+        ≡ fold earlier first.old (else_offences (maybe_statements names branch.now)) }
 {
-    match branch {
-        Some(branch) => statements_offence(branch),
-        None => None,
+    if let Some(branch) = branch {
+        note_in_statements(branch, first);
     }
 }
 
-/// The same of the value of a declaration, if it has one.
-fn initial_offence(initial: &Option<RightSide>) -> Option<Place>
-    ensures { (names : List Name) → result ≡ first_in_initial (maybe_side names initial.now) }
+/// Notes those of the value of a declaration, if it has one.
+fn note_in_initial(initial: &Option<RightSide>, first: &mut Option<Offence>)
+    ensures { (names : List Name) → first.new
+        ≡ fold earlier first.old (initial_offences (maybe_side names initial.now)) }
 {
-    match initial {
-        Some(side) => side_offence(side),
-        None => None,
+    if let Some(side) = initial {
+        note_in_side(side, first);
     }
 }
 
-/// The same of a guard.
-fn guard_offence(guard: &[Test]) -> Option<Place>
-    ensures { (names : List Name) → result ≡ first_in_guard (tests names guard.now) }
+/// Notes those of a guard.
+fn note_in_guard(guard: &[Test], first: &mut Option<Offence>)
+    ensures { (names : List Name) → first.new ≡ fold earlier first.old (guard_offences (tests names guard.now)) }
 {
     for test in guard {
-        if !test.asks {
-            return Some(test.place);
-        }
-        if let Some(place) = expression_offence(&test.value) {
-            return Some(place);
-        }
+        note_in_test(test, first);
     }
-    None
 }
 
-/// The same of a right side.
-fn side_offence(side: &RightSide) -> Option<Place>
-    ensures { (names : List Name) → result ≡ first_in_side (side_tree names side.now) }
+/// Notes those of a part of a guard: without `?` it offends itself.
+fn note_in_test(test: &Test, first: &mut Option<Offence>)
+    ensures { (names : List Name) → first.new ≡ fold earlier first.old
+        (test_offences test.now.place (phrase names test.now.value.value) test.now.asks) }
+{
+    if !test.asks {
+        note_at(test.place, Code::P1, first);
+    }
+    note_in_expression(&test.value, first);
+}
+
+/// Notes those of a right side.
+fn note_in_side(side: &RightSide, first: &mut Option<Offence>)
+    ensures { (names : List Name) → first.new ≡ fold earlier first.old (side_offences (side_tree names side.now)) }
 {
     match side {
         RightSide::New {
             mode,
             arguments,
             ..
-        } => mode_offence(*mode).or(expressions_offence(arguments)),
-        RightSide::Value(_, value) => expression_offence(value),
-        RightSide::Send { row, .. } => expressions_offence(row),
-        RightSide::Get { future, .. } => expression_offence(future),
-        RightSide::Call { place, row, .. } => call_offence(*place, row),
+        } => {
+            note_mode(*mode, first);
+            note_in_expressions(arguments, first);
+        }
+        RightSide::Value(_, value) => note_in_expression(value, first),
+        RightSide::Send { row, .. } => note_in_expressions(row, first),
+        RightSide::Get { future, .. } => note_in_expression(future, first),
+        RightSide::Call { place, row, .. } => {
+            note_receiver(*place, row, first);
+            note_in_expressions(row, first);
+        }
     }
 }
 
-/// The same of a call by `.` that begins here, with its receiver before its arguments.
-fn call_offence(place: Place, row: &[Expr]) -> Option<Place>
-    ensures { (names : List Name) → result ≡ first_in_call place (phrases names row.now) }
+/// Notes a call by `.` that begins at this place, if its receiver, the first of the row, is not `this`.
+fn note_receiver(place: Place, row: &[Expr], first: &mut Option<Offence>)
+    ensures { (names : List Name) → first.new
+        ≡ fold earlier first.old (receiver_offences place (phrases names row.now)) }
 {
     match row.first() {
-        Some(Expr::This(_)) => expressions_offence(row),
-        _ => Some(place),
+        Some(Expr::This(_)) => {}
+        _ => note_at(place, Code::P4, first),
     }
 }
 
-/// The place of `local`, if a new object has it.
-fn mode_offence(mode: Mode) -> Option<Place>
-    ensures { result ≡ first_in_mode mode }
+/// Notes `local`, if a new object has it.
+fn note_mode(mode: Mode, first: &mut Option<Offence>)
+    ensures { first.new ≡ fold earlier first.old (mode_offences mode) }
 {
-    match mode {
-        Mode::Local(place) => Some(place),
-        Mode::Plain | Mode::Cog => None,
+    if let Mode::Local(place) = mode {
+        note_at(place, Code::P5, first);
     }
 }

@@ -4,8 +4,8 @@ ghost use Rattle.std.specs.Prelude.{◌≡◌, ◌<◌, ◌==◌, [], length, sl
 use std::alloc::Global;
 use std::marker::Model;
 
-/// A circular chain of dependencies. No statement that is supported today waits for a task, so there is no chain, and
-/// this type has no value.
+/// A circular chain of dependencies. No program that runs today has a `get`, so there is no chain, and this type has no
+/// value.
 #[derive(Drop)]
 pub enum Chain {}
 

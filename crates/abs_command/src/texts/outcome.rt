@@ -1,12 +1,17 @@
 //! The output for a report, and for a run.
-ghost use Rattle.std.specs.Prelude.{◌≡◌, ◌++◌, ℕ, List, length, IfOk, OnOk, codes, string_bytes};
+ghost use Rattle.std.specs.Prelude.{◌≡◌, ◌++◌, ℕ, List, length, map, IfOk, OnOk, codes, string_bytes};
+ghost use Rattle.std.specs.Option.{option_map};
+ghost use Rattle.abs_tree.specs.Results.{result_tree};
+ghost use Rattle.abs_tree.specs.Syntax.{Name};
+ghost use Rattle.config_state.specs.ConfigViews.{configuration};
+ghost use Rattle.config_state.specs.Views.{task_state};
 ghost use Rattle.abs_command.specs.Texts.{report_lines, lines_text, end_line, fault_line as line_of, fault_lines, end_text as text_of, unfinished_of};
 
 use crate::analysis::report::Report;
-use crate::runtime::config::{Config, Lines, TaskCell};
-use crate::runtime::machine::End;
 use abs_tree::{Evaluated, Text};
+use config_state::{Config, Lines, TaskCell};
 use std::alloc::{AllocError, Global};
+use step_rules::End;
 
 /// The lines of a report.
 ///
@@ -31,7 +36,8 @@ pub fn end_text(
     events: u64,
     config: &Config,
 ) -> Result<Text, AllocError>
-    ensures { IfOk result (λ text. text ≡ text_of lines.now end events config.now.tasks) }
+    ensures { (names : List Name) → IfOk result (λ text. text ≡ text_of lines.now end events
+        (configuration names config.now).tasks) }
 {
     let tasks = config.tasks.items.as_slice();
     let mut out = Vec::new(alloc);
@@ -54,7 +60,8 @@ fn push_lines(out: &mut Vec<u8>, lines: &Lines) -> Result<(), AllocError>
 
 /// The line that says how a run with this many events ended.
 fn ending(alloc: Global, end: End, events: u64, tasks: &[TaskCell]) -> Result<String, AllocError>
-    ensures { IfOk result (λ line. string_bytes line ≡ end_line end events tasks.now) }
+    ensures { (names : List Name) → IfOk result (λ line. string_bytes line
+        ≡ end_line end events (map (task_state names) tasks.now)) }
 {
     let count = tasks.len();
     let unfinished = tasks.iter().filter(|task| task.outcome.is_none()).count();
@@ -69,7 +76,8 @@ fn ending(alloc: Global, end: End, events: u64, tasks: &[TaskCell]) -> Result<St
 
 /// Appends a line for each task that ended by a fault.
 fn push_faults(alloc: Global, out: &mut Vec<u8>, tasks: &[TaskCell]) -> Result<(), AllocError>
-    ensures { OnOk result (out.new.items ≡ out.old.items ++ fault_lines 0 tasks.now) }
+    ensures { (names : List Name) → OnOk result (out.new.items
+        ≡ out.old.items ++ fault_lines 0 (map (task_state names) tasks.now)) }
 {
     for (number, task) in tasks.iter().enumerate() {
         push_fault(alloc, out, number, task)?;
@@ -84,7 +92,7 @@ fn push_fault(
     number: usize,
     task: &TaskCell,
 ) -> Result<(), AllocError>
-    ensures { OnOk result (out.new.items ≡ out.old.items ++ line_of number task.now.outcome) }
+    ensures { OnOk result (out.new.items ≡ out.old.items ++ line_of number (option_map result_tree task.now.outcome)) }
 {
     match &task.outcome {
         Some(Evaluated::Bad(fault)) => {

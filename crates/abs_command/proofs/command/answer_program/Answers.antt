@@ -6,8 +6,10 @@ use Rattle.abs_tree.specs.Limits.{event_limit}
 use Rattle.abs_command.specs.Promises.Answer.{prefix}
 use Rattle.abs_command.specs.Promises.CameTo.{reported, ran}
 use Rattle.abs_command.specs.Promises.WrittenBefore.{report}
-use Rattle.abs_command.specs.Recorded.{Recorded}
-use Rattle.abs_command.specs.Runs.{run_of, EndsAs}
+use Rattle.config_state.specs.ConfigViews.{configuration}
+use Rattle.run_history.specs.Recorded.{Recorded}
+use Rattle.run_history.specs.Turns.{IsInTurn}
+use Rattle.step_rules.specs.Runs.{run_of, EndsAs}
 use Rattle.abs_command.specs.Texts.{report_lines, end_text}
 use Rattle.abs_command.proofs.AnswerLemmas.{delivered, analysed_by}
 use Rattle.abs_command.proofs.ResultLemmas.{on_error}
@@ -20,10 +22,7 @@ returns-in_default-clause-answered g c = λ words bytes source source' named acc
       named = named;
       program = program_tree c.args.program.now;
       analysed = analysed_by bytes c.unwritten.result (program_tree c.args.program.now) accepted
-          c.unwritten.ensures.refusal
-          (c.unwritten.ensures.facts ∙ c.analyse-analysis.ensures.facts)
-          (c.unwritten.ensures.pairs ∙ c.analyse-analysis.ensures.pairs)
-          (c.unwritten.ensures.report ∙ c.analyse-analysis.ensures.report);
+          c.unwritten.ensures.refusal (c.unwritten.ensures.report ∙ c.analyse-analysis.ensures);
       history = c.unwritten.ensures.history;
       end = c.unwritten.ensures.end;
       status = refl;
@@ -36,7 +35,7 @@ returns-in_err-config-clause-exhausted g c =
     on_error c.from_residual-in_err-config.result (λ words bytes named accepted.
     report named (program_tree c.args.program.now) accepted
     (subst (Appends (g.K.Sink.written c.args.sink.now) (g.K.Sink.written c.write_all.new.sink))
-    (c.as_bytes.ensures ∙ (c.in_ok-text.ensures ∙ ap report_lines c.analyse-analysis.ensures.report))
+    (c.as_bytes.ensures ∙ (c.in_ok-text.ensures ∙ ap report_lines c.analyse-analysis.ensures))
     c.in-Ok.ensures.whole))
 
 pub returns-in_err-text-2-clause-exhausted : goal.returns-in_err-text-2-clause-exhausted
@@ -44,15 +43,17 @@ returns-in_err-text-2-clause-exhausted g c =
     on_error c.from_residual-in_err-text-2.result (λ words bytes named accepted.
     report named (program_tree c.args.program.now) accepted
     (subst (Appends (g.K.Sink.written c.args.sink.now) (g.K.Sink.written c.write_all.new.sink))
-    (c.as_bytes.ensures ∙ (c.in_ok-text.ensures ∙ ap report_lines c.analyse-analysis.ensures.report))
+    (c.as_bytes.ensures ∙ (c.in_ok-text.ensures ∙ ap report_lines c.analyse-analysis.ensures))
     c.in-Ok.ensures.whole))
 
 pub returns-clause-answered : goal.returns-clause-answered
 returns-clause-answered g c = λ words bytes source source' named accepted.
     let run = c.in_ok-config.field-0 in
-    let outcome : c.as_bytes-2.result.now ≡ end_text run.lines run.end (length run.history.tasks) run.config.tasks =
-    c.as_bytes-2.ensures ∙ (c.in_ok-text-2.ensures
-    ∙ ap (λ (n : ℕ). end_text run.lines run.end n run.config.tasks) c.len.ensures) in
+    let names = c.args.program.now.symbols in
+    let config = configuration names run.config in
+    let outcome : c.as_bytes-2.result.now ≡ end_text run.lines run.end (length run.history.tasks) config.tasks =
+    c.as_bytes-2.ensures ∙ (c.in_ok-text-2.ensures names
+    ∙ ap (λ (n : ℕ). end_text run.lines run.end n config.tasks) c.len.ensures) in
     let tasks : run.history.tasks ≡ c.ran-ended.result.history.tasks =
     ap (λ (history : Recorded). history.tasks) (sym c.ran-ended.ensures.history) in
     let program = program_tree c.args.program.now in
@@ -62,21 +63,20 @@ returns-clause-answered g c = λ words bytes source source' named accepted.
       named = named;
       program = program;
       analysed = analysed_by bytes c.ran-ended.result program accepted c.ran-ended.ensures.refusal
-          (c.ran-ended.ensures.facts ∙ c.analyse-analysis.ensures.facts)
-          (c.ran-ended.ensures.pairs ∙ c.analyse-analysis.ensures.pairs)
-          (c.ran-ended.ensures.report ∙ c.analyse-analysis.ensures.report);
-      ran = record { config = run.config; lines = run.lines };
+          (c.ran-ended.ensures.report ∙ c.analyse-analysis.ensures);
+      ran = record { config = config; lines = run.lines };
       legal = subst (λ (history : List ℕ). run_of program history
-          ≡ Some (record { config = run.config; lines = run.lines })) tasks c.in_ok-config.ensures.legal;
+          ≡ Some (record { config = config; lines = run.lines })) tasks c.in_ok-config.ensures.legal;
+      in_turn = subst (IsInTurn program) tasks c.in_ok-config.ensures.in_turn;
       few = subst (λ (history : List ℕ). length history ≤ event_limit) tasks c.in_ok-config.ensures.few;
       end = run.end;
       end_is = c.ran-ended.ensures.end;
-      ends = subst (λ (history : List ℕ). EndsAs program event_limit history run.config run.end) tasks
+      ends = subst (λ (history : List ℕ). EndsAs program event_limit history config run.end) tasks
           c.in_ok-config.ensures.ends;
-      status = ap Some c.ran-ended.ensures.status;
+      status = ap Some (c.ran-ended.ensures.status names);
       printed = ap (λ (output : List ℕ). output ++ c.as_bytes-2.result.now)
           (c.as_bytes.ensures ∙ (c.in_ok-text.ensures ∙ sym (ap report_lines c.ran-ended.ensures.report)))
           ∙ ap (λ (output : List ℕ). report_lines c.ran-ended.result.report ++ output) (outcome
-          ∙ ap (λ (history : List ℕ). end_text run.lines run.end (length history) run.config.tasks) tasks);
+          ∙ ap (λ (history : List ℕ). end_text run.lines run.end (length history) config.tasks) tasks);
     })) c.in-Ok.ensures.whole c.deliver.ensures.delivered
     (λ rose room. let more = rose room in let kept = c.in-Ok.ensures.never_falls in omega arith)

@@ -1,5 +1,8 @@
-use Rattle.std.proofs.Common.{◌≡◌, Some, subst, sym, ap, ◌∙◌}
+use Rattle.std.proofs.Common.{◌≡◌, Some, subst, sym, ap, ap₂, ◌∙◌}
 use Rattle.std.proofs.lemmas.Result.{err_from_is_err_and}
+use Rattle.std.specs.Option.{option_or}
+use Rattle.abs_tree.proofs.OffenceLemmas.{no_offence}
+use Rattle.abs_tree.specs.Offences.{first_offence}
 use Rattle.abs_tree.specs.declared.named.Named.{Named}
 use Rattle.abs_tree.specs.SourceErrors.{HasCause}
 use Rattle.abs_tree.specs.SourceViews.{named_tree, source_tree}
@@ -7,11 +10,12 @@ use Rattle.abs_tree.specs.Syntax.{SourceTree}
 use Rattle.abs_names.specs.Answers.{RefusesFirst}
 use Rattle.abs_names.specs.Resolution.{resolved}
 use Rattle.abs_types.specs.TypeOffences.{type_offences}
+use Rattle.abs_profile.specs.Profile.{profile_offences}
 use Rattle.abs_command.specs.Sources.{IsTree, FirstOffence}
-use Rattle.abs_command.specs.Sources.FirstOffence.{unread, misnamed, mistyped, unsupported_part}
-use Rattle.abs_command.specs.Unsupported.{unsupported}
+use Rattle.abs_command.specs.Sources.FirstOffence.{unread, misnamed, mistyped}
+use Rattle.abs_command.specs.Unsupported.{get_offences}
 use Rattle.abs_command.proofs.ResultLemmas.{cause_follows}
-use Rattle.abs_command.proofs.SourceLemmas.{first_refused, program_names}
+use Rattle.abs_command.proofs.SourceLemmas.{first_refused, neither, left_refused, program_names}
 use Rattle.abs_command.proofs.source.program_of.Goals as goal
 
 pub returns-clause-names : goal.returns-clause-names
@@ -23,6 +27,7 @@ returns-clause-names c =
 pub returns-clause-found : goal.returns-clause-found
 returns-clause-found c =
     let tree = c.in_ok-tree.tree in
+    let none = neither c.profile_offence.result c.unsupported.result (sym c.or.ensures ∙ c.in-None.is) in
     record {
       names = tree.symbols;
       tree = source_tree tree;
@@ -32,9 +37,12 @@ returns-clause-found c =
       is = ap named_tree c.in_ok-checked.ensures.same ∙ c.in_ok-program.ensures.found;
       names_are = ap (λ (named : Named). named.symbols) c.in_ok-checked.ensures.same ∙ c.in_ok-program.ensures.symbols;
       typed = rw c.in_ok-checked.ensures.same c.in_ok-checked.ensures.accepted;
+      profiled =
+          ap (λ (program : Named). profile_offences (named_tree program)) (sym c.named-named.ensures.program)
+          ∙ no_offence _ (sym c.profile_offence.ensures ∙ none.0);
       runs =
-          sym (ap (λ (program : Named). unsupported (named_tree program)) c.named.ensures.program)
-          ∙ (sym c.unsupported.ensures ∙ c.in-None.is);
+          ap (λ (program : Named). get_offences (named_tree program)) (sym c.named-named.ensures.program)
+          ∙ no_offence _ (sym c.unsupported.ensures ∙ none.1);
     }
 
 pub returns-in_err-tree-clause-refused : goal.returns-in_err-tree-clause-refused
@@ -71,10 +79,14 @@ returns-in-Some-clause-refused c =
     let tree = c.in_ok-tree.tree in
     let read : IsTree c.args.text.now tree.symbols (source_tree tree) =
     record { list = c.in_ok-list.list; tokens = c.in_ok-list.ensures.found; is = c.in_ok-tree.ensures.found } in
-    let same : named_tree c.named.result.now ≡ resolved (source_tree tree) =
-    ap named_tree (c.named.ensures.program ∙ c.in_ok-checked.ensures.same) ∙ c.in_ok-program.ensures.found in
-    let waits : unsupported (resolved (source_tree tree)) ≡ Some c.in-Some.place =
-    sym (ap unsupported same) ∙ (sym c.unsupported.ensures ∙ c.in-Some.is) in
-    let typed = ap type_offences (sym same) ∙ c.named.ensures.accepted in
-    unsupported_part tree.symbols (source_tree tree) c.in-Some.place read c.in_ok-program.ensures.accepted typed waits
+    let same : named_tree c.named-named.result.now ≡ resolved (source_tree tree) =
+    ap named_tree (c.named-named.ensures.program ∙ c.in_ok-checked.ensures.same) ∙ c.in_ok-program.ensures.found in
+    let first : option_or (first_offence (profile_offences (resolved (source_tree tree))))
+    (first_offence (get_offences (resolved (source_tree tree)))) ≡ Some c.in-Some.offence =
+    ap₂ option_or (ap (λ (source : SourceTree). first_offence (profile_offences source)) (sym same)
+    ∙ sym c.profile_offence.ensures)
+    (ap (λ (source : SourceTree). first_offence (get_offences source)) (sym same) ∙ sym c.unsupported.ensures)
+    ∙ (sym c.or.ensures ∙ c.in-Some.is) in
+    let typed = ap type_offences (sym same) ∙ c.named-named.ensures.accepted in
+    left_refused (source_tree tree) c.in-Some.offence _ read c.in_ok-program.ensures.accepted typed first
     c.refusal.ensures

@@ -1,35 +1,51 @@
-use Rattle.abs_profile.proofs.ExpressionLemmas.{operators_offence, case_offence, own_call_offence, applied_offence}
+use Rattle.std.proofs.Common.{◌≡◌, ◌⊎◌, List, inl, inr, ap, ◌∙◌}
+use Rattle.std.specs.declared.alloc.Global.{Global}
+use Rattle.std.specs.declared.vec.Vec.{Vec}
+use Rattle.abs_tree.proofs.SyntaxLemmas.{phrase-operators, phrase-own_call, phrase-apply, phrase-build, phrase-case}
+use Rattle.abs_tree.specs.Syntax.{Name}
+use Rattle.abs_tree.specs.SyntaxViews.{phrase, phrases}
+use Rattle.abs_tree.specs.declared.place.Place.{Place}
+use Rattle.abs_tree.specs.declared.symbol.Symbol.{Symbol}
+use Rattle.abs_tree.specs.declared.syntax.expression.Expr as code
+use Rattle.abs_tree.specs.declared.syntax.expression.Expr.{Expr}
+use Rattle.abs_profile.specs.Profile.{phrase_offences, phrases_offences}
 use Rattle.abs_profile.proofs.expressions.+expressions.Goals as goal
 
-pub expression_offence-returns-in-Operators : goal.expression_offence-returns-in-Operators
-expression_offence-returns-in-Operators t c names =
+pub note_in_expression-returns-in-Operators : goal.note_in_expression-returns-in-Operators
+note_in_expression-returns-in-Operators t c names =
     rw (
-      operators_offence names c.in-Operators.first c.in-Operators.operands c.in-Operators.is,
+      ap (phrase names) c.in-Operators.is ∙ phrase-operators names _ c.in-Operators.left c.in-Operators.operands,
       ← c.deref-in-Operators.ensures,
       ← c.deref-in-Operators-2.ensures.value,
-      ← c.expression_offence-in-Operators.ensures names,
-      ← c.operands_offence.ensures names,
-    ) c.or-in-Operators.ensures
+    ) (c.note_in_operators.ensures names)
 
-pub expression_offence-returns-in-OwnCall : goal.expression_offence-returns-in-OwnCall
-expression_offence-returns-in-OwnCall t c names =
+pub note_in_expression-returns-in-OwnCall : goal.note_in_expression-returns-in-OwnCall
+note_in_expression-returns-in-OwnCall t c names =
     rw (
-      own_call_offence names c.in-OwnCall.arguments c.in-OwnCall.is,
+      ap (phrase names) c.in-OwnCall.is ∙ phrase-own_call names _ _ c.in-OwnCall.arguments,
       ← c.deref-in-OwnCall.ensures,
       ← c.deref-in-OwnCall-2.ensures.value,
-    ) (c.expressions_offence.ensures names)
+    ) (c.note_in_expressions.ensures names)
 
-pub expression_offence-returns-in-Case : goal.expression_offence-returns-in-Case
-expression_offence-returns-in-Case t c names =
+pub note_in_expression-returns-in-Case : goal.note_in_expression-returns-in-Case
+note_in_expression-returns-in-Case t c names =
     rw (
-      case_offence names c.in-Case.subject c.in-Case.branches c.in-Case.is,
+      ap (phrase names) c.in-Case.is ∙ phrase-case names _ c.in-Case.subject c.in-Case.branches,
       ← c.deref-in-Case.ensures,
       ← c.deref-in-Case-2.ensures.value,
-      ← c.expression_offence-in-Case.ensures names,
-      ← c.branches_offence.ensures names,
-    ) c.or-in-Case.ensures
+    ) (c.note_in_case.ensures names)
 
-pub expression_offence-returns-in-Apply : goal.expression_offence-returns-in-Apply
-expression_offence-returns-in-Apply t c names =
-    rw (applied_offence names c.in-Apply.arguments c.in-Apply.is, ← c.deref-in-Apply.ensures.value)
-    (c.expressions_offence-in-Apply.ensures names)
+-- the offences of the application of a function or of a constructor are those of its arguments
+applied_offences : (names : List Name) {expr : Expr} (arguments : Vec Expr Global)
+    → ((place : Place) × (function : Symbol) × (expr ≡ code.Apply place function arguments))
+    ⊎ ((place : Place) × (constructor : Symbol) × (expr ≡ code.Build place constructor arguments))
+    → phrase_offences (phrase names expr) ≡ phrases_offences (phrases names arguments.items)
+applied_offences names arguments (inl (place, function, is)) =
+    ap phrase_offences (ap (phrase names) is ∙ phrase-apply names place function arguments)
+applied_offences names arguments (inr (place, constructor, is)) =
+    ap phrase_offences (ap (phrase names) is ∙ phrase-build names place constructor arguments)
+
+pub note_in_expression-returns-in-Apply : goal.note_in_expression-returns-in-Apply
+note_in_expression-returns-in-Apply t c names =
+    rw (applied_offences names c.in-Apply.arguments c.in-Apply.is, ← c.deref-in-Apply.ensures.value)
+    (c.note_in_expressions-in-Apply.ensures names)

@@ -1,29 +1,30 @@
-use Rattle.abs_profile.proofs.StatementLemmas.{block_offence, if_offence, while_offence}
+use Rattle.std.proofs.lemmas.List.Sums.{fold-append}
+use Rattle.abs_tree.proofs.StatementLemmas.{block_tree, if_tree, while_tree}
 use Rattle.abs_profile.proofs.statements.+statements.Goals as goal
 
-pub statement_offence-returns-in-Block : goal.statement_offence-returns-in-Block
-statement_offence-returns-in-Block t c names =
-    rw (block_offence names c.in-Block.block c.in-Block.is, ← c.deref.ensures.value)
-    (c.statements_offence.ensures names)
+pub note_in_statement-returns-in-Block : goal.note_in_statement-returns-in-Block
+note_in_statement-returns-in-Block t c names =
+    rw (block_tree names c.args.stmt.now c.in-Block.field-0 c.in-Block.block _ c.in-Block.is c.deref.ensures.value)
+    (c.note_in_statements.ensures names)
 
-pub statement_offence-returns-in-If : goal.statement_offence-returns-in-If
-statement_offence-returns-in-If t c names =
+pub note_in_statement-returns-in-If : goal.note_in_statement-returns-in-If
+note_in_statement-returns-in-If t c names =
     rw (
-      if_offence names c.in-If.condition c.in-If.first c.in-If.second c.in-If.is,
+      if_tree names c.args.stmt.now c.in-If.index c.in-If.place c.in-If.condition c.in-If.chosen c.in-If.other _
+          c.in-If.is c.deref-in-If-2.ensures.value,
+      fold-append,
       ← c.deref-in-If.ensures,
-      ← c.deref-in-If-2.ensures.value,
-      ← c.expression_offence.ensures names,
-      ← c.statements_offence-in-If.ensures names,
-      ← c.or.ensures,
-      ← c.else_offence.ensures names,
-    ) c.or-in-If.ensures
+      ← c.note_in_expression.ensures names,
+      fold-append,
+      ← c.note_in_statements-in-If.ensures names,
+    ) (c.note_in_else.ensures names)
 
-pub statement_offence-returns-in-While : goal.statement_offence-returns-in-While
-statement_offence-returns-in-While t c names =
+pub note_in_statement-returns-in-While : goal.note_in_statement-returns-in-While
+note_in_statement-returns-in-While t c names =
     rw (
-      while_offence names c.in-While.condition c.in-While.body c.in-While.is,
+      while_tree names c.args.stmt.now c.in-While.index c.in-While.place c.in-While.condition c.in-While.body _
+          c.in-While.is c.deref-in-While-2.ensures.value,
+      fold-append,
       ← c.deref-in-While.ensures,
-      ← c.deref-in-While-2.ensures.value,
-      ← c.expression_offence-in-While.ensures names,
-      ← c.statements_offence-in-While.ensures names,
-    ) c.or-in-While.ensures
+      ← c.note_in_expression-in-While.ensures names,
+    ) (c.note_in_statements-in-While.ensures names)

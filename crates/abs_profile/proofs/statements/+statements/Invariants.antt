@@ -2,22 +2,23 @@ use Rattle.std.proofs.Common.{◌+◌, ◌*◌, List}
 use Rattle.abs_tree.proofs.StatementLemmas.{branch_size}
 use Rattle.abs_tree.specs.Syntax.{Name}
 use Rattle.abs_tree.specs.SyntaxViews.{statements}
-use Rattle.abs_types.proofs.PassedLemmas.{PassedSoFar}
-use Rattle.abs_profile.specs.Profile.{statements_offence}
+use Rattle.abs_profile.proofs.NotedLemmas.{NotedSoFar}
+use Rattle.abs_profile.specs.Profile.{statements_offences}
 use Rattle.abs_profile.proofs.statements.+statements.Given as goal
 
 -- The measure of each function is three times the depth of what it goes over, and a rank of less than three: that of a
 -- function which passes all of it on is the greater.
-abbrev pub decreases-statement_offence : goal.decreases-statement_offence
-decreases-statement_offence l = 3 * goal.size-statement_offence l
+abbrev pub decreases-note_in_statement : goal.decreases-note_in_statement
+decreases-note_in_statement l = 3 * goal.size-note_in_statement l
 
-abbrev pub decreases-statements_offence : goal.decreases-statements_offence
-decreases-statements_offence l = 3 * goal.size-statements_offence l + 1
+abbrev pub decreases-note_in_statements : goal.decreases-note_in_statements
+decreases-note_in_statements l = 3 * goal.size-note_in_statements l + 1
 
-abbrev pub decreases-else_offence : goal.decreases-else_offence
-decreases-else_offence l = 3 * branch_size l.branch.now + 2
+abbrev pub decreases-note_in_else : goal.decreases-note_in_else
+decreases-note_in_else l = 3 * branch_size l.branch.now + 2
 
--- the first offence of the statements left is that of all
-abbrev pub invariant-statements_offence-loop-stmt : goal.invariant-statements_offence-loop-stmt
-invariant-statements_offence-loop-stmt l =
-    (names : List Name) → PassedSoFar (λ items. statements_offence (statements names items)) l.stmts l.stmt-index
+-- the offences of the statements so far are noted
+abbrev pub invariant-note_in_statements-loop-stmt : goal.invariant-note_in_statements-loop-stmt
+invariant-note_in_statements-loop-stmt l =
+    (names : List Name)
+    → NotedSoFar (λ items. statements_offences (statements names items)) l.stmts l.stmt-index l.fn.first l.first
