@@ -8,11 +8,12 @@ use thiserror::Error;
 /// Why nothing is shown. Its text is a line for the user.
 #[derive(Clone, Copy, Debug, PartialEq, Eq, Error)]
 pub(crate) enum Failure {
-    /// The lexer, the parser or the resolver refuses the source.
+    /// The lexer, the parser or the resolver refuses the source, or the command where a history is asked for.
     #[error("refused: {0} at {1}:{2}")]
     Refused(Code, u32, u32),
     /// The words are not of this program.
-    #[error("usage: abs_show (tree | resolved | declared | names | symbols | tokens | fits | towers | prelude) FILE")]
+    #[error("usage: abs_show (tree | resolved | declared | names | symbols | tokens | fits | control | \
+         history | towers | prelude) FILE")]
     Usage,
     /// The source has more bytes than a source may have.
     #[error("the source has too many bytes")]

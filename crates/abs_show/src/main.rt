@@ -1,6 +1,7 @@
-//! The program `abs_show WHAT FILE`: prints what the lexer, the parser and the resolver make of a source, for tests to
-//! compare. WHAT is `tree`, `resolved`, `declared`, `names`, `symbols`, `tokens`, `fits`, `control`, `towers` or
-//! `prelude`. A source that is refused prints its refusal, and ends with status 4.
+//! The program `abs_show WHAT FILE`: prints what the lexer, the parser and the resolver make of a source, or the
+//! history of its run, for tests to compare. WHAT is `tree`, `resolved`, `declared`, `names`, `symbols`, `tokens`,
+//! `fits`, `control`, `history`, `towers` or `prelude`. A source that is refused prints its refusal, and ends with
+//! status 4.
 #![tactic(auto)]
 
 mod control;
@@ -8,6 +9,7 @@ mod declarations;
 mod expressions;
 mod failure;
 mod fits;
+mod history;
 mod printer;
 mod show;
 mod statements;

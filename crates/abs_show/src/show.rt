@@ -1,10 +1,12 @@
-//! What is shown of a source, as text: its tree, its tree with its names resolved, its names, or its tokens.
+//! What is shown of a source, as text: its tree, its tree with its names resolved, its names, its tokens, which of its
+//! types fit which, where control goes in it, or the history of its run.
 ghost use Rattle.std.specs.Prelude.{◌≤◌, length};
 ghost use Rattle.abs_tree.specs.Limits.{source_limit};
 
 use crate::control::control_lines;
 use crate::failure::Failure;
 use crate::fits::fit_lines;
+use crate::history::history_line;
 use crate::printer::Printer;
 use crate::towers::tower_lines;
 use abs_lexer::lexer::tokens;
@@ -36,6 +38,8 @@ pub(crate) enum What {
     Fits,
     /// Where control goes, for its classes, its methods, its main block and its statements.
     Control,
+    /// The history of its run.
+    History,
     /// What a table of types answers for them, and for towers of pairs over them.
     Towers,
     /// The tree of the prelude, whatever the source is: as its text is read, and as it is made by hand.
@@ -54,6 +58,7 @@ impl What {
             "tokens" => Some(What::Tokens),
             "fits" => Some(What::Fits),
             "control" => Some(What::Control),
+            "history" => Some(What::History),
             "towers" => Some(What::Towers),
             "prelude" => Some(What::Prelude),
             _ => None,
@@ -65,10 +70,14 @@ impl What {
 ///
 /// # Errors
 /// [`Failure::Refused`] where the lexer refuses the source. So does the parser where more than its tokens are asked
-/// for, and the resolver where its resolved program is. [`Failure::Memory`] where memory runs out.
+/// for, the resolver where its resolved program is, and the command where its history is. [`Failure::Memory`] where
+/// memory runs out.
 pub(crate) fn show(alloc: Global, what: What, source: &[u8]) -> Result<String, Failure>
     requires { length source.now ≤ source_limit }
 {
+    if what == What::History {
+        return history_line(alloc, source);
+    }
     let list = tokens(alloc, source)?;
     if what == What::Tokens {
         return Ok(token_lines(alloc, &list)?);
@@ -83,7 +92,7 @@ pub(crate) fn show(alloc: Global, what: What, source: &[u8]) -> Result<String, F
         | What::Control
         | What::Towers => { Ok(resolved_lines(alloc, what, &resolve(alloc, program)?)?) }
         What::Prelude => prelude_lines(alloc),
-        What::Tree | What::Tokens => {
+        What::Tree | What::Tokens | What::History => {
             Ok(tree_line(
                 alloc,
                 &program.symbols,
