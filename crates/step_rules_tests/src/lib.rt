@@ -4,4 +4,14 @@
 #![tactic(auto)]
 
 #[cfg(test)]
+mod events;
+#[cfg(test)]
+mod histories;
+#[cfg(test)]
+mod inputs;
+#[cfg(test)]
+mod programs;
+#[cfg(test)]
+mod replays;
+#[cfg(test)]
 mod sources;

@@ -1,28 +1,14 @@
 //! The first configuration of sources, and whether its task has an event.
-ghost use Rattle.std.specs.Prelude.{◌≤◌, length};
-ghost use Rattle.abs_tree.specs.Limits.{source_limit};
 ghost use Rattle.abs_tree.specs.SourceViews.{program_tree};
 ghost use Rattle.config_state.specs.ConfigViews.{configuration};
 ghost use Rattle.config_state.specs.OfProgram.{IsConfigOf};
 
-use abs_lexer::lexer::tokens;
-use abs_names::resolve;
-use abs_parser::parse;
-use abs_tree::{Named, SourceError, Value};
+use crate::programs::program_of;
+use abs_tree::{Named, Value};
 use config_state::{Config, Frame, State, TaskCell, first};
-use std::alloc::Global;
 use std::process::Abort;
 use std::test::Fail;
 use step_rules::has_step;
-
-// The program of a source, with its names resolved.
-fn program_of<'a>(alloc: Global, source: &'a [u8]) -> Result<Named<'a>, SourceError>
-    requires { length source.now ≤ source_limit }
-{
-    let list = tokens(alloc, source)?;
-    let tree = parse(alloc, &list)?;
-    resolve(alloc, tree)
-}
 
 // Whether the main block's task has an event.
 fn main_has_step(program: &Named<'_>, config: &Config) -> Result<bool, Fail>
