@@ -6,7 +6,8 @@ use Rattle.abs_command.specs.declared.run.Ran as machine
 use Rattle.run_history.specs.Turns.{IsInTurn}
 use Rattle.step_rules.specs.Runs.{run_of, EndsAs}
 
--- The history is legal and in turn, and has at most this many events. Configuration, lines and end are those of its run.
+-- The history is legal and in turn, and has at most this many events. Configuration, lines and end are those of its
+-- run.
 pub record IsRun (names : List Name) (program : ProgramTree) (limit : ℕ) (ran : machine.Ran) : Type 0 where
   pub legal : run_of program ran.history.tasks
       ≡ Some (record { config = configuration names ran.config; lines = ran.lines })

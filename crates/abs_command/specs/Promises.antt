@@ -150,7 +150,7 @@ pub data CameTo (words : List (List ℕ)) (bytes : List ℕ) (source source' : S
   reported : IsReported words bytes ended due output → CameTo words bytes source source' ended due output
   ran : HasRun words bytes ended due output → CameTo words bytes source source' ended due output
 
--- Two calls came to the same: what they wrote, and what they hand back.
+-- Two calls came to the same: what they wrote, and what they hand back but for the counts of facts and pairs.
 pub record IsSame (one : Ended) (output : List ℕ) (other : Ended) (output' : List ℕ) : Type 0 where
   pub output_is : output ≡ output'
   pub status : one.status ≡ other.status

@@ -1,5 +1,5 @@
--- When a source has a program, and when it is refused for its first offence. In these definitions `text` is the bytes of
--- the source.
+-- When a source has a program, and when it is refused for its first offence. In these definitions `text` is the bytes
+-- of the source.
 --
 --   `IsProgramOf`                                      the program of a source
 --   `FirstOffence`, `HasOffence`                       the refusal of a source
@@ -27,8 +27,8 @@ pub record IsTree (text : List ℕ) (names : List Name) (tree : SourceTree) : Ty
   pub tokens : TokensOf text list
   pub is : IsTextOf list names tree
 
--- The source has a tree in which no name offends. This is its program, whose names are resolved; its table has the names
--- of the source, followed by those of the prelude. It has no offence by its types and none of the profile, and no
+-- The source has a tree in which no name offends. This is its program, whose names are resolved; its table has the
+-- names of the source, followed by those of the prelude. It has no offence by its types and none of the profile, and no
 -- statement of it gets a future.
 pub record IsProgramOf (text : List ℕ) (program : ProgramTree) : Type 0 where
   pub names : List Name

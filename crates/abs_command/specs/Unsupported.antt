@@ -1,5 +1,5 @@
--- What does not run yet: `get`. Each statement that gets a future offends, with the code S1 at the word `get`. The source
--- is resolved.
+-- What does not run yet: `get`. Each statement that gets a future offends, with the code S1 at the word `get`. The
+-- source is resolved.
 --
 --   `get_offences`                                     a source
 --   `decl_gets`, `member_gets`                         declarations and members of classes

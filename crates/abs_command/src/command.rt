@@ -138,8 +138,8 @@ const USAGE: &str =
 /// The line for a source that is too large.
 const TOO_LARGE: &str = "too large: source\n";
 
-/// Two calls with the same words and the same bytes come to the same, where neither gave up: what they write, and all
-/// that they hand back.
+/// Two calls with the same words and the same bytes come to the same, where each wrote its whole output and neither
+/// gave up: what they write, and what they hand back but for the counts of facts and pairs.
 pub fn calls_agree()
     ensures { (words : List (List ℕ)) (bytes : List ℕ) (source source' : SourceView) (ended : Ended)
         (output : List ℕ) (other other' : SourceView) (ended' : Ended) (output' : List ℕ)

@@ -18,7 +18,8 @@ has row number = get_or row number false
 unfoldable pub word_has : List ℕ → ℕ → Bool
 word_has words number = nat_eq (bit_at (get_or words (number / 64) 0) (number % 64)) 1
 
--- whether words have a number that is one of the first bits, this many, of the word with an index. It serves proofs only.
+-- whether words have a number that is one of the first bits, this many, of the word with an index. It serves proofs
+-- only.
 unfoldable pub word_bit : List ℕ → ℕ → ℕ → ℕ → Bool
 word_bit words index bits number =
     (nat_eq (number / 64) index && nat_lt (number % 64) bits) && word_has words number

@@ -1,5 +1,5 @@
--- The resolved tree of a source: each variable that is used or declared is a slot, a bound variable or a field, and each
--- type says what it is.
+-- The resolved tree of a source: each variable that is used or declared is a slot, a bound variable or a field, and
+-- each type says what it is.
 --
 --   `resolved`                                         that of a source
 --   `resolved_declaration`, `resolved_members`, ..     that of a declaration, of the members of a class

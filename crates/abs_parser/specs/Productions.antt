@@ -284,8 +284,8 @@ rule Unary =
     ∷ (punctuation punctuator.Minus ∷ Part Unary ∷ [])
     ∷ (Part Primary ∷ [])
     ∷ []
--- Primary = INT | TEXT | "null" | "destiny" | "this" ["." LName ["(" [Args] ")"]] | LName ["(" [Args] ")"] | UName ["(" [Args] ")"]
---         | "case" Expr "{" Branch {Branch} "}" | "(" Expr ")"
+-- Primary = INT | TEXT | "null" | "destiny" | "this" ["." LName ["(" [Args] ")"]] | LName ["(" [Args] ")"]
+--         | UName ["(" [Args] ")"] | "case" Expr "{" Branch {Branch} "}" | "(" Expr ")"
 rule Primary =
     (Of Number ∷ [])
     ∷ (Of Text ∷ [])

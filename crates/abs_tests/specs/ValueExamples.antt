@@ -1,5 +1,5 @@
--- Values of which the tests say how they are printed and how large they are, and expressions of which they say what they
--- give. Each part of an expression is at the start of a source.
+-- Values of which the tests say how they are printed and how large they are, and expressions of which they say what
+-- they give. Each part of an expression is at the start of a source.
 --
 --   `names`, `library`, `scope`        the names of a program, its one function, and values that can be read
 --   `just`, `cons`, `nil`, `pair`, `unit`  values

@@ -1,10 +1,10 @@
 -- The definition of evaluation: the value or the fault of an expression, and how many functions its statement has
--- applied by then. It is a recursion on the levels that are left: a part of an expression, a chosen branch, and the body
--- of `let` or of a function have one level less than the expression that evaluates them. There is an equation for each
--- form of expression. Where no other case applies the result is the fault Mistyped.
+-- applied by then. It is a recursion on the levels that are left: a part of an expression, a chosen branch, and the
+-- body of `let` or of a function have one level less than the expression that evaluates them. There is an equation for
+-- each form of expression. Where no other case applies the result is the fault Mistyped.
 --
--- Of the program it takes the library alone, and it is a function. So an expression has one result, which depends on the
--- program's functions and names and on nothing else of it.
+-- Of the program it takes the library alone, and it is a function. So an expression has one result, which depends on
+-- the program's functions and names and on nothing else of it.
 --
 --   `evaluate`                                 the outcome of an expression with some levels left
 --   `result_of`, `results_of`                  the result of a statement's own expression, and of all its expressions
@@ -105,8 +105,8 @@ branches_outcome names give (NextBranch pattern first others) value made =
     taken (Some values) first others = first values
     taken None first others = others
 
--- the outcome of `&&` or `||` after the answer of its left operand: the answer that decides is the result, and otherwise
--- the right operand must be a Bool
+-- the outcome of `&&` or `||` after the answer of its left operand: the answer that decides is the result, and
+-- otherwise the right operand must be a Bool
 abbrev pub logical_outcome : List Name → (Phrase → ℕ → Outcome) → Bool → Phrase → Option Bool → ℕ → Outcome
 logical_outcome names give true right (Some true) made = ends_with (Gives (truth_value names true)) made
 logical_outcome names give false right (Some false) made = ends_with (Gives (truth_value names false)) made

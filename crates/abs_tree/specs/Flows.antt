@@ -19,9 +19,9 @@ Slots = ℕ → Bool
 abbrev pub IsWithin : Slots → Slots → Type 0
 IsWithin one other = (slot : ℕ) → one slot ≡ true → other slot ≡ true
 
--- How facts follow from one another: after a statement without statements in it, from the fact before it; after an `if`,
--- from the fact before it and those after its branches; at a loop, from the fact before it; and after a bare block, from
--- the fact before it and that after its statements. After a loop the fact is that at the loop.
+-- How facts follow from one another: after a statement without statements in it, from the fact before it; after an
+-- `if`, from the fact before it and those after its branches; at a loop, from the fact before it; and after a bare
+-- block, from the fact before it and that after its statements. After a loop the fact is that at the loop.
 pub record Flow : Type 0 where
   pub after : Slots → Statement → Slots
   pub joined : Slots → Slots → Slots → Slots

@@ -1,5 +1,5 @@
--- What is left at a statement: lists of statements, the innermost first. It is what the table of events speaks of, where
--- a chosen branch goes before the rest, and a true loop puts its body and itself before the rest.
+-- What is left at a statement: lists of statements, the innermost first. It is what the table of events speaks of,
+-- where a chosen branch goes before the rest, and a true loop puts its body and itself before the rest.
 --
 --   `lefts`, `lefts_of`, `else_lefts`  what is left at each statement of a list, in the order of their indices
 --   `opened`, `opened_of`              statements up to the first one that has an index

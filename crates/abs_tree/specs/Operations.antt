@@ -1,5 +1,5 @@
--- Operators on values, and matching. True and False are constructors, so an operator that gives or asks for a Bool needs
--- the names of the program.
+-- Operators on values, and matching. True and False are constructors, so an operator that gives or asks for a Bool
+-- needs the names of the program.
 --
 --   `truth_value`, `truth_of`          the value of an answer, and the answer that a value is, if it is a Bool
 --   `prefix_result`                    the result of an operator before a value
@@ -78,8 +78,8 @@ abbrev pub sum_result : List Name → ValueTree → ValueTree → Result
 sum_result names (StringValue left) (StringValue right) = string_result (left ++ right)
 sum_result names left right = numbers_result names operator.Plus left right
 
--- an operator between two values that both have to be evaluated. A value of a sort that the operator does not ask for is
--- the fault Mistyped; `==` and `!=` ask for none.
+-- an operator between two values that both have to be evaluated. A value of a sort that the operator does not ask for
+-- is the fault Mistyped; `==` and `!=` ask for none.
 abbrev pub operation_result : List Name → Operator → ValueTree → ValueTree → Result
 operation_result names operator.Equal left right = Gives (truth_value names (same_value left right))
 operation_result names operator.NotEqual left right = Gives (truth_value names (not (same_value left right)))

@@ -33,8 +33,8 @@ unfoldable mutual
   IsInAny reference NoPart = ⊥
   IsInAny reference (NextPart first others) = IsIn reference first ⊎ IsInAny reference others
 
--- The expression reads the location somewhere in it, in a branch that is not taken too. The receiver of a call on `this`
--- is not read, but its arguments are.
+-- The expression reads the location somewhere in it, in a branch that is not taken too. The receiver of a call on
+-- `this` is not read, but its arguments are.
 unfoldable mutual
   pub Reads : Location → Phrase → Type 0
   Reads location (LetIn place type variable_place variable value body) = Reads location value ⊎ Reads location body

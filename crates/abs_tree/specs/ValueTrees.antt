@@ -1,6 +1,6 @@
--- Values without their memory, as plain trees: what evaluation, events and printed forms speak of. A node is one number,
--- string, object, future or null, or one constructor with the nodes of its parts. A constructor has the number of its
--- name in the program's table.
+-- Values without their memory, as plain trees: what evaluation, events and printed forms speak of. A node is one
+-- number, string, object, future or null, or one constructor with the nodes of its parts. A constructor has the number
+-- of its name in the program's table.
 --
 --   `ValueTree`, `ValueTrees`          values, and the parts of a constructor
 --   `parts_of_list`                    the parts with these values

@@ -1,5 +1,5 @@
--- Patterns: whether they fit the type of their subject, and the types of their variables. A subject, and a variable, may
--- be without a type, where another part offends.
+-- Patterns: whether they fit the type of their subject, and the types of their variables. A subject, and a variable,
+-- may be without a type, where another part offends.
 --
 --   `arguments_of`                 the data that a type is, with the arguments to which it is applied
 --   `constructor_parts`            the types of the parts of a constructor, if it is one of the subject's type

@@ -1,5 +1,5 @@
--- The offences of statements by their types. What a declaration declares is visible after it, up to the end of its block
--- or its branch.
+-- The offences of statements by their types. What a declaration declares is visible after it, up to the end of its
+-- block or its branch.
 --
 --   `frame_after`                  what is around the statement after this one
 --   `target_type`                  the type of what is assigned to

@@ -21,7 +21,8 @@ use Rattle.abs_types.specs.Schemes.{param_types}
 use Rattle.abs_types.specs.StatementOffences.{asked_offences, can_be_null, statements_offences}
 use Rattle.abs_types.specs.Typing.{Frame}
 
--- what is around the value of a function, or an initial value: variables with these types, and neither `this` nor a task
+-- what is around the value of a function, or an initial value: variables with these types, and neither `this` nor a
+-- task
 abbrev pub value_frame : List PlainType → Frame
 value_frame types = record { slots = map Some types; fields = []; this = None; task = None }
 

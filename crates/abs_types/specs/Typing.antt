@@ -1,5 +1,5 @@
--- The type of an expression, from the types of its parts: a row of the table of phrases for each form. An expression has
--- no type where a part of it has none, or where its row gives none.
+-- The type of an expression, from the types of its parts: a row of the table of phrases for each form. An expression
+-- has no type where a part of it has none, or where its row gives none.
 --
 --   `Frame`                            what is around an expression
 --   `variable_type`                    the type of a variable

@@ -169,8 +169,8 @@ one_more_typed declarations names types patterns last =
     (one_more_row (pattern_types declarations) (patterns_types declarations) names (λ parts. refl)
     (λ parts first others. refl) (map Some types) patterns last)
 
--- What is known once patterns were met, each with its subject: whether all of them fit, their offences, and the types of
--- their variables.
+-- What is known once patterns were met, each with its subject: whether all of them fit, their offences, and the types
+-- of their variables.
 pub record PatternsMet (context : Context) (types : List PlainType) (first : Option Offence) (patterns : List Pattern)
     (fit : Bool) (now : Checker) : Type 0 where
   pub fits_are : fit ≡ nat_eq (length (patterns_offences context.declarations (map Some types)

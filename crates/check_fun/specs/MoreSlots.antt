@@ -1,5 +1,5 @@
--- Frames that differ in the slots that are visible. What is visible at a place of a body is less than all its slots, and
--- this is how both are compared.
+-- Frames that differ in the slots that are visible. What is visible at a place of a body is less than all its slots,
+-- and this is how both are compared.
 --
 --   `SeesMore`             a frame has all that another one has, and may have types of more slots
 use Rattle.std.specs.Prelude.{◌≡◌, ℕ, Some}

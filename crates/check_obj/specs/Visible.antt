@@ -1,4 +1,5 @@
--- The slots that become visible in a block, and are as before after it. These words serve contracts of this crate alone.
+-- The slots that become visible in a block, and are as before after it. These words serve contracts of this crate
+-- alone.
 --
 --   `undone`               slots, where those that became visible are as they were
 --   `Undoes`               a checker whose slots are these, once that is undone

@@ -1,5 +1,5 @@
--- What matching adds to the bound variables. These words serve contracts of this crate alone. Variables are the trees of
--- their values.
+-- What matching adds to the bound variables. These words serve contracts of this crate alone. Variables are the trees
+-- of their values.
 --
 --   `Begins`                           a list begins with another one
 --   `is_number`, `is_string`           whether a value is this number, or this string

@@ -1,5 +1,5 @@
--- What follows from a part that was found: it leaves fewer tokens, its names extend the table of names, and the symbol of
--- a name has this name in each table that extends that one. Also, which lexemes are names.
+-- What follows from a part that was found: it leaves fewer tokens, its names extend the table of names, and the symbol
+-- of a name has this name in each table that extends that one. Also, which lexemes are names.
 use Rattle.std.proofs.Common.{◌≡◌, ◌≤◌, ℕ, suc, Bool, true, false, ◌||◌, not, cond, List, [], ◌∷◌, ◌++◌, ◌+◌, length, Option, Some, refl, sym, ap, subst, ◌∙◌, fold, map, arith, length-append}
 use Rattle.std.specs.Prelude.{slice_get, unwrap_or}
 use Rattle.std.specs.List.{list_any}

@@ -1,4 +1,5 @@
--- What the result of a call says where it is passed on: by `?`, with its error; or as it is, for a part whose last part the call parsed.
+-- What the result of a call says where it is passed on: by `?`, with its error; or as it is, for a part whose last part
+-- the call parsed.
 use Rattle.std.proofs.Common.{◌≡◌, sym, subst}
 use Rattle.std.specs.Prelude.{Result, Ok, Err, IsErrAnd, IfOk, IfErr}
 use Rattle.abs_tree.specs.declared.source_error.SourceError.{SourceError}
