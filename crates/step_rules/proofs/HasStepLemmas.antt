@@ -41,7 +41,8 @@ no_outcome None is = refl
 no_outcome (Some result) is = absurd cc
 
 -- with a result of the code a task has one
-pub some_outcome : (outcome : Option Evaluated) → is_some outcome ≡ true → is_some (option_map result_tree outcome) ≡ true
+pub some_outcome : (outcome : Option Evaluated) → is_some outcome ≡ true
+    → is_some (option_map result_tree outcome) ≡ true
 some_outcome None is = absurd cc
 some_outcome (Some result) is = refl
 

@@ -34,3 +34,8 @@ pub mod PlanningLemmas
 pub mod PlacingLemmas
 pub mod FormedNamesLemmas
 pub mod InstallLemmas
+pub mod EqualNameLemmas
+pub mod EqualTypeLemmas
+pub mod EqualPatternLemmas
+pub mod EqualPhraseLemmas
+pub mod EqualScopeLemmas

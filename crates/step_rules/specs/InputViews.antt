@@ -2,9 +2,10 @@
 --
 --   `initials_tree`            the initial values of fields
 --   `input_tree`               an input
+--   `IsSameInput`              two inputs are the same
 --   `running_point`            the next statement of a task that runs
 --   `phrases_by`, `class_made`         the expressions of an instruction, and the class of a `new`
-use Rattle.std.specs.Prelude.{List, Option, Some, None}
+use Rattle.std.specs.Prelude.{◌≡◌, List, Option, Some, None}
 use Rattle.abs_tree.specs.Bodies.{ClassEntryTree}
 use Rattle.abs_tree.specs.Control.{Point}
 use Rattle.abs_tree.specs.InstructionViews.{exprs_tree, shared_phrases}
@@ -33,6 +34,10 @@ input_tree names input = record {
   phrases = exprs_tree names input.exprs;
   initials = initials_tree names input.inits;
 }
+
+-- Two inputs have the same tree, whatever names the symbols in them have.
+abbrev pub IsSameInput : Input → Input → Type 0
+IsSameInput left right = (names : List Name) → input_tree names left ≡ input_tree names right
 
 -- the next statement in the innermost frame of a task; only a task that runs evaluates its expressions
 abbrev pub running_point : ProgramTree → State → FrameState → Option Point

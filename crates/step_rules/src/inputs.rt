@@ -1,10 +1,14 @@
 //! What tasks evaluate for their events.
-ghost use Rattle.std.specs.Prelude.{◌≡◌, List};
-ghost use Rattle.abs_tree.specs.InstructionViews.{shared_phrases};
+ghost use Rattle.std.specs.Prelude.{◌≡◌, ◌↔◌, List, map, IsTrue};
+ghost use Rattle.std.specs.Cmp.Lexicographic.{pointwise};
+ghost use Rattle.abs_tree.specs.InstructionViews.{exprs_tree, shared_phrases};
 ghost use Rattle.abs_tree.specs.Syntax.{Name};
-ghost use Rattle.step_rules.specs.InputViews.{initials_tree};
+ghost use Rattle.abs_tree.specs.ValueTrees.{same_value};
+ghost use Rattle.abs_tree.specs.ValueViews.{value_tree};
+ghost use Rattle.fun_eval.specs.Reading.{env_scope};
+ghost use Rattle.step_rules.specs.InputViews.{IsSameInput, initials_tree};
 
-use abs_tree::{Env, Expr, Exprs};
+use abs_tree::{Env, Expr, Exprs, Value, value_equal};
 use std::sync::Arc;
 
 /// The initial values of the fields of a class. A copy shares them.
@@ -35,4 +39,54 @@ pub struct Input {
     pub env: Env,
     pub exprs: Exprs,
     pub inits: Initials,
+}
+
+/// Whether two inputs are the same: each reads the same values and evaluates the same expressions. It takes no memory.
+pub fn input_equal(left: &Input, right: &Input) -> bool
+    ensures { IsTrue result ↔ IsSameInput left.now right.now }
+{
+    if !env_equal(&left.env, &right.env) {
+        return false;
+    }
+    exprs_equal(&left.exprs, &right.exprs) && initials_equal(&left.inits, &right.inits)
+}
+
+/// Whether the same values can be read: the same object, and the same values of slots and of fields.
+fn env_equal(left: &Env, right: &Env) -> bool
+    ensures { IsTrue result ↔ (env_scope left.now ≡ env_scope right.now) }
+{
+    if left.this != right.this {
+        return false;
+    }
+    values_equal(left.slots.as_slice(), right.slots.as_slice())
+        && values_equal(left.fields.as_slice(), right.fields.as_slice())
+}
+
+/// Whether two rows of values are the same, one by one.
+fn values_equal(left: &[Value], right: &[Value]) -> bool
+    ensures { result ≡ pointwise same_value (map value_tree left.now) (map value_tree right.now) }
+{
+    if left.len() != right.len() {
+        return false;
+    }
+    for (one, other) in left.iter().zip(right) {
+        if !value_equal(one, other) {
+            return false;
+        }
+    }
+    true
+}
+
+/// Whether two statements have the same expressions.
+fn exprs_equal(left: &Exprs, right: &Exprs) -> bool
+    ensures { IsTrue result ↔ ((names : List Name) → exprs_tree names left.now ≡ exprs_tree names right.now) }
+{
+    left.as_slice() == right.as_slice()
+}
+
+/// Whether two classes have the same initial values.
+fn initials_equal(left: &Initials, right: &Initials) -> bool
+    ensures { IsTrue result ↔ ((names : List Name) → initials_tree names left.now ≡ initials_tree names right.now) }
+{
+    left.as_slice() == right.as_slice()
 }

@@ -21,7 +21,7 @@ mod waits;
 
 pub use enabled::has_step;
 pub use events::{apply, step};
-pub use inputs::{Initials, Input};
+pub use inputs::{Initials, Input, input_equal};
 pub use kind::{Did, End};
 pub use laws::{
     events_are_rows, events_have_causes, events_keep_configurations, events_leave_the_rest,

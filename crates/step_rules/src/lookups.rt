@@ -9,8 +9,10 @@ ghost use Rattle.abs_tree.specs.Syntax.{Name};
 ghost use Rattle.abs_tree.specs.SyntaxViews.{variable_tree};
 ghost use Rattle.abs_tree.specs.ValueViews.{value_tree};
 ghost use Rattle.config_state.specs.Bodies.{BodyAt, class_taking as class_found, entry_of_body, method_at};
+ghost use Rattle.config_state.specs.ConfigViews.{configuration};
+ghost use Rattle.config_state.specs.Configurations.{object_at};
 ghost use Rattle.config_state.specs.First.{frame_for as frame_at_start};
-ghost use Rattle.config_state.specs.Views.{frame_state, task_state};
+ghost use Rattle.config_state.specs.Views.{frame_state, object_state, task_state};
 ghost use Rattle.step_rules.specs.Lookups.{callable as callable_at, successor as successor_of, unit_value as unit_in};
 ghost use Rattle.step_rules.specs.NewEntries.{task_for as task_at_start};
 ghost use Rattle.step_rules.specs.Plans.{only as only_of};
@@ -19,7 +21,7 @@ ghost use Rattle.step_rules.specs.Targets.{target_of as target_in};
 use abs_tree::{
     BodyEntry, ClassEntry, Named, Successor, Symbol, Value, Values, Variable, answer_of,
 };
-use config_state::{Frame, Frames, State, Target, TaskCell};
+use config_state::{Config, Frame, Frames, ObjectCell, State, Target, TaskCell};
 use std::alloc::{AllocError, Global};
 
 /// Where the value of a statement goes.
@@ -83,6 +85,14 @@ pub(crate) fn class_taking<'p>(program: &'p Named<'_>, class: Symbol) -> Option<
         ≡ class_found (program_tree program.now) (name_of program.now.symbols class) }
 {
     program.class_entry(program.class(class)?.declaration)
+}
+
+/// The object with an index, if there is an index and an object with it.
+pub(crate) fn object_of(config: &Config, object: Option<u32>) -> Option<&ObjectCell>
+    ensures { (names : List Name) → option_map (λ cell. object_state names cell.now) result
+        ≡ object_at (configuration names config.now) object }
+{
+    config.objects.items.get(object? as usize)
 }
 
 /// The body of the method with a name of the class with a name.

@@ -9,7 +9,7 @@ ghost use Rattle.abs_tree.specs.Syntax.{Name};
 ghost use Rattle.abs_tree.specs.SyntaxViews.{variable_tree};
 ghost use Rattle.config_state.specs.Bodies.{class_taking as class_found};
 ghost use Rattle.config_state.specs.ConfigViews.{configuration};
-ghost use Rattle.config_state.specs.Views.{object_state, task_state};
+ghost use Rattle.config_state.specs.Views.{task_state};
 ghost use Rattle.step_rules.specs.Lookups.{Runner, place_of, successor as successor_of};
 ghost use Rattle.step_rules.specs.Moves.{Moves, config_of, names_of, program_of};
 ghost use Rattle.step_rules.specs.NewEntries.{cog_for as cog_made, home_of as home_in, run_task as run_started};
@@ -17,7 +17,7 @@ ghost use Rattle.step_rules.specs.ObjectRows.{call_on, call_row, new_row};
 ghost use Rattle.step_rules.specs.Plans.{IsNoFault, planned};
 
 use crate::Did;
-use crate::lookups::{callable, class_taking, method, successor, target_of, task_for};
+use crate::lookups::{callable, class_taking, method, object_of, successor, target_of, task_for};
 use crate::mover::Mover;
 use crate::plan::{Plan, Turn};
 use abs_tree::{ClassEntry, Fault, Mode, Named, Symbol, Value, Values, Variable};
@@ -171,7 +171,7 @@ fn send_to(
         (option_map (variable_tree (names_of at.entry)) target) arguments
         (slice_get (config_of at.entry).objects object))) }
 {
-    let Some(cell) = object_of(at.config, object) else {
+    let Some(cell) = object_of(at.config, Some(object)) else {
         return Ok(Plan::fault(Fault::Mistyped));
     };
     let Some(body) = callable(at.program, cell.class, method, arguments.len()) else {
@@ -187,12 +187,4 @@ fn send_to(
     let mut plan = Plan::of(turn, Did::Called);
     plan.task = Some(task);
     Ok(plan)
-}
-
-/// The object with an index, if there is one.
-fn object_of(config: &Config, object: u32) -> Option<&ObjectCell>
-    ensures { (names : List Name) → option_map (λ cell. object_state names cell.now) result
-        ≡ slice_get (configuration names config.now).objects object }
-{
-    config.objects.items.get(object as usize)
 }

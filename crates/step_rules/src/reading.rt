@@ -9,9 +9,8 @@ ghost use Rattle.abs_tree.specs.SourceViews.{program_tree};
 ghost use Rattle.abs_tree.specs.Syntax.{Name};
 ghost use Rattle.abs_tree.specs.SyntaxViews.{phrases};
 ghost use Rattle.config_state.specs.ConfigViews.{configuration};
-ghost use Rattle.config_state.specs.Configurations.{object_at};
 ghost use Rattle.config_state.specs.OfProgram.{IsConfigOf};
-ghost use Rattle.config_state.specs.Views.{frame_state, object_state};
+ghost use Rattle.config_state.specs.Views.{frame_state};
 ghost use Rattle.fun_eval.specs.Reading.{env_scope, scope_tree};
 ghost use Rattle.step_rules.specs.Events.{event_of};
 ghost use Rattle.step_rules.specs.InputViews.{class_made, initials_tree, input_tree, phrases_by, running_point};
@@ -19,9 +18,9 @@ ghost use Rattle.step_rules.specs.Inputs.{Input as InputTree, initials_of, input
 
 use crate::enabled::innermost;
 use crate::inputs::{Initials, Input};
-use crate::lookups::class_taking;
+use crate::lookups::{class_taking, object_of};
 use abs_tree::{ClassEntry, Effect, Env, Expr, Exprs, Instruction, Named, Output, Value, Values};
-use config_state::{Config, Frame, ObjectCell, State};
+use config_state::{Config, Frame, State};
 use fun_eval::{Scope, eval_all_in};
 use std::alloc::{AllocError, Global};
 use std::sync::Arc;
@@ -119,20 +118,12 @@ fn made_class<'p>(
     }
 }
 
-/// The object of a frame, if it has one.
-fn own_object<'c>(config: &'c Config, frame: &Frame) -> Option<&'c ObjectCell>
-    ensures { (names : List Name) → option_map (λ object. object_state names object.now) result
-        ≡ object_at (configuration names config.now) frame.now.object }
-{
-    config.objects.items.get(frame.object? as usize)
-}
-
 /// What the expressions of a frame can read, where it is. Nothing is copied.
 fn scope<'c>(config: &'c Config, frame: &'c Frame) -> Scope<'c>
     ensures { (names : List Name) → scope_tree result
         ≡ scope_of (configuration names config.now) (frame_state names frame.now) }
 {
-    let fields: &[Value] = match own_object(config, frame) {
+    let fields: &[Value] = match object_of(config, frame.object) {
         Some(object) => object.fields.as_slice(),
         None => &[],
     };
@@ -151,7 +142,7 @@ fn env(alloc: Global, config: &Config, frame: &Frame) -> Result<Env, AllocError>
     ensures { (names : List Name) → IfOk result (λ env. env_scope env
         ≡ scope_of (configuration names config.now) (frame_state names frame.now)) }
 {
-    let fields = match own_object(config, frame) {
+    let fields = match object_of(config, frame.object) {
         Some(object) => object.fields.copied(alloc)?,
         None => Values::new(Vec::new(alloc)),
     };

@@ -22,11 +22,11 @@ ghost use Rattle.step_rules.specs.Plans.{IsNoFault, choose_change, give_change, 
 ghost use Rattle.step_rules.specs.declared.plan.Turn.TheVariants.{GoesOn};
 
 use crate::Did;
-use crate::lookups::{callable, frame_for, successor, target_of, truth_of};
+use crate::lookups::{callable, frame_for, object_of, successor, target_of, truth_of};
 use crate::mover::Mover;
 use crate::plan::{Plan, Turn};
 use abs_tree::{BodyEntry, Evaluated, Fault, Named, Successor, Symbol, Value, Values, Variable};
-use config_state::{Config, Target};
+use config_state::Target;
 use std::alloc::AllocError;
 
 /// The innermost frame goes on, and nothing else changes.
@@ -149,7 +149,6 @@ fn own_method(at: Mover<'_>, method: Symbol, arguments: usize) -> Option<BodyEnt
         (λ name. callable_at (program_of at.entry) name (name_of (names_of at.entry) method) arguments)
         (class_of (object_at (config_of at.entry) at.entry.frame.now.object))) }
 {
-    let config: &Config = at.config;
-    let object = config.objects.items.get(at.frame.object? as usize)?;
+    let object = object_of(at.config, at.frame.object)?;
     callable(at.program, object.class, method, arguments)
 }

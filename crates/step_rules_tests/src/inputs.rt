@@ -1,4 +1,4 @@
-//! Inputs of events: that the output of an input gives the event that is made in place.
+//! Inputs of events: that the output of an input gives the event that is made in place, and that inputs are compared.
 ghost use Rattle.std.specs.Prelude.{◌≡◌, IfOk};
 ghost use Rattle.abs_tree.specs.Results.{results_tree};
 ghost use Rattle.abs_tree.specs.SourceViews.{program_tree};
@@ -15,7 +15,7 @@ use fun_eval::eval_all;
 use std::alloc::{AllocError, Global};
 use std::process::Abort;
 use std::test::Fail;
-use step_rules::{Did, Input, apply, input, step};
+use step_rules::{Did, Input, apply, input, input_equal, step};
 
 // The configuration after this many events of the main block's task.
 fn config_after(alloc: Global, program: &Named<'_>, count: u32) -> Result<Config, Fail>
@@ -47,6 +47,14 @@ fn reads_two_slots(
     assert!(rt; input.exprs.as_slice().is_empty());
     assert!(rt; input.inits.as_slice().is_empty());
     Ok(())
+}
+
+// The input of the main block's task.
+fn main_input(alloc: Global, program: &Named<'_>, config: &Config) -> Result<Input, Fail>
+    requires { ∥ IsConfigOf (program_tree program.now) (configuration program.now.symbols config.now) ∥₁ }
+{
+    expect_event(program, config, 0)?;
+    Ok(input(alloc, program, config, 0)?)
 }
 
 // The output for an input.
@@ -93,6 +101,20 @@ fn an_input_has_the_slots(rt: HostRuntime) -> Result<(), Fail> {
     let program = program_of(alloc, ONE_CALL.as_bytes())?;
     let config = config_after(alloc, &program, 1)?;
     reads_two_slots(&rt, alloc, &program, &config)
+}
+
+/// Two inputs of one configuration are the same. After an event of its task the input is another.
+#[test]
+fn inputs_are_compared(rt: HostRuntime) -> Result<(), Fail> {
+    let alloc = rt.alloc();
+    let program = program_of(alloc, ONE_CALL.as_bytes())?;
+    let config = config_after(alloc, &program, 1)?;
+    let input = main_input(alloc, &program, &config)?;
+    let again = main_input(alloc, &program, &config)?;
+    let later = main_input(alloc, &program, &config_after(alloc, &program, 2)?)?;
+    assert!(rt; input_equal(&input, &again));
+    assert!(rt; !input_equal(&input, &later));
+    Ok(())
 }
 
 /// A call makes a task, in place and with the output of its input.

@@ -52,7 +52,7 @@ pub enum Prefix {
 
 /// An expression, with the place of its first token. Where its first operand is in parentheses, that is the first
 /// parenthesis.
-#[derive(Drop)]
+#[derive(PartialEq, Eq, Drop)]
 #[cycle(syntax_expressions)]
 pub enum Expr {
     /// `let (T x) = e in e`, with the place of the variable. The type is boxed: in place it would make each expression
@@ -154,7 +154,7 @@ impl Expr {
 }
 
 /// An operator with its right operand.
-#[derive(Drop)]
+#[derive(PartialEq, Eq, Drop)]
 #[cycle(syntax_expressions)]
 pub struct Operand {
     pub operator: Operator,
@@ -162,7 +162,7 @@ pub struct Operand {
 }
 
 /// `p => e;`
-#[derive(Drop)]
+#[derive(PartialEq, Eq, Drop)]
 #[cycle(syntax_expressions)]
 pub struct Branch {
     pub pattern: Pattern,

@@ -3,7 +3,7 @@ use crate::syntax::Variable;
 use crate::{Place, Symbol, Text};
 
 /// A pattern, with the place of its first token.
-#[derive(Drop)]
+#[derive(PartialEq, Eq, Drop)]
 #[cycle(patterns)]
 pub enum Pattern {
     /// `_`

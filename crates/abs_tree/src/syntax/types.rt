@@ -3,7 +3,7 @@ use crate::{Place, Symbol};
 
 /// A type: as a source writes it, as it is once its name is resolved, or as checking finds it. A written one has the
 /// place of its name. It is never larger than the source that writes it.
-#[derive(Drop)]
+#[derive(PartialEq, Eq, Drop)]
 #[cycle(types)]
 pub enum TypeTerm {
     /// Unresolved: a name with its arguments.
