@@ -1,9 +1,8 @@
 //! What neither a clause nor a call of the built program shows: what the command hands back, sources and sinks that
-//! fail midway, the pure ones, and the texts of refusals of each code.
+//! fail midway, and the pure ones.
 use abs_command::run::run;
 use abs_command::source::program_of;
 use abs_command::texts::outcome::end_text;
-use abs_command::texts::refusal::refusal_text;
 use abs_command::{Ended, abs_run};
 use abs_outside::{
     CallOptions, MemorySink, MemorySource, NamedBytes, PureSink, PureSource, Sink, Source,
@@ -234,38 +233,6 @@ fn one_write_fails(rt: HostRuntime) -> Result<(), Fail> {
             written.as_bytes(),
             "write {number}"
         );
-    }
-    Ok(())
-}
-
-// The texts of the codes of names, types and the profile.
-#[test]
-fn refusal_texts(rt: HostRuntime) -> Result<(), Fail> {
-    let alloc = rt.alloc();
-    for (code, want) in [
-        (Code::N3, "refused: N3 at 3:7: wrong number of arguments\n"),
-        (Code::N4, "refused: N4 at 3:7: interface extends itself\n"),
-        (Code::T1, "refused: T1 at 3:7: wrong type\n"),
-        (Code::T2, "refused: T2 at 3:7: no such method\n"),
-        (Code::T3, "refused: T3 at 3:7: value missing\n"),
-        (Code::T4, "refused: T4 at 3:7: interface not met\n"),
-        (
-            Code::T5,
-            "refused: T5 at 3:7: return missing or misplaced\n",
-        ),
-        (Code::P1, "refused: P1 at 3:7: Boolean guard\n"),
-        (Code::P2, "refused: P2 at 3:7: future in a field or data\n"),
-        (Code::P3, "refused: P3 at 3:7: destiny\n"),
-        (Code::P4, "refused: P4 at 3:7: call on another object\n"),
-        (Code::P5, "refused: P5 at 3:7: new local\n"),
-    ] {
-        let refusal = Refusal {
-            code,
-            line: 3,
-            column: 7,
-        };
-        let text = refusal_text(alloc, &refusal)?;
-        assert_eq!(rt; text.as_bytes(), want.as_bytes());
     }
     Ok(())
 }

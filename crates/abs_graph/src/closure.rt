@@ -223,35 +223,3 @@ impl Closure {
         }
     }
 }
-
-#[cfg(test)]
-mod tests {
-    use super::*;
-    use crate::cycles::on_cycles;
-    use std::test::Fail;
-
-    #[test]
-    fn small(rt: HostRuntime) -> Result<(), Fail> {
-        let alloc = rt.alloc();
-        let mut graph = Vec::new(alloc);
-        graph.push([2].to_vec(alloc)?)?;
-        graph.push([0, 3].to_vec(alloc)?)?;
-        graph.push([4].to_vec(alloc)?)?;
-        graph.push(Vec::new(alloc))?;
-        graph.push(Vec::new(alloc))?;
-        let on_cycle = on_cycles(alloc, graph.as_slice())?;
-        assert!(rt; on_cycle.iter().all(|is_on_cycle| !*is_on_cycle));
-        let table = closure_of(alloc, graph.as_slice())?;
-        assert!(rt; table.reaches(1, 4));
-        assert!(rt; table.reaches(0, 2));
-        assert!(rt; !table.reaches(2, 0));
-        assert!(rt; !table.reaches(4, 4));
-        assert!(rt; !table.reaches(0, 3));
-        assert!(rt; !table.reaches(7, 0));
-        assert_eq!(rt; table.reached(alloc, 1)?.len(), 4);
-        assert_eq!(rt; table.reached(alloc, 0)?.len(), 2);
-        assert!(rt; table.reached(alloc, 4)?.is_empty());
-        assert!(rt; table.reached(alloc, 7)?.is_empty());
-        Ok(())
-    }
-}

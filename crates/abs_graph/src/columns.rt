@@ -138,30 +138,3 @@ impl Columns {
         Ok(())
     }
 }
-
-#[cfg(test)]
-mod tests {
-    use super::*;
-    use std::test::Fail;
-
-    #[test]
-    fn small(rt: HostRuntime) -> Result<(), Fail> {
-        let alloc = rt.alloc();
-        let mut graph = Vec::new(alloc);
-        graph.push(Vec::new(alloc))?;
-        graph.push([4, 3].to_vec(alloc)?)?;
-        graph.push([4].to_vec(alloc)?)?;
-        graph.push(Vec::new(alloc))?;
-        graph.push(Vec::new(alloc))?;
-        let columns = Columns::new(alloc, graph.as_slice())?;
-        assert_eq!(rt; columns.count(), 2);
-        assert_eq!(rt; columns.column(3), 1);
-        assert_eq!(rt; columns.column(4), 0);
-        assert!(rt; columns.has(3));
-        assert!(rt; columns.has(4));
-        assert!(rt; !columns.has(0));
-        assert!(rt; !columns.has(2));
-        assert!(rt; !columns.has(5));
-        Ok(())
-    }
-}

@@ -132,30 +132,3 @@ pub fn on_cycles(alloc: Global, graph: &[Vec<u32>]) -> Result<Vec<bool>, AllocEr
     }
     stays(alloc, graph, places.as_slice())
 }
-
-#[cfg(test)]
-mod tests {
-    use super::*;
-    use std::test::Fail;
-
-    #[test]
-    fn small(rt: HostRuntime) -> Result<(), Fail> {
-        let alloc = rt.alloc();
-        let mut graph = Vec::new(alloc);
-        graph.push([1].to_vec(alloc)?)?;
-        graph.push([2, 3].to_vec(alloc)?)?;
-        graph.push([0].to_vec(alloc)?)?;
-        graph.push([4, 6].to_vec(alloc)?)?;
-        graph.push([4].to_vec(alloc)?)?;
-        graph.push([0, 6, 7].to_vec(alloc)?)?;
-        graph.push(Vec::new(alloc))?;
-        graph.push([5, 8].to_vec(alloc)?)?;
-        graph.push([3, 5].to_vec(alloc)?)?;
-        let found = on_cycles(alloc, graph.as_slice())?;
-        assert_eq!(rt;
-            found.as_slice(),
-            [true, true, true, false, true, true, false, true, true].as_slice()
-        );
-        Ok(())
-    }
-}

@@ -179,27 +179,3 @@ pub fn reaching(alloc: Global, graph: &[Vec<u32>], marked: &[bool]) -> Result<Ve
     }
     Ok(found)
 }
-
-#[cfg(test)]
-mod tests {
-    use super::*;
-    use std::test::Fail;
-
-    #[test]
-    fn small(rt: HostRuntime) -> Result<(), Fail> {
-        let alloc = rt.alloc();
-        let mut graph = Vec::new(alloc);
-        graph.push([1].to_vec(alloc)?)?;
-        graph.push([2, 0].to_vec(alloc)?)?;
-        graph.push(Vec::new(alloc))?;
-        graph.push([4].to_vec(alloc)?)?;
-        graph.push([3].to_vec(alloc)?)?;
-        graph.push([4, 1].to_vec(alloc)?)?;
-        let found = reaching(alloc, graph.as_slice(), [false, false, true].as_slice())?;
-        assert_eq!(rt;
-            found.as_slice(),
-            [true, true, true, false, false, true].as_slice()
-        );
-        Ok(())
-    }
-}
