@@ -13,7 +13,7 @@ pub(crate) enum Failure {
     Refused(Code, u32, u32),
     /// The words are not of this program.
     #[error("usage: abs_show (tree | resolved | declared | names | symbols | tokens | fits | control | \
-         history | towers | prelude) FILE")]
+         history | steps | outputs | towers | prelude) FILE, or abs_show replay FILE TASKS")]
     Usage,
     /// The source has more bytes than a source may have.
     #[error("the source has too many bytes")]
@@ -27,6 +27,12 @@ pub(crate) enum Failure {
     /// Memory ran out.
     #[error("out of memory")]
     Memory,
+    /// An event that was refused memory changed the configuration or the printed lines.
+    #[error("a refused request changed the configuration")]
+    Changed,
+    /// Two inputs of one configuration are not the same.
+    #[error("an input differs from itself")]
+    Differs,
 }
 
 impl Failure {
@@ -39,6 +45,8 @@ impl Failure {
             Failure::Unreadable => 7,
             Failure::Unwritable => 8,
             Failure::Memory => 9,
+            Failure::Changed => 10,
+            Failure::Differs => 11,
         }
     }
 }

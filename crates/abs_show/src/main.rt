@@ -1,18 +1,22 @@
-//! The program `abs_show WHAT FILE`: prints what the lexer, the parser and the resolver make of a source, or the
-//! history of its run, for tests to compare. WHAT is `tree`, `resolved`, `declared`, `names`, `symbols`, `tokens`,
-//! `fits`, `control`, `history`, `towers` or `prelude`. A source that is refused prints its refusal, and ends with
-//! status 4.
+//! The program `abs_show WHAT FILE`: prints what the lexer, the parser and the resolver make of a source, or its run,
+//! for tests to compare. WHAT is `tree`, `resolved`, `declared`, `names`, `symbols`, `tokens`, `fits`, `control`,
+//! `history`, `steps`, `outputs`, `towers` or `prelude`. `abs_show replay FILE TASKS` prints what becomes of a history,
+//! whose tasks are one word, as `"0 0 1"`. A source that is refused prints its refusal, and ends with status 4.
 #![tactic(auto)]
 
+mod configurations;
 mod control;
 mod declarations;
 mod expressions;
 mod failure;
 mod fits;
 mod history;
+mod inputs;
 mod printer;
+mod replays;
 mod show;
 mod statements;
+mod steps;
 mod towers;
 mod types;
 
@@ -24,21 +28,32 @@ use std::process::ExitCode;
 use std::rt::{Env, Files};
 use std::{env, fs};
 
-/// What the command line asks for, and of which file.
+/// What the command line asks for: of which file, and for a replay the tasks of its history.
+#[derive(Drop)]
+struct Request {
+    what: What,
+    file: String,
+    tasks: Option<String>,
+}
+
+/// What the command line asks for.
 ///
 /// # Errors
 /// [`Failure::Usage`] for any other words, also for some that are not UTF-8; [`Failure::Memory`] where memory runs out.
-fn asked(rt: &(impl Env + AllocGlobal)) -> Result<(What, String), Failure> {
+fn asked(rt: &(impl Env + AllocGlobal)) -> Result<Request, Failure> {
     let mut words = match env::args(rt) {
         Ok(words) => words,
         Err(error) if error.kind() == ErrorKind::OutOfMemory => return Err(Failure::Memory),
         Err(_) => return Err(Failure::Usage),
     };
-    match (words.next(), words.next(), words.next(), words.next()) {
-        (Some(_), Some(what), Some(file), None) => match What::named(what.as_str()) {
-            Some(what) => Ok((what, file)),
-            None => Err(Failure::Usage),
-        },
+    let (Some(_), Some(what), Some(file)) = (words.next(), words.next(), words.next()) else {
+        return Err(Failure::Usage);
+    };
+    let tasks = words.next();
+    match What::named(what.as_str()) {
+        Some(what) if tasks.is_some() == (what == What::Replay) && words.next().is_none() => {
+            Ok(Request { what, file, tasks })
+        }
         _ => Err(Failure::Usage),
     }
 }
@@ -59,12 +74,13 @@ fn read(rt: &(impl Files + AllocGlobal), file: &str) -> Result<Vec<u8>, Failure>
 /// # Errors
 /// Each [`Failure`]; a refusal is among them.
 fn run(rt: &(impl Env + Files + Print + AllocGlobal)) -> Result<(), Failure> {
-    let (what, file) = asked(rt)?;
-    let source = read(rt, file.as_str())?;
+    let request = asked(rt)?;
+    let source = read(rt, request.file.as_str())?;
     if source.len() > SOURCE_LIMIT {
         return Err(Failure::TooLarge);
     }
-    let shown = show(rt.alloc(), what, source.as_slice())?;
+    let tasks = request.tasks.as_deref().unwrap_or("");
+    let shown = show(rt.alloc(), request.what, source.as_slice(), tasks)?;
     rt.print(shown.as_str()).map_err(|_| Failure::Unwritable)
 }
 

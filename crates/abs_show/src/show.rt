@@ -1,5 +1,5 @@
 //! What is shown of a source, as text: its tree, its tree with its names resolved, its names, its tokens, which of its
-//! types fit which, where control goes in it, or the history of its run.
+//! types fit which, where control goes in it, or its run.
 ghost use Rattle.std.specs.Prelude.{◌≤◌, length};
 ghost use Rattle.abs_tree.specs.Limits.{source_limit};
 
@@ -8,6 +8,8 @@ use crate::failure::Failure;
 use crate::fits::fit_lines;
 use crate::history::history_line;
 use crate::printer::Printer;
+use crate::replays::replay_lines;
+use crate::steps::{Way, step_lines};
 use crate::towers::tower_lines;
 use abs_lexer::lexer::tokens;
 use abs_lexer::token::Tokens;
@@ -40,6 +42,12 @@ pub(crate) enum What {
     Control,
     /// The history of its run.
     History,
+    /// Its run event by event, with each configuration.
+    Steps,
+    /// The same, with each event made from the output of its input.
+    Outputs,
+    /// What becomes of a history of it.
+    Replay,
     /// What a table of types answers for them, and for towers of pairs over them.
     Towers,
     /// The tree of the prelude, whatever the source is: as its text is read, and as it is made by hand.
@@ -59,6 +67,9 @@ impl What {
             "fits" => Some(What::Fits),
             "control" => Some(What::Control),
             "history" => Some(What::History),
+            "steps" => Some(What::Steps),
+            "outputs" => Some(What::Outputs),
+            "replay" => Some(What::Replay),
             "towers" => Some(What::Towers),
             "prelude" => Some(What::Prelude),
             _ => None,
@@ -66,13 +77,13 @@ impl What {
     }
 }
 
-/// What is asked for of a source, as whole lines.
+/// What is asked for of a source, as whole lines. The tasks are those of the history of a replay.
 ///
 /// # Errors
 /// [`Failure::Refused`] where the lexer refuses the source. So does the parser where more than its tokens are asked
 /// for, the resolver where its resolved program is, and the command where its history is. [`Failure::Memory`] where
 /// memory runs out.
-pub(crate) fn show(alloc: Global, what: What, source: &[u8]) -> Result<String, Failure>
+pub(crate) fn show(alloc: Global, what: What, source: &[u8], tasks: &str) -> Result<String, Failure>
     requires { length source.now ≤ source_limit }
 {
     if what == What::History {
@@ -91,6 +102,9 @@ pub(crate) fn show(alloc: Global, what: What, source: &[u8]) -> Result<String, F
         | What::Fits
         | What::Control
         | What::Towers => { Ok(resolved_lines(alloc, what, &resolve(alloc, program)?)?) }
+        What::Steps => step_lines(alloc, &resolve(alloc, program)?, Way::InPlace),
+        What::Outputs => step_lines(alloc, &resolve(alloc, program)?, Way::Apart),
+        What::Replay => replay_lines(alloc, &resolve(alloc, program)?, tasks),
         What::Prelude => prelude_lines(alloc),
         What::Tree | What::Tokens | What::History => {
             Ok(tree_line(

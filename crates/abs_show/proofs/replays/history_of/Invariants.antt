@@ -1,5 +1,5 @@
 use Rattle.std.proofs.Common.{◌≤◌, ◌+◌, length}
-use Rattle.step_rules_tests.proofs.replays.history_of.Given as goal
+use Rattle.abs_show.proofs.replays.history_of.Given as goal
 
 -- there is room for the tasks that are left
 abbrev pub invariant-loop-task : goal.invariant-loop-task

@@ -6,7 +6,7 @@ use Rattle.abs_tree.specs.SourceViews.{program_tree}
 use Rattle.abs_tree.specs.Syntax.{Phrases, ProgramTree}
 use Rattle.step_rules.specs.InputViews.{input_tree}
 use Rattle.step_rules.specs.Inputs.{Input, output_of}
-use Rattle.step_rules_tests.proofs.inputs.output_for.Goals as goal
+use Rattle.abs_show.proofs.inputs.output_for.Goals as goal
 
 -- the output for an input is what its expressions and its initial values give
 output_of_rows : (program : ProgramTree) (input : Input) (own initials : Phrases) → own ≡ input.phrases

@@ -1,0 +1,60 @@
+//! Makes an event from the output of its input: what a worker does that evaluates for another.
+ghost use Rattle.std.specs.Prelude.{◌≡◌, ◌<◌, length, IfOk, IsSome, OnOk};
+ghost use Rattle.abs_tree.specs.Results.{results_tree};
+ghost use Rattle.abs_tree.specs.SourceViews.{program_tree};
+ghost use Rattle.config_state.specs.ConfigViews.{configuration};
+ghost use Rattle.config_state.specs.OfProgram.{IsConfigOf};
+ghost use Rattle.step_rules.specs.Events.{event_of};
+ghost use Rattle.step_rules.specs.InputViews.{input_tree};
+ghost use Rattle.step_rules.specs.Inputs.{output_of};
+
+use crate::failure::Failure;
+use abs_tree::{Named, Output};
+use config_state::{Config, Lines};
+use fun_eval::eval_all;
+use std::alloc::{AllocError, Global};
+use step_rules::{Did, Input, apply, input, input_equal};
+
+/// Does the event of a task with the output of its input. It tells what the event did.
+///
+/// # Errors
+/// [`Failure::Memory`] if memory runs out. [`Failure::Differs`] if the input is not the same as one that is asked for
+/// once more.
+pub(crate) fn apply_output(
+    alloc: Global,
+    program: &Named<'_>,
+    config: &mut Config,
+    task: u32,
+    lines: &mut Lines,
+) -> Result<Did, Failure>
+    requires of_program { ∥ IsConfigOf (program_tree program.now) (configuration program.now.symbols config.old) ∥₁ }
+    requires there { task < length config.old.tasks }
+    requires has_step { IsSome (event_of (program_tree program.now) (configuration program.now.symbols config.old)
+        task) }
+    ensures of_program { ∥ IsConfigOf (program_tree program.now) (configuration program.now.symbols config.new) ∥₁ }
+    ensures there { OnOk result (task < length config.new.tasks) }
+{
+    let asked = input(alloc, program, config, task)?;
+    if !input_equal(&asked, &input(alloc, program, config, task)?) {
+        return Err(Failure::Differs);
+    }
+    let output = output_for(alloc, program, &asked)?;
+    Ok(apply(alloc, program, config, task, output, lines)?)
+}
+
+/// The output of an input.
+///
+/// # Errors
+/// [`AllocError`] if memory runs out.
+fn output_for(alloc: Global, program: &Named<'_>, input: &Input) -> Result<Output, AllocError>
+    ensures { IfOk result (λ output. results_tree output
+        ≡ output_of (program_tree program.now) (input_tree program.now.symbols input.now)) }
+{
+    eval_all(
+        alloc,
+        program,
+        &input.env,
+        input.exprs.as_slice(),
+        input.inits.as_slice(),
+    )
+}

@@ -1,0 +1,116 @@
+//! Prints a run event by event: a line for each event, with its task and its kind, and after it the configuration that
+//! the event leads to, and which tasks have an event there. The first configuration comes before all events.
+//!
+//! The events are made in place, or from their inputs: there the output of each input is evaluated apart, and handed
+//! in. Both print the same.
+//!
+//! Where an event that is made in place is refused memory, the configuration and the printed lines have to be as
+//! before. Both are written as text before and after it, and compared. Then the event is tried once more. So where a
+//! single allocation fails, the program prints all or nothing.
+ghost use Rattle.std.specs.Prelude.{◌≡◌, ◌<◌, length, Some, IsSome, OnOk};
+ghost use Rattle.abs_tree.specs.SourceViews.{program_tree};
+ghost use Rattle.config_state.specs.ConfigViews.{configuration};
+ghost use Rattle.config_state.specs.OfProgram.{IsConfigOf};
+ghost use Rattle.step_rules.specs.Events.{event_of};
+
+use crate::configurations::configuration_lines;
+use crate::failure::Failure;
+use crate::inputs::apply_output;
+use abs_tree::Named;
+use abs_tree::limits::EVENT_LIMIT;
+use config_state::{Config, Lines, first};
+use run_history::next_task;
+use std::alloc::{AllocError, Global};
+use step_rules::{Did, has_step, step};
+
+/// How the events of a run are made.
+#[derive(Clone, Copy, PartialEq, Eq)]
+pub(crate) enum Way {
+    /// In place.
+    InPlace,
+    /// From the outputs of their inputs.
+    Apart,
+}
+
+/// The lines of the run of a program, in the order of one worker, up to the limit of events. A program that offends
+/// against the types or the profile runs too. Each event adds the whole configuration, so long runs take much memory.
+///
+/// # Errors
+/// [`Failure::Memory`] if memory runs out, but not where the second try of an event succeeds. [`Failure::Changed`] if
+/// an event that was refused memory changed the configuration or the printed lines. [`Failure::Differs`] if an input is
+/// not the same as itself.
+pub(crate) fn step_lines(alloc: Global, program: &Named<'_>, way: Way) -> Result<String, Failure> {
+    let mut config = first(alloc, program)?;
+    let mut lines = Lines {
+        items: Vec::new(alloc),
+    };
+    let mut now = configuration_lines(alloc, &program.symbols, &config, &lines)?;
+    let mut out = String::from_str(alloc, "first\n")?;
+    out.push_str(now.as_str())?;
+    choices_line(program, &config, &mut out)?;
+    let mut last = None;
+    for event in 0..EVENT_LIMIT {
+        let Some(task) = next_task(program, &config, last) else {
+            break;
+        };
+        let did = match way {
+            Way::InPlace => {
+                step_or_retry(alloc, program, &mut config, task, &mut lines, now.as_str())?
+            }
+            Way::Apart => apply_output(alloc, program, &mut config, task, &mut lines)?,
+        };
+        now = configuration_lines(alloc, &program.symbols, &config, &lines)?;
+        writeln!(out, "event {event} of task {task}: {did:?}")?;
+        out.push_str(now.as_str())?;
+        choices_line(program, &config, &mut out)?;
+        last = Some(task);
+    }
+    Ok(out)
+}
+
+/// Adds a line with the tasks that have an event.
+///
+/// # Errors
+/// [`AllocError`] if memory runs out.
+fn choices_line(program: &Named<'_>, config: &Config, out: &mut String) -> Result<(), AllocError>
+    requires { ∥ IsConfigOf (program_tree program.now) (configuration program.now.symbols config.now) ∥₁ }
+{
+    out.push_str("  with an event:")?;
+    for task in 0..config.tasks.len() as u32 {
+        if has_step(program, config, task) {
+            write!(out, " {task}")?;
+        }
+    }
+    out.push_str("\n")
+}
+
+/// Does the event of a task, at the second try if the first one is refused memory. `before` is the text of the
+/// configuration and the lines. It tells what the event did.
+///
+/// # Errors
+/// [`Failure::Changed`] if the text is another one after the first try. [`Failure::Memory`] if memory runs out for that
+/// text or at the second try.
+fn step_or_retry(
+    alloc: Global,
+    program: &Named<'_>,
+    config: &mut Config,
+    task: u32,
+    lines: &mut Lines,
+    before: &str,
+) -> Result<Did, Failure>
+    requires of_program { ∥ IsConfigOf (program_tree program.now) (configuration program.now.symbols config.old) ∥₁ }
+    requires there { task < length config.old.tasks }
+    requires has_step { IsSome (event_of (program_tree program.now) (configuration program.now.symbols config.old)
+        task) }
+    ensures of_program { ∥ IsConfigOf (program_tree program.now) (configuration program.now.symbols config.new) ∥₁ }
+    ensures there { OnOk result (task < length config.new.tasks) }
+{
+    if let Ok(did) = step(alloc, program, config, task, lines) {
+        return Ok(did);
+    }
+    let after = configuration_lines(alloc, &program.symbols, config, lines)?;
+    if after.as_str() != before {
+        return Err(Failure::Changed);
+    }
+    Ok(step(alloc, program, config, task, lines)?)
+}
