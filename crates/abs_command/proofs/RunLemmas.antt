@@ -1,20 +1,20 @@
 -- Histories that are recorded event by event.
 --
---   `IsNext-has_event`         the task whose event comes next has an event
+--   `IsNext-has_event`, `IsNext-there`     the task whose event comes next has an event, and is in the code's list
 --   `last_of-more`             the last task of a history with one more event
 --   `in_turn_none`, `in_turn_more`     an empty history is in turn, and one with one more event that comes next
 --   `begins_first`             where no event was made, the configuration is the first one
 --   `ran_more`                 where one more event leads
 --   `ends_done`, `ends_open`   how a run ended, by whether every task has a result
 --   `run_ended`                what is returned for a run that ended
-use Rattle.std.proofs.Common.{◌≡◌, ◌≤◌, ◌⊎◌, inl, inr, ⊎_elim, ℕ, Bool, true, false, MatchBool, List, [], ◌∷◌, ◌++◌, length, Option, Some, None, refl, sym, ap, ◌∙◌, subst}
+use Rattle.std.proofs.Common.{◌≡◌, ◌<◌, ◌≤◌, ◌⊎◌, inl, inr, ⊎_elim, ℕ, Bool, true, false, MatchBool, List, [], ◌∷◌, ◌++◌, length, Option, Some, None, refl, sym, ap, ◌∙◌, subst}
 use Rattle.std.proofs.lemmas.Option.{same_Some}
 use Rattle.abs_tree.specs.Syntax.{Name, ProgramTree}
 use Rattle.config_state.specs.ConfigViews.{configuration}
 use Rattle.config_state.specs.Configurations.{Configuration}
 use Rattle.config_state.specs.First.{first}
 use Rattle.config_state.specs.declared.config.Config.{Config}
-use Rattle.run_history.proofs.RunLemmas.{run_with_event, event_found}
+use Rattle.run_history.proofs.RunLemmas.{run_with_event, event_found, has_event_there, there_in_code}
 use Rattle.run_history.specs.Recorded.{Recorded}
 use Rattle.run_history.specs.Turns.{HasEvent, IsNext, Begins, Continues, Follows, last_of, IsInTurn}
 use Rattle.step_rules.specs.Events.{Step, event_of}
@@ -31,6 +31,13 @@ IsNext-has_event program config task None (Begins is has) = has
 IsNext-has_event program config task (Some last) (Continues _ is goes) =
     subst (HasEvent program config) (sym is) goes.has_event
 IsNext-has_event program config task (Some last) (Follows _ stops has before) = has
+
+-- and it is in the list of the code's tasks
+pub IsNext-there : (program : ProgramTree) (names : List Name) (config : Config) (task : ℕ) (last : Option ℕ)
+    → IsNext program (configuration names config) task last → task < length config.tasks
+IsNext-there program names config task last next =
+    there_in_code names config task (has_event_there program (configuration names config) task
+    (IsNext-has_event program (configuration names config) task last next))
 
 -- one more event is the last one
 pub last_of-more : (history : List ℕ) (task : ℕ) → last_of (history ++ task ∷ []) ≡ Some task

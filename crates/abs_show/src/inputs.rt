@@ -9,9 +9,9 @@ ghost use Rattle.step_rules.specs.InputViews.{input_tree};
 ghost use Rattle.step_rules.specs.Inputs.{output_of};
 
 use crate::failure::Failure;
-use abs_tree::{Named, Output};
+use abs_tree::{Evaluated, Named, Output, Values};
 use config_state::{Config, Lines};
-use fun_eval::eval_all;
+use fun_eval::{eval, eval_all};
 use std::alloc::{AllocError, Global};
 use step_rules::{Did, Input, apply, input, input_equal};
 
@@ -42,7 +42,7 @@ pub(crate) fn apply_output(
     Ok(apply(alloc, program, config, task, output, lines)?)
 }
 
-/// The output of an input.
+/// The output of an input. A single expression is evaluated alone where no initial value follows it.
 ///
 /// # Errors
 /// [`AllocError`] if memory runs out.
@@ -50,11 +50,12 @@ fn output_for(alloc: Global, program: &Named<'_>, input: &Input) -> Result<Outpu
     ensures { IfOk result (λ output. results_tree output
         ≡ output_of (program_tree program.now) (input_tree program.now.symbols input.now)) }
 {
-    eval_all(
-        alloc,
-        program,
-        &input.env,
-        input.exprs.as_slice(),
-        input.inits.as_slice(),
-    )
+    let (exprs, inits) = (input.exprs.as_slice(), input.inits.as_slice());
+    match exprs {
+        [expr] if inits.is_empty() => match eval(alloc, program, &input.env, expr)? {
+            Evaluated::Good(value) => Ok(Output::Values(Values::new(vec![in alloc; value]?))),
+            Evaluated::Bad(fault) => Ok(Output::Bad(fault)),
+        },
+        _ => eval_all(alloc, program, &input.env, exprs, inits),
+    }
 }

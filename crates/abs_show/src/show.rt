@@ -81,8 +81,9 @@ impl What {
 ///
 /// # Errors
 /// [`Failure::Refused`] where the lexer refuses the source. So does the parser where more than its tokens are asked
-/// for, the resolver where its resolved program is, and the command where its history is. [`Failure::Memory`] where
-/// memory runs out.
+/// for, the resolver where its resolved program is, and the command where its history is. [`Failure::Usage`] where a
+/// task of a replay is no number. [`Failure::Changed`] and [`Failure::Differs`] where a run event by event shows that,
+/// as [`step_lines`] says. [`Failure::Memory`] where memory runs out.
 pub(crate) fn show(alloc: Global, what: What, source: &[u8], tasks: &str) -> Result<String, Failure>
     requires { length source.now ≤ source_limit }
 {

@@ -24,7 +24,7 @@ use std::alloc::{AllocError, Global};
 use step_rules::{Did, has_step, step};
 
 /// How the events of a run are made.
-#[derive(Clone, Copy, PartialEq, Eq)]
+#[derive(Clone, Copy)]
 pub(crate) enum Way {
     /// In place.
     InPlace,

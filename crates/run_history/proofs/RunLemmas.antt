@@ -3,12 +3,18 @@
 --   `run_more`, `run_with_event`               the run of a history with one more event
 --   `event_found`                              the event of a task that has one
 --   `has_event_there`, `no_event_past`         such a task is there, and past the end no task has one
+--   `moved_there`                              it is there after its event
 --   `last_there`                               the task of the last event of a run is there
+--   `there_in_code`                            a task that is there is in the list of the code's tasks
 use Rattle.std.proofs.Common.{◌≡◌, ◌<◌, ◌≤◌, ℕ, true, is_some, List, [], ◌∷◌, ◌++◌, length, slice_get, Option, Some, None, refl, sym, ap, ◌∙◌, subst, arith}
+use Rattle.std.proofs.lemmas.List.{length-map}
 use Rattle.std.proofs.lemmas.List.Sums.{fold-append}
 use Rattle.std.proofs.lemmas.Option.{same_Some, slice_get_within}
-use Rattle.abs_tree.specs.Syntax.{ProgramTree}
+use Rattle.abs_tree.specs.Syntax.{Name, ProgramTree}
+use Rattle.config_state.specs.ConfigViews.{configuration}
 use Rattle.config_state.specs.Configurations.{Configuration}
+use Rattle.config_state.specs.Views.{task_state}
+use Rattle.config_state.specs.declared.config.Config.{Config}
 use Rattle.step_rules.proofs.StayLemmas.{change_stays, event_change}
 use Rattle.step_rules.specs.Events.{Step, event_of}
 use Rattle.step_rules.specs.Runs.{Ran, ran_with, ran_after, start_of, run_of}
@@ -66,7 +72,7 @@ no_event_past program config task past = by (event_of program config task) refl
     by (Some step) is = absurd (omega (arith, has_event_there program config task (ap is_some is)))
 
 -- the task of an event is there after it
-moved_there : (program : ProgramTree) (config : Configuration) (task : ℕ) (step : Step)
+pub moved_there : (program : ProgramTree) (config : Configuration) (task : ℕ) (step : Step)
     → event_of program config task ≡ Some step → task < length step.config.tasks
 moved_there program config task step is =
     let change = event_change program config task step is in
@@ -104,3 +110,8 @@ last_there program history ran last leads is =
     by_run earlier leads (Some before) there =
         by_event before (event_of program before.config last) refl
         (sym (run_more program earlier last before there) ∙ leads)
+
+-- a task that is there is in the list of the code's tasks
+pub there_in_code : (names : List Name) (config : Config) (task : ℕ)
+    → task < length (configuration names config).tasks → task < length config.tasks
+there_in_code names config task there = omega (arith, there, length-map config.tasks (task_state names))

@@ -1,12 +1,11 @@
 use Rattle.std.proofs.Common.{◌∷◌, [], arith, refl, sym, ap, ◌∙◌, subst, length}
-use Rattle.std.proofs.lemmas.List.{length-append, length-map}
+use Rattle.std.proofs.lemmas.List.{length-append}
 use Rattle.abs_tree.specs.SourceViews.{program_tree}
 use Rattle.config_state.specs.ConfigViews.{configuration}
-use Rattle.config_state.specs.Views.{task_state}
 use Rattle.run_history.proofs.ReplayLemmas.{run_of_none}
-use Rattle.run_history.proofs.RunLemmas.{has_event_there, last_there}
+use Rattle.run_history.proofs.RunLemmas.{last_there, there_in_code}
 use Rattle.run_history.specs.Turns.{last_of, IsNext, IsInTurn}
-use Rattle.abs_command.proofs.RunLemmas.{IsNext-has_event, last_of-more, in_turn_none, in_turn_more, begins_first, ran_more, run_ended}
+use Rattle.abs_command.proofs.RunLemmas.{IsNext-has_event, IsNext-there, last_of-more, in_turn_none, in_turn_more, begins_first, ran_more, run_ended}
 use Rattle.abs_command.proofs.run.run.Goals as goal
 
 pub loop-alloc-init : goal.loop-alloc-init
@@ -29,9 +28,9 @@ next_task-requires-clause-begins c none =
 
 pub next_task-requires-clause-there : goal.next_task-requires-clause-there
 next_task-requires-clause-there c task is =
-    let there = last_there _ c.loop-alloc.history.tasks _ task c.loop-alloc.invariant.legal
-    (sym c.loop-alloc.invariant.last_is ∙ is) in
-    omega (arith, there, length-map c.loop-alloc.config.tasks (task_state c.args.program.now.symbols))
+    there_in_code c.args.program.now.symbols c.loop-alloc.config task
+    (last_there _ c.loop-alloc.history.tasks _ task c.loop-alloc.invariant.legal
+    (sym c.loop-alloc.invariant.last_is ∙ is))
 
 pub returns-in_default : goal.returns-in_default
 returns-in_default c =
@@ -43,11 +42,8 @@ returns-in_default c =
 
 pub step-requires-clause-there : goal.step-requires-clause-there
 step-requires-clause-there c =
-    let config = configuration c.args.program.now.symbols c.loop-alloc.config in
-    let has = IsNext-has_event (program_tree c.args.program.now) config c.in-Some.task c.loop-alloc.last
-    c.in-Some.ensures.some in
-    let there = has_event_there (program_tree c.args.program.now) config c.in-Some.task has in
-    omega (arith, there, length-map c.loop-alloc.config.tasks (task_state c.args.program.now.symbols))
+    IsNext-there (program_tree c.args.program.now) c.args.program.now.symbols c.loop-alloc.config c.in-Some.task
+    c.loop-alloc.last c.in-Some.ensures.some
 
 pub loop-alloc-preserved : goal.loop-alloc-preserved
 loop-alloc-preserved c =
