@@ -1,6 +1,7 @@
 //! Lists of numbers, as values.
 use crate::failure::Failure;
-use abs_tree::{Symbol, Value};
+use abs_tree::Symbol;
+use abs_values::Value;
 use std::alloc::Global;
 
 /// The constructor of a list without a number. No operation looks up the name of a constructor, so no table has it.

@@ -1,7 +1,7 @@
 //! The operations on values that are measured.
 use crate::failure::Failure;
 use crate::lists::{cons, list_of};
-use abs_tree::{Value, value_depth, value_equal, value_size};
+use abs_values::{Value, value_depth, value_equal, value_size};
 use std::alloc::Global;
 
 /// An operation on lists. Each begins with a copy, which is dropped in the end: counting the copies cannot be left out,

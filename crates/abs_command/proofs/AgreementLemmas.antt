@@ -11,7 +11,7 @@ use Rattle.std.proofs.lemmas.List.{append-nil, length-append}
 use Rattle.std.proofs.lemmas.Option.{same_Some}
 use Rattle.std.specs.Prelude.{is_some}
 use Rattle.abs_tree.specs.Limits.{event_limit}
-use Rattle.abs_tree.specs.Results.{Result}
+use Rattle.abs_values.specs.Results.{Result}
 use Rattle.abs_tree.specs.Syntax.{ProgramTree}
 use Rattle.abs_tree.specs.declared.refusal.Refusal.{Refusal}
 use Rattle.config_state.proofs.BodyLemmas.{get-there}

@@ -9,13 +9,13 @@ use Rattle.std.specs.List.{flat_map}
 use Rattle.abs_names.proofs.ThereTypeLemmas.{both_empty}
 use Rattle.abs_names.proofs.WholeLemmas.{resolved_is_whole}
 use Rattle.abs_tree.proofs.IndexLemmas.{slice_get-append}
-use Rattle.abs_tree.specs.Control.{Point, entry, points, points_of, else_points, member_points, decl_points, program_points}
-use Rattle.abs_tree.specs.Instructions.{EffectTree, CallsOwn, CallsOther, Gets, side_effect, effect_of}
+use Rattle.abs_program.specs.Control.{Point, entry, points, points_of, else_points, member_points, decl_points, program_points}
+use Rattle.abs_program.specs.Instructions.{EffectTree, CallsOwn, CallsOther, Gets, side_effect, effect_of}
 use Rattle.abs_tree.specs.Limits.{event_limit}
-use Rattle.abs_tree.specs.Slots.{is_this}
+use Rattle.abs_program.specs.Slots.{is_this}
 use Rattle.abs_tree.specs.Syntax.{VariableTree, OwnCallOf, NoPhrase, NextPhrase, SideTree, NewOf, ValueOf, SendOf, GetOf, CallOf, NoSide, SomeSide, Statement, BlockOf, IfOf, WhileOf, DeclareOf, AssignOf, DoOf, MaybeStatements, NoElse, Else, Statements, NoStatement, NextStatement, MemberTree, FieldTree, MethodTree, DeclTree, ClassTree, SourceTree, ProgramTree}
 use Rattle.abs_tree.specs.SyntaxSizes.{count_of, statement_count, member_statements, decl_statements}
-use Rattle.abs_tree.specs.Whole.{IsWhole}
+use Rattle.abs_program.specs.Whole.{IsWhole}
 use Rattle.step_rules.proofs.ProgressLemmas.{never_stuck as never_stuck_without_waits}
 use Rattle.step_rules.specs.Runs.{IsReachable, EndsAs}
 use Rattle.step_rules.specs.declared.kind.End.{End}

@@ -5,9 +5,9 @@ use Rattle.std.proofs.Common.{◌≡◌, ℕ, zero, suc, Bool, true, false, ◌&
 use Rattle.std.proofs.lemmas.Option.{same_Some}
 use Rattle.std.specs.List.{list_all}
 use Rattle.std.specs.Option.{option_map}
-use Rattle.abs_tree.specs.Results.{result_tree}
+use Rattle.abs_values.specs.Results.{result_tree}
 use Rattle.abs_tree.specs.Syntax.{Name}
-use Rattle.abs_tree.specs.declared.evaluated.Evaluated.{Evaluated}
+use Rattle.abs_values.specs.declared.evaluated.Evaluated.{Evaluated}
 use Rattle.config_state.specs.ConfigViews.{configuration}
 use Rattle.config_state.specs.Configurations.{TaskState}
 use Rattle.config_state.specs.Views.{task_state}

@@ -3,8 +3,8 @@
 --   `NeverAwaits`              no statement of a program is an `await`
 --   `NeverStuck`               no legal history leads to a configuration in which a program is stuck
 use Rattle.std.specs.Prelude.{◌≡◌, ◌≢◌, ℕ, List, slice_get, Option, Some}
-use Rattle.abs_tree.specs.Control.{Point, program_points}
-use Rattle.abs_tree.specs.Instructions.{Awaits, effect_of}
+use Rattle.abs_program.specs.Control.{Point, program_points}
+use Rattle.abs_program.specs.Instructions.{Awaits, effect_of}
 use Rattle.abs_tree.specs.Syntax.{ProgramTree}
 use Rattle.config_state.specs.Configurations.{Configuration}
 use Rattle.step_rules.specs.Runs.{IsReachable, IsOpen, HasStep}

@@ -1,6 +1,6 @@
 -- What the exit statuses mean: which of them a run ends with, and which say that the call gave up.
 use Rattle.std.specs.Prelude.{⊤, Bool, true, false, Option, Some, None, slice_get}
-use Rattle.abs_tree.specs.Results.{Result, Gives, Fails}
+use Rattle.abs_values.specs.Results.{Result, Gives, Fails}
 use Rattle.abs_command.specs.declared.command.Status.{Status}
 use Rattle.abs_command.specs.declared.command.Status.TheVariants as status
 use Rattle.config_state.specs.Configurations.{TaskState, Configuration}

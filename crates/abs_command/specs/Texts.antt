@@ -7,8 +7,8 @@
 use Rattle.std.specs.Prelude.{ℕ, ◌+◌, List, [], ◌∷◌, ◌++◌, length, Option, Some, None, codes, decimal, count_by, is_none}
 use Rattle.std.specs.List.{flat_map}
 use Rattle.abs_tree.specs.declared.refusal.Refusal.{Refusal}
-use Rattle.abs_tree.specs.Results.{Result, Gives, Fails}
-use Rattle.abs_tree.specs.Faults.{fault_name}
+use Rattle.abs_values.specs.Results.{Result, Gives, Fails}
+use Rattle.abs_values.specs.Faults.{fault_name}
 use Rattle.abs_tree.specs.Refusals.{code_name, code_words}
 use Rattle.abs_command.specs.declared.analysis.report.Chain.{Chain}
 use Rattle.config_state.specs.Configurations.{TaskState}

@@ -1,12 +1,12 @@
 //! What is known of a program before any run.
 ghost use Rattle.std.specs.Prelude.{◌≡◌};
-ghost use Rattle.abs_tree.specs.SourceViews.{program_tree};
+ghost use Rattle.abs_program.specs.NamedViews.{program_tree};
 ghost use Rattle.abs_command.specs.Analysis.{report_of};
 
 pub mod report;
 
 use crate::analysis::report::Report;
-use abs_tree::Named;
+use abs_program::Named;
 use std::alloc::Global;
 
 /// What an analysis found of a program.

@@ -1,7 +1,7 @@
 //! The command: from its words and a source to what is written and to a status.
 ghost use Rattle.std.specs.Prelude.{◌≡◌, ◌≢◌, ◌≤◌, Option, ℕ, List, [], None, Some, length, IfOk, IfSome, IfNone, OnOk, OnErr, IsErrOf};
 ghost use Rattle.std.specs.Io.KnownBytes.{Appends};
-ghost use Rattle.abs_tree.specs.SourceViews.{program_tree};
+ghost use Rattle.abs_program.specs.NamedViews.{program_tree};
 ghost use Rattle.abs_outside.specs.Counts.{Rose};
 ghost use Rattle.abs_tree.specs.Limits.{source_limit};
 ghost use Rattle.abs_tree.specs.Syntax.{Name};
@@ -21,8 +21,10 @@ use crate::source::program_of;
 use crate::texts::outcome::{end_text, report_text};
 use crate::texts::refusal::refusal_text;
 use abs_outside::{Sink, Source};
+use abs_program::Named;
 use abs_tree::limits::{EVENT_LIMIT, SOURCE_LIMIT};
-use abs_tree::{Evaluated, Named, Refusal, SourceError};
+use abs_tree::{Refusal, SourceError};
+use abs_values::Evaluated;
 use config_state::Config;
 use run_history::History;
 use std::alloc::{AllocError, Global};

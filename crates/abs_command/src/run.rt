@@ -1,12 +1,12 @@
 //! Runs a program: makes one event after the other in the order of one worker, and records whose event it was.
 ghost use Rattle.std.specs.Prelude.{◌≡◌, ◌≤◌, ℕ, IfOk, MatchBool, List, length};
-ghost use Rattle.abs_tree.specs.SourceViews.{program_tree};
+ghost use Rattle.abs_program.specs.NamedViews.{program_tree};
 ghost use Rattle.abs_tree.specs.Syntax.{Name, ProgramTree};
 ghost use Rattle.config_state.specs.ConfigViews.{configuration};
 ghost use Rattle.step_rules.specs.Runs.{EndsAs, IsDone, IsOpen};
 ghost use Rattle.abs_command.specs.Machine.{IsRun};
 
-use abs_tree::Named;
+use abs_program::Named;
 use config_state::{Config, Lines, first};
 use run_history::{History, next_task};
 use std::alloc::{AllocError, Global};

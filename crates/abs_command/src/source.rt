@@ -2,7 +2,7 @@
 ghost use Rattle.std.specs.Prelude.{◌≤◌, ℕ, List, length, All, IfOk, IfErr};
 ghost use Rattle.abs_tree.specs.Limits.{source_limit};
 ghost use Rattle.abs_tree.specs.SourceErrors.{HasCause};
-ghost use Rattle.abs_tree.specs.SourceViews.{program_tree};
+ghost use Rattle.abs_program.specs.NamedViews.{program_tree};
 ghost use Rattle.abs_command.specs.Sources.{IsProgramOf, FirstOffence, IsNameOf, HasOneFirstOffence};
 
 pub mod unsupported;

@@ -7,7 +7,7 @@ use denote.Param.Weighed.{most}
 use Rattle.std.proofs.lemmas.List.{length-append, append-nil, drop_all}
 use Rattle.abs_tree.proofs.EntryLemmas.{drop_item}
 use Rattle.abs_tree.specs.Offences.{earlier}
-use Rattle.abs_tree.specs.Slots.{statement_slots, statements_slots}
+use Rattle.abs_program.specs.Slots.{statement_slots, statements_slots}
 use Rattle.abs_tree.specs.Syntax.{Statement, BlockOf, SkipOf, SuspendOf, AwaitOf, ReturnOf, PrintOf, IfOf, WhileOf, DeclareOf, AssignOf, DoOf, Statements, NoStatement, NextStatement}
 use Rattle.abs_tree.specs.SyntaxViews.{statement, statements}
 use Rattle.abs_tree.specs.declared.refusal.Offence.{Offence}

@@ -2,9 +2,9 @@
 use Rattle.std.proofs.Common.{◌≡◌, ℕ, ◌+◌, List, [], ◌∷◌, ◌++◌, refl, sym, ap, ◌∙◌, subst, length, map, fold, append_assoc, arith}
 use Rattle.std.specs.Prelude.{Option, None}
 use Rattle.std.proofs.lemmas.List.{length-map, map-append}
-use Rattle.abs_tree.specs.NameSpaces.{NameSpaces, built_in, spaces_of, with_declaration, with_declarations}
+use Rattle.abs_program.specs.NameSpaces.{NameSpaces, built_in, spaces_of, with_declaration, with_declarations}
 use Rattle.abs_tree.specs.Offences.{earlier, first_offence}
-use Rattle.abs_tree.specs.Slots.{param_slots}
+use Rattle.abs_program.specs.Slots.{param_slots}
 use Rattle.abs_tree.specs.Syntax.{Name, DeclTree}
 use Rattle.abs_tree.specs.SyntaxViews.{decl_tree}
 use Rattle.abs_tree.specs.declared.syntax.declaration.Decl.{Decl}

@@ -7,7 +7,7 @@ use Rattle.std.specs.declared.vec.Vec.{Vec}
 use Rattle.std.proofs.lemmas.List.{length-append}
 use Rattle.abs_tree.proofs.StatementLemmas.{statement-block, statement-while, statement-if}
 use Rattle.abs_tree.specs.Offences.{earlier}
-use Rattle.abs_tree.specs.Slots.{statement_slots, statements_slots, else_slots}
+use Rattle.abs_program.specs.Slots.{statement_slots, statements_slots, else_slots}
 use Rattle.abs_tree.specs.Syntax.{Name, Phrase, Statement, Statements, BlockOf, IfOf, WhileOf}
 use Rattle.abs_tree.specs.SyntaxViews.{phrase, statement, statements, maybe_statements}
 use Rattle.abs_tree.specs.declared.place.Place.{Place}

@@ -1,9 +1,9 @@
 -- How declared names, constructors, heads of methods and declarations are resolved, each in a list.
 use Rattle.std.proofs.Common.{[], refl}
-use Rattle.abs_tree.specs.NameSpaces.{NameSpaces, means_interface}
+use Rattle.abs_program.specs.NameSpaces.{NameSpaces, means_interface}
 use Rattle.abs_tree.specs.Syntax.{DeclaredTree, ConstructorTree, SignatureTree, DeclTree}
 use Rattle.abs_tree.specs.SyntaxViews.{declared, constructor_tree, signature_tree, decl_tree}
-use Rattle.abs_tree.specs.Tables.{meaning_of}
+use Rattle.abs_program.specs.Tables.{meaning_of}
 use Rattle.abs_tree.specs.declared.syntax.declaration.Constructor.{Constructor}
 use Rattle.abs_tree.specs.declared.syntax.declaration.Decl.{Decl}
 use Rattle.abs_tree.specs.declared.syntax.declaration.Declared.{Declared}

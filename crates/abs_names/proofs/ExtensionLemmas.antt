@@ -6,7 +6,7 @@ use Rattle.std.proofs.lemmas.List.Elements.{All-nil, All-cons}
 use Rattle.std.proofs.lemmas.List.Sums.{fold-append}
 use Rattle.abs_graph.specs.Graphs.{Graph}
 use Rattle.abs_tree.proofs.EntryLemmas.{drop_item}
-use Rattle.abs_tree.specs.Supertypes.{supertypes_in}
+use Rattle.abs_program.specs.Supertypes.{supertypes_in}
 use Rattle.abs_tree.specs.Offences.{earlier}
 use Rattle.abs_tree.specs.Syntax.{Name, DeclTree}
 use Rattle.abs_tree.specs.SyntaxViews.{decl_tree}

@@ -7,7 +7,7 @@ use Rattle.std.proofs.lemmas.List.Elements.{All-nil, All-cons}
 use Rattle.std.proofs.lemmas.Option.{none-some, same_Some}
 use Rattle.std.proofs.lemmas.Slice.Eq.{bytes_eq-Decides}
 use Rattle.abs_tree.specs.Syntax.{Name, VariableTree}
-use Rattle.abs_tree.specs.Tables.{meaning_of}
+use Rattle.abs_program.specs.Tables.{meaning_of}
 use Rattle.abs_names.specs.Newest.{SaysNothing, IsNewest, StandsFor}
 use Rattle.abs_names.specs.Scopes.{Meanings, Scope, or_field, use_of}
 

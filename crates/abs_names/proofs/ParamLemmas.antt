@@ -4,7 +4,7 @@ use Rattle.std.specs.List.{range_with_len}
 use Rattle.std.proofs.lemmas.List.{length-append, length-map}
 use Rattle.std.proofs.lemmas.List.FromFn.{length-map-range_with_len}
 use Rattle.abs_tree.proofs.EntryLemmas.{drop_item}
-use Rattle.abs_tree.specs.Slots.{param_slots}
+use Rattle.abs_program.specs.Slots.{param_slots}
 use Rattle.abs_tree.specs.Syntax.{Name, VariableTree, AtSlot, ParamTree}
 use Rattle.abs_tree.specs.SyntaxViews.{variable_tree, param_tree}
 use Rattle.abs_tree.specs.declared.syntax.declaration.Param.{Param}

@@ -21,7 +21,7 @@ use Rattle.abs_tree.specs.declared.syntax.declaration.Declared.{Declared}
 use Rattle.abs_names.specs.Repeats.{repeated}
 use Rattle.abs_names.specs.Single.{twice}
 use Rattle.abs_names.specs.Visible.{Names, Visible}
-use Rattle.abs_tree.proofs.KeptSpaceLemmas.{same_test}
+use Rattle.abs_program.proofs.KeptSpaceLemmas.{same_test}
 
 -- the numbers of two names are the same where the names are
 same_number : (names : List Name) (one other : Symbol)

@@ -1,12 +1,12 @@
 -- What resolution leaves of declarations as it was: their names, what they declare, and the interfaces above them.
 use Rattle.std.proofs.Common.{◌≡◌, ℕ, ◌+◌, Bool, List, [], ◌∷◌, ◌++◌, refl, ap, ◌∙◌}
 use Rattle.abs_graph.specs.Graphs.{Graph, on_cycles}
-use Rattle.abs_tree.specs.NameSpaces.{NameSpaces, built_in, with_constructor, with_constructors, with_declaration, with_declarations, spaces_of}
-use Rattle.abs_tree.specs.Supertypes.{above, supertypes_in, supertypes}
+use Rattle.abs_program.specs.NameSpaces.{NameSpaces, built_in, with_constructor, with_constructors, with_declaration, with_declarations, spaces_of}
+use Rattle.abs_program.specs.Supertypes.{above, supertypes_in, supertypes}
 use Rattle.abs_tree.specs.Syntax.{AtSlot, AtField, ConstructorTree, DeclTree, DataTree, FunctionTree, InterfaceTree, ClassTree}
-use Rattle.abs_tree.specs.Tables.{Table, with_first}
-use Rattle.abs_tree.specs.declared.name_spaces.ConstructorMeaning.{ConstructorMeaning}
-use Rattle.abs_tree.specs.declared.name_spaces.FunctionMeaning.TheVariants as function
+use Rattle.abs_program.specs.Tables.{Table, with_first}
+use Rattle.abs_program.specs.declared.name_spaces.ConstructorMeaning.{ConstructorMeaning}
+use Rattle.abs_program.specs.declared.name_spaces.FunctionMeaning.TheVariants as function
 use Rattle.abs_tree.specs.declared.place.Place.{Place}
 use Rattle.abs_tree.specs.declared.refusal.Offence.{Offence}
 use Rattle.abs_names.specs.Extension.{extension_offences, name_place}

@@ -9,11 +9,11 @@ use Rattle.abs_tree.specs.declared.symbol.Symbol.{Symbol}
 use Rattle.abs_tree.specs.declared.syntax.variable.Variable.{Variable}
 use Rattle.abs_tree.specs.declared.syntax.variable.Variable.TheVariants as variable
 use Rattle.abs_tree.proofs.NumberLemmas.{name_of_number}
-use Rattle.abs_tree.specs.Tables.{meaning_of}
+use Rattle.abs_program.specs.Tables.{meaning_of}
 use Rattle.abs_names.specs.declared.scope.Binding.{Binding}
 use Rattle.abs_names.specs.Numbered.{is_bound, bound_up_to, AreCounted, EndsIn}
 use Rattle.abs_names.specs.Scopes.{Meanings, Scope, visible_field, field_of, or_field, use_of, bound_count}
-use Rattle.abs_tree.specs.KeptSpaces.{name_at, named, ProperNumbers}
+use Rattle.abs_program.specs.KeptSpaces.{name_at, named, ProperNumbers}
 use Rattle.abs_names.specs.Visible.{binding_tree}
 
 -- there are as many bound variables

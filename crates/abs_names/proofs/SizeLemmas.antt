@@ -1,7 +1,7 @@
 -- Resolving keeps the sizes of a source: its statements, its variables, and the fields of its classes.
 use Rattle.std.proofs.Common.{◌≡◌, ℕ, ◌+◌, refl, ap, ◌∙◌, length}
 use Rattle.std.specs.Prelude.{Option, Some, None}
-use Rattle.abs_tree.specs.Slots.{statement_slots, statements_slots}
+use Rattle.abs_program.specs.Slots.{statement_slots, statements_slots}
 use Rattle.abs_tree.specs.Syntax.{Name, VariableTree, PatternTree, AnyValue, Binds, SameNumber, SameString, Built, PatternTrees, NoPattern, NextPattern, Phrase, LetIn, IfElse, OperatorsOf, Prefixed, NumberOf, StringOf, NullOf, DestinyOf, ThisOf, FieldOf, OwnCallOf, VariableOf, ApplyOf, BuildOf, CaseOf, Phrases, NoPhrase, NextPhrase, Operands, NoOperands, NextOperand, Branches, NoBranch, NextBranch, SideTree, NewOf, ValueOf, SendOf, GetOf, CallOf, Tests, NoTest, NextTest, NoSide, SomeSide, Statement, BlockOf, SkipOf, SuspendOf, AwaitOf, ReturnOf, PrintOf, IfOf, WhileOf, DeclareOf, AssignOf, DoOf, MaybeStatements, NoElse, Else, Statements, NoStatement, NextStatement}
 use Rattle.abs_tree.specs.SyntaxSizes.{statement_count, count_of, count_of_else, pattern_variables, patterns_variables, phrase_variables, phrases_variables, operand_variables, branch_variables, side_variables, test_variables, statement_variables, statements_variables}
 use Rattle.abs_tree.specs.declared.place.Place.{Place}

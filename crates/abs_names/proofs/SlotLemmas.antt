@@ -2,8 +2,8 @@
 use Rattle.std.proofs.Common.{◌≡◌, ◌≤◌, ℕ, ◌+◌, Bool, List, [], ◌∷◌, ◌++◌, refl, sym, ap, ◌∙◌, cond, length}
 use Rattle.std.specs.Prelude.{Option, Some, None}
 use Rattle.abs_tree.specs.Limits.{table_limit}
-use Rattle.abs_tree.specs.SlotViews.{BodyHasSlots}
-use Rattle.abs_tree.specs.Slots.{is_this, side_slots, maybe_side_slots, statement_slots, else_slots, statements_slots, param_slots, body_slots}
+use Rattle.abs_program.specs.SlotViews.{BodyHasSlots}
+use Rattle.abs_program.specs.Slots.{is_this, side_slots, maybe_side_slots, statement_slots, else_slots, statements_slots, param_slots, body_slots}
 use Rattle.abs_tree.specs.SyntaxViews.{statements}
 use Rattle.abs_tree.specs.declared.syntax.declaration.Body.{Body}
 use Rattle.abs_tree.specs.declared.syntax.declaration.Param.{Param}

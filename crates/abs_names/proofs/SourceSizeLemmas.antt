@@ -7,7 +7,7 @@ use Rattle.std.proofs.lemmas.Bool.{and_parts}
 use Rattle.std.proofs.lemmas.Bool.Decides.{nat_tests}
 use Rattle.std.proofs.lemmas.List.Elements.{All-nil, All-cons, All-head, All-tail, All-append}
 use Rattle.abs_tree.specs.Limits.{table_limit}
-use Rattle.abs_tree.specs.NameSpaces.{NameSpaces, spaces_of}
+use Rattle.abs_program.specs.NameSpaces.{NameSpaces, spaces_of}
 use Rattle.abs_tree.specs.Syntax.{AtSlot, AtField, ParamTree, NoValue, Value, MemberTree, FieldTree, MethodTree, DeclTree, DataTree, FunctionTree, InterfaceTree, ClassTree, SourceTree}
 use Rattle.abs_tree.specs.SyntaxSizes.{statement_count, member_statements, decl_statements, all_statements, phrase_variables, statements_variables, field_variables, method_sizes, decl_sizes, body_sizes, fields_among, decl_fields, class_sizes}
 use Rattle.abs_names.specs.Prelude.{prelude}

@@ -2,20 +2,20 @@
 use Rattle.std.proofs.Common.{◌≡◌, ℕ, Bool, true, false, List, [], ◌∷◌, Ok, Err, refl, sym, ap, ◌∙◌, subst, cond, length, drop, fold, map, arith}
 use Rattle.std.specs.Prelude.{Option, Some, None, is_some, option_map, Result, OnOk, OnErr, IfOk}
 use Rattle.abs_tree.proofs.NumberLemmas.{name_of_number}
-use Rattle.abs_tree.specs.NameSpaces.{count_types, with_constructors, with_declarations}
+use Rattle.abs_program.specs.NameSpaces.{count_types, with_constructors, with_declarations}
 use Rattle.abs_tree.specs.Names.{number_of_name, name_of}
-use Rattle.abs_tree.specs.Numbered.{looked_up}
+use Rattle.abs_program.specs.Numbered.{looked_up}
 use Rattle.abs_tree.specs.Offences.{earlier}
 use Rattle.abs_tree.specs.Syntax.{Name, DeclaredTree, ConstructorTree, DeclTree}
 use Rattle.abs_tree.specs.SyntaxViews.{type_trees}
-use Rattle.abs_tree.specs.Tables.{meaning_of, with_first}
+use Rattle.abs_program.specs.Tables.{meaning_of, with_first}
 use Rattle.abs_tree.specs.declared.refusal.Offence.{Offence}
 use Rattle.abs_tree.specs.declared.symbol.Symbol.{Symbol}
 use Rattle.abs_tree.specs.declared.syntax.types.TypeTerm.{TypeTerm}
-use Rattle.abs_tree.proofs.KeptSpaceLemmas.{looked_up-named}
+use Rattle.abs_program.proofs.KeptSpaceLemmas.{looked_up-named}
 use Rattle.abs_names.proofs.ScopeLemmas.{proper_number}
 use Rattle.abs_names.specs.TypeNames.{Around, with_type_params}
-use Rattle.abs_tree.specs.KeptSpaces.{name_at, named, ProperNumbers}
+use Rattle.abs_program.specs.KeptSpaces.{name_at, named, ProperNumbers}
 use Rattle.abs_names.specs.Visible.{Known, Names}
 
 -- a meaning that is mapped is there where it was

@@ -4,11 +4,11 @@ use Rattle.std.specs.Prelude.{Option, Some, None, if◌then◌else◌}
 use Rattle.std.proofs.lemmas.Bool.{true≢false}
 use Rattle.std.proofs.lemmas.List.FromFn.{length-map-range_with_len}
 use Rattle.std.proofs.lemmas.Option.{none-some, cond_some}
-use Rattle.abs_tree.specs.Slots.{statements_slots, param_slots, body_slots}
+use Rattle.abs_program.specs.Slots.{statements_slots, param_slots, body_slots}
 use Rattle.abs_tree.specs.Syntax.{Name, VariableTree, Unresolved, AtSlot, AtBound, AtField, Statements, ParamTree, DeclaredTree, MemberTree, FieldTree, MethodTree}
 use Rattle.abs_tree.specs.SyntaxSizes.{fields_among}
-use Rattle.abs_tree.specs.Tables.{Table, meaning_of, with_first}
-use Rattle.abs_tree.specs.Whole.{Inside, VariableIsThere, StatementsAreThere}
+use Rattle.abs_program.specs.Tables.{Table, meaning_of, with_first}
+use Rattle.abs_program.specs.Whole.{Inside, VariableIsThere, StatementsAreThere}
 use Rattle.abs_tree.specs.declared.syntax.slot.Slot.{Slot}
 use Rattle.abs_tree.specs.declared.syntax.slot.Slot.TheVariants.{Parameter}
 use Rattle.abs_names.specs.NameOffences.{statements_offences}

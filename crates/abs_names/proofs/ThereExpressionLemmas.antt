@@ -2,13 +2,13 @@
 use Rattle.std.proofs.Common.{◌≡◌, ℕ, ◌+◌, [], ◌++◌, refl, sym, ap, ◌∙◌, subst, arith}
 use Rattle.std.specs.Prelude.{Option, Some, None, option_map}
 use Rattle.std.proofs.lemmas.Bool.{true≢false}
-use Rattle.abs_tree.specs.NameSpaces.{NameSpaces, function_arity}
+use Rattle.abs_program.specs.NameSpaces.{NameSpaces, function_arity}
 use Rattle.abs_tree.specs.Syntax.{Name, VariableTree, AtBound, PatternTree, AnyValue, Binds, SameNumber, SameString, Built, PatternTrees, NoPattern, NextPattern, Phrase, LetIn, IfElse, OperatorsOf, Prefixed, NumberOf, StringOf, NullOf, DestinyOf, ThisOf, FieldOf, OwnCallOf, VariableOf, ApplyOf, BuildOf, CaseOf, Phrases, NoPhrase, NextPhrase, Operands, NoOperands, NextOperand, Branches, NoBranch, NextBranch}
 use Rattle.abs_tree.specs.SyntaxCounts.{count_patterns, count_phrases}
 use Rattle.abs_tree.specs.SyntaxSizes.{pattern_variables}
-use Rattle.abs_tree.specs.Tables.{meaning_of}
-use Rattle.abs_tree.specs.Whole.{Inside, PatternIsThere, PatternsAreThere, PhraseIsThere, PhrasesAreThere, OperandsAreThere, BranchesAreThere}
-use Rattle.abs_tree.specs.declared.name_spaces.ConstructorMeaning.{ConstructorMeaning}
+use Rattle.abs_program.specs.Tables.{meaning_of}
+use Rattle.abs_program.specs.Whole.{Inside, PatternIsThere, PatternsAreThere, PhraseIsThere, PhrasesAreThere, OperandsAreThere, BranchesAreThere}
+use Rattle.abs_program.specs.declared.name_spaces.ConstructorMeaning.{ConstructorMeaning}
 use Rattle.abs_tree.specs.declared.place.Place.{Place}
 use Rattle.abs_names.specs.NameOffences.{bind_offences, this_offences, pattern_offences, patterns_offences, phrase_offences, phrases_offences, operands_offences, branches_offences}
 use Rattle.abs_names.specs.Resolution.{field_phrase, resolved_pattern, resolved_patterns, resolved_phrase, resolved_phrases, resolved_operands, resolved_branches}

@@ -2,12 +2,12 @@
 use Rattle.std.proofs.Common.{◌≡◌, ℕ, ◌+◌, true, false, List, [], ◌∷◌, ◌++◌, refl, sym, ap, ◌∙◌, subst, length, arith}
 use Rattle.std.specs.Prelude.{All}
 use Rattle.std.proofs.lemmas.List.Elements.{All-nil, All-cons}
-use Rattle.abs_tree.specs.NameSpaces.{NameSpaces, means_interface}
-use Rattle.abs_tree.specs.Slots.{body_slots}
+use Rattle.abs_program.specs.NameSpaces.{NameSpaces, means_interface}
+use Rattle.abs_program.specs.Slots.{body_slots}
 use Rattle.abs_tree.specs.Syntax.{VariableTree, AtSlot, AtField, TypeTree, Phrase, Statements, ParamTree, DeclaredTree, ConstructorTree, SignatureTree, MaybePhrase, NoValue, Value, MemberTree, FieldTree, MethodTree, DeclTree, DataTree, FunctionTree, InterfaceTree, ClassTree}
 use Rattle.abs_tree.specs.SyntaxSizes.{fields_among}
-use Rattle.abs_tree.specs.Tables.{meaning_of}
-use Rattle.abs_tree.specs.Whole.{Inside, inside_types, TypesAreThere, StatementsAreThere, ParamsAreThere, SignatureIsThere, NameInterfaces, InitialIsThere, MemberIsThere, MembersAreThere, ConstructorsAreThere, DeclarationIsThere}
+use Rattle.abs_program.specs.Tables.{meaning_of}
+use Rattle.abs_program.specs.Whole.{Inside, inside_types, TypesAreThere, StatementsAreThere, ParamsAreThere, SignatureIsThere, NameInterfaces, InitialIsThere, MemberIsThere, MembersAreThere, ConstructorsAreThere, DeclarationIsThere}
 use Rattle.abs_tree.specs.declared.place.Place.{Place}
 use Rattle.abs_names.specs.NameOffences.{phrase_offences, statements_offences, maybe_phrase_offences, params_offences, signature_offences, signatures_offences, interfaces_offences, constructor_types_offences, member_offences, members_offences, class_offences, declaration_offences, declarations_offences}
 use Rattle.abs_names.specs.Resolution.{resolved_statements, resolved_params, resolved_signature, resolved_signatures, resolved_constructors, resolved_maybe_phrase, resolved_member, resolved_members, resolved_declaration, resolved_declarations}

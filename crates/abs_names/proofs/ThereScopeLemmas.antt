@@ -7,8 +7,8 @@ use Rattle.std.proofs.lemmas.Option.{same_Some}
 use Rattle.abs_tree.specs.Syntax.{Name, VariableTree, Unresolved, AtSlot, AtBound, AtField, PatternTree, AnyValue, Binds, SameNumber, SameString, Built, PatternTrees, NoPattern, NextPattern}
 use Rattle.abs_tree.specs.SyntaxCounts.{count_patterns}
 use Rattle.abs_tree.specs.SyntaxSizes.{pattern_variables, patterns_variables}
-use Rattle.abs_tree.specs.Tables.{meaning_of}
-use Rattle.abs_tree.specs.Whole.{Inside, VariableIsThere}
+use Rattle.abs_program.specs.Tables.{meaning_of}
+use Rattle.abs_program.specs.Whole.{Inside, VariableIsThere}
 use Rattle.abs_tree.specs.declared.place.Place.{Place}
 use Rattle.abs_tree.specs.declared.refusal.Code.TheVariants.{N2}
 use Rattle.abs_names.specs.NameOffences.{use_offences, bind_offences, field_offences, pattern_offences, patterns_offences}

@@ -2,13 +2,13 @@
 use Rattle.std.proofs.Common.{◌≡◌, ℕ, ◌+◌, ◌<◌, ◌≤◌, Bool, true, false, List, [], ◌∷◌, ◌++◌, refl, sym, length, length-append, cond, arith}
 use Rattle.std.specs.Prelude.{Option, Some, None, option_map}
 use Rattle.std.proofs.lemmas.Bool.{true≢false}
-use Rattle.abs_tree.specs.NameSpaces.{NameSpaces}
-use Rattle.abs_tree.specs.Slots.{is_this, side_slots, maybe_side_slots, statement_slots, else_slots, statements_slots}
+use Rattle.abs_program.specs.NameSpaces.{NameSpaces}
+use Rattle.abs_program.specs.Slots.{is_this, side_slots, maybe_side_slots, statement_slots, else_slots, statements_slots}
 use Rattle.abs_tree.specs.Syntax.{Name, VariableTree, Unresolved, AtSlot, AtBound, AtField, Phrases, NoPhrase, NextPhrase, SideTree, NewOf, ValueOf, SendOf, GetOf, CallOf, Tests, NoTest, NextTest, TargetTree, ToVariable, ToField, MaybeSide, NoSide, SomeSide, Statement, BlockOf, SkipOf, SuspendOf, AwaitOf, ReturnOf, PrintOf, IfOf, WhileOf, DeclareOf, AssignOf, DoOf, MaybeStatements, NoElse, Else, Statements, NoStatement, NextStatement}
 use Rattle.abs_tree.specs.SyntaxCounts.{count_phrases}
-use Rattle.abs_tree.specs.Tables.{meaning_of}
-use Rattle.abs_tree.specs.Whole.{Inside, VariableIsThere, HiddenIsThere, SideIsThere, MaybeSideIsThere, TestsAreThere, TargetIsThere, StatementIsThere, ElseIsThere, StatementsAreThere}
-use Rattle.abs_tree.specs.declared.name_spaces.Taking.{Taking}
+use Rattle.abs_program.specs.Tables.{meaning_of}
+use Rattle.abs_program.specs.Whole.{Inside, VariableIsThere, HiddenIsThere, SideIsThere, MaybeSideIsThere, TestsAreThere, TargetIsThere, StatementIsThere, ElseIsThere, StatementsAreThere}
+use Rattle.abs_program.specs.declared.name_spaces.Taking.{Taking}
 use Rattle.abs_tree.specs.declared.place.Place.{Place}
 use Rattle.abs_tree.specs.declared.syntax.slot.Slot.{Slot}
 use Rattle.abs_tree.specs.declared.syntax.slot.Slot.TheVariants.{Local, Hidden}

@@ -3,12 +3,12 @@ use Rattle.std.proofs.Common.{◌≡◌, ℕ, suc, ◌+◌, ◌<◌, Bool, true,
 use Rattle.std.specs.Prelude.{Option, Some, None}
 use Rattle.std.proofs.lemmas.Bool.{cases_Bool, eqb-true, cond-false}
 use Rattle.std.proofs.lemmas.Option.{none-some, same_Some}
-use Rattle.abs_tree.specs.NameSpaces.{NameSpaces, count_types, data_arity, means_interface}
+use Rattle.abs_program.specs.NameSpaces.{NameSpaces, count_types, data_arity, means_interface}
 use Rattle.abs_tree.specs.Syntax.{Name, TypeTree, UnresolvedType, IntType, StringType, FutType, DataType, InterfaceType, ParameterType, BottomType, NullType, ClassType, TypeTrees, NoType, NextType}
-use Rattle.abs_tree.specs.Tables.{meaning_of}
-use Rattle.abs_tree.specs.Whole.{Inside, TypeIsThere, TypesAreThere}
-use Rattle.abs_tree.specs.declared.name_spaces.TypeMeaning.{TypeMeaning}
-use Rattle.abs_tree.specs.declared.name_spaces.TypeMeaning.TheVariants as type
+use Rattle.abs_program.specs.Tables.{meaning_of}
+use Rattle.abs_program.specs.Whole.{Inside, TypeIsThere, TypesAreThere}
+use Rattle.abs_program.specs.declared.name_spaces.TypeMeaning.{TypeMeaning}
+use Rattle.abs_program.specs.declared.name_spaces.TypeMeaning.TheVariants as type
 use Rattle.abs_tree.specs.declared.place.Place.{Place}
 use Rattle.abs_tree.specs.declared.refusal.Offence.{Offence}
 use Rattle.abs_tree.specs.declared.refusal.Code.TheVariants.{N3}

@@ -4,13 +4,13 @@ use Rattle.std.specs.Prelude.{Option}
 use Rattle.std.specs.declared.alloc.Global.{Global}
 use Rattle.std.specs.declared.vec.Vec.{Vec}
 use Rattle.abs_tree.proofs.SyntaxLemmas.{type_tree-unresolved, type_tree-data}
-use Rattle.abs_tree.specs.NameSpaces.{count_types}
+use Rattle.abs_program.specs.NameSpaces.{count_types}
 use Rattle.abs_tree.specs.Names.{name_of}
 use Rattle.abs_tree.specs.Offences.{earlier}
 use Rattle.abs_tree.specs.Syntax.{Name, TypeTree, UnresolvedType, DataType, TypeTrees, NextType}
 use Rattle.abs_tree.specs.SyntaxViews.{type_tree, type_trees}
-use Rattle.abs_tree.specs.Tables.{meaning_of}
-use Rattle.abs_tree.specs.declared.name_spaces.TypeMeaning.{TypeMeaning}
+use Rattle.abs_program.specs.Tables.{meaning_of}
+use Rattle.abs_program.specs.declared.name_spaces.TypeMeaning.{TypeMeaning}
 use Rattle.abs_tree.specs.declared.place.Place.{Place}
 use Rattle.abs_tree.specs.declared.refusal.Offence.{Offence}
 use Rattle.abs_tree.specs.declared.symbol.Symbol.{Symbol}

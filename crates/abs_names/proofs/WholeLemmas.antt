@@ -4,11 +4,11 @@ use Rattle.std.specs.Prelude.{All}
 use Rattle.std.proofs.lemmas.List.{length-map}
 use Rattle.std.proofs.lemmas.List.FromFn.{length-map-range_with_len}
 use Rattle.abs_graph.specs.Graphs.{Graph, reaches, on_cycles}
-use Rattle.abs_tree.specs.NameSpaces.{NameSpaces, spaces_of}
-use Rattle.abs_tree.specs.Slots.{body_slots}
-use Rattle.abs_tree.specs.Supertypes.{above, supertypes}
+use Rattle.abs_program.specs.NameSpaces.{NameSpaces, spaces_of}
+use Rattle.abs_program.specs.Slots.{body_slots}
+use Rattle.abs_program.specs.Supertypes.{above, supertypes}
 use Rattle.abs_tree.specs.Syntax.{DeclTree, SourceTree}
-use Rattle.abs_tree.specs.Whole.{DeclarationIsThere, StatementsAreThere, IsWhole}
+use Rattle.abs_program.specs.Whole.{DeclarationIsThere, StatementsAreThere, IsWhole}
 use Rattle.abs_names.specs.Extension.{extension_offences}
 use Rattle.abs_names.specs.NameOffences.{declared_offences, repeated_offences, declarations_offences, statements_offences, name_offences}
 use Rattle.abs_names.specs.Prelude.{prelude}

@@ -9,7 +9,7 @@
 --   `phrase_offences`, `pattern_offences`, ..          those of expressions and patterns
 --   `use_offences`, `bind_offences`, ..                those of one name
 use Rattle.std.specs.Prelude.{ℕ, ◌+◌, List, [], ◌∷◌, ◌++◌, length, is_some, if◌then◌else◌}
-use Rattle.abs_tree.specs.Slots.{statement_slots, statements_slots}
+use Rattle.abs_program.specs.Slots.{statement_slots, statements_slots}
 use Rattle.abs_tree.specs.Syntax.{Name, VariableTree, Unresolved, AtSlot, AtBound, AtField, PatternTree, AnyValue, Binds, SameNumber, SameString, Built, PatternTrees, NoPattern, NextPattern, Phrase, LetIn, IfElse, OperatorsOf, Prefixed, NumberOf, StringOf, NullOf, DestinyOf, ThisOf, FieldOf, OwnCallOf, VariableOf, ApplyOf, BuildOf, CaseOf, Phrases, NoPhrase, NextPhrase, Operands, NoOperands, NextOperand, Branches, NoBranch, NextBranch, SideTree, NewOf, ValueOf, SendOf, GetOf, CallOf, Tests, NoTest, NextTest, TargetTree, ToVariable, ToField, MaybeSide, NoSide, SomeSide, Statement, BlockOf, SkipOf, SuspendOf, AwaitOf, ReturnOf, PrintOf, IfOf, WhileOf, DeclareOf, AssignOf, DoOf, MaybeStatements, NoElse, Else, Statements, NoStatement, NextStatement, MaybePhrase, NoValue, Value, ParamTree, DeclaredTree, ConstructorTree, SignatureTree, MemberTree, FieldTree, MethodTree, DeclTree, DataTree, FunctionTree, InterfaceTree, ClassTree, SourceTree}
 use Rattle.abs_tree.specs.SyntaxCounts.{count_patterns, count_phrases}
 use Rattle.abs_tree.specs.declared.place.Place.{Place}
@@ -18,14 +18,14 @@ use Rattle.abs_tree.specs.declared.refusal.Code.TheVariants.{N2}
 use Rattle.abs_names.specs.declared.scope.Routine.TheVariants.{Main, Method, Function, Initial}
 use Rattle.abs_graph.specs.Graphs.{on_cycles}
 use Rattle.abs_names.specs.Extension.{extension_offences}
-use Rattle.abs_tree.specs.Supertypes.{supertypes}
+use Rattle.abs_program.specs.Supertypes.{supertypes}
 use Rattle.abs_names.specs.Repeats.{declarations_repeats}
 use Rattle.abs_names.specs.Prelude.{prelude}
 use Rattle.abs_names.specs.Single.{unknown, unwritten, twice}
 use Rattle.abs_names.specs.Spaces.{spaces_offences}
 use Rattle.abs_names.specs.TypeNames.{Around, around_of, applied, function_taking, constructor_taking, class_taking, type_offences, types_offences}
-use Rattle.abs_tree.specs.NameSpaces.{NameSpaces, built_in, spaces_of, means_interface}
-use Rattle.abs_tree.specs.Tables.{meaning_of}
+use Rattle.abs_program.specs.NameSpaces.{NameSpaces, built_in, spaces_of, means_interface}
+use Rattle.abs_program.specs.Tables.{meaning_of}
 use Rattle.abs_names.specs.Scopes.{Meanings, Scope, has_this, has_task, field_of, use_of, is_taken, with_bound, pattern_scope, statement_scope, body_scope, class_fields, fields_after}
 
 -- the use of a variable; a source does not write one that is resolved already

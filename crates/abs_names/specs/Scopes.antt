@@ -8,8 +8,8 @@
 --   `body_scope`, `class_fields`               the scope at the beginning of a body, the fields of a class
 use Rattle.std.specs.Prelude.{ℕ, ◌+◌, Bool, true, false, ◌||◌, List, [], ◌∷◌, length, Option, Some, None, is_some, nat_lt, if◌then◌else◌}
 use Rattle.abs_tree.specs.Syntax.{Name, VariableTree, Unresolved, AtSlot, AtBound, AtField, PatternTree, AnyValue, Binds, SameNumber, SameString, Built, PatternTrees, NoPattern, NextPattern, MaybeSide, Statement, BlockOf, SkipOf, SuspendOf, AwaitOf, ReturnOf, PrintOf, IfOf, WhileOf, DeclareOf, AssignOf, DoOf, ParamTree, MemberTree, FieldTree, MethodTree}
-use Rattle.abs_tree.specs.Slots.{maybe_side_slots}
-use Rattle.abs_tree.specs.Tables.{meaning_of, with_first}
+use Rattle.abs_program.specs.Slots.{maybe_side_slots}
+use Rattle.abs_program.specs.Tables.{meaning_of, with_first}
 use Rattle.abs_names.specs.TypeNames.{Around}
 use Rattle.abs_names.specs.declared.scope.Routine.{Routine}
 use Rattle.abs_names.specs.declared.scope.Routine.TheVariants.{Main, Method, Function, Initial}

@@ -3,10 +3,10 @@
 --   `spaces_offences`          the offences of declarations after others
 --   `space_offences`           those of one declaration
 use Rattle.std.specs.Prelude.{ℕ, ◌+◌, List, [], ◌∷◌, ◌++◌, is_some}
-use Rattle.abs_tree.specs.NameSpaces.{NameSpaces, with_constructor, with_declaration}
+use Rattle.abs_program.specs.NameSpaces.{NameSpaces, with_constructor, with_declaration}
 use Rattle.abs_tree.specs.Syntax.{ConstructorTree, DeclTree, DataTree, FunctionTree, InterfaceTree, ClassTree}
-use Rattle.abs_tree.specs.Tables.{Table, meaning_of}
-use Rattle.abs_tree.specs.declared.name_spaces.ConstructorMeaning.{ConstructorMeaning}
+use Rattle.abs_program.specs.Tables.{Table, meaning_of}
+use Rattle.abs_program.specs.declared.name_spaces.ConstructorMeaning.{ConstructorMeaning}
 use Rattle.abs_tree.specs.declared.refusal.Offence.{Offence}
 use Rattle.abs_names.specs.Single.{twice}
 

@@ -6,14 +6,14 @@
 --   `type_offences`, `types_offences`      the offences of types
 --   `resolved_type`, `resolved_types`      resolved types
 use Rattle.std.specs.Prelude.{ℕ, ◌+◌, List, [], ◌∷◌, ◌++◌, Option, Some, None, option_map, nat_eq, if◌then◌else◌}
-use Rattle.abs_tree.specs.NameSpaces.{NameSpaces, count_types, type_arity, function_arity}
+use Rattle.abs_program.specs.NameSpaces.{NameSpaces, count_types, type_arity, function_arity}
 use Rattle.abs_tree.specs.Places.{start}
 use Rattle.abs_tree.specs.Syntax.{Name, TypeTree, UnresolvedType, IntType, StringType, FutType, DataType, InterfaceType, ParameterType, BottomType, NullType, ClassType, TypeTrees, NoType, NextType, DeclaredTree}
-use Rattle.abs_tree.specs.Tables.{Table, meaning_of, with_first}
-use Rattle.abs_tree.specs.declared.name_spaces.Taking.{Taking}
-use Rattle.abs_tree.specs.declared.name_spaces.ConstructorMeaning.{ConstructorMeaning}
-use Rattle.abs_tree.specs.declared.name_spaces.TypeMeaning.{TypeMeaning}
-use Rattle.abs_tree.specs.declared.name_spaces.TypeMeaning.TheVariants as type
+use Rattle.abs_program.specs.Tables.{Table, meaning_of, with_first}
+use Rattle.abs_program.specs.declared.name_spaces.Taking.{Taking}
+use Rattle.abs_program.specs.declared.name_spaces.ConstructorMeaning.{ConstructorMeaning}
+use Rattle.abs_program.specs.declared.name_spaces.TypeMeaning.{TypeMeaning}
+use Rattle.abs_program.specs.declared.name_spaces.TypeMeaning.TheVariants as type
 use Rattle.abs_tree.specs.declared.place.Place.{Place}
 use Rattle.abs_tree.specs.declared.refusal.Offence.{Offence}
 use Rattle.abs_tree.specs.declared.refusal.Code.TheVariants.{N2, N3}

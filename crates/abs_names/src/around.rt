@@ -1,20 +1,20 @@
 //! What is around a part of a source: the names that it may have, what is declared, and the type parameters.
 ghost use Rattle.std.specs.Prelude.{◌≡◌, ◌≤◌, [], length, take, map, is_some, IfOk, OnOk};
 ghost use Rattle.abs_graph.specs.Views.{graph_of};
-ghost use Rattle.abs_tree.specs.KeptSpaces.{spaces_by_name, AreProper};
+ghost use Rattle.abs_program.specs.KeptSpaces.{spaces_by_name, AreProper};
 ghost use Rattle.abs_tree.specs.Limits.{table_limit};
 ghost use Rattle.abs_tree.specs.Names.{number_of_name, name_of};
-ghost use Rattle.abs_tree.specs.NameSpaces.{built_in, function_arity as arity_of_function, means_interface as names_interface};
-ghost use Rattle.abs_tree.specs.Supertypes.{supertypes_in};
+ghost use Rattle.abs_program.specs.NameSpaces.{built_in, function_arity as arity_of_function, means_interface as names_interface};
+ghost use Rattle.abs_program.specs.Supertypes.{supertypes_in};
 ghost use Rattle.abs_tree.specs.SyntaxViews.{decl_tree, declared as declared_tree};
-ghost use Rattle.abs_tree.specs.Tables.{meaning_of, with_first};
-ghost use Rattle.abs_tree.specs.declared.name_spaces.FunctionMeaning.TheVariants.{Defined};
+ghost use Rattle.abs_program.specs.Tables.{meaning_of, with_first};
+ghost use Rattle.abs_program.specs.declared.name_spaces.FunctionMeaning.TheVariants.{Defined};
 ghost use Rattle.abs_names.specs.TypeNames.{around_of, function_taking, constructor_taking, class_taking};
 
-use abs_tree::{
-    ConstructorMeaning, Decl, Declared, FunctionMeaning, Meanings, NameSpaces, Symbol, Symbols,
-    Taking, TypeMeaning, supertype_graph,
+use abs_program::{
+    ConstructorMeaning, FunctionMeaning, Meanings, NameSpaces, Taking, TypeMeaning, supertype_graph,
 };
+use abs_tree::{Decl, Declared, Symbol, Symbols};
 use std::alloc::{AllocError, Global};
 use std::marker::Model;
 
@@ -35,7 +35,7 @@ pub(crate) struct Around<'s> {
 impl<'s> Model for Around<'s> {
     ghost use Rattle.std.specs.Prelude.{◌≤◌, length, take};
     ghost use Rattle.abs_tree.specs.Limits.{table_limit};
-    ghost use Rattle.abs_tree.specs.KeptSpaces.{named, ProperNumbers, spaces_by_name, AreProper};
+    ghost use Rattle.abs_program.specs.KeptSpaces.{named, ProperNumbers, spaces_by_name, AreProper};
     ghost use Rattle.abs_names.specs.Visible.{Known};
 
     ghost Value = { Known };

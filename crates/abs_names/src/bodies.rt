@@ -2,7 +2,7 @@
 ghost use Rattle.std.specs.Prelude.{◌≡◌, ◌≤◌, ◌++◌, [], fold, length, map, IfOk, OnOk};
 ghost use Rattle.abs_tree.specs.Offences.{earlier as earlier_of};
 ghost use Rattle.abs_tree.specs.Limits.{table_limit};
-ghost use Rattle.abs_tree.specs.Slots.{param_slots, statements_slots};
+ghost use Rattle.abs_program.specs.Slots.{param_slots, statements_slots};
 ghost use Rattle.abs_tree.specs.Syntax.{AtSlot};
 ghost use Rattle.abs_tree.specs.SyntaxViews.{variable_tree, param_tree, maybe_phrase, statements as statement_trees};
 ghost use Rattle.abs_names.specs.NameOffences.{params_offences, statements_offences, maybe_phrase_offences};

@@ -2,7 +2,7 @@
 ghost use Rattle.std.specs.Prelude.{◌≡◌, ◌≤◌, [], All, fold, length, map, IfOk, OnOk};
 ghost use Rattle.abs_tree.specs.Offences.{earlier as earlier_of};
 ghost use Rattle.abs_tree.specs.Limits.{table_limit};
-ghost use Rattle.abs_tree.specs.SlotViews.{MemberHasSlots};
+ghost use Rattle.abs_program.specs.SlotViews.{MemberHasSlots};
 ghost use Rattle.abs_tree.specs.Syntax.{AtField};
 ghost use Rattle.abs_tree.specs.SyntaxViews.{param_tree, member_tree};
 ghost use Rattle.abs_names.specs.NameOffences.{params_offences, member_offences, members_offences, class_offences};

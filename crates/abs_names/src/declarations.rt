@@ -1,7 +1,7 @@
 //! Declarations, which are resolved in place.
 ghost use Rattle.std.specs.Prelude.{◌≡◌, [], All, fold, map, length, OnOk};
 ghost use Rattle.abs_tree.specs.Offences.{earlier};
-ghost use Rattle.abs_tree.specs.SlotViews.{DeclHasSlots};
+ghost use Rattle.abs_program.specs.SlotViews.{DeclHasSlots};
 ghost use Rattle.abs_tree.specs.SyntaxViews.{declared as declared_tree, constructor_tree, signature_tree, decl_tree};
 ghost use Rattle.abs_names.specs.NameOffences.{interfaces_offences, constructor_types_offences, signature_offences, signatures_offences, declaration_offences, declarations_offences};
 ghost use Rattle.abs_names.specs.Resolution.{resolved_constructors, resolved_signature, resolved_signatures, resolved_declaration, resolved_declarations};

@@ -1,9 +1,9 @@
 //! Interfaces that extend themselves, in one step or in more.
 ghost use Rattle.std.specs.Prelude.{◌≡◌, List, fold, map, OnOk};
 ghost use Rattle.abs_graph.specs.Graphs.{on_cycles as cycles_of};
-ghost use Rattle.abs_tree.specs.NameSpaces.{spaces_of};
+ghost use Rattle.abs_program.specs.NameSpaces.{spaces_of};
 ghost use Rattle.abs_tree.specs.Offences.{earlier};
-ghost use Rattle.abs_tree.specs.Supertypes.{supertypes};
+ghost use Rattle.abs_program.specs.Supertypes.{supertypes};
 ghost use Rattle.abs_tree.specs.Syntax.{Name};
 ghost use Rattle.abs_tree.specs.SyntaxViews.{decl_tree};
 ghost use Rattle.abs_names.specs.Extension.{extension_offences, name_place as place_of_name};

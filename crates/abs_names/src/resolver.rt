@@ -1,12 +1,13 @@
 //! The public call: resolves the names of a source after the prelude, or returns its first name offence.
 ghost use Rattle.std.specs.Prelude.{◌≡◌, ◌≤◌, ◌++◌, [], None, All, fold, length, map, take, IfOk, IfErr, OnOk};
-ghost use Rattle.abs_tree.specs.KeptSpaces.{spaces_by_name, AreProper};
+ghost use Rattle.abs_program.specs.KeptSpaces.{spaces_by_name, AreProper};
 ghost use Rattle.abs_tree.specs.Limits.{table_limit};
 ghost use Rattle.abs_tree.specs.Names.{with_name};
-ghost use Rattle.abs_tree.specs.NameSpaces.{built_in, spaces_of};
+ghost use Rattle.abs_program.specs.NameSpaces.{built_in, spaces_of};
 ghost use Rattle.abs_tree.specs.Offences.{earlier, first_offence};
-ghost use Rattle.abs_tree.specs.SlotViews.{BodyHasSlots, DeclHasSlots};
-ghost use Rattle.abs_tree.specs.SourceViews.{source_tree, named_tree};
+ghost use Rattle.abs_program.specs.SlotViews.{BodyHasSlots, DeclHasSlots};
+ghost use Rattle.abs_program.specs.NamedViews.{named_tree};
+ghost use Rattle.abs_tree.specs.SourceViews.{source_tree};
 ghost use Rattle.abs_tree.specs.SyntaxViews.{decl_tree, tree_of_parts};
 ghost use Rattle.abs_names.specs.Answers.{Refuses};
 ghost use Rattle.abs_names.specs.NameOffences.{name_offences, repeated_offences, declared_offences, declarations_offences};
@@ -24,7 +25,8 @@ use crate::prelude::{add_names, prelude as prelude_declarations};
 use crate::scope::Routine;
 use crate::spaces::Declarer;
 use crate::walk::Walk;
-use abs_tree::{Body, Decl, NameSpaces, Named, Offence, Program, Symbols, Tables};
+use abs_program::{NameSpaces, Named, Tables};
+use abs_tree::{Body, Decl, Offence, Program, Symbols};
 use std::alloc::{AllocError, Global};
 
 /// The source with its names resolved, after the declarations of the prelude. The names of the prelude that the source

@@ -1,7 +1,7 @@
 //! Right sides: each call by `.` on another object than `this` gets a hidden slot.
 ghost use Rattle.std.specs.Prelude.{◌≡◌, ◌++◌, ℕ, List, Option, None, fold, length, IfOk, OnOk};
 ghost use Rattle.abs_tree.specs.Offences.{earlier};
-ghost use Rattle.abs_tree.specs.Slots.{side_slots, maybe_side_slots};
+ghost use Rattle.abs_program.specs.Slots.{side_slots, maybe_side_slots};
 ghost use Rattle.abs_tree.specs.Names.{name_of};
 ghost use Rattle.abs_tree.specs.Syntax.{Name, NewOf, CallOf};
 ghost use Rattle.abs_tree.specs.declared.place.Place.{Place as PlaceAt};

@@ -3,15 +3,16 @@ ghost use Rattle.std.specs.Prelude.{◌≡◌, [], List, length, take, map, is_s
 ghost use Rattle.abs_tree.specs.Syntax.{Name, Unresolved};
 ghost use Rattle.abs_tree.specs.SyntaxViews.{variable_tree, declared as declared_tree};
 ghost use Rattle.abs_tree.specs.Names.{name_of};
-ghost use Rattle.abs_tree.specs.Tables.{meaning_of};
+ghost use Rattle.abs_program.specs.Tables.{meaning_of};
 ghost use Rattle.abs_names.specs.Numbered.{is_bound as count_of_bound, bound_up_to, EndsIn};
 ghost use Rattle.abs_names.specs.Scopes.{Meanings as MeaningList, visible_field as field_seen, use_of, field_of, is_taken, has_this as is_with_this, has_task as is_with_task, next_bound, with_bound, with_variable, with_field};
 ghost use Rattle.abs_names.specs.TypeNames.{around_of};
-ghost use Rattle.abs_tree.specs.KeptSpaces.{named, spaces_by_name, AreProper, ProperNumbers};
+ghost use Rattle.abs_program.specs.KeptSpaces.{named, spaces_by_name, AreProper, ProperNumbers};
 ghost use Rattle.abs_names.specs.declared.scope.Routine.TheVariants.{Main as InMain};
 
 use crate::around::Around;
-use abs_tree::{Declared, Meanings, NameSpaces, Symbol, Variable};
+use abs_program::{Meanings, NameSpaces};
+use abs_tree::{Declared, Symbol, Variable};
 use std::alloc::{AllocError, Global};
 use std::marker::Model;
 
@@ -64,7 +65,7 @@ pub(crate) struct Scope<'s> {
 impl<'s> Model for Scope<'s> {
     ghost use Rattle.abs_tree.specs.SyntaxViews.{variable_tree};
     ghost use Rattle.abs_names.specs.Numbered.{AreCounted};
-    ghost use Rattle.abs_tree.specs.KeptSpaces.{named, ProperNumbers};
+    ghost use Rattle.abs_program.specs.KeptSpaces.{named, ProperNumbers};
     ghost use Rattle.abs_names.specs.Visible.{Visible, binding_tree};
 
     ghost Value = { Visible };

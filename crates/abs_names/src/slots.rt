@@ -2,7 +2,7 @@
 ghost use Rattle.std.specs.Prelude.{◌≡◌, ◌≤◌, ◌++◌, ◌∷◌, [], length, map, IfOk, OnOk};
 ghost use Rattle.std.specs.List.{range_with_len};
 ghost use Rattle.abs_tree.specs.Limits.{table_limit};
-ghost use Rattle.abs_tree.specs.Slots.{param_slots};
+ghost use Rattle.abs_program.specs.Slots.{param_slots};
 
 use abs_tree::Slot;
 use abs_tree::limits::TABLE_LIMIT;

@@ -1,15 +1,16 @@
 //! The name spaces of a program: each declaration is added to its own, unless its name is taken.
 ghost use Rattle.std.specs.Prelude.{◌≡◌, ◌+◌, fold, map, length, is_some, IfOk, OnOk};
-ghost use Rattle.abs_tree.specs.NameSpaces.{with_constructor, with_constructors, with_declaration, with_declarations};
+ghost use Rattle.abs_program.specs.NameSpaces.{with_constructor, with_constructors, with_declaration, with_declarations};
 ghost use Rattle.abs_tree.specs.Offences.{earlier};
 ghost use Rattle.abs_tree.specs.SyntaxViews.{constructor_tree, decl_tree};
-ghost use Rattle.abs_tree.specs.Tables.{meaning_of};
+ghost use Rattle.abs_program.specs.Tables.{meaning_of};
 ghost use Rattle.abs_names.specs.Single.{twice};
 ghost use Rattle.abs_names.specs.Spaces.{constructors_offences, space_offences, spaces_offences};
 
 use crate::around::Around;
 use crate::walk::note_if;
-use abs_tree::{Code, Constructor, ConstructorMeaning, Decl, Offence, Taking, TypeMeaning};
+use abs_program::{ConstructorMeaning, Taking, TypeMeaning};
+use abs_tree::{Code, Constructor, Decl, Offence};
 use std::alloc::AllocError;
 
 /// What declares the names of a program: what is declared so far, and the first name that was taken.

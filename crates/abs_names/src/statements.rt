@@ -1,7 +1,7 @@
 //! Statements: each local of a body is numbered, and a block has a scope of its own.
 ghost use Rattle.std.specs.Prelude.{◌≡◌, ◌++◌, ◌∷◌, [], ⊤, ℕ, fold, length, IfOk, OnOk};
 ghost use Rattle.abs_tree.specs.Offences.{earlier};
-ghost use Rattle.abs_tree.specs.Slots.{statement_slots, statements_slots, else_slots};
+ghost use Rattle.abs_program.specs.Slots.{statement_slots, statements_slots, else_slots};
 ghost use Rattle.abs_tree.specs.Syntax.{AtSlot, BlockOf, SkipOf, SuspendOf, AwaitOf, ReturnOf, PrintOf, IfOf, WhileOf, DeclareOf};
 ghost use Rattle.abs_tree.specs.declared.syntax.slot.Slot.TheVariants.{Local};
 ghost use Rattle.abs_tree.specs.SyntaxViews.{variable_tree, type_tree, phrase, maybe_side, tests as test_trees, target_tree, statement as statement_tree, statements as statement_trees, maybe_statements};

@@ -1,6 +1,6 @@
 //! Types: each name of one becomes what it stands for, and takes as many arguments as are declared.
 ghost use Rattle.std.specs.Prelude.{◌≡◌, List, Some, None, fold, IfOk, OnOk};
-ghost use Rattle.abs_tree.specs.NameSpaces.{type_arity as arity_of_type};
+ghost use Rattle.abs_program.specs.NameSpaces.{type_arity as arity_of_type};
 ghost use Rattle.abs_tree.specs.Names.{name_of};
 ghost use Rattle.abs_tree.specs.Offences.{earlier};
 ghost use Rattle.abs_tree.specs.Syntax.{Name, UnresolvedType, DataType};
@@ -9,7 +9,8 @@ ghost use Rattle.abs_names.specs.Single.{unwritten as unwritten_at};
 ghost use Rattle.abs_names.specs.TypeNames.{type_offences, types_offences, resolved_type, resolved_types, taken_by, future_type, named_type as tree_of_named};
 
 use crate::walk::Walk;
-use abs_tree::{Place, Symbol, TypeMeaning, TypeTerm};
+use abs_program::TypeMeaning;
+use abs_tree::{Place, Symbol, TypeTerm};
 use std::alloc::AllocError;
 
 /// The place of the first byte of a source, at which a type without a place is noted.

@@ -1,12 +1,13 @@
 //! The first profile offence of a program.
 ghost use Rattle.std.specs.Prelude.{◌≡◌};
 ghost use Rattle.abs_tree.specs.Offences.{first_offence};
-ghost use Rattle.abs_tree.specs.SourceViews.{named_tree};
+ghost use Rattle.abs_program.specs.NamedViews.{named_tree};
 ghost use Rattle.abs_profile.specs.Profile.{profile_offences};
 
 use crate::declarations::note_in_declarations;
 use crate::statements::note_in_statements;
-use abs_tree::{Named, Offence};
+use abs_program::Named;
+use abs_tree::Offence;
 
 /// The first profile offence of a program, or `None` if it has none.
 pub fn profile_offence(program: &Named<'_>) -> Option<Offence>

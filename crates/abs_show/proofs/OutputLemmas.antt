@@ -7,13 +7,13 @@ use Rattle.std.proofs.Common.{◌≡◌, ◌<◌, ◌≤◌, ◌∙◌, refl, sy
 use Rattle.std.proofs.lemmas.List.{nil_from_length}
 use Rattle.std.specs.declared.alloc.Global.{Global}
 use Rattle.std.specs.declared.sync.Arc.{Arc}
-use Rattle.abs_tree.specs.Evaluation.{initial_outcomes, result_of, results_of}
-use Rattle.abs_tree.specs.InstructionViews.{shared_phrases}
-use Rattle.abs_tree.specs.Results.{result_tree, Result, Gives, Fails, Results, AllGive, OneFails}
-use Rattle.abs_tree.specs.Scopes.{Library, Scope, library_of}
+use Rattle.abs_values.specs.Evaluation.{initial_outcomes, result_of, results_of}
+use Rattle.abs_program.specs.InstructionViews.{shared_phrases}
+use Rattle.abs_values.specs.Results.{result_tree, Result, Gives, Fails, Results, AllGive, OneFails}
+use Rattle.abs_values.specs.Scopes.{Library, Scope, library_of}
 use Rattle.abs_tree.specs.Syntax.{Name, Phrase, Phrases, NoPhrase, NextPhrase, ProgramTree}
 use Rattle.abs_tree.specs.SyntaxViews.{phrase, phrases}
-use Rattle.abs_tree.specs.declared.evaluated.Evaluated.{Evaluated}
+use Rattle.abs_values.specs.declared.evaluated.Evaluated.{Evaluated}
 use Rattle.abs_tree.specs.declared.syntax.expression.Expr.{Expr}
 use Rattle.step_rules.specs.Inputs.{Input, output_of}
 

@@ -9,7 +9,8 @@
 //!
 //! A part that is not there is left out. A task that has ended has a `result` or a `fault`, and no frame. A place and
 //! a call are the offset of a statement, and `next` is the index of one. Strings are in quotes.
-use abs_tree::{Evaluated, Symbol, Symbols, Text, Value, Values, value_text};
+use abs_tree::{Symbol, Symbols, Text};
+use abs_values::{Evaluated, Value, Values, value_text};
 use config_state::{Cogs, Config, Frame, Lines, Objects, Target, TaskCell, Tasks};
 use std::alloc::{AllocError, Global};
 

@@ -1,7 +1,8 @@
 //! Prints where control goes in a program: a line for each class and each of its methods, one for the main block, and
 //! one for each statement that has an index, with its effect and what comes after it.
 use crate::printer::Printer;
-use abs_tree::{BodyEntry, Decl, Effect, Member, Named, Successor};
+use abs_program::{BodyEntry, Effect, Named, Successor};
+use abs_tree::{Decl, Member};
 use std::alloc::{AllocError, Global};
 
 /// The lines of a program: of its own declarations, of its main block, and of its statements.

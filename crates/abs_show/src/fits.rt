@@ -1,7 +1,8 @@
 //! Prints which types fit which, for the types that the declarations of a source write. So a source is a table: each
 //! method of an interface with two parameters is a row, and so is each function.
 use crate::printer::Printer;
-use abs_tree::{Decl, Named, Signature, Symbol, TypeTerm};
+use abs_program::Named;
+use abs_tree::{Decl, Signature, Symbol, TypeTerm};
 use abs_types::{holds_futures, holds_objects, join, subtype};
 use std::alloc::{AllocError, Global};
 

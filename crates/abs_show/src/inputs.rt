@@ -1,7 +1,7 @@
 //! Makes an event from the output of its input: what a worker does that evaluates for another.
 ghost use Rattle.std.specs.Prelude.{◌≡◌, ◌<◌, length, IfOk, IsSome, OnOk};
-ghost use Rattle.abs_tree.specs.Results.{results_tree};
-ghost use Rattle.abs_tree.specs.SourceViews.{program_tree};
+ghost use Rattle.abs_values.specs.Results.{results_tree};
+ghost use Rattle.abs_program.specs.NamedViews.{program_tree};
 ghost use Rattle.config_state.specs.ConfigViews.{configuration};
 ghost use Rattle.config_state.specs.OfProgram.{IsConfigOf};
 ghost use Rattle.step_rules.specs.Events.{event_of};
@@ -9,7 +9,8 @@ ghost use Rattle.step_rules.specs.InputViews.{input_tree};
 ghost use Rattle.step_rules.specs.Inputs.{output_of};
 
 use crate::failure::Failure;
-use abs_tree::{Evaluated, Named, Output, Values};
+use abs_program::Named;
+use abs_values::{Evaluated, Output, Values};
 use config_state::{Config, Lines};
 use fun_eval::{eval, eval_all};
 use std::alloc::{AllocError, Global};

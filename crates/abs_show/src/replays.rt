@@ -1,6 +1,6 @@
 //! Replays a history: whether it is legal, and what it prints.
 use crate::failure::Failure;
-use abs_tree::Named;
+use abs_program::Named;
 use config_state::Lines;
 use run_history::{History, Replayed, replay};
 use std::alloc::{AllocError, Global};

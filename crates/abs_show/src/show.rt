@@ -17,8 +17,9 @@ use abs_names::{
     PRELUDE_DECLARATIONS, PRELUDE_TEXT, add_prelude_names, prelude_declarations, resolve,
 };
 use abs_parser::parse;
+use abs_program::Named;
 use abs_tree::limits::SOURCE_LIMIT;
-use abs_tree::{Body, Decl, Named, Symbol, Symbols};
+use abs_tree::{Body, Decl, Symbol, Symbols};
 use std::alloc::{AllocError, Global};
 
 /// What is shown of a source.

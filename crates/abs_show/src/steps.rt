@@ -8,7 +8,7 @@
 //! before. Both are written as text before and after it, and compared. Then the event is tried once more. So where a
 //! single allocation fails, the program prints all or nothing.
 ghost use Rattle.std.specs.Prelude.{◌≡◌, ◌<◌, length, Some, IsSome, OnOk};
-ghost use Rattle.abs_tree.specs.SourceViews.{program_tree};
+ghost use Rattle.abs_program.specs.NamedViews.{program_tree};
 ghost use Rattle.config_state.specs.ConfigViews.{configuration};
 ghost use Rattle.config_state.specs.OfProgram.{IsConfigOf};
 ghost use Rattle.step_rules.specs.Events.{event_of};
@@ -16,7 +16,7 @@ ghost use Rattle.step_rules.specs.Events.{event_of};
 use crate::configurations::configuration_lines;
 use crate::failure::Failure;
 use crate::inputs::apply_output;
-use abs_tree::Named;
+use abs_program::Named;
 use abs_tree::limits::EVENT_LIMIT;
 use config_state::{Config, Lines, first};
 use run_history::next_task;

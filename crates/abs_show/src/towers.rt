@@ -6,7 +6,8 @@ ghost use Rattle.abs_types.specs.TypeShapes.{IsAmong};
 ghost use Rattle.abs_types.specs.TypeTables.{types_in, Keeps};
 
 use crate::fits::{add_line, answer, is_data, meant};
-use abs_tree::{Decl, Named, Signature, TypeTerm};
+use abs_program::Named;
+use abs_tree::{Decl, Signature, TypeTerm};
 use abs_types::{TypeIndex, TypeTable};
 use std::alloc::{AllocError, Global};
 

@@ -6,9 +6,9 @@
 --   `sum_of_products`, ..              the expressions, each after its text
 use Rattle.std.specs.Prelude.{ℕ, pos, negsuc, List, [], ◌∷◌, codes, Some}
 use Rattle.abs_tree.specs.Places.{start}
-use Rattle.abs_tree.specs.Scopes.{Library, Scope}
+use Rattle.abs_values.specs.Scopes.{Library, Scope}
 use Rattle.abs_tree.specs.Syntax.{Name, AtSlot, AtBound, IntType, AnyValue, Binds, SameNumber, Built, PatternTree, PatternTrees, NoPattern, NextPattern, Phrase, LetIn, IfElse, OperatorsOf, Prefixed, NumberOf, StringOf, ThisOf, VariableOf, ApplyOf, BuildOf, CaseOf, Phrases, NoPhrase, NextPhrase, Operands, NoOperands, NextOperand, NoBranch, NextBranch}
-use Rattle.abs_tree.specs.ValueTrees.{ValueTree, IntValue, BuiltValue, ValueTrees, NoPart, NextPart}
+use Rattle.abs_values.specs.ValueTrees.{ValueTree, IntValue, BuiltValue, ValueTrees, NoPart, NextPart}
 use Rattle.abs_tree.specs.declared.syntax.expression.Operator.{Operator}
 use Rattle.abs_tree.specs.declared.syntax.expression.Operator.TheVariants as operator
 use Rattle.abs_tree.specs.declared.syntax.expression.Prefix.TheVariants as prefix

@@ -1,7 +1,8 @@
 //! That the calls can succeed, of which no contract speaks, and that the clauses mean what they should.
-use abs_tree::{
-    Expr, Exprs, Place, Symbol, Symbols, Text, Value, Values, value_depth, value_equal, value_size,
-    value_text, value_text_within,
+use abs_program::Exprs;
+use abs_tree::{Expr, Place, Symbol, Symbols, Text};
+use abs_values::{
+    Value, Values, value_depth, value_equal, value_size, value_text, value_text_within,
 };
 use std::alloc::{AllocError, Global};
 use std::sync::Arc;

@@ -1,10 +1,10 @@
 //! Printed forms and sizes of values, and results of expressions, as the language's description gives them.
 ghost use Rattle.std.specs.Prelude.{◌≡◌, [], ◌∷◌, ◌++◌, pos, negsuc, codes, Some, None};
-ghost use Rattle.abs_tree.specs.Evaluation.{result_of};
-ghost use Rattle.abs_tree.specs.Printed.{printed_form};
-ghost use Rattle.abs_tree.specs.Results.{Gives, Fails};
-ghost use Rattle.abs_tree.specs.ValueTrees.{IntValue, StringValue, BuiltValue, ObjectValue, FutureValue, NullValue, NoPart, value_nodes, value_depth};
-ghost use Rattle.abs_tree.specs.declared.evaluated.Fault.TheVariants as fault;
+ghost use Rattle.abs_values.specs.Evaluation.{result_of};
+ghost use Rattle.abs_values.specs.Printed.{printed_form};
+ghost use Rattle.abs_values.specs.Results.{Gives, Fails};
+ghost use Rattle.abs_values.specs.ValueTrees.{IntValue, StringValue, BuiltValue, ObjectValue, FutureValue, NullValue, NoPart, value_nodes, value_depth};
+ghost use Rattle.abs_values.specs.declared.evaluated.Fault.TheVariants as fault;
 ghost use Rattle.abs_tests.specs.ValueExamples.{names, library, scope, one_part, pair, just, cons, nil, unit, sum_of_products, quotient, least_remainder, overflow, zero_divisor, first_fault, decided, undecided, mistyped_condition, bound, matched_pair, no_branch, twice_applied, wrong_arity, string_of_data, chosen, equal_lists, own_object, unknown_slot};
 
 /// How values are printed: whole, and inside data.

@@ -13,7 +13,7 @@ use Rattle.std.proofs.lemmas.List.Quantifiers.{position-Some}
 use Rattle.std.proofs.lemmas.Option.{slice_get-get_or}
 use Rattle.indexmap.specs.IndexMap.{IndexMap, get, insert_entry}
 use Rattle.indexmap.proofs.CallerLemmas.{insert_entry-new}
-use Rattle.abs_tree.specs.declared.named.Named.{Named}
+use Rattle.abs_program.specs.declared.named.Named.{Named}
 use Rattle.abs_types.proofs.GrowthLemmas.{AreKnown, known_push, entry_shapes}
 use Rattle.abs_types.proofs.ShapeLemmas.{shape_eq, shape_eq_same}
 use Rattle.abs_types.proofs.TableLemmas.{shapes_in, length-types_in, shape_type_at}

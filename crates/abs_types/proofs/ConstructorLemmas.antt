@@ -16,7 +16,7 @@ use Rattle.std.proofs.lemmas.Option.{none-some, same_Some, cond_some}
 use Rattle.std.proofs.lemmas.Simd.{map-map}
 use Rattle.std.proofs.lemmas.Slice.Eq.{bytes_eq-Decides}
 use Rattle.abs_tree.specs.Syntax.{Name, DeclTree, SourceTree}
-use Rattle.abs_tree.specs.Whole.{IsWhole}
+use Rattle.abs_program.specs.Whole.{IsWhole}
 use Rattle.abs_types.proofs.ApplicationLemmas.{application_fits, application_length}
 use Rattle.abs_types.proofs.ReplacementLemmas.{replacements_fit, AllFit-reflexive}
 use Rattle.abs_types.proofs.SchemeLemmas.{Constructs, constructor_scheme_is, constructor_is_closed}

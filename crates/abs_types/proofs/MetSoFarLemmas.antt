@@ -7,9 +7,9 @@
 use Rattle.std.proofs.Common.{◌≡◌, ◌<◌, List, [], ◌∷◌, ◌++◌, Option, Some, None, All, refl, sym, ap, ap₂, ◌∙◌, Bor}
 use Rattle.std.specs.Prelude.{option_and_then}
 use Rattle.std.proofs.lemmas.List.Elements.{All-pop}
-use Rattle.abs_tree.specs.SourceViews.{named_tree}
+use Rattle.abs_program.specs.NamedViews.{named_tree}
 use Rattle.abs_tree.specs.Syntax.{DeclTree}
-use Rattle.abs_tree.specs.declared.named.Named.{Named}
+use Rattle.abs_program.specs.declared.named.Named.{Named}
 use Rattle.abs_types.proofs.HeadLemmas.{met_back-push}
 use Rattle.abs_types.proofs.KeepLemmas.{among_kept, type_at_kept, keeps_transitive}
 use Rattle.abs_types.specs.Applications.{meet}

@@ -2,8 +2,8 @@
 use denote.Struct.Props as logic
 use mathlib.Core.Logic.{∥∥₁_elim}
 use Rattle.std.specs.Prelude.{◌≡◌, Bool, false, List, All}
-use Rattle.abs_tree.specs.SourceViews.{named_tree}
-use Rattle.abs_tree.specs.declared.named.Named.{Named}
+use Rattle.abs_program.specs.NamedViews.{named_tree}
+use Rattle.abs_program.specs.declared.named.Named.{Named}
 use Rattle.abs_types.specs.Subtyping.{NoneExtendsItself}
 
 -- there is one proof at most that all tests fail

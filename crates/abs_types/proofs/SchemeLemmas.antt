@@ -9,13 +9,13 @@ use Rattle.std.specs.List.{range_with_len}
 use Rattle.std.proofs.lemmas.List.Elements.{All-nil, All-cons, All-head, All-tail, All-get_or}
 use Rattle.std.proofs.lemmas.List.FromFn.{get_or-map-range_with_len, length-map-range_with_len}
 use Rattle.std.proofs.lemmas.Option.{none-some, same_Some, option_and_then_some, get_or_from_slice_get, slice_get_within}
-use Rattle.abs_tree.specs.NameSpaces.{NameSpaces, spaces_of}
+use Rattle.abs_program.specs.NameSpaces.{NameSpaces, spaces_of}
 use Rattle.abs_tree.specs.Syntax.{Name, VariableTree, AtSlot, TypeTree, UnresolvedType, IntType, StringType, FutType, DataType, InterfaceType, ParameterType, BottomType, NullType, ClassType, TypeTrees, NoType, NextType, ParamTree, DeclaredTree, ConstructorTree, DeclTree, DataTree, FunctionTree, SourceTree}
-use Rattle.abs_tree.specs.Tables.{meaning_of}
-use Rattle.abs_tree.specs.Whole.{Inside, inside_types, TypeIsThere, TypesAreThere, ParamsAreThere, DeclarationIsThere, IsWhole}
-use Rattle.abs_tree.specs.declared.name_spaces.ConstructorMeaning.{ConstructorMeaning}
-use Rattle.abs_tree.specs.declared.name_spaces.FunctionMeaning.{FunctionMeaning}
-use Rattle.abs_tree.specs.declared.name_spaces.FunctionMeaning.TheVariants as function
+use Rattle.abs_program.specs.Tables.{meaning_of}
+use Rattle.abs_program.specs.Whole.{Inside, inside_types, TypeIsThere, TypesAreThere, ParamsAreThere, DeclarationIsThere, IsWhole}
+use Rattle.abs_program.specs.declared.name_spaces.ConstructorMeaning.{ConstructorMeaning}
+use Rattle.abs_program.specs.declared.name_spaces.FunctionMeaning.{FunctionMeaning}
+use Rattle.abs_program.specs.declared.name_spaces.FunctionMeaning.TheVariants as function
 use Rattle.abs_tree.specs.declared.place.Place.{Place}
 use Rattle.abs_types.specs.PlainTypes.{PlainType, PlainData, PlainApplied, PlainParameter, applied_to, plain, plains}
 use Rattle.abs_types.specs.Schemes.{Scheme, param_types, declared_scheme, to_string_scheme, function_scheme, scheme_of_function, built_scheme, data_scheme, constructor_scheme, scheme_of_constructor, ParametersBelow, IsClosed}

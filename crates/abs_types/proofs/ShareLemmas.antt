@@ -5,7 +5,7 @@
 use denote.Ref.{NamedLft}
 use denote.Param.Send.{IsSend, IsSync, sendable}
 use Rattle.std.proofs.Crossing.{crosses}
-use Rattle.abs_tree.specs.contracts.named.Named as Named
+use Rattle.abs_program.specs.contracts.named.Named as Named
 use Rattle.abs_tree.specs.contracts.syntax.declaration.Body as Body
 use Rattle.abs_tree.specs.contracts.syntax.declaration.Decl as Decl
 use Rattle.abs_tree.specs.contracts.syntax.expression.Expr as Expr
@@ -17,17 +17,17 @@ use Rattle.abs_tree.specs.contracts.syntax.declaration.Signature as Signature
 use Rattle.abs_tree.specs.contracts.syntax.statement.Stmt as Stmt
 use Rattle.abs_tree.specs.contracts.syntax.statement.Test as Test
 use Rattle.abs_tree.specs.contracts.syntax.types.TypeTerm as TypeTerm
-use Rattle.abs_tree.specs.contracts.tables.Tables as Tables
-use Rattle.abs_tree.specs.contracts.tables.control.ClassEntry as ClassEntry
-use Rattle.abs_tree.specs.contracts.tables.control.Control as Control
-use Rattle.abs_tree.specs.contracts.tables.control.Effect as Effect
-use Rattle.abs_tree.specs.contracts.tables.control.Exprs as Exprs
-use Rattle.abs_tree.specs.contracts.tables.control.Instruction as Instruction
-use Rattle.abs_tree.proofs.name_spaces.NameSpaces.TheSendSync as SpacesShared
+use Rattle.abs_program.specs.contracts.tables.Tables as Tables
+use Rattle.abs_program.specs.contracts.tables.control.ClassEntry as ClassEntry
+use Rattle.abs_program.specs.contracts.tables.control.Control as Control
+use Rattle.abs_program.specs.contracts.tables.control.Effect as Effect
+use Rattle.abs_program.specs.contracts.tables.control.Exprs as Exprs
+use Rattle.abs_program.specs.contracts.tables.control.Instruction as Instruction
+use Rattle.abs_program.proofs.name_spaces.NameSpaces.TheSendSync as SpacesShared
 use Rattle.abs_tree.proofs.symbol.Symbols.TheSendSync as SymbolsShared
-use Rattle.abs_tree.proofs.tables.fields.Fields.TheSendSync as FieldsShared
-use Rattle.abs_tree.proofs.tables.methods.Methods.TheSendSync as MethodsShared
-use Rattle.abs_tree.proofs.tables.signatures.Signatures.TheSendSync as SignaturesShared
+use Rattle.abs_program.proofs.tables.fields.Fields.TheSendSync as FieldsShared
+use Rattle.abs_program.proofs.tables.methods.Methods.TheSendSync as MethodsShared
+use Rattle.abs_program.proofs.tables.signatures.Signatures.TheSendSync as SignaturesShared
 use Rattle.abs_tree.proofs.syntax.expression.Expr.TheLaws.TheKnot as ExprKnot
 use Rattle.abs_tree.proofs.syntax.pattern.Pattern.TheLaws.TheKnot as PatternKnot
 use Rattle.abs_tree.proofs.syntax.statement.Stmt.TheLaws.TheKnot as StmtKnot

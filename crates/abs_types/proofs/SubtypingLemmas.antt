@@ -10,13 +10,13 @@ use Rattle.std.proofs.lemmas.Slice.Eq.{bytes_eq-Decides}
 use Rattle.abs_graph.specs.Graphs.{Graph, leads, Reaches, reaches, on_cycles}
 use Rattle.abs_graph.specs.Graphs.Reaches.{in_one, in_more}
 use Rattle.abs_graph.proofs.ReachLemmas.{reaches_found, reaches_whole}
-use Rattle.abs_tree.specs.NameSpaces.{spaces_of}
-use Rattle.abs_tree.specs.Supertypes.{supertypes, is_below}
+use Rattle.abs_program.specs.NameSpaces.{spaces_of}
+use Rattle.abs_program.specs.Supertypes.{supertypes, is_below}
 use Rattle.abs_tree.specs.Syntax.{Name, DeclTree}
-use Rattle.abs_tree.specs.Tables.{meaning_of}
-use Rattle.abs_tree.specs.declared.name_spaces.Taking.{Taking}
-use Rattle.abs_tree.specs.declared.name_spaces.TypeMeaning.{TypeMeaning}
-use Rattle.abs_tree.specs.declared.name_spaces.TypeMeaning.TheVariants as type
+use Rattle.abs_program.specs.Tables.{meaning_of}
+use Rattle.abs_program.specs.declared.name_spaces.Taking.{Taking}
+use Rattle.abs_program.specs.declared.name_spaces.TypeMeaning.{TypeMeaning}
+use Rattle.abs_program.specs.declared.name_spaces.TypeMeaning.TheVariants as type
 use Rattle.abs_types.specs.PlainTypes.{PlainType, PlainInt, PlainString, PlainBottom, PlainNull, PlainFut, PlainData, PlainApplied, PlainInterface, PlainClass, PlainParameter}
 use Rattle.abs_types.specs.Subtyping.{interface_below, class_below, extends_name, implements_name, Fits, fits, NoneExtendsItself}
 use Rattle.abs_types.specs.Subtyping.Fits.{equal, bottom, null_interface, null_future, implements, extends, futures, applied}

@@ -13,9 +13,9 @@ use Rattle.std.specs.Borrow.{Bor}
 use Rattle.std.specs.Prelude.{Result, Ok, Err, IfOk}
 use Rattle.std.specs.declared.alloc.AllocError.{AllocError}
 use Rattle.std.proofs.lemmas.List.Elements.{All-head, All-tail, All-push, All-pop, All-weaker}
-use Rattle.abs_tree.specs.SourceViews.{named_tree}
+use Rattle.abs_program.specs.NamedViews.{named_tree}
 use Rattle.abs_tree.specs.Syntax.{DeclTree}
-use Rattle.abs_tree.specs.declared.named.Named.{Named}
+use Rattle.abs_program.specs.declared.named.Named.{Named}
 use Rattle.abs_types.proofs.JoinLemmas.{join_of_fitting, join_of_apart, join_of_applied, join_of_futures}
 use Rattle.abs_types.proofs.KeepLemmas.{among_kept, type_at_kept, keeps_transitive}
 use Rattle.abs_types.proofs.PartLemmas.{same_fits}

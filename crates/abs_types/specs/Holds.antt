@@ -3,12 +3,12 @@
 --   `holds_objects_in`         an interface, or data that leads to one, is in a type outside of `Fut`
 --   `holds_futures_in`         `Fut` is in a type
 use Rattle.std.specs.Prelude.{Bool, true, false, ◌||◌, List, get_or, Option, Some}
-use Rattle.abs_tree.specs.Holdings.{holders}
-use Rattle.abs_tree.specs.NameSpaces.{spaces_of}
+use Rattle.abs_program.specs.Holdings.{holders}
+use Rattle.abs_program.specs.NameSpaces.{spaces_of}
 use Rattle.abs_tree.specs.Syntax.{DeclTree, TypeTree, UnresolvedType, IntType, StringType, FutType, DataType, InterfaceType, ParameterType, BottomType, NullType, ClassType, TypeTrees, NoType, NextType}
-use Rattle.abs_tree.specs.Tables.{meaning_of}
-use Rattle.abs_tree.specs.declared.name_spaces.TypeMeaning.{TypeMeaning}
-use Rattle.abs_tree.specs.declared.name_spaces.TypeMeaning.TheVariants as type
+use Rattle.abs_program.specs.Tables.{meaning_of}
+use Rattle.abs_program.specs.declared.name_spaces.TypeMeaning.{TypeMeaning}
+use Rattle.abs_program.specs.declared.name_spaces.TypeMeaning.TheVariants as type
 
 -- whether what the name of data stands for holds objects
 abbrev pub data_holds : List DeclTree → Option TypeMeaning → Bool

@@ -10,13 +10,13 @@
 --   `call_type`                    the type of what a call gives
 use Rattle.std.specs.Prelude.{ℕ, ◌+◌, Bool, not, ◌&&◌, List, [], ◌∷◌, ◌++◌, filter, length, nat_eq, slice_get, Option, Some, None, if◌then◌else◌}
 use Rattle.std.specs.Str.{bytes_eq}
-use Rattle.abs_tree.specs.NameSpaces.{spaces_of}
-use Rattle.abs_tree.specs.Supertypes.{is_below}
+use Rattle.abs_program.specs.NameSpaces.{spaces_of}
+use Rattle.abs_program.specs.Supertypes.{is_below}
 use Rattle.abs_tree.specs.Syntax.{Name, SignatureTree, MemberTree, FieldTree, MethodTree, DeclTree, DataTree, FunctionTree, InterfaceTree, ClassTree}
-use Rattle.abs_tree.specs.Tables.{meaning_of}
-use Rattle.abs_tree.specs.declared.name_spaces.Taking.{Taking}
-use Rattle.abs_tree.specs.declared.name_spaces.TypeMeaning.{TypeMeaning}
-use Rattle.abs_tree.specs.declared.name_spaces.TypeMeaning.TheVariants as type
+use Rattle.abs_program.specs.Tables.{meaning_of}
+use Rattle.abs_program.specs.declared.name_spaces.Taking.{Taking}
+use Rattle.abs_program.specs.declared.name_spaces.TypeMeaning.{TypeMeaning}
+use Rattle.abs_program.specs.declared.name_spaces.TypeMeaning.TheVariants as type
 use Rattle.abs_types.specs.Arguments.{all_fit}
 use Rattle.abs_types.specs.PlainTypes.{PlainType, PlainInterface, PlainClass, plain}
 use Rattle.abs_types.specs.Schemes.{param_types}

@@ -7,12 +7,12 @@
 --   `IsClosed`                     a scheme has no type parameters but its own
 use Rattle.std.specs.Prelude.{ℕ, ◌<◌, ⊤, Bool, true, false, ◌||◌, List, [], ◌∷◌, length, map, slice_get, All, Option, Some, None, option_and_then}
 use Rattle.std.specs.List.{range_with_len}
-use Rattle.abs_tree.specs.NameSpaces.{spaces_of}
+use Rattle.abs_program.specs.NameSpaces.{spaces_of}
 use Rattle.abs_tree.specs.Syntax.{Name, ParamTree, ConstructorTree, DeclTree, DataTree, FunctionTree, InterfaceTree, ClassTree}
-use Rattle.abs_tree.specs.Tables.{meaning_of}
-use Rattle.abs_tree.specs.declared.name_spaces.ConstructorMeaning.{ConstructorMeaning}
-use Rattle.abs_tree.specs.declared.name_spaces.FunctionMeaning.{FunctionMeaning}
-use Rattle.abs_tree.specs.declared.name_spaces.FunctionMeaning.TheVariants as function
+use Rattle.abs_program.specs.Tables.{meaning_of}
+use Rattle.abs_program.specs.declared.name_spaces.ConstructorMeaning.{ConstructorMeaning}
+use Rattle.abs_program.specs.declared.name_spaces.FunctionMeaning.{FunctionMeaning}
+use Rattle.abs_program.specs.declared.name_spaces.FunctionMeaning.TheVariants as function
 use Rattle.abs_types.specs.PlainTypes.{PlainType, PlainInt, PlainString, PlainBottom, PlainNull, PlainFut, PlainData, PlainApplied, PlainInterface, PlainClass, PlainParameter, applied_to, plain, plains}
 
 -- how many type parameters there are, the types that are taken in order, and that which is given

@@ -6,11 +6,11 @@
 --   `side_type`                    the type of a right side
 --   `side_offences`                its offences
 use Rattle.std.specs.Prelude.{ℕ, Bool, true, false, List, [], ◌++◌, slice_get, Option, Some, None, is_some, is_none, option_map, option_and_then, if◌then◌else◌}
-use Rattle.abs_tree.specs.NameSpaces.{spaces_of}
+use Rattle.abs_program.specs.NameSpaces.{spaces_of}
 use Rattle.abs_tree.specs.Syntax.{Name, AtSlot, DeclTree, DataTree, FunctionTree, InterfaceTree, ClassTree, Phrase, OwnCallOf, VariableOf, Phrases, NoPhrase, NextPhrase, SideTree, NewOf, ValueOf, SendOf, GetOf, CallOf}
 use Rattle.abs_tree.specs.SyntaxCounts.{count_phrases}
-use Rattle.abs_tree.specs.Tables.{meaning_of}
-use Rattle.abs_tree.specs.declared.name_spaces.Taking.{Taking}
+use Rattle.abs_program.specs.Tables.{meaning_of}
+use Rattle.abs_program.specs.declared.name_spaces.Taking.{Taking}
 use Rattle.abs_tree.specs.declared.place.Place.{Place}
 use Rattle.abs_tree.specs.declared.refusal.Code.TheVariants.{T2}
 use Rattle.abs_tree.specs.declared.refusal.Offence.{Offence}

@@ -8,13 +8,13 @@
 use Rattle.std.specs.Prelude.{◌≡◌, Bool, true, false, ◌&&◌, ◌||◌, List, All, Option, Some, nat_eq}
 use Rattle.std.specs.Str.{bytes_eq}
 use Rattle.abs_graph.specs.Graphs.{on_cycles}
-use Rattle.abs_tree.specs.NameSpaces.{spaces_of}
-use Rattle.abs_tree.specs.Supertypes.{supertypes, is_below}
+use Rattle.abs_program.specs.NameSpaces.{spaces_of}
+use Rattle.abs_program.specs.Supertypes.{supertypes, is_below}
 use Rattle.abs_tree.specs.Syntax.{Name, DeclTree}
-use Rattle.abs_tree.specs.Tables.{meaning_of}
-use Rattle.abs_tree.specs.declared.name_spaces.Taking.{Taking}
-use Rattle.abs_tree.specs.declared.name_spaces.TypeMeaning.{TypeMeaning}
-use Rattle.abs_tree.specs.declared.name_spaces.TypeMeaning.TheVariants as type
+use Rattle.abs_program.specs.Tables.{meaning_of}
+use Rattle.abs_program.specs.declared.name_spaces.Taking.{Taking}
+use Rattle.abs_program.specs.declared.name_spaces.TypeMeaning.{TypeMeaning}
+use Rattle.abs_program.specs.declared.name_spaces.TypeMeaning.TheVariants as type
 use Rattle.abs_types.specs.PlainTypes.{PlainType, PlainInt, PlainString, PlainBottom, PlainNull, PlainFut, PlainData, PlainApplied, PlainInterface, PlainClass, PlainParameter}
 
 -- whether one declaration is below another one, by what their names stand for

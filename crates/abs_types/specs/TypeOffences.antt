@@ -6,7 +6,7 @@
 --   `main_offences`                those of the main block
 --   `type_offences`                all of them
 use Rattle.std.specs.Prelude.{ℕ, ◌+◌, Bool, true, false, not, ◌||◌, List, [], ◌∷◌, ◌++◌, map, length, replicate, Some, None}
-use Rattle.abs_tree.specs.Slots.{body_slots, statements_slots}
+use Rattle.abs_program.specs.Slots.{body_slots, statements_slots}
 use Rattle.abs_tree.specs.Syntax.{Name, MaybePhrase, NoValue, Value, SignatureTree, MemberTree, FieldTree, MethodTree, DeclTree, DataTree, FunctionTree, InterfaceTree, ClassTree, SourceTree, Statements}
 use Rattle.abs_tree.specs.SyntaxPlaces.{phrase_place}
 use Rattle.abs_tree.specs.declared.place.Place.{Place}

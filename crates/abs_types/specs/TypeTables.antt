@@ -6,7 +6,7 @@
 --   `Keeps`                    what indices stand for is kept
 --   `met_if`                   what type parameters have met, if arguments can be met
 use Rattle.std.specs.Prelude.{◌≡◌, Bool, List, map, Option, Some, None, if◌then◌else◌}
-use Rattle.abs_tree.specs.SourceViews.{named_tree}
+use Rattle.abs_program.specs.NamedViews.{named_tree}
 use Rattle.abs_tree.specs.Syntax.{DeclTree}
 use Rattle.abs_types.specs.PlainTypes.{PlainType}
 use Rattle.abs_types.specs.TypeShapes.{types_of, type_at, IsAmong}

@@ -1,9 +1,9 @@
 //! A program that is accepted.
 ghost use Rattle.std.specs.Prelude.{◌≡◌, []};
-ghost use Rattle.abs_tree.specs.SourceViews.{named_tree};
+ghost use Rattle.abs_program.specs.NamedViews.{named_tree};
 ghost use Rattle.abs_types.specs.TypeOffences.{type_offences};
 
-use abs_tree::Named;
+use abs_program::Named;
 
 /// A resolved program whose types have no offence, so it is well typed
 /// ([`programs_are_typed`](crate::programs_are_typed)).

@@ -1,14 +1,15 @@
 //! What types hold.
 ghost use Rattle.std.specs.Prelude.{◌≡◌, List};
 ghost use Rattle.abs_tree.specs.Names.{name_of};
-ghost use Rattle.abs_tree.specs.NameSpaces.{spaces_of};
-ghost use Rattle.abs_tree.specs.SourceViews.{named_tree};
+ghost use Rattle.abs_program.specs.NameSpaces.{spaces_of};
+ghost use Rattle.abs_program.specs.NamedViews.{named_tree};
 ghost use Rattle.abs_tree.specs.Syntax.{Name};
 ghost use Rattle.abs_tree.specs.SyntaxViews.{type_tree, type_trees};
-ghost use Rattle.abs_tree.specs.Tables.{meaning_of};
+ghost use Rattle.abs_program.specs.Tables.{meaning_of};
 ghost use Rattle.abs_types.specs.Holds.{any_holds_futures as any_future_in, any_holds_objects as any_object_in, data_holds as name_holds, holds_futures_in, holds_objects_in};
 
-use abs_tree::{Named, Symbol, TypeMeaning, TypeTerm};
+use abs_program::{Named, TypeMeaning};
+use abs_tree::{Symbol, TypeTerm};
 
 /// Whether values of a type can have objects in them, outside of futures: an interface, or data whose declaration leads
 /// to one, is in the type outside of `Fut`. A type parameter, the types of no value and of `null`, and an object of a

@@ -1,6 +1,6 @@
 //! The join of two types.
 ghost use Rattle.std.specs.Prelude.{◌≡◌, false, option_map, IfOk, Vec};
-ghost use Rattle.abs_tree.specs.SourceViews.{named_tree};
+ghost use Rattle.abs_program.specs.NamedViews.{named_tree};
 ghost use Rattle.abs_tree.specs.SyntaxViews.{type_tree, type_trees};
 ghost use Rattle.abs_types.specs.Arguments.{data_type, joins_of};
 ghost use Rattle.abs_types.specs.PlainTypes.{plain, plains, PlainFut};
@@ -9,7 +9,8 @@ ghost use Rattle.abs_types.specs.Subtyping.{fits};
 
 use crate::copies::copied;
 use crate::subtyping::{same_name, subtype};
-use abs_tree::{Named, Place, Symbol, TypeTerm};
+use abs_program::Named;
+use abs_tree::{Place, Symbol, TypeTerm};
 use std::alloc::{AllocError, Global};
 
 /// The join of two types in a program: the least type that both fit, if there is one.

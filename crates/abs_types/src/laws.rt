@@ -1,7 +1,7 @@
 //! Laws of the definitions, which hold whatever the code does.
 ghost use Rattle.std.specs.Prelude.{◌≡◌, ◌↔◌, ◌⊎◌, true, List, ◌∷◌, map, length, Option, Some, option_map};
 ghost use Rattle.abs_tree.specs.Syntax.{DeclTree, Name, SourceTree};
-ghost use Rattle.abs_tree.specs.Whole.{IsWhole};
+ghost use Rattle.abs_program.specs.Whole.{IsWhole};
 ghost use Rattle.abs_types.specs.Applications.{applied_type, met_by, replaced, AllFit};
 ghost use Rattle.abs_types.specs.Joins.{both_applied, join_all, join_of, IsLeastAbove, IsLeastAboveAll};
 ghost use Rattle.abs_types.specs.PatternTypes.{constructor_parts};

@@ -1,6 +1,6 @@
 //! Programs that threads share.
 use crate::Checked;
-use abs_tree::Named;
+use abs_program::Named;
 
 /// A function of types whose values threads can hand over and share.
 fn is_shared<T: Send + Sync>() {}

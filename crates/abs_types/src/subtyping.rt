@@ -2,18 +2,19 @@
 ghost use Rattle.std.specs.Prelude.{◌≡◌, List, Some};
 ghost use Rattle.std.specs.Str.{bytes_eq};
 ghost use Rattle.abs_tree.specs.Names.{name_of};
-ghost use Rattle.abs_tree.specs.NameSpaces.{spaces_of};
-ghost use Rattle.abs_tree.specs.SourceViews.{named_tree};
+ghost use Rattle.abs_program.specs.NameSpaces.{spaces_of};
+ghost use Rattle.abs_program.specs.NamedViews.{named_tree};
 ghost use Rattle.abs_tree.specs.Syntax.{DeclTree, Name};
 ghost use Rattle.abs_tree.specs.SyntaxViews.{type_tree, type_trees};
-ghost use Rattle.abs_tree.specs.Tables.{meaning_of};
-ghost use Rattle.abs_tree.specs.declared.name_spaces.Taking.{Taking};
-ghost use Rattle.abs_tree.specs.declared.name_spaces.TypeMeaning.TheVariants as type;
+ghost use Rattle.abs_program.specs.Tables.{meaning_of};
+ghost use Rattle.abs_program.specs.declared.name_spaces.Taking.{Taking};
+ghost use Rattle.abs_program.specs.declared.name_spaces.TypeMeaning.TheVariants as type;
 ghost use Rattle.abs_types.specs.Arguments.{all_fit as all_fit_of, data_type, fitting_count as fitting_count_of};
 ghost use Rattle.abs_types.specs.PlainTypes.{plain, plains, PlainClass, PlainInterface, PlainParameter};
 ghost use Rattle.abs_types.specs.Subtyping.{class_below, extends_name, fits, implements_name, interface_below, takes_null as takes_null_of};
 
-use abs_tree::{Named, Symbol, TypeMeaning, TypeTerm};
+use abs_program::{Named, TypeMeaning};
+use abs_tree::{Symbol, TypeTerm};
 
 /// Whether a type fits another one in a program: a value of the first may be where one of the second is asked for.
 #[cycle(subtyping)]

@@ -1,7 +1,7 @@
 //! The table of the types of a program: each type once, found by its index. A type that is made of others has their
 //! indices, so a type that stands in many places is there once, whatever its size as a tree. The table only grows.
 ghost use Rattle.std.specs.Prelude.{◌≡◌, ◌^◌, ◌≤◌, length, map};
-ghost use Rattle.abs_tree.specs.SourceViews.{named_tree};
+ghost use Rattle.abs_program.specs.NamedViews.{named_tree};
 ghost use Rattle.abs_types.specs.Schemes.{has_parameter};
 ghost use Rattle.abs_types.specs.TypeShapes.{types_of, AreFormed, AreFormed-prop, AreRemembered};
 
@@ -14,7 +14,7 @@ mod parts;
 mod shape;
 mod terms;
 
-use abs_tree::Named;
+use abs_program::Named;
 use indexmap::IndexMap;
 use shape::TypePair;
 pub use shape::{Shape, TypeIndex};

@@ -14,7 +14,7 @@ use Rattle.std.proofs.Math.Seq.{take-append_seam}
 use Rattle.std.proofs.lemmas.List.{map-append, take-map, take_more, take_all}
 use Rattle.std.proofs.lemmas.List.Elements.{All-nil, All-push, All-take}
 use Rattle.abs_tree.specs.SyntaxViews.{decl_tree, param_tree, type_tree}
-use Rattle.abs_tree.specs.declared.named.Named.{Named}
+use Rattle.abs_program.specs.declared.named.Named.{Named}
 use Rattle.abs_tree.specs.declared.syntax.declaration.Param.{Param}
 use Rattle.abs_types.specs.PlainTypes.{plain, PlainType}
 use Rattle.abs_types.specs.Schemes.{param_types}

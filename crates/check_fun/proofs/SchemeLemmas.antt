@@ -19,13 +19,13 @@ use Rattle.std.proofs.lemmas.Option.{same_Some, slice_get-map, slice_get_past, s
 use Rattle.std.specs.List.{range_with_len}
 use Rattle.std.specs.declared.alloc.Global.{Global}
 use Rattle.std.specs.declared.vec.Vec.{Vec}
-use Rattle.abs_tree.specs.NameSpaces.{spaces_of}
+use Rattle.abs_program.specs.NameSpaces.{spaces_of}
 use Rattle.abs_tree.specs.Names.{name_of}
 use Rattle.abs_tree.specs.Syntax.{Name, ParamTree}
 use Rattle.abs_tree.specs.SyntaxViews.{decl_tree, param_tree, type_tree, type_trees}
-use Rattle.abs_tree.specs.Tables.{meaning_of}
-use Rattle.abs_tree.specs.declared.name_spaces.ConstructorMeaning.{ConstructorMeaning}
-use Rattle.abs_tree.specs.declared.name_spaces.FunctionMeaning.{FunctionMeaning}
+use Rattle.abs_program.specs.Tables.{meaning_of}
+use Rattle.abs_program.specs.declared.name_spaces.ConstructorMeaning.{ConstructorMeaning}
+use Rattle.abs_program.specs.declared.name_spaces.FunctionMeaning.{FunctionMeaning}
 use Rattle.abs_tree.specs.declared.symbol.Symbol.{Symbol}
 use Rattle.abs_tree.specs.declared.syntax.declaration.Decl.{Decl}
 use Rattle.abs_tree.specs.declared.syntax.declaration.Param.{Param}

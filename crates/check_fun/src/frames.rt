@@ -1,7 +1,7 @@
 //! What is around an expression: a checker is made for a program, enters a body, and binds variables.
 ghost use Rattle.std.specs.Prelude.{◌≡◌, All, List, [], ◌∷◌, ◌++◌, Option, Some, None, not, length, map, set, OnOk};
 ghost use Rattle.abs_tree.specs.Names.{name_of};
-ghost use Rattle.abs_tree.specs.SourceViews.{named_tree};
+ghost use Rattle.abs_program.specs.NamedViews.{named_tree};
 ghost use Rattle.abs_tree.specs.Syntax.{Name};
 ghost use Rattle.abs_tree.specs.SyntaxViews.{decl_tree, member_tree, param_tree};
 ghost use Rattle.abs_types.specs.ExpressionOffences.{this_lacks_method};
@@ -15,7 +15,8 @@ ghost use Rattle.check_fun.specs.Contexts.{types_known, with_bound, with_frame, 
 ghost use Rattle.check_fun.specs.OwnMethods.{declaration_takes, member_takes, takes_count};
 
 use crate::checker::Checker;
-use abs_tree::{Decl, Member, Named, Param, Symbol, Variable};
+use abs_program::Named;
+use abs_tree::{Decl, Member, Param, Symbol, Variable};
 use abs_types::{TypeIndex, TypeTable};
 use std::alloc::{AllocError, Global};
 

@@ -2,7 +2,7 @@
 ghost use Rattle.std.specs.Prelude.{◌≡◌, ◌++◌, Some, option_map, IfOk, OnOk};
 ghost use Rattle.abs_tree.specs.Offences.{first_offence};
 ghost use Rattle.abs_tree.specs.Refusals.{refusal_of};
-ghost use Rattle.abs_tree.specs.SourceViews.{named_tree};
+ghost use Rattle.abs_program.specs.NamedViews.{named_tree};
 ghost use Rattle.abs_tree.specs.SyntaxPlaces.{phrase_place};
 ghost use Rattle.abs_tree.specs.SyntaxViews.{decl_tree, phrase, type_tree};
 ghost use Rattle.abs_types.specs.Mistyped.{unfit};
@@ -12,7 +12,8 @@ ghost use Rattle.abs_types.specs.TypeTables.{Keeps};
 ghost use Rattle.check_fun.specs.Contexts.{offends, typed, Context, Finds, Found, Knows, Noted, Stays};
 
 use crate::checker::Checker;
-use abs_tree::{Decl, Expr, Named, Place, Refusal, TypeTerm};
+use abs_program::Named;
+use abs_tree::{Decl, Expr, Place, Refusal, TypeTerm};
 use abs_types::TypeIndex;
 use std::alloc::{AllocError, Global};
 

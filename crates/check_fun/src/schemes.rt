@@ -8,7 +8,8 @@ ghost use Rattle.abs_types.specs.Schemes.{data_scheme, declared_scheme, param_ty
 ghost use Rattle.check_fun.specs.Contexts.{Context, FindsAll, Finds, FindsConstructor, FindsScheme, Knows, Stays};
 
 use crate::checker::Checker;
-use abs_tree::{Decl, FunctionMeaning, Param, Symbol, TypeTerm};
+use abs_program::FunctionMeaning;
+use abs_tree::{Decl, Param, Symbol, TypeTerm};
 use abs_types::TypeIndex;
 use std::alloc::AllocError;
 

@@ -14,7 +14,7 @@ use Rattle.std.proofs.lemmas.List.{append-nil, append_assoc, get_or-map, length-
 use Rattle.std.proofs.lemmas.List.Elements.{All-append, All-contains, All-contains_itself, All-head, All-map, All-nil, All-tail, All-take, All-weaker, Contains-append_cases, Contains-append_left, Contains-append_right}
 use Rattle.abs_graph.specs.Graphs.{is_listed}
 use Rattle.abs_tree.specs.Names.{number_of_name}
-use Rattle.abs_tree.specs.Supertypes.{is_below}
+use Rattle.abs_program.specs.Supertypes.{is_below}
 use Rattle.abs_tree.specs.Syntax.{Name, DeclaredTree, DeclTree, InterfaceTree, SignatureTree}
 use Rattle.abs_tree.specs.declared.place.Place.{Place}
 use Rattle.abs_types.specs.InterfacesMet.{agree, agrees}

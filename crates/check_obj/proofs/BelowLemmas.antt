@@ -9,14 +9,14 @@ use Rattle.std.proofs.lemmas.List.Folds.{list_any-append}
 use Rattle.abs_graph.proofs.ReachLemmas.{reaches_found}
 use Rattle.abs_graph.specs.Graphs.{Reaches}
 use Rattle.abs_graph.specs.Graphs.Reaches.{in_one, in_more}
-use Rattle.abs_tree.proofs.DeclaredLemmas.{interface_is_declared}
-use Rattle.abs_tree.specs.NamedDeclarations.{IsInterface}
-use Rattle.abs_tree.specs.NameSpaces.{spaces_of}
-use Rattle.abs_tree.specs.Supertypes.{above, interface_of, interfaces_named, is_below, supertypes}
+use Rattle.abs_program.proofs.DeclaredLemmas.{interface_is_declared}
+use Rattle.abs_program.specs.NamedDeclarations.{IsInterface}
+use Rattle.abs_program.specs.NameSpaces.{spaces_of}
+use Rattle.abs_program.specs.Supertypes.{above, interface_of, interfaces_named, is_below, supertypes}
 use Rattle.abs_tree.specs.Syntax.{Name, DeclaredTree, DeclTree, DataTree, FunctionTree, InterfaceTree, ClassTree}
-use Rattle.abs_tree.specs.Tables.{meaning_of}
-use Rattle.abs_tree.specs.declared.name_spaces.TypeMeaning.{TypeMeaning}
-use Rattle.abs_tree.specs.declared.name_spaces.TypeMeaning.TheVariants as type
+use Rattle.abs_program.specs.Tables.{meaning_of}
+use Rattle.abs_program.specs.declared.name_spaces.TypeMeaning.{TypeMeaning}
+use Rattle.abs_program.specs.declared.name_spaces.TypeMeaning.TheVariants as type
 
 -- An interface is declared at an index.
 pub record IsInterfaceAt (declarations : List DeclTree) (index : ℕ) : Type 0 where

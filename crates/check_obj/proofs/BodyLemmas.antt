@@ -16,8 +16,8 @@ use Rattle.std.proofs.lemmas.List.FromFn.{length-range_with_len}
 use Rattle.std.proofs.lemmas.Option.{same_Some}
 use Rattle.std.proofs.lemmas.Slice.Eq.{bytes_eq-Decides}
 use Rattle.std.proofs.lemmas.List.{length-append, length-map, map-append, take_all}
-use Rattle.abs_tree.specs.SlotViews.{BodyHasSlots}
-use Rattle.abs_tree.specs.Slots.{body_slots, param_slots, statements_slots}
+use Rattle.abs_program.specs.SlotViews.{BodyHasSlots}
+use Rattle.abs_program.specs.Slots.{body_slots, param_slots, statements_slots}
 use Rattle.abs_tree.specs.Syntax.{Name}
 use Rattle.abs_tree.specs.SyntaxViews.{param_tree, signature_tree, statements, type_tree}
 use Rattle.abs_tree.specs.declared.refusal.Code.TheVariants.{T5}

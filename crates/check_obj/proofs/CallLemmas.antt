@@ -9,12 +9,12 @@ use Rattle.std.specs.Prelude.{slice_get, option_and_then}
 use Rattle.std.specs.Str.{bytes_eq}
 use Rattle.std.proofs.lemmas.Slice.Eq.{bytes_eq-Decides}
 use Rattle.std.proofs.lemmas.Option.{none-some, same_Some}
-use Rattle.abs_tree.proofs.DeclaredLemmas.{class_is_declared}
-use Rattle.abs_tree.specs.Members.{method_among as index_among, method_in as index_in, method_of}
-use Rattle.abs_tree.specs.NameSpaces.{spaces_of}
+use Rattle.abs_program.proofs.DeclaredLemmas.{class_is_declared}
+use Rattle.abs_program.specs.Members.{method_among as index_among, method_in as index_in, method_of}
+use Rattle.abs_program.specs.NameSpaces.{spaces_of}
 use Rattle.abs_tree.specs.Syntax.{Name, DeclaredTree, ParamTree, SignatureTree, MemberTree, FieldTree, MethodTree, DeclTree, DataTree, FunctionTree, InterfaceTree, ClassTree, Statements}
-use Rattle.abs_tree.specs.Tables.{meaning_of}
-use Rattle.abs_tree.specs.declared.name_spaces.Taking.{Taking}
+use Rattle.abs_program.specs.Tables.{meaning_of}
+use Rattle.abs_program.specs.declared.name_spaces.Taking.{Taking}
 use Rattle.abs_tree.specs.declared.place.Place.{Place}
 use Rattle.abs_types.specs.Methods.{first_of_each, is_called, is_named, member_signatures, signatures_if_there, signatures_of_type}
 use Rattle.check_fun.specs.ObjectHeads.{OfClass}

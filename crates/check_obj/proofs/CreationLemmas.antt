@@ -7,11 +7,11 @@
 --   `given_noted`, `given_silent`      what is noted then
 use Rattle.std.proofs.Common.{◌≡◌, Bool, true, List, ◌++◌, Option, Some, None, is_some, if◌then◌else◌, refl, ap, subst, append-nil}
 use Rattle.std.specs.Prelude.{option_and_then, slice_get}
-use Rattle.abs_tree.specs.NameSpaces.{spaces_of}
+use Rattle.abs_program.specs.NameSpaces.{spaces_of}
 use Rattle.abs_tree.specs.Names.{name_of}
 use Rattle.abs_tree.specs.Syntax.{DeclTree}
-use Rattle.abs_tree.specs.Tables.{meaning_of}
-use Rattle.abs_tree.specs.declared.name_spaces.Taking.{Taking}
+use Rattle.abs_program.specs.Tables.{meaning_of}
+use Rattle.abs_program.specs.declared.name_spaces.Taking.{Taking}
 use Rattle.abs_tree.specs.declared.place.Place.{Place}
 use Rattle.abs_tree.specs.declared.refusal.Offence.{Offence}
 use Rattle.abs_tree.specs.declared.symbol.Symbol.{Symbol}

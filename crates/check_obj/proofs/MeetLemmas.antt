@@ -20,7 +20,7 @@ use Rattle.std.proofs.lemmas.Map.Views.{Contains-from_any, list_any-from_Contain
 use Rattle.std.proofs.lemmas.Slice.Eq.{bytes_eq-Decides}
 use Rattle.abs_graph.specs.Graphs.{is_listed}
 use Rattle.abs_tree.specs.Names.{number_of_name}
-use Rattle.abs_tree.specs.Supertypes.{is_below}
+use Rattle.abs_program.specs.Supertypes.{is_below}
 use Rattle.abs_tree.specs.Syntax.{Name, ClassTree, DeclaredTree, DeclTree, MemberTree, ParamTree, SignatureTree}
 use Rattle.abs_tree.specs.declared.place.Place.{Place}
 use Rattle.abs_types.specs.InterfacesMet.{has_signature, has_signatures, is_same_signature, meets_interfaces, same_method}

@@ -13,15 +13,15 @@ use Rattle.std.proofs.lemmas.Bool.Decides.{nat_tests}
 use Rattle.std.proofs.lemmas.List.{take_all, take_more}
 use Rattle.std.proofs.lemmas.List.Elements.{filter-append}
 use Rattle.std.proofs.lemmas.Option.{same_Some}
-use Rattle.abs_tree.proofs.DeclaredLemmas.{interface_is_declared}
-use Rattle.abs_tree.specs.Members.{signature_among as places_among, signature_in as places_in, signatures_from as places_from, signatures_of}
-use Rattle.abs_tree.specs.NameSpaces.{spaces_of}
-use Rattle.abs_tree.specs.Supertypes.{is_below}
+use Rattle.abs_program.proofs.DeclaredLemmas.{interface_is_declared}
+use Rattle.abs_program.specs.Members.{signature_among as places_among, signature_in as places_in, signatures_from as places_from, signatures_of}
+use Rattle.abs_program.specs.NameSpaces.{spaces_of}
+use Rattle.abs_program.specs.Supertypes.{is_below}
 use Rattle.abs_tree.specs.Syntax.{Name, DeclaredTree, SignatureTree, DeclTree, DataTree, FunctionTree, InterfaceTree, ClassTree}
-use Rattle.abs_tree.specs.Tables.{meaning_of}
-use Rattle.abs_tree.specs.declared.name_spaces.TypeMeaning.TheVariants as type
+use Rattle.abs_program.specs.Tables.{meaning_of}
+use Rattle.abs_program.specs.declared.name_spaces.TypeMeaning.TheVariants as type
 use Rattle.abs_tree.specs.declared.place.Place.{Place}
-use Rattle.abs_tree.specs.declared.tables.members.SignatureAt.{SignatureAt}
+use Rattle.abs_program.specs.declared.tables.members.SignatureAt.{SignatureAt}
 use Rattle.abs_types.specs.Methods.{inherited_signatures, is_called, own_signatures, signatures_above, signatures_if_there, signatures_in, signatures_of_type}
 use Rattle.check_fun.specs.ObjectHeads.{OfInterface}
 use Rattle.check_obj.proofs.BelowLemmas.{IsInterfaceAt, below_is_interface}

@@ -18,7 +18,7 @@ use Rattle.std.specs.List.{list_any}
 use Rattle.std.specs.declared.result.Result.{Result}
 use Rattle.std.proofs.lemmas.List.{length-map, length-take, map-append, take_more}
 use Rattle.abs_tree.specs.Names.{number_of_name}
-use Rattle.abs_tree.specs.SlotViews.{DeclHasSlots, MemberHasSlots}
+use Rattle.abs_program.specs.SlotViews.{DeclHasSlots, MemberHasSlots}
 use Rattle.abs_tree.specs.Offences.{earlier, first_offence}
 use Rattle.abs_tree.specs.Syntax.{Name, DeclTree, SourceTree}
 use Rattle.abs_tree.specs.SyntaxViews.{decl_tree}

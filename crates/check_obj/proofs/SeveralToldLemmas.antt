@@ -10,7 +10,7 @@ use Rattle.std.proofs.lemmas.Bool.Decides.{leb_tells}
 use Rattle.std.proofs.lemmas.List.{get_or-map, length-map}
 use Rattle.std.proofs.lemmas.List.Elements.{All-nil}
 use Rattle.std.proofs.lemmas.Option.{same_Some, slice_get-map, slice_get_read, slice_get_within}
-use Rattle.abs_tree.specs.Holdings.{is_interface}
+use Rattle.abs_program.specs.Holdings.{is_interface}
 use Rattle.abs_tree.specs.Names.{number_of_name}
 use Rattle.abs_tree.specs.Syntax.{Name, DeclTree, SignatureTree}
 use Rattle.abs_tree.specs.SyntaxViews.{decl_tree}

@@ -12,7 +12,7 @@ use Rattle.std.specs.Prelude.{ℕ, Bool, List, [], ◌∷◌, ◌++◌, filter, 
 use Rattle.abs_tree.specs.Syntax.{Name, SignatureTree, MemberTree, FieldTree, MethodTree, DeclTree, DataTree, FunctionTree, InterfaceTree, ClassTree}
 use Rattle.abs_tree.specs.SyntaxViews.{signature_tree}
 use Rattle.abs_tree.specs.declared.syntax.declaration.Signature.{Signature}
-use Rattle.abs_tree.specs.declared.tables.members.SignatureAt.{SignatureAt}
+use Rattle.abs_program.specs.declared.tables.members.SignatureAt.{SignatureAt}
 use Rattle.abs_types.specs.Methods.{is_called, signatures_of_type}
 use Rattle.abs_types.specs.PlainTypes.{PlainClass, PlainInterface}
 use Rattle.check_fun.specs.ObjectHeads.{PlainHead, OfClass, OfInterface, OfOther}

@@ -10,7 +10,7 @@
 --   `TellsSeveral`                 names that are not told have one type in all interfaces
 use Rattle.std.specs.Prelude.{◌≡◌, ℕ, true, false, List, [], get_or, length, map, nat_eq, slice_get, All, Contains, Some}
 use Rattle.std.specs.List.{list_any}
-use Rattle.abs_tree.specs.Holdings.{is_interface}
+use Rattle.abs_program.specs.Holdings.{is_interface}
 use Rattle.abs_tree.specs.Names.{number_of_name}
 use Rattle.abs_tree.specs.Syntax.{Name, DeclTree, SignatureTree}
 use Rattle.abs_types.specs.Methods.{signatures_in}

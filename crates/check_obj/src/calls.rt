@@ -1,9 +1,9 @@
 //! The methods that an object has with a name, and what a call of them gives.
 ghost use Rattle.std.specs.Prelude.{◌≡◌, ◌++◌, List, Some, map, nat_eq, option_map, IfOk, OnOk};
-ghost use Rattle.abs_tree.specs.Members.{signatures_of};
+ghost use Rattle.abs_program.specs.Members.{signatures_of};
 ghost use Rattle.abs_tree.specs.Names.{name_of};
-ghost use Rattle.abs_tree.specs.SourceViews.{named_tree};
-ghost use Rattle.abs_tree.specs.Supertypes.{is_below};
+ghost use Rattle.abs_program.specs.NamedViews.{named_tree};
+ghost use Rattle.abs_program.specs.Supertypes.{is_below};
 ghost use Rattle.abs_tree.specs.Syntax.{Name};
 ghost use Rattle.abs_tree.specs.SyntaxViews.{signature_tree};
 ghost use Rattle.abs_types.specs.Arguments.{all_fit as are_fitting};
@@ -13,7 +13,8 @@ ghost use Rattle.check_fun.specs.Contexts.{Context, FindsAll, Finds, FoundAll, K
 ghost use Rattle.check_fun.specs.ObjectHeads.{head_named, OfClass, OfInterface};
 ghost use Rattle.check_obj.specs.Calls.{called, if_called, if_there, method_tree_at, picked, signature_tree_at, trees_of};
 
-use abs_tree::{Decl, Member, Named, Signature, SignatureAt, Symbol, TypeMeaning};
+use abs_program::{Named, SignatureAt, TypeMeaning};
+use abs_tree::{Decl, Member, Signature, Symbol};
 use abs_types::TypeIndex;
 use check_fun::{Checker, Head};
 use std::alloc::{AllocError, Global};

@@ -1,7 +1,7 @@
 //! Members of classes.
 ghost use Rattle.std.specs.Prelude.{◌≡◌, ◌++◌, ◌∷◌, [], List, Some, map, All, IfOk, OnOk};
 ghost use Rattle.abs_tree.specs.Names.{name_of};
-ghost use Rattle.abs_tree.specs.SlotViews.{MemberHasSlots};
+ghost use Rattle.abs_program.specs.SlotViews.{MemberHasSlots};
 ghost use Rattle.abs_tree.specs.Syntax.{Name};
 ghost use Rattle.abs_tree.specs.SyntaxViews.{maybe_phrase, member_tree, param_tree};
 ghost use Rattle.abs_types.specs.PlainTypes.{PlainType};

@@ -2,7 +2,7 @@
 //! interface have the same types.
 ghost use Rattle.std.specs.Prelude.{◌≡◌, ℕ, true, List, Some, map, nat_eq, slice_get, All, IfOk, OnOk};
 ghost use Rattle.std.specs.Map.{lookup};
-ghost use Rattle.abs_tree.specs.Holdings.{is_interface as is_interface_tree};
+ghost use Rattle.abs_program.specs.Holdings.{is_interface as is_interface_tree};
 ghost use Rattle.abs_tree.specs.Syntax.{ClassTree, DeclaredTree, InterfaceTree, MemberTree, Name, ParamTree, SignatureTree};
 ghost use Rattle.abs_tree.specs.SyntaxViews.{decl_tree};
 ghost use Rattle.abs_tree.specs.declared.place.Place.{Place as PlaceOf};

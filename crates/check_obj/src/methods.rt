@@ -1,6 +1,6 @@
 //! Methods of classes, and the main block.
 ghost use Rattle.std.specs.Prelude.{◌≡◌, ◌++◌, ◌-◌, ◌≤◌, false, [], List, None, Some, length, map, replicate, All, IfOk, OnOk};
-ghost use Rattle.abs_tree.specs.SlotViews.{BodyHasSlots};
+ghost use Rattle.abs_program.specs.SlotViews.{BodyHasSlots};
 ghost use Rattle.abs_tree.specs.Syntax.{Name};
 ghost use Rattle.abs_tree.specs.SyntaxViews.{param_tree, signature_tree, statements as statement_trees};
 ghost use Rattle.abs_types.specs.PlainTypes.{PlainType};

@@ -1,10 +1,10 @@
 //! A whole program, and its first offence by types.
 ghost use Rattle.std.specs.Prelude.{◌≡◌, [], map, option_map, slice_get, Some, IfErr, IfOk, OnOk};
 ghost use Rattle.abs_tree.specs.Offences.{first_offence as first_of};
-ghost use Rattle.abs_tree.specs.SlotViews.{DeclHasSlots};
+ghost use Rattle.abs_program.specs.SlotViews.{DeclHasSlots};
 ghost use Rattle.abs_tree.specs.Refusals.{refusal_of};
 ghost use Rattle.abs_tree.specs.SourceErrors.{HasCause};
-ghost use Rattle.abs_tree.specs.SourceViews.{named_tree};
+ghost use Rattle.abs_program.specs.NamedViews.{named_tree};
 ghost use Rattle.abs_tree.specs.SyntaxViews.{decl_tree};
 ghost use Rattle.abs_types.specs.TypeOffences.{class_offences, class_offences_in, interface_offences, interface_offences_in, type_offences};
 ghost use Rattle.abs_types.specs.TypeTables.{declarations_of, Keeps};
@@ -16,7 +16,8 @@ use crate::classes::class_members;
 use crate::interfaces::{agrees, meets, names_of_several};
 use crate::method_types::{MethodRow, method_rows};
 use crate::methods::main_block;
-use abs_tree::{Code, Decl, Named, Offence};
+use abs_program::Named;
+use abs_tree::{Code, Decl, Offence};
 use abs_types::Checked;
 use check_fun::Checker;
 use indexmap::IndexSet;

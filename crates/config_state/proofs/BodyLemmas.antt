@@ -12,9 +12,9 @@ use Rattle.std.specs.Prelude.{Option, slice_get}
 use Rattle.std.proofs.lemmas.List.{length-append}
 use Rattle.std.proofs.lemmas.Option.{none-some, same_Some, option_and_then_some}
 use Rattle.abs_tree.proofs.IndexLemmas.{slice_get-front}
-use Rattle.abs_tree.proofs.PointLemmas.{length-points, length-member_points, length-decl_points}
-use Rattle.abs_tree.specs.Control.{Next, ByAnswer, Point, points, member_points, decl_points, program_points}
-use Rattle.abs_tree.specs.Members.{method_of}
+use Rattle.abs_program.proofs.PointLemmas.{length-points, length-member_points, length-decl_points}
+use Rattle.abs_program.specs.Control.{Next, ByAnswer, Point, points, member_points, decl_points, program_points}
+use Rattle.abs_program.specs.Members.{method_of}
 use Rattle.abs_tree.specs.Syntax.{Name, Statements, MemberTree, FieldTree, MethodTree, DeclTree, ClassTree, ProgramTree}
 use Rattle.abs_tree.specs.SyntaxSizes.{statement_count, member_statements, decl_statements}
 use Rattle.config_state.proofs.SpanLemmas.{IsInside, GoesInside, stays-at, entry_inside, points_inside}

@@ -7,12 +7,12 @@
 use Rattle.std.proofs.Common.{◌≡◌, ℕ, ◌-◌, List, [], ◌∷◌, None, arith, refl, ap, ◌∙◌, length, replicate}
 use Rattle.std.proofs.lemmas.List.{length-replicate}
 use Rattle.std.proofs.lemmas.Option.{none-some}
-use Rattle.abs_tree.specs.Bodies.{main_entry}
-use Rattle.abs_tree.specs.References.{IsIn}
-use Rattle.abs_tree.specs.Slots.{body_slots}
+use Rattle.abs_program.specs.Bodies.{main_entry}
+use Rattle.abs_values.specs.References.{IsIn}
+use Rattle.abs_program.specs.Slots.{body_slots}
 use Rattle.abs_tree.specs.Syntax.{Name, ProgramTree}
-use Rattle.abs_tree.specs.ValueTrees.{ValueTree, NullValue}
-use Rattle.abs_tree.specs.declared.tables.control.BodyEntry.{BodyEntry}
+use Rattle.abs_values.specs.ValueTrees.{ValueTree, NullValue}
+use Rattle.abs_program.specs.declared.tables.control.BodyEntry.{BodyEntry}
 use Rattle.config_state.proofs.BodyLemmas.{entry_is_statement}
 use Rattle.config_state.proofs.EachLemmas.{Each-none, Each-one, Each-replicate}
 use Rattle.config_state.specs.Bodies.{entry_of_body, main_at}

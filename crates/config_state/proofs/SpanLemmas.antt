@@ -7,7 +7,7 @@
 use Rattle.std.proofs.Common.{◌≡◌, ℕ, zero, suc, ◌+◌, ◌<◌, ◌≤◌, List, [], ◌∷◌, ◌++◌, Some, None, arith, subst}
 use Rattle.std.specs.Prelude.{⊤, Option, slice_get}
 use Rattle.std.proofs.lemmas.Option.{none-some, same_Some}
-use Rattle.abs_tree.specs.Control.{Goes, Next, ByAnswer, Point, entry, entry_of, else_entry, points, points_of, else_points}
+use Rattle.abs_program.specs.Control.{Goes, Next, ByAnswer, Point, entry, entry_of, else_entry, points, points_of, else_points}
 use Rattle.abs_tree.specs.Syntax.{Statement, BlockOf, IfOf, WhileOf, MaybeStatements, NoElse, Else, Statements, NoStatement, NextStatement}
 use Rattle.abs_tree.specs.SyntaxSizes.{count_of, count_of_else, statement_count}
 

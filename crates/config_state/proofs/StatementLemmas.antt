@@ -12,19 +12,19 @@ use Rattle.std.specs.Option.{option_map}
 use Rattle.std.specs.Prelude.{Option, option_and_then, slice_get}
 use Rattle.std.proofs.lemmas.List.Elements.{All-get_or}
 use Rattle.std.proofs.lemmas.Option.{none-some, same_Some, option_and_then_some, slice_get_within, get_or_from_slice_get}
-use Rattle.abs_tree.proofs.DeclaredLemmas.{class_is_declared}
+use Rattle.abs_program.proofs.DeclaredLemmas.{class_is_declared}
 use Rattle.abs_tree.proofs.IndexLemmas.{slice_get-append}
-use Rattle.abs_tree.specs.Bodies.{method_entry, member_entry, entry_in_class, initials_among, run_among, entry_of_class, class_entry, ClassEntryTree}
-use Rattle.abs_tree.specs.Control.{Point, entry, points, points_of, else_points, program_points}
-use Rattle.abs_tree.specs.Members.{method_of}
-use Rattle.abs_tree.specs.NameSpaces.{NameSpaces, spaces_of}
-use Rattle.abs_tree.specs.Slots.{body_slots}
+use Rattle.abs_program.specs.Bodies.{method_entry, member_entry, entry_in_class, initials_among, run_among, entry_of_class, class_entry, ClassEntryTree}
+use Rattle.abs_program.specs.Control.{Point, entry, points, points_of, else_points, program_points}
+use Rattle.abs_program.specs.Members.{method_of}
+use Rattle.abs_program.specs.NameSpaces.{NameSpaces, spaces_of}
+use Rattle.abs_program.specs.Slots.{body_slots}
 use Rattle.abs_tree.specs.Syntax.{Name, Statement, BlockOf, IfOf, WhileOf, MaybeStatements, NoElse, Else, Statements, NoStatement, NextStatement, ParamTree, DeclaredTree, MemberTree, FieldTree, MethodTree, DeclTree, ClassTree, ProgramTree}
 use Rattle.abs_tree.specs.SyntaxCounts.{count_phrases}
 use Rattle.abs_tree.specs.SyntaxSizes.{count_of, statement_count, decl_statements, fields_among}
-use Rattle.abs_tree.specs.Tables.{meaning_of}
-use Rattle.abs_tree.specs.Whole.{Inside, StatementIsThere, ElseIsThere, StatementsAreThere, MembersAreThere, DeclarationIsThere, IsWhole}
-use Rattle.abs_tree.specs.declared.name_spaces.Taking.{Taking}
+use Rattle.abs_program.specs.Tables.{meaning_of}
+use Rattle.abs_program.specs.Whole.{Inside, StatementIsThere, ElseIsThere, StatementsAreThere, MembersAreThere, DeclarationIsThere, IsWhole}
+use Rattle.abs_program.specs.declared.name_spaces.Taking.{Taking}
 use Rattle.abs_tree.specs.declared.place.Place.{Place}
 use Rattle.config_state.proofs.BodyLemmas.{IsBodyOf, OfMain, OfMethod, points_of_body}
 use Rattle.config_state.specs.Bodies.{class_taking, BodyAt, entry_of_body, main_at, member_body, class_body, method_in_class, method_at, IsStatementOf}

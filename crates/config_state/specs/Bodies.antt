@@ -7,13 +7,13 @@
 --   `IsStatementOf`                    the index is that of a statement of a body
 use Rattle.std.specs.Prelude.{◌<◌, ◌≤◌, ℕ, zero, suc, ◌+◌, List, [], ◌∷◌, length, Option, Some, None, option_and_then}
 use Rattle.std.specs.Option.{option_map}
-use Rattle.abs_tree.specs.Bodies.{body_entry, ClassEntryTree, class_entry}
-use Rattle.abs_tree.specs.Members.{method_of}
-use Rattle.abs_tree.specs.NameSpaces.{spaces_of}
+use Rattle.abs_program.specs.Bodies.{body_entry, ClassEntryTree, class_entry}
+use Rattle.abs_program.specs.Members.{method_of}
+use Rattle.abs_program.specs.NameSpaces.{spaces_of}
 use Rattle.abs_tree.specs.Syntax.{Name, Statements, MemberTree, FieldTree, MethodTree, DeclTree, ClassTree, ProgramTree}
 use Rattle.abs_tree.specs.SyntaxSizes.{statement_count, member_statements, decl_statements}
-use Rattle.abs_tree.specs.Tables.{meaning_of}
-use Rattle.abs_tree.specs.declared.tables.control.BodyEntry.{BodyEntry}
+use Rattle.abs_program.specs.Tables.{meaning_of}
+use Rattle.abs_program.specs.declared.tables.control.BodyEntry.{BodyEntry}
 use Rattle.config_state.specs.Configurations.{ObjectState, FrameState, Configuration, object_at}
 
 -- the index of the declaration of the class with a name

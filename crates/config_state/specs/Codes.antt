@@ -4,8 +4,8 @@
 --   `object_code`, `frame_code`        the codes of an object and of a frame
 use Rattle.std.specs.Prelude.{◌≡◌, refl, ℕ, Bool, true, false, List, Option, Some, None}
 use Rattle.std.specs.Coded.{Coded, code_by, coded_ℕ, coded_bool, coded_list, coded_option, coded×}
-use Rattle.abs_tree.specs.ValueCodes.{value_code}
-use Rattle.abs_tree.specs.ValueTrees.{ValueTree}
+use Rattle.abs_values.specs.ValueCodes.{value_code}
+use Rattle.abs_values.specs.ValueTrees.{ValueTree}
 use Rattle.abs_tree.specs.declared.symbol.Symbol.{Symbol}
 use Rattle.config_state.specs.declared.frame.Frame.{Frame}
 use Rattle.config_state.specs.declared.frame.Target.{Target}

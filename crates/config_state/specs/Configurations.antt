@@ -7,9 +7,9 @@
 --   `Each`                                     something is so of each entry of a list
 --   `IsUnfinished`                             a task has no result
 use Rattle.std.specs.Prelude.{◌≡◌, ℕ, List, [], slice_get, Option, Some, None}
-use Rattle.abs_tree.specs.Results.{Result}
+use Rattle.abs_values.specs.Results.{Result}
 use Rattle.abs_tree.specs.Syntax.{Name}
-use Rattle.abs_tree.specs.ValueTrees.{ValueTree}
+use Rattle.abs_values.specs.ValueTrees.{ValueTree}
 use Rattle.config_state.specs.declared.cog.Cog.{Cog}
 use Rattle.config_state.specs.declared.frame.Target.{Target}
 use Rattle.config_state.specs.declared.task.State.{State}

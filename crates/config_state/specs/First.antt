@@ -4,8 +4,8 @@
 --   `first`                the first configuration
 use Rattle.std.specs.Prelude.{ℕ, ◌-◌, List, [], ◌∷◌, ◌++◌, replicate, Option, None}
 use Rattle.abs_tree.specs.Syntax.{Name, ProgramTree}
-use Rattle.abs_tree.specs.ValueTrees.{ValueTree, NullValue}
-use Rattle.abs_tree.specs.declared.tables.control.BodyEntry.{BodyEntry}
+use Rattle.abs_values.specs.ValueTrees.{ValueTree, NullValue}
+use Rattle.abs_program.specs.declared.tables.control.BodyEntry.{BodyEntry}
 use Rattle.config_state.specs.Bodies.{entry_of_body, main_at}
 use Rattle.config_state.specs.Configurations.{FrameState, Configuration}
 use Rattle.config_state.specs.declared.frame.Target.{Target}

@@ -7,13 +7,13 @@
 --   `IsAtGuard`                    the next statement is an `await`, and each local that it names holds a future
 --   `IsConfigOf`                   a configuration is of the program
 use Rattle.std.specs.Prelude.{◌≡◌, ◌<◌, ⊤, ℕ, suc, ◌+◌, List, length, slice_get, Option, Some, None, option_and_then}
-use Rattle.abs_tree.specs.Bodies.{ClassEntryTree}
-use Rattle.abs_tree.specs.Control.{Point, program_points}
-use Rattle.abs_tree.specs.Instructions.{Awaits, effect_of}
-use Rattle.abs_tree.specs.Slots.{body_slots}
+use Rattle.abs_program.specs.Bodies.{ClassEntryTree}
+use Rattle.abs_program.specs.Control.{Point, program_points}
+use Rattle.abs_program.specs.Instructions.{Awaits, effect_of}
+use Rattle.abs_program.specs.Slots.{body_slots}
 use Rattle.abs_tree.specs.Syntax.{ProgramTree}
 use Rattle.abs_tree.specs.SyntaxCounts.{count_phrases}
-use Rattle.abs_tree.specs.ValueTrees.{FutureValue}
+use Rattle.abs_values.specs.ValueTrees.{FutureValue}
 use Rattle.config_state.specs.Bodies.{class_taking, BodyAt, body_of, IsStatementOf}
 use Rattle.config_state.specs.Configurations.{ObjectState, FrameState, TaskState, Configuration, object_at, fields_of, Each}
 use Rattle.config_state.specs.declared.frame.Target.{Target}

@@ -3,8 +3,8 @@
 --   `task_code`            the code of a task
 use Rattle.std.specs.Prelude.{◌≡◌, refl, ℕ, zero, suc, List, Option}
 use Rattle.std.specs.Coded.{Coded, code_by, coded_ℕ, coded_list, coded_option, coded×}
-use Rattle.abs_tree.specs.EvaluatedCodes.{evaluated_code}
-use Rattle.abs_tree.specs.declared.evaluated.Evaluated.{Evaluated}
+use Rattle.abs_values.specs.EvaluatedCodes.{evaluated_code}
+use Rattle.abs_values.specs.declared.evaluated.Evaluated.{Evaluated}
 use Rattle.abs_tree.specs.declared.symbol.Symbol.{Symbol}
 use Rattle.config_state.specs.Codes.{symbol_code, frame_code}
 use Rattle.config_state.specs.declared.frame.Frame.{Frame}

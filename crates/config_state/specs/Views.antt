@@ -5,7 +5,7 @@
 use Rattle.std.specs.Prelude.{List, map, reverse}
 use Rattle.std.specs.Option.{option_map}
 use Rattle.abs_tree.specs.Names.{name_of}
-use Rattle.abs_tree.specs.Results.{result_tree}
+use Rattle.abs_values.specs.Results.{result_tree}
 use Rattle.abs_tree.specs.Syntax.{Name}
 use Rattle.config_state.specs.Configurations.{ObjectState, FrameState, TaskState, Configuration}
 use Rattle.config_state.specs.declared.cog.Cog.{Cog}

@@ -7,9 +7,9 @@
 --   `IsFrameFormed`, `IsTaskFormed`    what is kept of a frame and of a task
 --   `IsWellFormed`                     what is kept of a configuration
 use Rattle.std.specs.Prelude.{◌≡◌, ◌≢◌, ◌<◌, ℕ, List, [], length, slice_get, Some, None}
-use Rattle.abs_tree.specs.References.{Reference, ToObject, ToFuture, IsIn}
-use Rattle.abs_tree.specs.Results.{Result, Gives}
-use Rattle.abs_tree.specs.ValueTrees.{ValueTree}
+use Rattle.abs_values.specs.References.{Reference, ToObject, ToFuture, IsIn}
+use Rattle.abs_values.specs.Results.{Result, Gives}
+use Rattle.abs_values.specs.ValueTrees.{ValueTree}
 use Rattle.config_state.specs.Configurations.{ObjectState, FrameState, TaskState, Configuration, Each}
 use Rattle.config_state.specs.declared.cog.Cog.{Cog}
 use Rattle.config_state.specs.declared.task.State.TheVariants.{Ready, Running}

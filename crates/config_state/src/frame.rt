@@ -1,7 +1,8 @@
 //! Frames: the bodies that a task executes.
 ghost use Rattle.std.specs.Prelude.{◌≡◌, ◌<◌, ◌==◌, length, slice_get, Some};
 
-use abs_tree::{Symbol, Values};
+use abs_tree::Symbol;
+use abs_values::Values;
 use std::marker::Model;
 
 /// Where a value goes in a frame.

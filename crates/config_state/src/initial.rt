@@ -1,12 +1,13 @@
 //! The configuration in which each run begins.
 ghost use Rattle.std.specs.Prelude.{◌≡◌, IfOk};
-ghost use Rattle.abs_tree.specs.SourceViews.{program_tree};
+ghost use Rattle.abs_program.specs.NamedViews.{program_tree};
 ghost use Rattle.config_state.specs.First.{first as first_of};
 ghost use Rattle.config_state.specs.OfProgram.{IsConfigOf};
 ghost use Rattle.config_state.specs.ConfigViews.{configuration};
 
 use crate::{Cog, Cogs, Config, Frame, Frames, Objects, State, Target, TaskCell, Tasks};
-use abs_tree::{Named, Values};
+use abs_program::Named;
+use abs_values::Values;
 use std::alloc::{AllocError, Global};
 
 /// The first configuration of a program: the task of the main block is ready, with null in each slot, and nobody holds

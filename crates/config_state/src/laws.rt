@@ -1,7 +1,7 @@
 //! Laws of the definitions, which hold whatever the code does.
 ghost use Rattle.std.specs.Prelude.{◌≡◌, ℕ, List};
 ghost use Rattle.std.specs.Option.{option_map};
-ghost use Rattle.abs_tree.specs.Bodies.{method_entry};
+ghost use Rattle.abs_program.specs.Bodies.{method_entry};
 ghost use Rattle.abs_tree.specs.Syntax.{DeclTree};
 ghost use Rattle.config_state.specs.Bodies.{class_body, entry_of_body};
 

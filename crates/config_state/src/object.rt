@@ -1,7 +1,8 @@
 //! Objects and their fields.
 ghost use Rattle.std.specs.Prelude.{◌≡◌, ◌<◌, ◌^◌, ◌==◌, length, slice_get, Some};
 
-use abs_tree::{Symbol, Values};
+use abs_tree::Symbol;
+use abs_values::Values;
 use std::marker::Model;
 
 /// An object, which is known by its index in the configuration.

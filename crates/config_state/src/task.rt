@@ -2,7 +2,8 @@
 ghost use Rattle.std.specs.Prelude.{◌≡◌, ◌<◌, ◌^◌, ◌==◌, length, slice_get, Some};
 
 use crate::Frames;
-use abs_tree::{Evaluated, Symbol};
+use abs_tree::Symbol;
+use abs_values::Evaluated;
 use std::marker::Model;
 
 /// Whether a task makes steps.

@@ -9,17 +9,17 @@ use Rattle.std.proofs.Common.{◌≡◌, ◌≢◌, ℕ, ◌+◌, ◌-◌, ◌<�
 use Rattle.std.specs.Str.{bytes_eq}
 use Rattle.std.proofs.lemmas.Bool.{eq-eqb, lt-ltb, ne_eqb}
 use Rattle.std.proofs.lemmas.List.{drop-map, length-map}
-use Rattle.abs_tree.specs.Evaluation.{Outcome, Outcomes, application_outcome, body_outcome, ends_with, evaluate, function_outcome, outcome_after_all, string_of_result}
+use Rattle.abs_values.specs.Evaluation.{Outcome, Outcomes, application_outcome, body_outcome, ends_with, evaluate, function_outcome, outcome_after_all, string_of_result}
 use Rattle.abs_tree.specs.Limits.{application_limit}
 use Rattle.abs_tree.specs.Names.{name_of}
-use Rattle.abs_tree.specs.Results.{Fails, Gives, built_result}
-use Rattle.abs_tree.specs.Scopes.{FunctionBody, Library, function_named, own_scope}
+use Rattle.abs_values.specs.Results.{Fails, Gives, built_result}
+use Rattle.abs_values.specs.Scopes.{FunctionBody, Library, function_named, own_scope}
 use Rattle.abs_tree.specs.Syntax.{Name, Phrase}
-use Rattle.abs_tree.specs.ValueTrees.{ValueTree, NextPart, built_value, parts_of_list}
-use Rattle.abs_tree.specs.ValueViews.{value_tree, value_trees}
-use Rattle.abs_tree.specs.declared.evaluated.Fault.TheVariants as fault
+use Rattle.abs_values.specs.ValueTrees.{ValueTree, NextPart, built_value, parts_of_list}
+use Rattle.abs_values.specs.ValueViews.{value_tree, value_trees}
+use Rattle.abs_values.specs.declared.evaluated.Fault.TheVariants as fault
 use Rattle.abs_tree.specs.declared.symbol.Symbol.{Symbol}
-use Rattle.abs_tree.specs.declared.value.Value.{Value}
+use Rattle.abs_values.specs.declared.value.Value.{Value}
 use Rattle.fun_eval.proofs.FrameLemmas.{arguments_counted}
 use Rattle.fun_eval.proofs.OutcomeLemmas.{after_values}
 use Rattle.fun_eval.proofs.RowLemmas.{row_at}

@@ -4,17 +4,17 @@
 --   `let_taken`, `case_taken`  the outcome is that of the body, or of the branch
 --   `if_taken`                 the outcome is that of the branch that the condition chooses
 use Rattle.std.proofs.Common.{◌≡◌, ℕ, ◌+◌, Bool, List, [], ◌∷◌, ◌++◌, Some, drop, length, sym, ap, ◌∙◌, arith, length-append}
-use Rattle.abs_tree.specs.Evaluation.{Outcome, branches_outcome, chosen_outcome, ends_with, evaluate, outcome_after}
-use Rattle.abs_tree.specs.Operations.{truth_of}
-use Rattle.abs_tree.specs.Results.{Gives}
-use Rattle.abs_tree.specs.Scopes.{Library, Scope, with_bound}
+use Rattle.abs_values.specs.Evaluation.{Outcome, branches_outcome, chosen_outcome, ends_with, evaluate, outcome_after}
+use Rattle.abs_values.specs.Operations.{truth_of}
+use Rattle.abs_values.specs.Results.{Gives}
+use Rattle.abs_values.specs.Scopes.{Library, Scope, with_bound}
 use Rattle.abs_tree.specs.Syntax.{Name, Phrase}
 use Rattle.abs_tree.specs.SyntaxViews.{branches as branch_trees, phrase}
-use Rattle.abs_tree.specs.ValueTrees.{ValueTree}
-use Rattle.abs_tree.specs.ValueViews.{value_tree}
+use Rattle.abs_values.specs.ValueTrees.{ValueTree}
+use Rattle.abs_values.specs.ValueViews.{value_tree}
 use Rattle.abs_tree.specs.declared.syntax.expression.Branch.{Branch}
 use Rattle.abs_tree.specs.declared.syntax.expression.Expr.{Expr}
-use Rattle.abs_tree.specs.declared.value.Value.{Value}
+use Rattle.abs_values.specs.declared.value.Value.{Value}
 use Rattle.fun_eval.proofs.FrameLemmas.{arguments_counted, bound_counted, scope_bound, within_longer, within_trees}
 use Rattle.fun_eval.proofs.OutcomeLemmas.{after_value}
 use Rattle.fun_eval.proofs.SoFarLemmas.{gives_stays, library_stays, names_stay}

@@ -6,15 +6,15 @@ use Rattle.std.specs.declared.boxed.Box.{Box}
 use Rattle.std.specs.declared.sync.Arc.{Arc}
 use Rattle.std.specs.declared.vec.Vec.{Vec}
 use Rattle.abs_tree.proofs.SyntaxLemmas.{phrase-apply, phrase-build, phrase-case, phrase-operators, phrase-own_call}
-use Rattle.abs_tree.specs.Evaluation.{application_outcome, branches_outcome, chosen_outcome, ends_with, evaluate, operators_outcome, outcome_after, outcome_after_all, outcomes_of, read_result, result_after}
+use Rattle.abs_values.specs.Evaluation.{application_outcome, branches_outcome, chosen_outcome, ends_with, evaluate, operators_outcome, outcome_after, outcome_after_all, outcomes_of, read_result, result_after}
 use Rattle.abs_tree.specs.Names.{name_of, number_of_name}
-use Rattle.abs_tree.specs.Operations.{prefix_result, truth_of}
-use Rattle.abs_tree.specs.Results.{Gives, Fails, built_result, string_result}
-use Rattle.abs_tree.specs.Scopes.{Library, Scope, InThis, location_of, own_scope, with_bound}
+use Rattle.abs_values.specs.Operations.{prefix_result, truth_of}
+use Rattle.abs_values.specs.Results.{Gives, Fails, built_result, string_result}
+use Rattle.abs_values.specs.Scopes.{Library, Scope, InThis, location_of, own_scope, with_bound}
 use Rattle.abs_tree.specs.Syntax.{Name, Phrase}
 use Rattle.abs_tree.specs.SyntaxViews.{phrase, phrases, operand_trees, branches as branch_trees, variable_tree}
-use Rattle.abs_tree.specs.ValueTrees.{IntValue, NullValue, parts_of_list}
-use Rattle.abs_tree.specs.declared.evaluated.Fault.TheVariants as fault
+use Rattle.abs_values.specs.ValueTrees.{IntValue, NullValue, parts_of_list}
+use Rattle.abs_values.specs.declared.evaluated.Fault.TheVariants as fault
 use Rattle.abs_tree.specs.declared.place.Place.{Place}
 use Rattle.abs_tree.specs.declared.symbol.Symbol.{Symbol}
 use Rattle.abs_tree.specs.declared.syntax.expression.Branch.{Branch}

@@ -7,9 +7,9 @@
 use Rattle.std.proofs.Common.{◌≡◌, ℕ, ◌+◌, ◌-◌, ◌≤◌, List, [], ◌++◌, take, drop, length, arith, refl, sym, ap, ◌∙◌, subst, None, length-drop}
 use Rattle.std.proofs.lemmas.List.{drop-append-le, length-map, take-append-le}
 use Rattle.std.proofs.Math.Seq.{drop-length, take-length}
-use Rattle.abs_tree.specs.Scopes.{Scope, own_scope, with_bound}
-use Rattle.abs_tree.specs.ValueTrees.{ValueTree}
-use Rattle.abs_tree.specs.ValueViews.{value_tree}
+use Rattle.abs_values.specs.Scopes.{Scope, own_scope, with_bound}
+use Rattle.abs_values.specs.ValueTrees.{ValueTree}
+use Rattle.abs_values.specs.ValueViews.{value_tree}
 use Rattle.fun_eval.specs.Evaluating.{arguments_in, bound_in, scope_in, scope_of, AreWithin, IsWithin, Stays}
 use Rattle.fun_eval.specs.declared.evaluator.Evaluator.{Evaluator}
 use Rattle.fun_eval.specs.declared.scope.Frame.{Frame}

@@ -8,14 +8,14 @@ use Rattle.std.specs.Option.{option_or}
 use Rattle.std.specs.Prelude.{if◌then◌else◌, slice_get}
 use Rattle.std.specs.Str.{bytes_eq}
 use Rattle.std.proofs.lemmas.Slice.Eq.{bytes_eq-Decides}
-use Rattle.abs_tree.specs.NameSpaces.{NameSpaces, built_in, spaces_of, with_declaration, with_declarations}
-use Rattle.abs_tree.specs.NamedDeclarations.{IsFunction}
-use Rattle.abs_tree.specs.Scopes.{FunctionBody, function_named, functions_of}
+use Rattle.abs_program.specs.NameSpaces.{NameSpaces, built_in, spaces_of, with_declaration, with_declarations}
+use Rattle.abs_program.specs.NamedDeclarations.{IsFunction}
+use Rattle.abs_values.specs.Scopes.{FunctionBody, function_named, functions_of}
 use Rattle.abs_tree.specs.Syntax.{Name, DeclTree, DataTree, FunctionTree, InterfaceTree, ClassTree}
-use Rattle.abs_tree.specs.Tables.{Table, meaning_of, with_first}
-use Rattle.abs_tree.specs.declared.name_spaces.FunctionMeaning.{FunctionMeaning}
-use Rattle.abs_tree.specs.declared.name_spaces.FunctionMeaning.TheVariants as function
-use Rattle.abs_tree.specs.declared.name_spaces.Taking.{Taking}
+use Rattle.abs_program.specs.Tables.{Table, meaning_of, with_first}
+use Rattle.abs_program.specs.declared.name_spaces.FunctionMeaning.{FunctionMeaning}
+use Rattle.abs_program.specs.declared.name_spaces.FunctionMeaning.TheVariants as function
+use Rattle.abs_program.specs.declared.name_spaces.Taking.{Taking}
 
 -- without another meaning
 option_or-none : {A : Type 0} (meaning : Option A) → option_or meaning None ≡ meaning

@@ -5,21 +5,21 @@
 --   `InitialsSoFar`            the initial values that are left follow the values so far
 --   `initials_step`, ..        after one more value, at a fault, and at the end
 use Rattle.std.proofs.Common.{◌≡◌, ℕ, ◌+◌, ◌<◌, ◌≤◌, List, [], ◌∷◌, ◌++◌, drop, get_or, length, map, refl, sym, ap, ◌∙◌, subst}
-use Rattle.abs_tree.specs.Evaluation.{Outcome, Outcomes, all_end_with, all_outcomes, ends_with, evaluate, initial_outcomes, outcomes_of, results_of}
+use Rattle.abs_values.specs.Evaluation.{Outcome, Outcomes, all_end_with, all_outcomes, ends_with, evaluate, initial_outcomes, outcomes_of, results_of}
 use Rattle.std.specs.declared.alloc.Global.{Global}
 use Rattle.std.specs.declared.sync.Arc.{Arc}
-use Rattle.abs_tree.specs.InstructionViews.{shared_phrases}
+use Rattle.abs_program.specs.InstructionViews.{shared_phrases}
 use Rattle.abs_tree.specs.Limits.{level_limit}
-use Rattle.abs_tree.specs.Results.{AllGive, Gives, Results}
-use Rattle.abs_tree.specs.Scopes.{Library, Scope as ScopeTree, library_of, own_scope}
-use Rattle.abs_tree.specs.SourceViews.{program_tree}
+use Rattle.abs_values.specs.Results.{AllGive, Gives, Results}
+use Rattle.abs_values.specs.Scopes.{Library, Scope as ScopeTree, library_of, own_scope}
+use Rattle.abs_program.specs.NamedViews.{program_tree}
 use Rattle.abs_tree.specs.Syntax.{Name, Phrases, NextPhrase}
 use Rattle.abs_tree.specs.SyntaxViews.{phrase}
-use Rattle.abs_tree.specs.ValueTrees.{ValueTree}
-use Rattle.abs_tree.specs.ValueViews.{value_tree}
-use Rattle.abs_tree.specs.declared.named.Named.{Named}
+use Rattle.abs_values.specs.ValueTrees.{ValueTree}
+use Rattle.abs_values.specs.ValueViews.{value_tree}
+use Rattle.abs_program.specs.declared.named.Named.{Named}
 use Rattle.abs_tree.specs.declared.syntax.expression.Expr.{Expr}
-use Rattle.abs_tree.specs.declared.value.Value.{Value}
+use Rattle.abs_values.specs.declared.value.Value.{Value}
 use Rattle.fun_eval.proofs.ListLemmas.{initial_step, initial_stop}
 use Rattle.fun_eval.proofs.RowLemmas.{shared_at, shared_end}
 use Rattle.fun_eval.proofs.SoFarLemmas.{library_stays, names_stay, stays_further}

@@ -4,12 +4,12 @@
 --   `earlier_step`, `earlier_end`, `earlier_stop`      one more value, no more expression, and a fault
 --   `initial_step`, `initial_stop`                     the same of initial values
 use Rattle.std.proofs.Common.{◌≡◌, ℕ, List, [], ◌∷◌, ◌++◌, refl, sym, ap, ◌∙◌, append_assoc, append-nil}
-use Rattle.abs_tree.specs.Evaluation.{Outcome, Outcomes, all_end_with, ends_with, evaluate, initial_outcomes, outcomes_of, results_with}
+use Rattle.abs_values.specs.Evaluation.{Outcome, Outcomes, all_end_with, ends_with, evaluate, initial_outcomes, outcomes_of, results_with}
 use Rattle.abs_tree.specs.Limits.{level_limit}
-use Rattle.abs_tree.specs.Results.{Gives, Results, AllGive, OneFails}
-use Rattle.abs_tree.specs.Scopes.{Library, own_scope}
+use Rattle.abs_values.specs.Results.{Gives, Results, AllGive, OneFails}
+use Rattle.abs_values.specs.Scopes.{Library, own_scope}
 use Rattle.abs_tree.specs.Syntax.{Phrase, Phrases, NoPhrase, NextPhrase}
-use Rattle.abs_tree.specs.ValueTrees.{ValueTree}
+use Rattle.abs_values.specs.ValueTrees.{ValueTree}
 use Rattle.fun_eval.specs.Evaluating.{AreStopped, IsStopped}
 use Rattle.fun_eval.specs.declared.stop.Stop.{Stop}
 use Rattle.fun_eval.specs.declared.stop.Stop.TheVariants as stop

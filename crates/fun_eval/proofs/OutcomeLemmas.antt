@@ -10,14 +10,14 @@ use Rattle.std.proofs.Common.{◌≡◌, ℕ, List, refl, sym, subst}
 use Rattle.std.proofs.lemmas.Result.{err_from_is_err_and}
 use Rattle.std.specs.Prelude.{Result, Ok, Err}
 use Rattle.std.specs.Result.{IsErrAnd, OnOk}
-use Rattle.abs_tree.specs.Evaluation.{Outcome, Outcomes, ends_with, outcome_after, outcome_after_all, operand_outcome, operators_outcome, result_after}
-use Rattle.abs_tree.specs.Operations.{operation_result}
-use Rattle.abs_tree.specs.Results.{Result as ResultTree, Gives, AllGive}
+use Rattle.abs_values.specs.Evaluation.{Outcome, Outcomes, ends_with, outcome_after, outcome_after_all, operand_outcome, operators_outcome, result_after}
+use Rattle.abs_values.specs.Operations.{operation_result}
+use Rattle.abs_values.specs.Results.{Result as ResultTree, Gives, AllGive}
 use Rattle.abs_tree.specs.Syntax.{Name, Phrase, Operands, NoOperands, NextOperand}
-use Rattle.abs_tree.specs.ValueTrees.{ValueTree}
+use Rattle.abs_values.specs.ValueTrees.{ValueTree}
 use Rattle.abs_tree.specs.declared.syntax.expression.Operator.{Operator}
 use Rattle.abs_tree.specs.declared.syntax.expression.Operator.TheVariants as operator
-use Rattle.abs_tree.specs.declared.value.Value.{Value}
+use Rattle.abs_values.specs.declared.value.Value.{Value}
 use Rattle.fun_eval.specs.Evaluating.{AreStopped, IsOutcome, IsStopped}
 use Rattle.fun_eval.specs.Reading.{IsResult}
 use Rattle.fun_eval.specs.declared.evaluator.Evaluator.{Evaluator}

@@ -9,19 +9,19 @@ use Rattle.std.specs.Option.{option_and_then}
 use Rattle.std.specs.Prelude.{if◌then◌else◌}
 use Rattle.std.specs.declared.alloc.Global.{Global}
 use Rattle.std.specs.declared.vec.Vec.{Vec}
-use Rattle.abs_tree.specs.Evaluation.{Outcome, branches_outcome}
+use Rattle.abs_values.specs.Evaluation.{Outcome, branches_outcome}
 use Rattle.abs_tree.proofs.SyntaxLemmas.{pattern_tree-built}
 use Rattle.abs_tree.specs.Names.{name_of, number_of_name}
-use Rattle.abs_tree.specs.Operations.{all_matched, both_matched, matched}
+use Rattle.abs_values.specs.Operations.{all_matched, both_matched, matched}
 use Rattle.abs_tree.specs.Syntax.{Name, VariableTree, Phrase, PatternTree, AnyValue, Binds, SameNumber, SameString, Built, PatternTrees, Branches, NextBranch}
 use Rattle.abs_tree.specs.SyntaxViews.{pattern_tree, pattern_trees}
-use Rattle.abs_tree.specs.ValueTrees.{ValueTree, IntValue, StringValue, BuiltValue, ObjectValue, FutureValue, NullValue, ValueTrees}
-use Rattle.abs_tree.specs.ValueViews.{value_tree, value_trees}
+use Rattle.abs_values.specs.ValueTrees.{ValueTree, IntValue, StringValue, BuiltValue, ObjectValue, FutureValue, NullValue, ValueTrees}
+use Rattle.abs_values.specs.ValueViews.{value_tree, value_trees}
 use Rattle.abs_tree.specs.declared.place.Place.{Place}
 use Rattle.abs_tree.specs.declared.symbol.Symbol.{Symbol}
 use Rattle.abs_tree.specs.declared.syntax.pattern.Pattern as code
 use Rattle.abs_tree.specs.declared.syntax.pattern.Pattern.{Pattern}
-use Rattle.abs_tree.specs.declared.value.Value.{Value}
+use Rattle.abs_values.specs.declared.value.Value.{Value}
 use Rattle.fun_eval.proofs.StackLemmas.{added_after, added_twice, begins_added, begins_further, begins_more, begins_same}
 use Rattle.fun_eval.specs.Matching.{is_number, is_string, parts_with, Begins, Matches}
 

@@ -3,7 +3,7 @@ use Rattle.std.proofs.Common.{◌≡◌, ℕ, suc, ◌+◌, ◌<◌, ◌≤◌, 
 use Rattle.std.proofs.Math.Seq.{drop-cons}
 use Rattle.std.specs.declared.alloc.Global.{Global}
 use Rattle.std.specs.declared.sync.Arc.{Arc}
-use Rattle.abs_tree.specs.InstructionViews.{shared_phrases}
+use Rattle.abs_program.specs.InstructionViews.{shared_phrases}
 use Rattle.abs_tree.specs.Syntax.{Name, NoPhrase, NextPhrase, NoOperands, NextOperand, NoBranch, NextBranch}
 use Rattle.abs_tree.specs.SyntaxViews.{phrase, phrases, operand_trees, pattern_tree, branches as branch_trees}
 use Rattle.abs_tree.specs.declared.syntax.expression.Branch.{Branch}

@@ -4,16 +4,16 @@
 --   `OperatorsSoFar`           the operators that are left follow the value so far
 --   `operators_begin`, ..      before the first operator, after one more, at a fault, and at the end
 use Rattle.std.proofs.Common.{◌≡◌, ℕ, ◌+◌, ◌<◌, ◌≤◌, List, drop, get_or, length, refl, sym, ap, ◌∙◌, subst}
-use Rattle.abs_tree.specs.Evaluation.{Outcome, ends_with, evaluate, operand_outcome, operators_outcome}
-use Rattle.abs_tree.specs.Results.{Gives}
-use Rattle.abs_tree.specs.Scopes.{Library, Scope, library_of}
-use Rattle.abs_tree.specs.SourceViews.{program_tree}
+use Rattle.abs_values.specs.Evaluation.{Outcome, ends_with, evaluate, operand_outcome, operators_outcome}
+use Rattle.abs_values.specs.Results.{Gives}
+use Rattle.abs_values.specs.Scopes.{Library, Scope, library_of}
+use Rattle.abs_program.specs.NamedViews.{program_tree}
 use Rattle.abs_tree.specs.Syntax.{Name, Phrase}
 use Rattle.abs_tree.specs.SyntaxViews.{operand_trees, phrase}
-use Rattle.abs_tree.specs.ValueTrees.{ValueTree}
-use Rattle.abs_tree.specs.ValueViews.{value_tree}
+use Rattle.abs_values.specs.ValueTrees.{ValueTree}
+use Rattle.abs_values.specs.ValueViews.{value_tree}
 use Rattle.abs_tree.specs.declared.syntax.expression.Operand.{Operand}
-use Rattle.abs_tree.specs.declared.value.Value.{Value}
+use Rattle.abs_values.specs.declared.value.Value.{Value}
 use Rattle.fun_eval.proofs.FrameLemmas.{scope_stays}
 use Rattle.fun_eval.proofs.OutcomeLemmas.{operators_stop}
 use Rattle.fun_eval.proofs.RowLemmas.{operands_at, operands_end}

@@ -6,15 +6,15 @@
 --   `arguments_begin`, ..      the same for these
 use Rattle.std.proofs.Common.{◌≡◌, ℕ, ◌+◌, ◌<◌, ◌≤◌, List, [], ◌∷◌, ◌++◌, drop, get_or, length, map, refl, sym, ap, ◌∙◌, subst, arith, append_assoc}
 use Rattle.std.proofs.Math.Seq.{drop-length}
-use Rattle.abs_tree.specs.Evaluation.{Outcome, Outcomes, all_end_with, ends_with, evaluate, outcomes_of}
-use Rattle.abs_tree.specs.Results.{Gives, AllGive}
-use Rattle.abs_tree.specs.Scopes.{Library, Scope}
+use Rattle.abs_values.specs.Evaluation.{Outcome, Outcomes, all_end_with, ends_with, evaluate, outcomes_of}
+use Rattle.abs_values.specs.Results.{Gives, AllGive}
+use Rattle.abs_values.specs.Scopes.{Library, Scope}
 use Rattle.abs_tree.specs.Syntax.{Name, Phrase, Phrases}
 use Rattle.abs_tree.specs.SyntaxViews.{phrase, phrases}
-use Rattle.abs_tree.specs.ValueTrees.{ValueTree}
-use Rattle.abs_tree.specs.ValueViews.{value_tree}
+use Rattle.abs_values.specs.ValueTrees.{ValueTree}
+use Rattle.abs_values.specs.ValueViews.{value_tree}
 use Rattle.abs_tree.specs.declared.syntax.expression.Expr.{Expr}
-use Rattle.abs_tree.specs.declared.value.Value.{Value}
+use Rattle.abs_values.specs.declared.value.Value.{Value}
 use Rattle.fun_eval.proofs.FrameLemmas.{arguments_counted, bound_counted, scope_arguments, within_longer, within_trees}
 use Rattle.fun_eval.proofs.ListLemmas.{earlier_begin, earlier_end, earlier_step, earlier_stop, with_earlier}
 use Rattle.fun_eval.proofs.RowLemmas.{phrases_at, phrases_end}

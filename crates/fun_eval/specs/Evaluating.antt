@@ -12,16 +12,16 @@
 --   `GivesAll`                         so are the values of all expressions of a statement
 --   `ChosenBranch`                     the branch of a case was chosen
 use Rattle.std.specs.Prelude.{◌≡◌, ⊤, ℕ, ◌+◌, ◌≤◌, List, [], ◌∷◌, ◌++◌, drop, take, length, map, Result, Ok, Err, None}
-use Rattle.abs_tree.specs.Evaluation.{Outcome, Outcomes, all_end_with, branches_outcome, ends_with, evaluate, outcome_after}
-use Rattle.abs_tree.specs.Results.{Result as ResultTree, Gives, Fails, AllGive, OneFails, Results}
-use Rattle.abs_tree.specs.Scopes.{Library, Scope, library_of}
-use Rattle.abs_tree.specs.SourceViews.{named_tree, program_tree}
+use Rattle.abs_values.specs.Evaluation.{Outcome, Outcomes, all_end_with, branches_outcome, ends_with, evaluate, outcome_after}
+use Rattle.abs_values.specs.Results.{Result as ResultTree, Gives, Fails, AllGive, OneFails, Results}
+use Rattle.abs_values.specs.Scopes.{Library, Scope, library_of}
+use Rattle.abs_program.specs.NamedViews.{named_tree, program_tree}
 use Rattle.abs_tree.specs.Syntax.{Name, DeclTree, Phrase}
 use Rattle.abs_tree.specs.SyntaxViews.{branches as branch_trees, phrase}
-use Rattle.abs_tree.specs.ValueTrees.{ValueTree}
-use Rattle.abs_tree.specs.ValueViews.{value_tree}
+use Rattle.abs_values.specs.ValueTrees.{ValueTree}
+use Rattle.abs_values.specs.ValueViews.{value_tree}
 use Rattle.abs_tree.specs.declared.syntax.expression.Branch.{Branch}
-use Rattle.abs_tree.specs.declared.value.Value.{Value}
+use Rattle.abs_values.specs.declared.value.Value.{Value}
 use Rattle.std.specs.declared.alloc.Global.{Global}
 use Rattle.std.specs.declared.vec.Vec.{Vec}
 use Rattle.fun_eval.specs.Matching.{Begins}

@@ -9,12 +9,12 @@
 use Rattle.std.specs.Prelude.{◌≡◌, ℕ, ℤ, nat_eq, Bool, true, false, List, ◌++◌, drop, length, take, Option, Some, None, if◌then◌else◌}
 use Rattle.std.specs.Ordering.{int_eq}
 use Rattle.std.specs.Str.{bytes_eq}
-use Rattle.abs_tree.specs.Evaluation.{Outcome, branches_outcome, ends_with}
-use Rattle.abs_tree.specs.Results.{Fails}
+use Rattle.abs_values.specs.Evaluation.{Outcome, branches_outcome, ends_with}
+use Rattle.abs_values.specs.Results.{Fails}
 use Rattle.abs_tree.specs.Syntax.{Name, Phrase}
 use Rattle.abs_tree.specs.SyntaxViews.{branches as branch_trees, phrase}
-use Rattle.abs_tree.specs.ValueTrees.{ValueTree, IntValue, StringValue, BuiltValue, ValueTrees}
-use Rattle.abs_tree.specs.declared.evaluated.Fault.TheVariants as fault
+use Rattle.abs_values.specs.ValueTrees.{ValueTree, IntValue, StringValue, BuiltValue, ValueTrees}
+use Rattle.abs_values.specs.declared.evaluated.Fault.TheVariants as fault
 use Rattle.abs_tree.specs.declared.syntax.expression.Branch.{Branch}
 
 -- a list begins with another one

@@ -5,14 +5,14 @@
 --   `IsResult`                     the code gives this result, or memory runs out
 --   `value_of_function`            the value of a function
 use Rattle.std.specs.Prelude.{◌≡◌, ⊤, [], map, Option, Some, None, Result, Ok, Err}
-use Rattle.abs_tree.specs.Results.{Result as ResultTree, Gives, Fails}
-use Rattle.abs_tree.specs.Scopes.{Scope as ScopeTree}
+use Rattle.abs_values.specs.Results.{Result as ResultTree, Gives, Fails}
+use Rattle.abs_values.specs.Scopes.{Scope as ScopeTree}
 use Rattle.abs_tree.specs.Syntax.{Phrase, DeclTree, FunctionTree}
-use Rattle.abs_tree.specs.ValueTrees.{ValueTree}
-use Rattle.abs_tree.specs.ValueViews.{value_tree}
-use Rattle.abs_tree.specs.declared.evaluated.Env.{Env}
-use Rattle.abs_tree.specs.declared.evaluated.Fault.TheVariants as fault
-use Rattle.abs_tree.specs.declared.value.Value.{Value}
+use Rattle.abs_values.specs.ValueTrees.{ValueTree}
+use Rattle.abs_values.specs.ValueViews.{value_tree}
+use Rattle.abs_values.specs.declared.evaluated.Env.{Env}
+use Rattle.abs_values.specs.declared.evaluated.Fault.TheVariants as fault
+use Rattle.abs_values.specs.declared.value.Value.{Value}
 use Rattle.fun_eval.specs.declared.scope.Scope.{Scope}
 use Rattle.fun_eval.specs.declared.stop.Stop.{Stop}
 use Rattle.fun_eval.specs.declared.stop.Stop.TheVariants as stop

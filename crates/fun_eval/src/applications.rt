@@ -1,24 +1,26 @@
 //! Expressions that evaluate a list of arguments: functions and constructors.
 ghost use Rattle.std.specs.Prelude.{◌≡◌, ◌≤◌, List, Some, drop, length, map, slice_get, IfErr, OnOk};
-ghost use Rattle.abs_tree.specs.Evaluation.{application_outcome, body_outcome, ends_with, evaluate, outcome_after_all, outcomes_of, string_of_result};
+ghost use Rattle.abs_values.specs.Evaluation.{application_outcome, body_outcome, ends_with, evaluate, outcome_after_all, outcomes_of, string_of_result};
 ghost use Rattle.std.specs.Option.{option_map};
-ghost use Rattle.abs_tree.specs.declared.name_spaces.FunctionMeaning.TheVariants.{Defined};
+ghost use Rattle.abs_program.specs.declared.name_spaces.FunctionMeaning.TheVariants.{Defined};
 ghost use Rattle.abs_tree.specs.Names.{name_of, number_of_name};
-ghost use Rattle.abs_tree.specs.NameSpaces.{spaces_of};
-ghost use Rattle.abs_tree.specs.Results.{built_result};
-ghost use Rattle.abs_tree.specs.Scopes.{function_named, own_scope};
+ghost use Rattle.abs_program.specs.NameSpaces.{spaces_of};
+ghost use Rattle.abs_values.specs.Results.{built_result};
+ghost use Rattle.abs_values.specs.Scopes.{function_named, own_scope};
 ghost use Rattle.abs_tree.specs.Syntax.{Name};
 ghost use Rattle.abs_tree.specs.SyntaxViews.{decl_tree, phrase, phrases};
-ghost use Rattle.abs_tree.specs.Tables.{meaning_of};
-ghost use Rattle.abs_tree.specs.ValueTrees.{parts_of_list};
+ghost use Rattle.abs_program.specs.Tables.{meaning_of};
+ghost use Rattle.abs_values.specs.ValueTrees.{parts_of_list};
 ghost use Rattle.fun_eval.specs.Reading.{value_of_function, IsResult};
 ghost use Rattle.fun_eval.specs.Evaluating.{arguments_in, declarations_in, gives_in, library_in, names_in, AddedArguments, AreStopped, GivesValues, IsOutcome, IsWithin, Stays};
 
 use crate::evaluator::Evaluator;
 use crate::scope::Frame;
 use crate::stop::Stop;
+use abs_program::{FunctionMeaning, Taking};
 use abs_tree::limits::APPLICATION_LIMIT;
-use abs_tree::{Decl, Expr, Fault, FunctionMeaning, Symbol, Taking, Value};
+use abs_tree::{Decl, Expr, Symbol};
+use abs_values::{Fault, Value};
 
 impl Evaluator<'_> {
     /// The value of an application. Each argument is evaluated onto the stack, where it is a slot of the function.

@@ -1,19 +1,20 @@
 //! Expressions that choose a part, or bind variables for one.
 ghost use Rattle.std.specs.Prelude.{◌∷◌, [], ℕ, List, IfErr, IfOk, OnOk};
-ghost use Rattle.abs_tree.specs.Evaluation.{branches_outcome, chosen_outcome, evaluate, outcome_after, Outcome};
-ghost use Rattle.abs_tree.specs.Operations.{truth_of};
-ghost use Rattle.abs_tree.specs.Scopes.{with_bound};
+ghost use Rattle.abs_values.specs.Evaluation.{branches_outcome, chosen_outcome, evaluate, outcome_after, Outcome};
+ghost use Rattle.abs_values.specs.Operations.{truth_of};
+ghost use Rattle.abs_values.specs.Scopes.{with_bound};
 ghost use Rattle.abs_tree.specs.Syntax.{Phrase};
 ghost use Rattle.abs_tree.specs.SyntaxViews.{branches as branch_trees, phrase};
-ghost use Rattle.abs_tree.specs.ValueTrees.{ValueTree};
-ghost use Rattle.abs_tree.specs.ValueViews.{value_tree};
+ghost use Rattle.abs_values.specs.ValueTrees.{ValueTree};
+ghost use Rattle.abs_values.specs.ValueViews.{value_tree};
 ghost use Rattle.fun_eval.specs.Evaluating.{gives_in, library_in, names_in, outcome_in, scope_of, Binds, ChosenBranch, IsOutcome, IsStopped, IsWithin, Stays};
 
 use crate::evaluator::Evaluator;
 use crate::patterns::first_match;
 use crate::scope::Frame;
 use crate::stop::Stop;
-use abs_tree::{Branch, Expr, Fault, Value};
+use abs_tree::{Branch, Expr};
+use abs_values::{Fault, Value};
 use std::alloc::AllocError;
 
 impl Evaluator<'_> {

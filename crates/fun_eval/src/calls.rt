@@ -1,10 +1,10 @@
 //! The calls that evaluate the expressions of a statement, each with all levels and a count of its own.
 ghost use Rattle.std.specs.Prelude.{◌≡◌, [], IfOk};
-ghost use Rattle.abs_tree.specs.Evaluation.{result_of, results_of};
-ghost use Rattle.abs_tree.specs.InstructionViews.{shared_phrases};
-ghost use Rattle.abs_tree.specs.Results.{result_tree, results_tree};
-ghost use Rattle.abs_tree.specs.Scopes.{library_of};
-ghost use Rattle.abs_tree.specs.SourceViews.{program_tree};
+ghost use Rattle.abs_values.specs.Evaluation.{result_of, results_of};
+ghost use Rattle.abs_program.specs.InstructionViews.{shared_phrases};
+ghost use Rattle.abs_values.specs.Results.{result_tree, results_tree};
+ghost use Rattle.abs_values.specs.Scopes.{library_of};
+ghost use Rattle.abs_program.specs.NamedViews.{program_tree};
 ghost use Rattle.abs_tree.specs.SyntaxViews.{phrase, phrases};
 ghost use Rattle.fun_eval.specs.Evaluating.{library_in, names_in, GivesAll};
 ghost use Rattle.fun_eval.specs.Reading.{env_scope, scope_tree};
@@ -12,8 +12,10 @@ ghost use Rattle.fun_eval.specs.Reading.{env_scope, scope_tree};
 use crate::evaluator::Evaluator;
 use crate::scope::{Frame, Scope};
 use crate::stop::Stop;
+use abs_program::Named;
+use abs_tree::Expr;
 use abs_tree::limits::LEVEL_LIMIT;
-use abs_tree::{Env, Evaluated, Expr, Named, Output, Value, Values};
+use abs_values::{Env, Evaluated, Output, Value, Values};
 use std::alloc::{AllocError, Global};
 use std::sync::Arc;
 

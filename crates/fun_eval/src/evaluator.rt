@@ -3,7 +3,8 @@ ghost use Rattle.std.specs.Prelude.{◌≡◌, ◌≤◌, []};
 ghost use Rattle.abs_tree.specs.Limits.{application_limit};
 
 use crate::library::Library;
-use abs_tree::{Named, Value};
+use abs_program::Named;
+use abs_values::Value;
 use std::alloc::Global;
 
 /// What evaluation keeps: the library of the program, the arguments of the functions that are being evaluated, the

@@ -1,6 +1,6 @@
 //! Expressions: the form of an expression says how it is evaluated.
 ghost use Rattle.std.specs.Prelude.{OnOk};
-ghost use Rattle.abs_tree.specs.Results.{string_result};
+ghost use Rattle.abs_values.specs.Results.{string_result};
 ghost use Rattle.abs_tree.specs.SyntaxViews.{phrase};
 ghost use Rattle.fun_eval.specs.Evaluating.{names_in, outcome_in, IsOutcome, IsWithin, Stays};
 ghost use Rattle.fun_eval.specs.Reading.{IsResult};
@@ -9,7 +9,8 @@ use crate::evaluator::Evaluator;
 use crate::scope::Frame;
 use crate::stop::Stop;
 use abs_tree::limits::STRING_LIMIT;
-use abs_tree::{Expr, Fault, Text, Value};
+use abs_tree::{Expr, Text};
+use abs_values::{Fault, Value};
 
 impl Evaluator<'_> {
     /// The value of an expression with `left` levels left. The stacks are as before after it.

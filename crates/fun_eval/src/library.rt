@@ -1,13 +1,15 @@
 //! What evaluation takes from a program: its functions, its names, and the values of the two answers.
 ghost use Rattle.std.specs.Prelude.{◌≡◌, codes};
 ghost use Rattle.abs_tree.specs.Names.{number_of_name};
-ghost use Rattle.abs_tree.specs.Operations.{answer_result, truth_of, truth_value};
-ghost use Rattle.abs_tree.specs.Results.{Gives};
-ghost use Rattle.abs_tree.specs.ValueViews.{value_tree};
+ghost use Rattle.abs_values.specs.Operations.{answer_result, truth_of, truth_value};
+ghost use Rattle.abs_values.specs.Results.{Gives};
+ghost use Rattle.abs_values.specs.ValueViews.{value_tree};
 ghost use Rattle.fun_eval.specs.Reading.{IsResult};
 
 use crate::stop::Stop;
-use abs_tree::{Fault, Named, Symbol, Value, answer_of};
+use abs_program::Named;
+use abs_tree::Symbol;
+use abs_values::{Fault, Value, answer_of};
 use std::alloc::{AllocError, Global};
 
 /// A program, and the constructors of its two answers.

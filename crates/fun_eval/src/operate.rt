@@ -1,16 +1,17 @@
 //! Operators on values.
 ghost use Rattle.std.specs.Prelude.{◌≡◌, ◌++◌};
-ghost use Rattle.abs_tree.specs.Operations.{numbers_result, operation_result, prefix_result, sum_result};
-ghost use Rattle.abs_tree.specs.Printed.{printed_form};
-ghost use Rattle.abs_tree.specs.Results.{result_tree, string_result};
-ghost use Rattle.abs_tree.specs.ValueViews.{value_tree};
+ghost use Rattle.abs_values.specs.Operations.{numbers_result, operation_result, prefix_result, sum_result};
+ghost use Rattle.abs_values.specs.Printed.{printed_form};
+ghost use Rattle.abs_values.specs.Results.{result_tree, string_result};
+ghost use Rattle.abs_values.specs.ValueViews.{value_tree};
 ghost use Rattle.fun_eval.specs.Reading.{IsResult};
 
 use crate::library::Library;
 use crate::stop::Stop;
 use abs_tree::limits::STRING_LIMIT;
-use abs_tree::{
-    Evaluated, Fault, Operator, Prefix, Text, Value, negated, value_equal, value_text_within,
+use abs_tree::{Operator, Prefix, Text};
+use abs_values::{
+    Evaluated, Fault, Value, arithmetic_of, comparison_of, negated, value_equal, value_text_within,
 };
 use std::alloc::Global;
 
@@ -53,9 +54,9 @@ impl Library<'_> {
         let Value::Int(right) = right else {
             return Err(Stop::Fault(Fault::Mistyped));
         };
-        match operator.arithmetic(*left, *right) {
+        match arithmetic_of(operator, *left, *right) {
             Some(found) => given(found),
-            None => self.answered(operator.comparison(*left, *right)),
+            None => self.answered(comparison_of(operator, *left, *right)),
         }
     }
 

@@ -1,15 +1,16 @@
 //! Operators: lists of one precedence, and those before an operand.
 ghost use Rattle.std.specs.Prelude.{OnOk};
-ghost use Rattle.abs_tree.specs.Evaluation.{logical_outcome, operand_outcome, operators_outcome, result_after};
-ghost use Rattle.abs_tree.specs.Operations.{prefix_result, truth_of};
+ghost use Rattle.abs_values.specs.Evaluation.{logical_outcome, operand_outcome, operators_outcome, result_after};
+ghost use Rattle.abs_values.specs.Operations.{prefix_result, truth_of};
 ghost use Rattle.abs_tree.specs.SyntaxViews.{operand_trees, phrase};
-ghost use Rattle.abs_tree.specs.ValueViews.{value_tree};
+ghost use Rattle.abs_values.specs.ValueViews.{value_tree};
 ghost use Rattle.fun_eval.specs.Evaluating.{gives_in, names_in, outcome_in, IsOutcome, IsWithin, Stays};
 
 use crate::evaluator::Evaluator;
 use crate::scope::Frame;
 use crate::stop::Stop;
-use abs_tree::{Expr, Fault, Operand, Operator, Prefix, Value};
+use abs_tree::{Expr, Operand, Operator, Prefix};
+use abs_values::{Fault, Value};
 
 impl Evaluator<'_> {
     /// The value of an operator list, applied from the left.

@@ -2,12 +2,13 @@
 ghost use Rattle.std.specs.Prelude.{◌≡◌, map, IfOk};
 ghost use Rattle.std.specs.Option.{option_map};
 ghost use Rattle.abs_tree.specs.Names.{name_of, number_of_name};
-ghost use Rattle.abs_tree.specs.Operations.{all_matched, matched};
+ghost use Rattle.abs_values.specs.Operations.{all_matched, matched};
 ghost use Rattle.abs_tree.specs.SyntaxViews.{pattern_tree, pattern_trees};
-ghost use Rattle.abs_tree.specs.ValueViews.{value_tree, value_trees};
+ghost use Rattle.abs_values.specs.ValueViews.{value_tree, value_trees};
 ghost use Rattle.fun_eval.specs.Matching.{is_number, is_string, parts_with, ChoosesFirst, Matches};
 
-use abs_tree::{Branch, Pattern, Symbol, Symbols, Value};
+use abs_tree::{Branch, Pattern, Symbol, Symbols};
+use abs_values::Value;
 use std::alloc::AllocError;
 
 /// The first of these branches whose pattern matches a value. The values of the pattern's variables are added to those

@@ -1,10 +1,10 @@
 //! The values that an expression can read, where they are.
 ghost use Rattle.std.specs.Prelude.{◌≡◌, map};
-ghost use Rattle.abs_tree.specs.Scopes.{own_scope};
-ghost use Rattle.abs_tree.specs.ValueViews.{value_tree};
+ghost use Rattle.abs_values.specs.Scopes.{own_scope};
+ghost use Rattle.abs_values.specs.ValueViews.{value_tree};
 ghost use Rattle.fun_eval.specs.Reading.{env_scope, scope_tree};
 
-use abs_tree::{Env, Value};
+use abs_values::{Env, Value};
 
 /// The values that the expressions of a statement can read. They are borrowed, so nothing is copied.
 #[derive(Clone, Copy)]

@@ -2,7 +2,7 @@
 ghost use Rattle.std.specs.Prelude.{◌≡◌};
 ghost use Rattle.fun_eval.specs.declared.stop.Stop.TheVariants.{Memory};
 
-use abs_tree::Fault;
+use abs_values::Fault;
 use std::alloc::{AllocError, AllocFailed};
 
 /// Why an expression gives no value. It leaves all that encloses the expression at once.

@@ -1,18 +1,19 @@
 //! What variables and `this` read.
 ghost use Rattle.std.specs.Prelude.{◌≡◌, List, Some, map};
 ghost use Rattle.std.specs.Option.{option_map};
-ghost use Rattle.abs_tree.specs.Evaluation.{read_result};
-ghost use Rattle.abs_tree.specs.Scopes.{location_of, value_at, InBound, InField, InSlot, InThis};
+ghost use Rattle.abs_values.specs.Evaluation.{read_result};
+ghost use Rattle.abs_values.specs.Scopes.{location_of, value_at, InBound, InField, InSlot, InThis};
 ghost use Rattle.abs_tree.specs.SyntaxViews.{variable_tree};
-ghost use Rattle.abs_tree.specs.ValueTrees.{ValueTree};
-ghost use Rattle.abs_tree.specs.ValueViews.{value_tree};
+ghost use Rattle.abs_values.specs.ValueTrees.{ValueTree};
+ghost use Rattle.abs_values.specs.ValueViews.{value_tree};
 ghost use Rattle.fun_eval.specs.Reading.{found_result, IsResult};
 ghost use Rattle.fun_eval.specs.Evaluating.{names_in, scope_in, scope_of};
 
 use crate::evaluator::Evaluator;
 use crate::scope::Frame;
 use crate::stop::Stop;
-use abs_tree::{Fault, Value, Variable};
+use abs_tree::Variable;
+use abs_values::{Fault, Value};
 
 impl Evaluator<'_> {
     /// The value of a variable.

@@ -1,6 +1,6 @@
 //! The order of one worker.
 ghost use Rattle.std.specs.Prelude.{◌≡◌, ◌<◌, ◌≤◌, ◌++◌, ◌⊎◌, ℕ, List, length, Some, None, IfSome, IfNone, MatchBool};
-ghost use Rattle.abs_tree.specs.SourceViews.{program_tree};
+ghost use Rattle.abs_program.specs.NamedViews.{program_tree};
 ghost use Rattle.abs_tree.specs.Syntax.{ProgramTree};
 ghost use Rattle.config_state.specs.First.{first as first_of};
 ghost use Rattle.config_state.specs.ConfigViews.{configuration};
@@ -9,7 +9,7 @@ ghost use Rattle.run_history.specs.Ranges.{HasNoneWithin, IsFirstWithin};
 ghost use Rattle.run_history.specs.Turns.{GoesOn, IsInTurn, IsNext};
 ghost use Rattle.step_rules.specs.Runs.{HasStep};
 
-use abs_tree::Named;
+use abs_program::Named;
 use config_state::{Config, State};
 use step_rules::has_step;
 

@@ -1,6 +1,6 @@
 //! Replay: the run of a history.
 ghost use Rattle.std.specs.Prelude.{◌≡◌, ℕ, Some, IfOk};
-ghost use Rattle.abs_tree.specs.SourceViews.{program_tree};
+ghost use Rattle.abs_program.specs.NamedViews.{program_tree};
 ghost use Rattle.config_state.specs.ConfigViews.{configuration};
 ghost use Rattle.config_state.specs.OfProgram.{IsConfigOf};
 ghost use Rattle.run_history.specs.Replays.{IsFirstIllegal};
@@ -8,7 +8,7 @@ ghost use Rattle.run_history.specs.declared.replays.Replayed.TheVariants.{Illega
 ghost use Rattle.step_rules.specs.Runs.{run_of};
 
 use crate::History;
-use abs_tree::Named;
+use abs_program::Named;
 use config_state::{Config, Lines, first};
 use std::alloc::{AllocError, Global};
 use step_rules::{has_step, step};

@@ -11,11 +11,11 @@ use Rattle.std.proofs.Common.{◌≡◌, ◌≢◌, ◌⊎◌, ◌<◌, ℕ, inl
 use Rattle.std.proofs.lemmas.Bool.{cases_eq}
 use Rattle.std.proofs.lemmas.Option.{same_Some}
 use Rattle.std.specs.Prelude.{IsSome, is_some}
-use Rattle.abs_tree.specs.References.{ToFuture, IsIn}
-use Rattle.abs_tree.specs.Results.{Result}
+use Rattle.abs_values.specs.References.{ToFuture, IsIn}
+use Rattle.abs_values.specs.Results.{Result}
 use Rattle.abs_tree.specs.Syntax.{NoPhrase, ProgramTree}
-use Rattle.abs_tree.specs.ValueTrees.{FutureValue}
-use Rattle.abs_tree.specs.Whole.{IsWhole}
+use Rattle.abs_values.specs.ValueTrees.{FutureValue}
+use Rattle.abs_program.specs.Whole.{IsWhole}
 use Rattle.config_state.proofs.BodyLemmas.{get-there}
 use Rattle.config_state.specs.Configurations.{ObjectState, FrameState, TaskState, Configuration, object_at, fields_of, IsUnfinished}
 use Rattle.config_state.specs.OfProgram.{next_point, IsConfigOf}

@@ -7,12 +7,12 @@
 --   `resolved_by`                      whether the futures of a guard are resolved, by the slots that it names
 use Rattle.std.proofs.Common.{◌≡◌, ◌≢◌, ◌⊎◌, ◌<◌, ◌≤◌, ◌+◌, ℕ, inl, inr, Bool, true, false, not, is_some, MatchBool, All, List, get_or, length, slice_get, Option, Some, None, option_and_then, option_map, refl, sym, ap, ◌∙◌, subst, eq-or-lt_of_le, arith}
 use Rattle.std.proofs.lemmas.Option.{same_Some, slice_get-map, slice_get-get_or, slice_get_within, slice_get_past, get_or_from_slice_get}
-use Rattle.abs_tree.specs.Control.{Point, program_points}
-use Rattle.abs_tree.specs.Instructions.{EffectTree, Awaits, Gets, effect_of, InstructionTree, instruction_of, instructions}
-use Rattle.abs_tree.specs.Results.{result_tree}
+use Rattle.abs_program.specs.Control.{Point, program_points}
+use Rattle.abs_program.specs.Instructions.{EffectTree, Awaits, Gets, effect_of, InstructionTree, instruction_of, instructions}
+use Rattle.abs_values.specs.Results.{result_tree}
 use Rattle.abs_tree.specs.Syntax.{Name, VariableTree, ProgramTree}
-use Rattle.abs_tree.specs.ValueTrees.{ValueTree, IntValue, StringValue, BuiltValue, ObjectValue, FutureValue, NullValue}
-use Rattle.abs_tree.specs.declared.evaluated.Evaluated.{Evaluated}
+use Rattle.abs_values.specs.ValueTrees.{ValueTree, IntValue, StringValue, BuiltValue, ObjectValue, FutureValue, NullValue}
+use Rattle.abs_values.specs.declared.evaluated.Evaluated.{Evaluated}
 use Rattle.config_state.specs.ConfigViews.{configuration}
 use Rattle.config_state.specs.Configurations.{FrameState, TaskState, Configuration, IsUnfinished}
 use Rattle.config_state.specs.OfProgram.{next_point}

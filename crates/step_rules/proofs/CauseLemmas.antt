@@ -8,12 +8,12 @@
 use Rattle.std.proofs.Common.{◌≡◌, ◌≢◌, ◌↔◌, ℕ, zero, suc, true, is_some, IsSome, List, [], ◌∷◌, slice_get, Option, Some, None, option_and_then, refl, sym, ap, ◌∙◌}
 use Rattle.std.proofs.lemmas.Option.{same_Some}
 use Rattle.std.specs.Option.{option_map}
-use Rattle.abs_tree.specs.Control.{Point}
-use Rattle.abs_tree.specs.Instructions.{Awaits, effect_of}
-use Rattle.abs_tree.specs.References.{IsIn, ToFuture}
-use Rattle.abs_tree.specs.Results.{Result, Results}
+use Rattle.abs_program.specs.Control.{Point}
+use Rattle.abs_program.specs.Instructions.{Awaits, effect_of}
+use Rattle.abs_values.specs.References.{IsIn, ToFuture}
+use Rattle.abs_values.specs.Results.{Result, Results}
 use Rattle.abs_tree.specs.Syntax.{ProgramTree}
-use Rattle.abs_tree.specs.ValueTrees.{ValueTree, FutureValue}
+use Rattle.abs_values.specs.ValueTrees.{ValueTree, FutureValue}
 use Rattle.config_state.specs.Configurations.{FrameState, TaskState, Configuration, Each, IsUnfinished}
 use Rattle.config_state.specs.OfProgram.{next_point, IsAtGuard, IsConfigOf}
 use Rattle.config_state.specs.WellFormed.{AreThere, IsTaskFormed, IsWellFormed}

@@ -9,7 +9,7 @@ use Rattle.std.proofs.lemmas.Slice.Eq.{bytes_eq-Decides}
 use Rattle.std.specs.Cmp.Lexicographic.{pointwise}
 use Rattle.std.specs.declared.alloc.Global.{Global}
 use Rattle.std.specs.declared.sync.Arc.{Arc}
-use Rattle.abs_tree.specs.InstructionViews.{shared_phrases}
+use Rattle.abs_program.specs.InstructionViews.{shared_phrases}
 use Rattle.abs_tree.specs.Syntax.{Name, Phrase, LetIn, IfElse, OperatorsOf, Prefixed, NumberOf, StringOf, NullOf, DestinyOf, ThisOf, FieldOf, OwnCallOf, VariableOf, ApplyOf, BuildOf, CaseOf, Phrases, NoPhrase, NextPhrase, Operands, NoOperands, NextOperand, Branches, NoBranch, NextBranch}
 use Rattle.abs_tree.specs.SyntaxViews.{phrase, phrase_row, phrases, operand_row, branch_row}
 use Rattle.abs_tree.specs.contracts.syntax.expression.ExprPartialEq.TheImpl as expr_impl

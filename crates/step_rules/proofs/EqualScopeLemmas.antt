@@ -5,9 +5,9 @@ use Rattle.std.proofs.Common.{◌≡◌, ℕ, nat_eq, ◌&&◌, List, [], Option
 use Rattle.std.proofs.lemmas.Bool.Decides.{Decides-and, Decides-eqb}
 use Rattle.std.specs.Cmp.Lexicographic.{pointwise, pointwise_decides}
 use Rattle.std.specs.Option.{option_eq}
-use Rattle.abs_tree.proofs.SameValueLemmas.{same_value-Decides}
-use Rattle.abs_tree.specs.Scopes.{Scope}
-use Rattle.abs_tree.specs.ValueTrees.{ValueTree, same_value}
+use Rattle.abs_values.proofs.SameValueLemmas.{same_value-Decides}
+use Rattle.abs_values.specs.Scopes.{Scope}
+use Rattle.abs_values.specs.ValueTrees.{ValueTree, same_value}
 use Rattle.step_rules.proofs.EqualNameLemmas.{decided}
 
 -- rows of values

@@ -6,10 +6,10 @@
 --   `memory_by_output`         so may one whose change with an output may
 use Rattle.std.proofs.Common.{◌≡◌, ◌≢◌, ◌≤◌, ℕ, suc, true, List, [], length, slice_get, Option, Some, None, IsSome, option_map, Result, Ok, Err, OnErr, refl, sym, ap, ◌∙◌, subst, arith}
 use Rattle.std.proofs.lemmas.Option.{same_Some}
-use Rattle.abs_tree.specs.Control.{Point}
-use Rattle.abs_tree.specs.Instructions.{EffectTree, effect_of}
+use Rattle.abs_program.specs.Control.{Point}
+use Rattle.abs_program.specs.Instructions.{EffectTree, effect_of}
 use Rattle.abs_tree.specs.Syntax.{Name, ProgramTree}
-use Rattle.abs_tree.specs.ValueTrees.{ValueTree, NullValue}
+use Rattle.abs_values.specs.ValueTrees.{ValueTree, NullValue}
 use Rattle.config_state.specs.Configurations.{FrameState, TaskState, Configuration}
 use Rattle.config_state.specs.Views.{object_state, task_state}
 use Rattle.config_state.specs.declared.frame.Target.{Target}

@@ -9,9 +9,9 @@
 --   `either_way`               what follows from a value and from an error
 use Rattle.std.proofs.Common.{◌≡◌, ℕ, suc, List, [], ◌∷◌, length, slice_get, Option, Some, None, IsSome, option_and_then, option_map, Result, Ok, Err, OnOk, OnErr, refl, sym, ap, ◌∙◌, subst}
 use Rattle.std.proofs.lemmas.Option.{same_Some}
-use Rattle.abs_tree.specs.Results.{Results}
+use Rattle.abs_values.specs.Results.{Results}
 use Rattle.abs_tree.specs.Syntax.{Name, ProgramTree}
-use Rattle.abs_tree.specs.Whole.{IsWhole}
+use Rattle.abs_program.specs.Whole.{IsWhole}
 use Rattle.config_state.specs.Configurations.{FrameState, TaskState, Configuration}
 use Rattle.config_state.specs.OfProgram.{IsConfigOf}
 use Rattle.config_state.specs.Views.{object_state, task_state}

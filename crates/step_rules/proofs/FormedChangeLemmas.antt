@@ -5,9 +5,9 @@
 --   `puts-formed`, `goes_on-formed`                    it goes on, and a value goes to a target
 use Rattle.std.proofs.Common.{◌≡◌, ◌≢◌, ◌<◌, ℕ, List, [], length, slice_get, Option, Some, None, refl, sym, ap, ◌∙◌, subst}
 use Rattle.std.proofs.lemmas.Option.{same_Some}
-use Rattle.abs_tree.proofs.ResultLemmas.{IfGives, IfGives-at}
-use Rattle.abs_tree.specs.Results.{Result, Gives}
-use Rattle.abs_tree.specs.ValueTrees.{ValueTree}
+use Rattle.abs_values.proofs.ResultLemmas.{IfGives, IfGives-at}
+use Rattle.abs_values.specs.Results.{Result, Gives}
+use Rattle.abs_values.specs.ValueTrees.{ValueTree}
 use Rattle.config_state.proofs.EachLemmas.{Each-none}
 use Rattle.config_state.specs.Configurations.{ObjectState, FrameState, TaskState, Configuration, Each, object_at, fields_of}
 use Rattle.config_state.specs.WellFormed.{ValueIsThere, AreThere, IsObjectFormed, IsFrameFormed, IsTaskFormed, IsWellFormed}

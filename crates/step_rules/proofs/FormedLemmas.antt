@@ -3,8 +3,8 @@
 --   `Forms`                    what a change needs for this
 --   `formed-after`             the configuration after such a change is well-formed
 use Rattle.std.proofs.Common.{◌≡◌, ◌≢◌, ◌<◌, ℕ, [], length, slice_get, Option, Some, None, sym, ap, ◌∙◌, subst}
-use Rattle.abs_tree.specs.Results.{Result, Gives}
-use Rattle.abs_tree.specs.ValueTrees.{ValueTree}
+use Rattle.abs_values.specs.Results.{Result, Gives}
+use Rattle.abs_values.specs.ValueTrees.{ValueTree}
 use Rattle.config_state.proofs.BodyLemmas.{get-there}
 use Rattle.config_state.specs.Configurations.{ObjectState, TaskState, Configuration, Each}
 use Rattle.config_state.specs.WellFormed.{ValueIsThere, AreThere, IsHolder, IsRunningIn, IsCogFormed, IsObjectFormed, IsFrameFormed, IsTaskFormed, IsWellFormed}

@@ -5,9 +5,9 @@ use Rattle.std.proofs.Common.{◌≡◌, ◌<◌, ℕ, zero, suc, List, [], ◌�
 use Rattle.std.proofs.lemmas.List.{length-map, map-append, reverse-append}
 use Rattle.std.proofs.lemmas.Option.{none-some, same_Some, slice_get-map}
 use Rattle.std.specs.Option.{option_map}
-use Rattle.abs_tree.specs.References.{Reference, ToObject, ToFuture}
+use Rattle.abs_values.specs.References.{Reference, ToObject, ToFuture}
 use Rattle.abs_tree.specs.Syntax.{Name}
-use Rattle.abs_tree.specs.ValueTrees.{ValueTree}
+use Rattle.abs_values.specs.ValueTrees.{ValueTree}
 use Rattle.config_state.specs.Configurations.{FrameState, TaskState, Configuration, Each}
 use Rattle.config_state.specs.Views.{object_state, frame_state, task_state, configuration_of}
 use Rattle.config_state.specs.WellFormed.{IsThere, ValueIsThere, AreThere, IsRunningIn, IsCogFormed, IsObjectFormed, IsFrameFormed, IsTaskFormed, IsWellFormed}

@@ -7,12 +7,12 @@
 --   `home-there`, `cog_for-made`                   the cog of a new object
 use Rattle.std.proofs.Common.{◌≡◌, ◌<◌, ◌-◌, ℕ, List, [], codes, length, replicate, Option, Some, None, refl, sym, ap, ◌∙◌, subst}
 use Rattle.std.proofs.lemmas.Option.{same_Some}
-use Rattle.abs_tree.specs.References.{IsIn, IsInAny}
+use Rattle.abs_values.specs.References.{IsIn, IsInAny}
 use Rattle.abs_tree.specs.Syntax.{Name, ProgramTree}
-use Rattle.abs_tree.specs.ValueTrees.{ValueTree, NullValue, FutureValue}
+use Rattle.abs_values.specs.ValueTrees.{ValueTree, NullValue, FutureValue}
 use Rattle.abs_tree.specs.declared.syntax.statement.Mode.{Mode}
 use Rattle.abs_tree.specs.declared.syntax.statement.Mode.TheVariants as mode
-use Rattle.abs_tree.specs.declared.tables.control.BodyEntry.{BodyEntry}
+use Rattle.abs_program.specs.declared.tables.control.BodyEntry.{BodyEntry}
 use Rattle.config_state.proofs.EachLemmas.{Each-none, Each-more, Each-one, Each-set, Each-append, Each-replicate}
 use Rattle.config_state.proofs.FirstLemmas.{null-there}
 use Rattle.config_state.specs.Bodies.{BodyAt, entry_of_body}

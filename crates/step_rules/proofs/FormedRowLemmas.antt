@@ -6,13 +6,13 @@
 --   `event-formed`                     an event keeps a configuration well-formed
 use Rattle.std.proofs.Common.{◌≡◌, ◌<◌, ℕ, suc, true, List, [], ◌∷◌, length, slice_get, Option, Some, None, refl, sym, subst}
 use Rattle.std.proofs.lemmas.Option.{same_Some, slice_get_within}
-use Rattle.abs_tree.specs.Bodies.{ClassEntryTree}
-use Rattle.abs_tree.specs.Control.{Point}
-use Rattle.abs_tree.specs.Instructions.{phrases_of, effect_of}
-use Rattle.abs_tree.specs.Results.{Gives, Fails}
+use Rattle.abs_program.specs.Bodies.{ClassEntryTree}
+use Rattle.abs_program.specs.Control.{Point}
+use Rattle.abs_program.specs.Instructions.{phrases_of, effect_of}
+use Rattle.abs_values.specs.Results.{Gives, Fails}
 use Rattle.abs_tree.specs.Syntax.{Name, VariableTree, ProgramTree}
-use Rattle.abs_tree.specs.ValueTrees.{ValueTree, NullValue, ObjectValue, FutureValue}
-use Rattle.abs_tree.specs.declared.evaluated.Fault.{Fault}
+use Rattle.abs_values.specs.ValueTrees.{ValueTree, NullValue, ObjectValue, FutureValue}
+use Rattle.abs_values.specs.declared.evaluated.Fault.{Fault}
 use Rattle.abs_tree.specs.declared.syntax.statement.Mode.{Mode}
 use Rattle.config_state.proofs.EachLemmas.{Each-more}
 use Rattle.config_state.proofs.FirstLemmas.{null-there}

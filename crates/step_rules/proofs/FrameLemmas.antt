@@ -13,18 +13,18 @@ use Rattle.std.proofs.lemmas.Bool.Decides.{Decides-eqb}
 use Rattle.std.proofs.lemmas.List.{length-append, length-map, length-replicate}
 use Rattle.std.proofs.lemmas.List.FromFn.{length-range_with_len}
 use Rattle.std.proofs.lemmas.Option.{same_Some, option_and_then_some, cond_some}
-use Rattle.abs_tree.proofs.DeclaredLemmas.{class_is_declared}
-use Rattle.abs_tree.specs.Bodies.{ClassEntryTree, is_unit, starts_alone, if_alone, entry_of_class, class_entry}
-use Rattle.abs_tree.specs.Control.{Goes, Next, ByAnswer, Point, program_points}
-use Rattle.abs_tree.specs.Members.{method_among, method_in, method_of}
-use Rattle.abs_tree.specs.NameSpaces.{spaces_of}
-use Rattle.abs_tree.specs.NamedDeclarations.{IsClass}
-use Rattle.abs_tree.specs.Slots.{body_slots, param_slots, statements_slots}
+use Rattle.abs_program.proofs.DeclaredLemmas.{class_is_declared}
+use Rattle.abs_program.specs.Bodies.{ClassEntryTree, is_unit, starts_alone, if_alone, entry_of_class, class_entry}
+use Rattle.abs_program.specs.Control.{Goes, Next, ByAnswer, Point, program_points}
+use Rattle.abs_program.specs.Members.{method_among, method_in, method_of}
+use Rattle.abs_program.specs.NameSpaces.{spaces_of}
+use Rattle.abs_program.specs.NamedDeclarations.{IsClass}
+use Rattle.abs_program.specs.Slots.{body_slots, param_slots, statements_slots}
 use Rattle.abs_tree.specs.Syntax.{Name, MemberTree, FieldTree, MethodTree, DeclTree, ProgramTree}
 use Rattle.abs_tree.specs.SyntaxSizes.{member_statements}
-use Rattle.abs_tree.specs.Tables.{meaning_of}
-use Rattle.abs_tree.specs.ValueTrees.{ValueTree, NullValue}
-use Rattle.abs_tree.specs.declared.name_spaces.Taking.{Taking}
+use Rattle.abs_program.specs.Tables.{meaning_of}
+use Rattle.abs_values.specs.ValueTrees.{ValueTree, NullValue}
+use Rattle.abs_program.specs.declared.name_spaces.Taking.{Taking}
 use Rattle.abs_tree.specs.declared.syntax.slot.Slot.TheVariants.{Parameter}
 use Rattle.config_state.proofs.BodyLemmas.{IsBodyOf, body_of-found, branch_is_statement, entry_is_statement, next_is_statement}
 use Rattle.config_state.proofs.EachLemmas.{Each-none, Each-more}

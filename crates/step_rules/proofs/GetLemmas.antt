@@ -5,13 +5,13 @@
 --   `open_get_none`            a task at an open `get` has no change
 use Rattle.std.proofs.Common.{◌≡◌, ℕ, Bool, true, false, if◌then◌else◌, List, [], ◌∷◌, slice_get, Option, Some, None, option_and_then, refl, sym, ap, ap₂, ◌∙◌}
 use Rattle.std.proofs.lemmas.Option.{same_Some}
-use Rattle.abs_tree.specs.Control.{Point, program_points}
-use Rattle.abs_tree.specs.Evaluation.{initial_outcomes}
-use Rattle.abs_tree.specs.Instructions.{EffectTree, Skips, Suspends, Awaits, Chooses, Returns, Prints, Clears, Stores, Makes, Sends, CallsOwn, CallsOther, Gets, side_phrases, side_effect, phrases_of, effect_of}
-use Rattle.abs_tree.specs.Results.{Result, Gives, Fails, Results, AllGive, OneFails}
-use Rattle.abs_tree.specs.Slots.{is_this}
+use Rattle.abs_program.specs.Control.{Point, program_points}
+use Rattle.abs_values.specs.Evaluation.{initial_outcomes}
+use Rattle.abs_program.specs.Instructions.{EffectTree, Skips, Suspends, Awaits, Chooses, Returns, Prints, Clears, Stores, Makes, Sends, CallsOwn, CallsOther, Gets, side_phrases, side_effect, phrases_of, effect_of}
+use Rattle.abs_values.specs.Results.{Result, Gives, Fails, Results, AllGive, OneFails}
+use Rattle.abs_program.specs.Slots.{is_this}
 use Rattle.abs_tree.specs.Syntax.{Name, VariableTree, OwnCallOf, Phrases, NoPhrase, NextPhrase, SideTree, NewOf, ValueOf, SendOf, GetOf, CallOf, NoSide, SomeSide, Statement, DeclareOf, AssignOf, DoOf, ProgramTree}
-use Rattle.abs_tree.specs.ValueTrees.{ValueTree, FutureValue, NullValue}
+use Rattle.abs_values.specs.ValueTrees.{ValueTree, FutureValue, NullValue}
 use Rattle.config_state.specs.Configurations.{FrameState, TaskState, Configuration, object_at, fields_of}
 use Rattle.config_state.specs.OfProgram.{next_point}
 use Rattle.config_state.specs.declared.task.State.TheVariants.{Running}

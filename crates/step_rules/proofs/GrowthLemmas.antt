@@ -5,7 +5,7 @@
 --   `task_stays`                       a task of the program stays one
 use Rattle.std.proofs.Common.{◌≡◌, ◌⊎◌, ◌<◌, ℕ, suc, inl, inr, List, length, slice_get, Option, Some, None, ap, ◌∙◌, refl, arith}
 use Rattle.abs_tree.specs.Syntax.{Name, ProgramTree}
-use Rattle.abs_tree.specs.ValueTrees.{ValueTree}
+use Rattle.abs_values.specs.ValueTrees.{ValueTree}
 use Rattle.config_state.specs.Bodies.{BodyAt, body_found}
 use Rattle.config_state.specs.Configurations.{ObjectState, FrameState, TaskState, Configuration, object_at, fields_of, Each}
 use Rattle.config_state.specs.OfProgram.{IsFrameOf, TargetIsIn, IsTaskOf}

@@ -7,9 +7,9 @@
 use mathlib.Core.Logic.{∥∥₁_elim}
 use Rattle.std.proofs.Common.{◌≡◌, ◌↔◌, ℕ, Bool, true, false, not, is_some, MatchBool, List, slice_get, Option, Some, None, option_map, refl, sym, ap}
 use Rattle.std.proofs.Math.Bool.{Bool-set}
-use Rattle.abs_tree.specs.Results.{result_tree}
+use Rattle.abs_values.specs.Results.{result_tree}
 use Rattle.abs_tree.specs.Syntax.{Name, ProgramTree}
-use Rattle.abs_tree.specs.declared.evaluated.Evaluated.{Evaluated}
+use Rattle.abs_values.specs.declared.evaluated.Evaluated.{Evaluated}
 use Rattle.config_state.specs.ConfigViews.{configuration}
 use Rattle.config_state.specs.OfProgram.{IsConfigOf}
 use Rattle.config_state.specs.Views.{task_state}

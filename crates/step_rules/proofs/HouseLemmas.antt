@@ -7,12 +7,12 @@
 --   `event_keeps_houses`           every event does
 use Rattle.std.proofs.Common.{◌≡◌, ℕ, suc, true, List, [], ◌∷◌, length, slice_get, Option, Some, None, refl, sym, ap, ◌∙◌, subst, codes}
 use Rattle.std.proofs.lemmas.Option.{same_Some, option_and_then_some}
-use Rattle.abs_tree.specs.Bodies.{ClassEntryTree}
-use Rattle.abs_tree.specs.Control.{Point, program_points}
-use Rattle.abs_tree.specs.Instructions.{Makes, effect_of}
-use Rattle.abs_tree.specs.Results.{Result}
+use Rattle.abs_program.specs.Bodies.{ClassEntryTree}
+use Rattle.abs_program.specs.Control.{Point, program_points}
+use Rattle.abs_program.specs.Instructions.{Makes, effect_of}
+use Rattle.abs_values.specs.Results.{Result}
 use Rattle.abs_tree.specs.Syntax.{Name, VariableTree, ProgramTree}
-use Rattle.abs_tree.specs.ValueTrees.{ValueTree, NullValue, ObjectValue, FutureValue}
+use Rattle.abs_values.specs.ValueTrees.{ValueTree, NullValue, ObjectValue, FutureValue}
 use Rattle.abs_tree.specs.declared.syntax.statement.Mode.{Mode}
 use Rattle.config_state.proofs.EachLemmas.{Each-none, Each-more}
 use Rattle.config_state.specs.Bodies.{BodyAt, entry_of_body}

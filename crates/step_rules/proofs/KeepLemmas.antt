@@ -8,13 +8,13 @@
 use Rattle.std.proofs.Common.{◌≡◌, ℕ, Bool, true, List, [], ◌∷◌, length, slice_get, Option, Some, None, refl, sym, ap, ◌∙◌, subst, codes, option_map}
 use Rattle.std.proofs.lemmas.List.{length-set}
 use Rattle.std.proofs.lemmas.Option.{same_Some}
-use Rattle.abs_tree.specs.Bodies.{ClassEntryTree}
-use Rattle.abs_tree.specs.Control.{Point}
-use Rattle.abs_tree.specs.Instructions.{EffectTree, Awaits, Makes, CallsOwn, effect_of}
-use Rattle.abs_tree.specs.Results.{Result}
+use Rattle.abs_program.specs.Bodies.{ClassEntryTree}
+use Rattle.abs_program.specs.Control.{Point}
+use Rattle.abs_program.specs.Instructions.{EffectTree, Awaits, Makes, CallsOwn, effect_of}
+use Rattle.abs_values.specs.Results.{Result}
 use Rattle.abs_tree.specs.Syntax.{Name, VariableTree, ProgramTree}
-use Rattle.abs_tree.specs.ValueTrees.{ValueTree, NullValue, ObjectValue, FutureValue}
-use Rattle.abs_tree.specs.Whole.{IsWhole}
+use Rattle.abs_values.specs.ValueTrees.{ValueTree, NullValue, ObjectValue, FutureValue}
+use Rattle.abs_program.specs.Whole.{IsWhole}
 use Rattle.abs_tree.specs.declared.syntax.statement.Mode.{Mode}
 use Rattle.config_state.specs.Bodies.{BodyAt, IsStatementOf, class_taking, entry_of_body, method_at}
 use Rattle.config_state.specs.Configurations.{ObjectState, FrameState, TaskState, Configuration, object_at, fields_of}

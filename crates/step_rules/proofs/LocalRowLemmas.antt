@@ -3,14 +3,14 @@
 use Rattle.std.proofs.Common.{◌≡◌, ℕ, Bool, true, false, ◌≢◌, List, [], ◌∷◌, length, Option, Some, None, option_and_then, if◌then◌else◌, refl, sym, ap, ◌∙◌}
 use Rattle.std.proofs.lemmas.Bool.{eqb-true}
 use Rattle.std.proofs.lemmas.Option.{same_Some}
-use Rattle.abs_tree.specs.Control.{Point}
-use Rattle.abs_tree.specs.Instructions.{EffectTree, Chooses, Returns, Prints, Stores, CallsOwn, effect_of}
-use Rattle.abs_tree.specs.Operations.{truth_of}
-use Rattle.abs_tree.specs.Results.{Fails, Results}
+use Rattle.abs_program.specs.Control.{Point}
+use Rattle.abs_program.specs.Instructions.{EffectTree, Chooses, Returns, Prints, Stores, CallsOwn, effect_of}
+use Rattle.abs_values.specs.Operations.{truth_of}
+use Rattle.abs_values.specs.Results.{Fails, Results}
 use Rattle.abs_tree.specs.Syntax.{Name, VariableTree, ProgramTree}
-use Rattle.abs_tree.specs.ValueTrees.{ValueTree, IntValue, StringValue, BuiltValue, ObjectValue, FutureValue, NullValue}
-use Rattle.abs_tree.specs.declared.evaluated.Fault.{Fault}
-use Rattle.abs_tree.specs.declared.evaluated.Fault.TheVariants as fault
+use Rattle.abs_values.specs.ValueTrees.{ValueTree, IntValue, StringValue, BuiltValue, ObjectValue, FutureValue, NullValue}
+use Rattle.abs_values.specs.declared.evaluated.Fault.{Fault}
+use Rattle.abs_values.specs.declared.evaluated.Fault.TheVariants as fault
 use Rattle.config_state.specs.Bodies.{BodyAt}
 use Rattle.config_state.specs.Configurations.{ObjectState, FrameState, Configuration, object_at, fields_of}
 use Rattle.step_rules.specs.Changes.{Change, kept_change, ended_change}

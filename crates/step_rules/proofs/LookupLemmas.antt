@@ -4,12 +4,12 @@
 use Rattle.std.proofs.Common.{◌≡◌, ℕ, Option, Some, None, refl}
 use Rattle.std.specs.Option.{option_map}
 use Rattle.std.specs.Prelude.{option_and_then}
-use Rattle.abs_tree.specs.Bodies.{method_entry}
-use Rattle.abs_tree.specs.Members.{method_of}
-use Rattle.abs_tree.specs.NameSpaces.{spaces_of}
+use Rattle.abs_program.specs.Bodies.{method_entry}
+use Rattle.abs_program.specs.Members.{method_of}
+use Rattle.abs_program.specs.NameSpaces.{spaces_of}
 use Rattle.abs_tree.specs.Syntax.{Name, ProgramTree}
-use Rattle.abs_tree.specs.Tables.{meaning_of}
-use Rattle.abs_tree.specs.declared.name_spaces.Taking.{Taking}
+use Rattle.abs_program.specs.Tables.{meaning_of}
+use Rattle.abs_program.specs.declared.name_spaces.Taking.{Taking}
 use Rattle.config_state.proofs.StatementLemmas.{method_entry-is}
 use Rattle.config_state.specs.Bodies.{entry_of_body, class_body, method_in_class, method_at}
 

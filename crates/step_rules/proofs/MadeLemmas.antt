@@ -4,13 +4,13 @@
 --   `made`, `called`           what the code makes for `new` and for a call is the change of the row
 use Rattle.std.proofs.Common.{◌≡◌, ℕ, List, [], length, slice_get, Option, Some, None, option_map, refl, sym}
 use Rattle.std.proofs.lemmas.Option.{same_Some}
-use Rattle.abs_tree.specs.Bodies.{ClassEntryTree}
+use Rattle.abs_program.specs.Bodies.{ClassEntryTree}
 use Rattle.abs_tree.specs.Syntax.{Name, VariableTree, ProgramTree}
-use Rattle.abs_tree.specs.ValueTrees.{ValueTree, ObjectValue, FutureValue}
-use Rattle.abs_tree.specs.ValueViews.{value_tree}
+use Rattle.abs_values.specs.ValueTrees.{ValueTree, ObjectValue, FutureValue}
+use Rattle.abs_values.specs.ValueViews.{value_tree}
 use Rattle.abs_tree.specs.declared.syntax.statement.Mode.{Mode}
-use Rattle.abs_tree.specs.declared.tables.control.BodyEntry.{BodyEntry}
-use Rattle.abs_tree.specs.declared.value.Value.{Value}
+use Rattle.abs_program.specs.declared.tables.control.BodyEntry.{BodyEntry}
+use Rattle.abs_values.specs.declared.value.Value.{Value}
 use Rattle.config_state.specs.Bodies.{BodyAt, class_taking, entry_of_body}
 use Rattle.config_state.specs.Configurations.{ObjectState, TaskState, Configuration}
 use Rattle.config_state.specs.Views.{object_state, task_state}

@@ -7,11 +7,11 @@
 --   `counted`, `count_is`      how many frames it has
 use Rattle.std.proofs.Common.{◌≡◌, suc, Bool, List, ◌∷◌, length, map, sym, ap, ◌∙◌}
 use Rattle.std.proofs.lemmas.List.{length-map, length-reverse}
-use Rattle.abs_tree.specs.Control.{Point}
-use Rattle.abs_tree.specs.InstructionViews.{effect_tree, goes_tree}
-use Rattle.abs_tree.specs.Instructions.{InstructionTree, effect_of}
+use Rattle.abs_program.specs.Control.{Point}
+use Rattle.abs_program.specs.InstructionViews.{effect_tree, goes_tree}
+use Rattle.abs_program.specs.Instructions.{InstructionTree, effect_of}
 use Rattle.abs_tree.specs.Syntax.{Name}
-use Rattle.abs_tree.specs.declared.tables.control.Effect.{Effect}
+use Rattle.abs_program.specs.declared.tables.control.Effect.{Effect}
 use Rattle.config_state.specs.Configurations.{FrameState, TaskState}
 use Rattle.config_state.specs.Views.{frame_state, task_state}
 use Rattle.config_state.specs.declared.task.TaskCell.{TaskCell}

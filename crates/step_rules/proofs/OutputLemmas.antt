@@ -8,16 +8,16 @@
 use Rattle.std.proofs.Common.{◌≡◌, ◌<◌, ℕ, List, [], ◌∷◌, ◌++◌, length, slice_get, Option, Some, None, refl, sym, subst}
 use Rattle.std.proofs.lemmas.Option.{none-some, same_Some}
 use Rattle.std.specs.Option.{option_map}
-use Rattle.abs_tree.proofs.ListOutcomeLemmas.{AreGiven, outcomes_of-each}
-use Rattle.abs_tree.proofs.ReferenceLemmas.{AllComeFrom, own_slot, evaluate-reads}
-use Rattle.abs_tree.proofs.ResultLemmas.{IfGives, IfAllGive, IfGives-at, IfAllGive-at, IfGives-then, IfAllGive-then, outcomes_after-gives}
-use Rattle.abs_tree.specs.Evaluation.{evaluate, outcomes_of, initial_outcomes, all_outcomes, results_of}
+use Rattle.abs_values.proofs.ListOutcomeLemmas.{AreGiven, outcomes_of-each}
+use Rattle.abs_values.proofs.ReferenceLemmas.{AllComeFrom, own_slot, evaluate-reads}
+use Rattle.abs_values.proofs.ResultLemmas.{IfGives, IfAllGive, IfGives-at, IfAllGive-at, IfGives-then, IfAllGive-then, outcomes_after-gives}
+use Rattle.abs_values.specs.Evaluation.{evaluate, outcomes_of, initial_outcomes, all_outcomes, results_of}
 use Rattle.abs_tree.specs.Limits.{level_limit}
-use Rattle.abs_tree.specs.References.{IsIn}
-use Rattle.abs_tree.specs.Results.{Results, AllGive, OneFails}
-use Rattle.abs_tree.specs.Scopes.{Library, library_of, Scope, own_scope, Location, InSlot, InField, InBound, InThis, value_at}
+use Rattle.abs_values.specs.References.{IsIn}
+use Rattle.abs_values.specs.Results.{Results, AllGive, OneFails}
+use Rattle.abs_values.specs.Scopes.{Library, library_of, Scope, own_scope, Location, InSlot, InField, InBound, InThis, value_at}
 use Rattle.abs_tree.specs.Syntax.{Phrase, Phrases, NoPhrase, NextPhrase, ProgramTree}
-use Rattle.abs_tree.specs.ValueTrees.{ValueTree, ObjectValue}
+use Rattle.abs_values.specs.ValueTrees.{ValueTree, ObjectValue}
 use Rattle.config_state.proofs.EachLemmas.{Each-none, Each-one, Each-append}
 use Rattle.config_state.specs.Configurations.{ObjectState, FrameState, Configuration, object_at, fields_of}
 use Rattle.config_state.specs.WellFormed.{IsThere, ValueIsThere, AreThere, IsFrameFormed, IsWellFormed}

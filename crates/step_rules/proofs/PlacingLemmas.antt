@@ -11,9 +11,9 @@ use Rattle.std.proofs.lemmas.List.{get_or_at, set_at, map-append, map-set, rever
 use Rattle.std.proofs.lemmas.Option.{same_Some, slice_get-map}
 use Rattle.std.specs.Option.{option_map}
 use Rattle.abs_tree.specs.Syntax.{Name}
-use Rattle.abs_tree.specs.ValueTrees.{ValueTree}
-use Rattle.abs_tree.specs.ValueViews.{value_tree}
-use Rattle.abs_tree.specs.declared.value.Value.{Value}
+use Rattle.abs_values.specs.ValueTrees.{ValueTree}
+use Rattle.abs_values.specs.ValueViews.{value_tree}
+use Rattle.abs_values.specs.declared.value.Value.{Value}
 use Rattle.config_state.specs.Configurations.{ObjectState, FrameState, Configuration, object_at, fields_of}
 use Rattle.config_state.specs.Views.{object_state, task_state}
 use Rattle.config_state.specs.declared.frame.Frame.{Frame}

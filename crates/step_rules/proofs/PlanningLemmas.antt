@@ -10,12 +10,12 @@
 use Rattle.std.proofs.Common.{◌≡◌, ℕ, List, [], ◌∷◌, drop, slice_get, is_some, true, Option, Some, None, Ok, Err, OnErr, option_and_then, option_map, refl, sym, ap, ◌∙◌}
 use Rattle.std.proofs.lemmas.Option.{same_Some, slice_get-map}
 use Rattle.std.specs.declared.result.Result.{Result as Returned}
-use Rattle.abs_tree.specs.Control.{Point, program_points}
-use Rattle.abs_tree.specs.Instructions.{InstructionTree, effect_of, instruction_of, instructions}
-use Rattle.abs_tree.specs.Results.{Result, Results, AllGive, Fails, OneFails}
+use Rattle.abs_program.specs.Control.{Point, program_points}
+use Rattle.abs_program.specs.Instructions.{InstructionTree, effect_of, instruction_of, instructions}
+use Rattle.abs_values.specs.Results.{Result, Results, AllGive, Fails, OneFails}
 use Rattle.abs_tree.specs.Syntax.{Name, ProgramTree, SourceTree}
-use Rattle.abs_tree.specs.ValueTrees.{ValueTree}
-use Rattle.abs_tree.specs.declared.evaluated.Fault.{Fault}
+use Rattle.abs_values.specs.ValueTrees.{ValueTree}
+use Rattle.abs_values.specs.declared.evaluated.Fault.{Fault}
 use Rattle.config_state.specs.Configurations.{FrameState, TaskState, Configuration, object_at, fields_of}
 use Rattle.config_state.specs.WellFormed.{IsWellFormed}
 use Rattle.config_state.specs.declared.task.State.{State}

@@ -7,9 +7,9 @@
 use Rattle.std.proofs.Common.{◌≡◌, ◌≢◌, ℕ, List, [], ◌∷◌, slice_get, Option, Some, None, refl, ap}
 use Rattle.std.proofs.lemmas.Option.{option_and_then_some}
 use Rattle.std.specs.Prelude.{IsSome, is_some}
-use Rattle.abs_tree.specs.Control.{Point, program_points}
+use Rattle.abs_program.specs.Control.{Point, program_points}
 use Rattle.abs_tree.specs.Syntax.{ProgramTree}
-use Rattle.abs_tree.specs.Whole.{IsWhole}
+use Rattle.abs_program.specs.Whole.{IsWhole}
 use Rattle.config_state.proofs.BodyLemmas.{get-there}
 use Rattle.config_state.specs.Configurations.{FrameState, TaskState, Configuration}
 use Rattle.config_state.specs.OfProgram.{next_point, IsAtGuard, IsConfigOf}

@@ -2,7 +2,7 @@
 use Rattle.std.proofs.Common.{◌≡◌, ℕ, List, [], ◌∷◌, ◌++◌, Option, Some, None, fold, refl, subst}
 use Rattle.std.proofs.lemmas.Option.{same_Some}
 use Rattle.abs_tree.specs.Syntax.{ProgramTree}
-use Rattle.abs_tree.specs.Whole.{IsWhole}
+use Rattle.abs_program.specs.Whole.{IsWhole}
 use Rattle.config_state.specs.Bodies.{entry_of_body, main_at}
 use Rattle.config_state.specs.Configurations.{Configuration}
 use Rattle.config_state.specs.First.{first, frame_for}

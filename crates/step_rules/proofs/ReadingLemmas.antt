@@ -7,11 +7,11 @@
 --   `output_found`             the output of it
 use Rattle.std.proofs.Common.{◌≡◌, ℕ, List, [], ◌∷◌, slice_get, Option, Some, None, IsSome, option_and_then, option_map, refl, sym, ap, ◌∙◌}
 use Rattle.std.proofs.lemmas.Option.{same_Some, slice_get-map}
-use Rattle.abs_tree.specs.Bodies.{ClassEntryTree}
-use Rattle.abs_tree.specs.Control.{Point, program_points}
-use Rattle.abs_tree.specs.Evaluation.{results_of}
-use Rattle.abs_tree.specs.Instructions.{EffectTree, Skips, Suspends, Awaits, Chooses, Returns, Prints, Clears, Stores, Makes, Sends, CallsOwn, CallsOther, Gets, effect_of, InstructionTree, instruction_of, instructions}
-use Rattle.abs_tree.specs.Scopes.{Scope, library_of}
+use Rattle.abs_program.specs.Bodies.{ClassEntryTree}
+use Rattle.abs_program.specs.Control.{Point, program_points}
+use Rattle.abs_values.specs.Evaluation.{results_of}
+use Rattle.abs_program.specs.Instructions.{EffectTree, Skips, Suspends, Awaits, Chooses, Returns, Prints, Clears, Stores, Makes, Sends, CallsOwn, CallsOther, Gets, effect_of, InstructionTree, instruction_of, instructions}
+use Rattle.abs_values.specs.Scopes.{Scope, library_of}
 use Rattle.abs_tree.specs.Syntax.{Phrases, ProgramTree}
 use Rattle.config_state.specs.Configurations.{FrameState, TaskState, Configuration}
 use Rattle.config_state.specs.OfProgram.{next_point}

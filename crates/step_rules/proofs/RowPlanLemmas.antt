@@ -4,12 +4,12 @@
 --   `enter_found`                      an own call pushes a frame of the method
 use Rattle.std.proofs.Common.{◌≡◌, ◌<◌, ◌≤◌, ℕ, suc, List, [], ◌∷◌, length, Option, Some, None, option_map, refl, arith}
 use Rattle.std.proofs.lemmas.Option.{same_Some}
-use Rattle.abs_tree.specs.Results.{Gives}
+use Rattle.abs_values.specs.Results.{Gives}
 use Rattle.abs_tree.specs.Syntax.{Name, VariableTree}
-use Rattle.abs_tree.specs.ValueTrees.{ValueTree}
-use Rattle.abs_tree.specs.ValueViews.{value_tree}
-use Rattle.abs_tree.specs.declared.tables.control.BodyEntry.{BodyEntry}
-use Rattle.abs_tree.specs.declared.value.Value.{Value}
+use Rattle.abs_values.specs.ValueTrees.{ValueTree}
+use Rattle.abs_values.specs.ValueViews.{value_tree}
+use Rattle.abs_program.specs.declared.tables.control.BodyEntry.{BodyEntry}
+use Rattle.abs_values.specs.declared.value.Value.{Value}
 use Rattle.config_state.specs.Bodies.{BodyAt, entry_of_body}
 use Rattle.config_state.specs.Configurations.{FrameState, TaskState, Configuration, object_at, fields_of}
 use Rattle.config_state.specs.First.{frame_for}

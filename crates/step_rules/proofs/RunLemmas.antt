@@ -10,20 +10,20 @@ use Rattle.std.proofs.lemmas.Bool.{true≢false}
 use Rattle.std.proofs.lemmas.Option.{none-some, same_Some, option_and_then_some, slice_get-map}
 use Rattle.std.proofs.lemmas.Slice.Eq.{bytes_eq-Decides}
 use Rattle.abs_tree.proofs.NumberLemmas.{name_of_number}
-use Rattle.abs_tree.specs.Bodies.{ClassEntryTree, class_entry, entry_of_class, if_alone, run_among}
-use Rattle.abs_tree.specs.Members.{method_among}
+use Rattle.abs_program.specs.Bodies.{ClassEntryTree, class_entry, entry_of_class, if_alone, run_among}
+use Rattle.abs_program.specs.Members.{method_among}
 use Rattle.abs_tree.specs.Names.{name_of, number_of_name}
-use Rattle.abs_tree.specs.SourceViews.{program_tree}
+use Rattle.abs_program.specs.NamedViews.{program_tree}
 use Rattle.abs_tree.specs.Syntax.{Name, DeclTree, ProgramTree}
 use Rattle.abs_tree.specs.SyntaxViews.{member_tree, decl_tree}
-use Rattle.abs_tree.specs.ValueTrees.{ValueTree}
-use Rattle.abs_tree.specs.declared.named.Named.{Named}
+use Rattle.abs_values.specs.ValueTrees.{ValueTree}
+use Rattle.abs_program.specs.declared.named.Named.{Named}
 use Rattle.abs_tree.specs.declared.symbol.Symbol.{Symbol}
 use Rattle.abs_tree.specs.declared.syntax.declaration.Decl.{Decl}
 use Rattle.abs_tree.specs.declared.syntax.declaration.Decl.TheVariants as decl
 use Rattle.abs_tree.specs.declared.syntax.declaration.Member.{Member}
 use Rattle.abs_tree.specs.declared.syntax.declaration.Member.TheVariants as member
-use Rattle.abs_tree.specs.declared.tables.control.BodyEntry.{BodyEntry}
+use Rattle.abs_program.specs.declared.tables.control.BodyEntry.{BodyEntry}
 use Rattle.config_state.specs.Bodies.{BodyAt, class_index, class_taking, entry_of_body, method_at}
 use Rattle.config_state.specs.Configurations.{TaskState}
 use Rattle.step_rules.specs.NewEntries.{task_for, run_task}

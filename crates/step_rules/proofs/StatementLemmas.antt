@@ -7,12 +7,12 @@
 --   `given`, `returned`                the end of a frame
 use Rattle.std.proofs.Common.{◌≡◌, ℕ, Bool, true, false, List, [], ◌∷◌, Option, Some, None, if◌then◌else◌, refl, sym, ap, subst, ◌∙◌}
 use Rattle.std.proofs.lemmas.Option.{same_Some}
-use Rattle.abs_tree.specs.Control.{Goes, Point}
-use Rattle.abs_tree.specs.InstructionViews.{effect_tree}
-use Rattle.abs_tree.specs.Instructions.{effect_of}
+use Rattle.abs_program.specs.Control.{Goes, Point}
+use Rattle.abs_program.specs.InstructionViews.{effect_tree}
+use Rattle.abs_program.specs.Instructions.{effect_of}
 use Rattle.abs_tree.specs.Syntax.{Name, VariableTree}
-use Rattle.abs_tree.specs.ValueTrees.{ValueTree, IntValue, StringValue, BuiltValue, ObjectValue, FutureValue, NullValue}
-use Rattle.abs_tree.specs.declared.tables.control.Effect.{Effect}
+use Rattle.abs_values.specs.ValueTrees.{ValueTree, IntValue, StringValue, BuiltValue, ObjectValue, FutureValue, NullValue}
+use Rattle.abs_program.specs.declared.tables.control.Effect.{Effect}
 use Rattle.config_state.specs.Configurations.{FrameState, Configuration, object_at, fields_of}
 use Rattle.step_rules.proofs.LocalRowLemmas.{same_object_is, print_row_several}
 use Rattle.step_rules.proofs.MoverLemmas.{does}

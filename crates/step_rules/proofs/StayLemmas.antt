@@ -7,9 +7,9 @@
 use Rattle.std.proofs.Common.{◌≡◌, ℕ, true, List, [], ◌∷◌, length, slice_get, Option, Some, None, refl, sym, ap, ◌∙◌, subst}
 use Rattle.std.proofs.lemmas.Option.{same_Some}
 use Rattle.std.specs.Option.{option_map}
-use Rattle.abs_tree.specs.Results.{Result}
+use Rattle.abs_values.specs.Results.{Result}
 use Rattle.abs_tree.specs.Syntax.{ProgramTree}
-use Rattle.abs_tree.specs.ValueTrees.{ObjectValue, FutureValue}
+use Rattle.abs_values.specs.ValueTrees.{ObjectValue, FutureValue}
 use Rattle.config_state.specs.Configurations.{ObjectState, FrameState, TaskState, Configuration}
 use Rattle.config_state.specs.declared.cog.Cog.{Cog}
 use Rattle.config_state.specs.declared.task.State.{State}

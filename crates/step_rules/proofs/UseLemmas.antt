@@ -8,25 +8,25 @@
 use Rattle.std.proofs.Common.{◌≡◌, ◌≢◌, ℕ, ◌+◌, Bool, true, false, List, [], ◌∷◌, length, slice_get, Option, Some, None, refl, sym, ap, ◌∙◌, subst, arith, if◌then◌else◌, option_map}
 use Rattle.std.specs.Prelude.{⊤}
 use Rattle.std.proofs.lemmas.Option.{same_Some, option_and_then_some}
-use Rattle.abs_tree.proofs.ListOutcomeLemmas.{outcomes_of-count, initial_outcomes-count}
-use Rattle.abs_tree.proofs.ResultLemmas.{IfAllGive-at}
-use Rattle.abs_tree.specs.Bodies.{ClassEntryTree}
-use Rattle.abs_tree.specs.Control.{Point, program_points}
-use Rattle.abs_tree.specs.Evaluation.{all_end_with, all_outcomes, evaluate, initial_outcomes, outcomes_of, results_of}
-use Rattle.abs_tree.specs.Instructions.{EffectTree, Skips, Suspends, Awaits, Chooses, Returns, Prints, Clears, Stores, Makes, Sends, CallsOwn, CallsOther, Gets, target_variable, side_phrases, side_effect, phrases_of, effect_of}
+use Rattle.abs_values.proofs.ListOutcomeLemmas.{outcomes_of-count, initial_outcomes-count}
+use Rattle.abs_values.proofs.ResultLemmas.{IfAllGive-at}
+use Rattle.abs_program.specs.Bodies.{ClassEntryTree}
+use Rattle.abs_program.specs.Control.{Point, program_points}
+use Rattle.abs_values.specs.Evaluation.{all_end_with, all_outcomes, evaluate, initial_outcomes, outcomes_of, results_of}
+use Rattle.abs_program.specs.Instructions.{EffectTree, Skips, Suspends, Awaits, Chooses, Returns, Prints, Clears, Stores, Makes, Sends, CallsOwn, CallsOther, Gets, target_variable, side_phrases, side_effect, phrases_of, effect_of}
 use Rattle.abs_tree.specs.Limits.{level_limit}
-use Rattle.abs_tree.specs.NameSpaces.{NameSpaces, spaces_of}
-use Rattle.abs_tree.specs.Results.{Results, AllGive, OneFails}
-use Rattle.abs_tree.specs.Scopes.{Library, Scope, library_of}
-use Rattle.abs_tree.specs.Slots.{body_slots, is_this}
+use Rattle.abs_program.specs.NameSpaces.{NameSpaces, spaces_of}
+use Rattle.abs_values.specs.Results.{Results, AllGive, OneFails}
+use Rattle.abs_values.specs.Scopes.{Library, Scope, library_of}
+use Rattle.abs_program.specs.Slots.{body_slots, is_this}
 use Rattle.abs_tree.specs.Syntax.{Name, VariableTree, AtSlot, AtField, AtBound, Unresolved, OwnCallOf, Phrases, NoPhrase, NextPhrase, SideTree, NewOf, ValueOf, SendOf, GetOf, CallOf, TargetTree, ToVariable, ToField, NoSide, SomeSide, Statement, BlockOf, SkipOf, SuspendOf, AwaitOf, ReturnOf, PrintOf, IfOf, WhileOf, DeclareOf, AssignOf, DoOf, ProgramTree}
 use Rattle.abs_tree.specs.SyntaxCounts.{count_phrases}
-use Rattle.abs_tree.specs.Tables.{meaning_of}
-use Rattle.abs_tree.specs.ValueTrees.{ValueTree, FutureValue, NullValue}
-use Rattle.abs_tree.specs.Whole.{Inside, VariableIsThere, SideIsThere, StatementIsThere, TargetIsThere, IsWhole}
-use Rattle.abs_tree.specs.declared.evaluated.Fault.{Fault}
-use Rattle.abs_tree.specs.declared.evaluated.Fault.TheVariants as fault
-use Rattle.abs_tree.specs.declared.name_spaces.Taking.{Taking}
+use Rattle.abs_program.specs.Tables.{meaning_of}
+use Rattle.abs_values.specs.ValueTrees.{ValueTree, FutureValue, NullValue}
+use Rattle.abs_program.specs.Whole.{Inside, VariableIsThere, SideIsThere, StatementIsThere, TargetIsThere, IsWhole}
+use Rattle.abs_values.specs.declared.evaluated.Fault.{Fault}
+use Rattle.abs_values.specs.declared.evaluated.Fault.TheVariants as fault
+use Rattle.abs_program.specs.declared.name_spaces.Taking.{Taking}
 use Rattle.abs_tree.specs.declared.syntax.statement.Mode.{Mode}
 use Rattle.config_state.specs.Bodies.{BodyAt, IsStatementOf, body_found, class_taking, main_at}
 use Rattle.config_state.specs.Configurations.{ObjectState, FrameState, Configuration, Each, object_at, fields_of}

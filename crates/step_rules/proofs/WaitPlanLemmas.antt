@@ -4,12 +4,12 @@
 --   `no_wake`                  it does not go on where that is no `await`
 use Rattle.std.proofs.Common.{◌≡◌, ℕ, List, ◌∷◌, slice_get, Option, Some, None, option_and_then, option_map, Vec, Global, refl, ap}
 use Rattle.std.proofs.lemmas.Option.{same_Some}
-use Rattle.abs_tree.specs.Control.{Point}
-use Rattle.abs_tree.specs.InstructionViews.{effect_tree}
-use Rattle.abs_tree.specs.Instructions.{InstructionTree, effect_of, instructions}
+use Rattle.abs_program.specs.Control.{Point}
+use Rattle.abs_program.specs.InstructionViews.{effect_tree}
+use Rattle.abs_program.specs.Instructions.{InstructionTree, effect_of, instructions}
 use Rattle.abs_tree.specs.Syntax.{Name, ProgramTree}
-use Rattle.abs_tree.specs.declared.tables.control.Effect.{Effect}
-use Rattle.abs_tree.specs.declared.tables.control.Effect.TheVariants as effect
+use Rattle.abs_program.specs.declared.tables.control.Effect.{Effect}
+use Rattle.abs_program.specs.declared.tables.control.Effect.TheVariants as effect
 use Rattle.config_state.specs.Configurations.{FrameState, TaskState, Configuration}
 use Rattle.config_state.specs.OfProgram.{next_point}
 use Rattle.step_rules.proofs.BlockedLemmas.{next_effect_found}

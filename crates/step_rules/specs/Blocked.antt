@@ -5,10 +5,10 @@
 --   `AreResolved`              the next statement of a task is an `await`, and each future that it names is resolved
 --   `NeverWaits`               a program has neither `await` nor `get`
 use Rattle.std.specs.Prelude.{◌≡◌, ◌≢◌, ℕ, List, slice_get, Option, Some, None}
-use Rattle.abs_tree.specs.Control.{Point, program_points}
-use Rattle.abs_tree.specs.Instructions.{Awaits, Gets, effect_of}
+use Rattle.abs_program.specs.Control.{Point, program_points}
+use Rattle.abs_program.specs.Instructions.{Awaits, Gets, effect_of}
 use Rattle.abs_tree.specs.Syntax.{VariableTree, ProgramTree}
-use Rattle.abs_tree.specs.ValueTrees.{FutureValue}
+use Rattle.abs_values.specs.ValueTrees.{FutureValue}
 use Rattle.config_state.specs.Configurations.{FrameState, TaskState, Configuration, Each, IsUnfinished}
 use Rattle.config_state.specs.OfProgram.{next_point}
 use Rattle.config_state.specs.declared.cog.Cog.{Cog}

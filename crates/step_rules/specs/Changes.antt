@@ -6,8 +6,8 @@
 --   `configuration_after`      the configuration after a change of a task
 use Rattle.std.specs.Prelude.{ℕ, zero, suc, List, [], ◌∷◌, ◌++◌, set, Option, Some, None}
 use Rattle.std.specs.Option.{option_map}
-use Rattle.abs_tree.specs.Results.{Result}
-use Rattle.abs_tree.specs.ValueTrees.{ValueTree}
+use Rattle.abs_values.specs.Results.{Result}
+use Rattle.abs_values.specs.ValueTrees.{ValueTree}
 use Rattle.config_state.specs.Configurations.{ObjectState, TaskState, Configuration}
 use Rattle.config_state.specs.declared.cog.Cog.{Cog}
 use Rattle.config_state.specs.declared.task.State.TheVariants.{Ready}

@@ -9,11 +9,11 @@
 --   `Step`, `event_of`         the event: the next configuration, and the lines that are printed
 use Rattle.std.specs.Prelude.{ℕ, true, List, [], ◌∷◌, slice_get, Option, Some, None, option_and_then}
 use Rattle.std.specs.Option.{option_map}
-use Rattle.abs_tree.specs.Control.{Point, program_points}
-use Rattle.abs_tree.specs.Instructions.{EffectTree, Suspends, Awaits, Returns, Makes, Sends, CallsOther, Gets, effect_of}
-use Rattle.abs_tree.specs.Results.{Result, Fails, Results, AllGive, OneFails}
+use Rattle.abs_program.specs.Control.{Point, program_points}
+use Rattle.abs_program.specs.Instructions.{EffectTree, Suspends, Awaits, Returns, Makes, Sends, CallsOther, Gets, effect_of}
+use Rattle.abs_values.specs.Results.{Result, Fails, Results, AllGive, OneFails}
 use Rattle.abs_tree.specs.Syntax.{ProgramTree}
-use Rattle.abs_tree.specs.ValueTrees.{ValueTree}
+use Rattle.abs_values.specs.ValueTrees.{ValueTree}
 use Rattle.config_state.specs.Configurations.{FrameState, TaskState, Configuration, object_at, fields_of}
 use Rattle.config_state.specs.declared.task.State.{State}
 use Rattle.config_state.specs.declared.task.State.TheVariants.{Ready, Running, Awaiting}

@@ -4,16 +4,16 @@
 --   `WrongSort`                what is wrong with the values of a statement
 --   `FaultOf`                  the cause of a fault
 use Rattle.std.specs.Prelude.{◌≡◌, ◌≢◌, ⊤, ℕ, List, [], ◌∷◌, length, slice_get, Option, Some, None, option_and_then}
-use Rattle.abs_tree.specs.Control.{Point}
-use Rattle.abs_tree.specs.Evaluation.{results_of}
-use Rattle.abs_tree.specs.Instructions.{EffectTree, Awaits, Chooses, Returns, Prints, Stores, Makes, Sends, CallsOwn, CallsOther, Gets, phrases_of, effect_of}
-use Rattle.abs_tree.specs.Operations.{truth_of}
-use Rattle.abs_tree.specs.Results.{Fails, OneFails}
-use Rattle.abs_tree.specs.Scopes.{library_of}
+use Rattle.abs_program.specs.Control.{Point}
+use Rattle.abs_values.specs.Evaluation.{results_of}
+use Rattle.abs_program.specs.Instructions.{EffectTree, Awaits, Chooses, Returns, Prints, Stores, Makes, Sends, CallsOwn, CallsOther, Gets, phrases_of, effect_of}
+use Rattle.abs_values.specs.Operations.{truth_of}
+use Rattle.abs_values.specs.Results.{Fails, OneFails}
+use Rattle.abs_values.specs.Scopes.{library_of}
 use Rattle.abs_tree.specs.Syntax.{Name, VariableTree, ProgramTree}
-use Rattle.abs_tree.specs.ValueTrees.{ValueTree, StringValue, ObjectValue, FutureValue, NullValue}
-use Rattle.abs_tree.specs.declared.evaluated.Fault.{Fault}
-use Rattle.abs_tree.specs.declared.evaluated.Fault.TheVariants as fault
+use Rattle.abs_values.specs.ValueTrees.{ValueTree, StringValue, ObjectValue, FutureValue, NullValue}
+use Rattle.abs_values.specs.declared.evaluated.Fault.{Fault}
+use Rattle.abs_values.specs.declared.evaluated.Fault.TheVariants as fault
 use Rattle.abs_tree.specs.declared.syntax.statement.Mode.{Mode}
 use Rattle.config_state.specs.Bodies.{class_taking}
 use Rattle.config_state.specs.Configurations.{ObjectState, TaskState, Configuration, object_at}

@@ -5,8 +5,8 @@
 --   `IsTaskHoused`             the objects of a task and of its frames are in its cog
 --   `IsHoused`                 objects were made by the program, and tasks are at home
 use Rattle.std.specs.Prelude.{◌≡◌, ℕ, suc, slice_get, Option, Some, None}
-use Rattle.abs_tree.specs.Control.{Point, program_points}
-use Rattle.abs_tree.specs.Instructions.{Makes, effect_of}
+use Rattle.abs_program.specs.Control.{Point, program_points}
+use Rattle.abs_program.specs.Instructions.{Makes, effect_of}
 use Rattle.abs_tree.specs.Syntax.{VariableTree, ProgramTree}
 use Rattle.abs_tree.specs.declared.syntax.statement.Mode.{Mode}
 use Rattle.config_state.specs.Configurations.{ObjectState, TaskState, Configuration, Each}

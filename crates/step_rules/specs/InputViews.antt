@@ -6,10 +6,10 @@
 --   `running_point`            the next statement of a task that runs
 --   `phrases_by`, `class_made`         the expressions of an instruction, and the class of a `new`
 use Rattle.std.specs.Prelude.{◌≡◌, List, Option, Some, None}
-use Rattle.abs_tree.specs.Bodies.{ClassEntryTree}
-use Rattle.abs_tree.specs.Control.{Point}
-use Rattle.abs_tree.specs.InstructionViews.{exprs_tree, shared_phrases}
-use Rattle.abs_tree.specs.Instructions.{EffectTree, Makes, InstructionTree}
+use Rattle.abs_program.specs.Bodies.{ClassEntryTree}
+use Rattle.abs_program.specs.Control.{Point}
+use Rattle.abs_program.specs.InstructionViews.{exprs_tree, shared_phrases}
+use Rattle.abs_program.specs.Instructions.{EffectTree, Makes, InstructionTree}
 use Rattle.abs_tree.specs.Syntax.{Name, Phrases, NoPhrase, ProgramTree}
 use Rattle.config_state.specs.Bodies.{class_taking}
 use Rattle.config_state.specs.Configurations.{FrameState}

@@ -5,12 +5,12 @@
 --   `Input`, `input_of`                the input of a task: its scope and its expressions; none unless it runs
 --   `output_of`                        the output: what evaluation gives for an input
 use Rattle.std.specs.Prelude.{ℕ, List, [], ◌∷◌, slice_get, Option, Some, None}
-use Rattle.abs_tree.specs.Bodies.{ClassEntryTree}
-use Rattle.abs_tree.specs.Control.{Point}
-use Rattle.abs_tree.specs.Evaluation.{results_of}
-use Rattle.abs_tree.specs.Instructions.{EffectTree, Makes, phrases_of, effect_of}
-use Rattle.abs_tree.specs.Results.{Results}
-use Rattle.abs_tree.specs.Scopes.{Scope, library_of}
+use Rattle.abs_program.specs.Bodies.{ClassEntryTree}
+use Rattle.abs_program.specs.Control.{Point}
+use Rattle.abs_values.specs.Evaluation.{results_of}
+use Rattle.abs_program.specs.Instructions.{EffectTree, Makes, phrases_of, effect_of}
+use Rattle.abs_values.specs.Results.{Results}
+use Rattle.abs_values.specs.Scopes.{Scope, library_of}
 use Rattle.abs_tree.specs.Syntax.{Phrases, NoPhrase, ProgramTree}
 use Rattle.config_state.specs.Bodies.{class_taking}
 use Rattle.config_state.specs.Configurations.{FrameState, TaskState, Configuration, object_at, fields_of}

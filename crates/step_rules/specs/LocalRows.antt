@@ -7,14 +7,14 @@
 --   `call_own_row`, `pop_row`      own call, return of an inner frame
 --   `local_row`                    the row of the next statement, if it is one of these
 use Rattle.std.specs.Prelude.{ℕ, Bool, true, List, [], ◌∷◌, length, slice_get, Option, Some, None, if◌then◌else◌, option_and_then}
-use Rattle.abs_tree.specs.Control.{Point, program_points}
-use Rattle.abs_tree.specs.Instructions.{EffectTree, Skips, Chooses, Returns, Prints, Clears, Stores, CallsOwn, effect_of}
-use Rattle.abs_tree.specs.Operations.{truth_of}
-use Rattle.abs_tree.specs.Results.{Results, AllGive, OneFails}
+use Rattle.abs_program.specs.Control.{Point, program_points}
+use Rattle.abs_program.specs.Instructions.{EffectTree, Skips, Chooses, Returns, Prints, Clears, Stores, CallsOwn, effect_of}
+use Rattle.abs_values.specs.Operations.{truth_of}
+use Rattle.abs_values.specs.Results.{Results, AllGive, OneFails}
 use Rattle.abs_tree.specs.Syntax.{Name, VariableTree, ProgramTree}
-use Rattle.abs_tree.specs.ValueTrees.{ValueTree, StringValue, NullValue}
-use Rattle.abs_tree.specs.declared.evaluated.Fault.{Fault}
-use Rattle.abs_tree.specs.declared.evaluated.Fault.TheVariants as fault
+use Rattle.abs_values.specs.ValueTrees.{ValueTree, StringValue, NullValue}
+use Rattle.abs_values.specs.declared.evaluated.Fault.{Fault}
+use Rattle.abs_values.specs.declared.evaluated.Fault.TheVariants as fault
 use Rattle.config_state.specs.Bodies.{BodyAt, entry_of_body}
 use Rattle.config_state.specs.Configurations.{FrameState}
 use Rattle.config_state.specs.First.{frame_for}

@@ -8,11 +8,11 @@
 --   `same_object`              whether two frames have the same object
 --   `unit_value`               the value `Unit`
 use Rattle.std.specs.Prelude.{ℕ, nat_eq, Bool, true, false, List, codes, slice_get, Option, Some, None, if◌then◌else◌, option_and_then}
-use Rattle.abs_tree.specs.Control.{Goes, Next, ByAnswer, Point}
+use Rattle.abs_program.specs.Control.{Goes, Next, ByAnswer, Point}
 use Rattle.abs_tree.specs.Names.{number_of_name}
 use Rattle.abs_tree.specs.Syntax.{Name, ProgramTree}
 use Rattle.abs_tree.specs.SyntaxPlaces.{statement_place}
-use Rattle.abs_tree.specs.ValueTrees.{ValueTree, BuiltValue, NoPart}
+use Rattle.abs_values.specs.ValueTrees.{ValueTree, BuiltValue, NoPart}
 use Rattle.config_state.specs.Bodies.{BodyAt, method_at}
 use Rattle.config_state.specs.Configurations.{ObjectState, FrameState, TaskState}
 

@@ -4,11 +4,11 @@
 --   `MayTakeMemory`            the event of a task may take memory
 use Rattle.std.specs.Prelude.{◌≡◌, ◌≢◌, ℕ, Bool, true, false, slice_get, Option, Some, None}
 use Rattle.std.specs.Option.{option_map}
-use Rattle.abs_tree.specs.Control.{Point}
-use Rattle.abs_tree.specs.Instructions.{EffectTree, Returns, Prints, Makes, Sends, CallsOwn, Gets, effect_of}
-use Rattle.abs_tree.specs.Results.{Fails}
+use Rattle.abs_program.specs.Control.{Point}
+use Rattle.abs_program.specs.Instructions.{EffectTree, Returns, Prints, Makes, Sends, CallsOwn, Gets, effect_of}
+use Rattle.abs_values.specs.Results.{Fails}
 use Rattle.abs_tree.specs.Syntax.{ProgramTree}
-use Rattle.abs_tree.specs.declared.evaluated.Fault.{Fault}
+use Rattle.abs_values.specs.declared.evaluated.Fault.{Fault}
 use Rattle.config_state.specs.Configurations.{FrameState, TaskState, Configuration}
 use Rattle.config_state.specs.OfProgram.{next_point}
 use Rattle.config_state.specs.declared.task.State.TheVariants.{Running}

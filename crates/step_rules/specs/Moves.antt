@@ -3,10 +3,10 @@
 --   `names_of`, `program_of`, `config_of`      the names, the program and the configuration around it
 --   `Moves`                                    a runner is the task that moves, and a point its next statement
 use Rattle.std.specs.Prelude.{◌≡◌, List, ◌∷◌, None}
-use Rattle.abs_tree.specs.Control.{Point}
-use Rattle.abs_tree.specs.InstructionViews.{instruction_tree}
-use Rattle.abs_tree.specs.Instructions.{instruction_of}
-use Rattle.abs_tree.specs.SourceViews.{program_tree}
+use Rattle.abs_program.specs.Control.{Point}
+use Rattle.abs_program.specs.InstructionViews.{instruction_tree}
+use Rattle.abs_program.specs.Instructions.{instruction_of}
+use Rattle.abs_program.specs.NamedViews.{program_tree}
 use Rattle.abs_tree.specs.Syntax.{Name, ProgramTree}
 use Rattle.config_state.specs.ConfigViews.{configuration}
 use Rattle.config_state.specs.Configurations.{Configuration}

@@ -6,7 +6,7 @@
 use Rattle.std.specs.Prelude.{ℕ, List, [], ◌∷◌, codes, length, Option, Some, None}
 use Rattle.std.specs.Option.{option_map}
 use Rattle.abs_tree.specs.Syntax.{Name, ProgramTree}
-use Rattle.abs_tree.specs.ValueTrees.{ValueTree}
+use Rattle.abs_values.specs.ValueTrees.{ValueTree}
 use Rattle.abs_tree.specs.declared.syntax.statement.Mode.{Mode}
 use Rattle.abs_tree.specs.declared.syntax.statement.Mode.TheVariants as mode
 use Rattle.config_state.specs.Bodies.{BodyAt, entry_of_body, method_at}

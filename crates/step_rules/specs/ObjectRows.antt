@@ -6,11 +6,11 @@
 --   `call_row`                 call
 --   `give_row`                 return
 use Rattle.std.specs.Prelude.{ℕ, List, [], ◌∷◌, length, slice_get, Option, Some, None}
-use Rattle.abs_tree.specs.Bodies.{ClassEntryTree}
-use Rattle.abs_tree.specs.Results.{Gives, Fails}
+use Rattle.abs_program.specs.Bodies.{ClassEntryTree}
+use Rattle.abs_values.specs.Results.{Gives, Fails}
 use Rattle.abs_tree.specs.Syntax.{Name, VariableTree, ProgramTree}
-use Rattle.abs_tree.specs.ValueTrees.{ValueTree, NullValue, ObjectValue, FutureValue}
-use Rattle.abs_tree.specs.declared.evaluated.Fault.TheVariants as fault
+use Rattle.abs_values.specs.ValueTrees.{ValueTree, NullValue, ObjectValue, FutureValue}
+use Rattle.abs_values.specs.declared.evaluated.Fault.TheVariants as fault
 use Rattle.abs_tree.specs.declared.syntax.statement.Mode.{Mode}
 use Rattle.config_state.specs.Bodies.{BodyAt, class_taking}
 use Rattle.config_state.specs.Configurations.{ObjectState, FrameState, TaskState, Configuration, object_at, fields_of}

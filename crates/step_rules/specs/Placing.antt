@@ -6,7 +6,7 @@
 use Rattle.std.specs.Prelude.{◌≡◌, ℕ, List, map, reverse, slice_get, Option, Some}
 use Rattle.std.specs.Option.{option_map}
 use Rattle.abs_tree.specs.Syntax.{Name}
-use Rattle.abs_tree.specs.ValueTrees.{ValueTree}
+use Rattle.abs_values.specs.ValueTrees.{ValueTree}
 use Rattle.config_state.specs.Configurations.{ObjectState, FrameState, Configuration, fields_of}
 use Rattle.config_state.specs.Views.{object_state, frame_state, task_state}
 use Rattle.config_state.specs.declared.frame.Frame.{Frame}

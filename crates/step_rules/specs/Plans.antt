@@ -12,14 +12,14 @@
 --   `guard_tree`               what the futures of a guard allow, as the code says it
 use Rattle.std.specs.Prelude.{◌≡◌, ◌≢◌, ℕ, Bool, true, false, List, [], ◌∷◌, slice_get, Option, Some, None, IsSome, option_and_then, Result, Ok, Err}
 use Rattle.std.specs.Option.{option_map}
-use Rattle.abs_tree.specs.Control.{Goes, Point}
-use Rattle.abs_tree.specs.Instructions.{EffectTree}
-use Rattle.abs_tree.specs.Operations.{truth_of}
-use Rattle.abs_tree.specs.Results.{Fails, result_tree}
+use Rattle.abs_program.specs.Control.{Goes, Point}
+use Rattle.abs_program.specs.Instructions.{EffectTree}
+use Rattle.abs_values.specs.Operations.{truth_of}
+use Rattle.abs_values.specs.Results.{Fails, result_tree}
 use Rattle.abs_tree.specs.Syntax.{Name, ProgramTree}
-use Rattle.abs_tree.specs.ValueTrees.{ValueTree, StringValue, NullValue}
-use Rattle.abs_tree.specs.ValueViews.{value_tree}
-use Rattle.abs_tree.specs.declared.evaluated.Fault.{Fault}
+use Rattle.abs_values.specs.ValueTrees.{ValueTree, StringValue, NullValue}
+use Rattle.abs_values.specs.ValueViews.{value_tree}
+use Rattle.abs_values.specs.declared.evaluated.Fault.{Fault}
 use Rattle.config_state.specs.Configurations.{FrameState, TaskState, Configuration, object_at, fields_of}
 use Rattle.config_state.specs.Views.{object_state, frame_state, task_state}
 use Rattle.config_state.specs.declared.frame.Frame.{Frame}

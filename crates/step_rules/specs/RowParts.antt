@@ -4,13 +4,13 @@
 --   `CanTake`                  a task waits for nothing but its cog
 --   `IsValueOf`                the value with which a frame ends
 use Rattle.std.specs.Prelude.{◌≡◌, ℕ, List, [], ◌∷◌, slice_get, Option, Some, None}
-use Rattle.abs_tree.specs.Control.{Point}
-use Rattle.abs_tree.specs.Evaluation.{results_of}
-use Rattle.abs_tree.specs.Instructions.{Awaits, Returns, phrases_of, effect_of}
-use Rattle.abs_tree.specs.Results.{AllGive}
-use Rattle.abs_tree.specs.Scopes.{library_of}
+use Rattle.abs_program.specs.Control.{Point}
+use Rattle.abs_values.specs.Evaluation.{results_of}
+use Rattle.abs_program.specs.Instructions.{Awaits, Returns, phrases_of, effect_of}
+use Rattle.abs_values.specs.Results.{AllGive}
+use Rattle.abs_values.specs.Scopes.{library_of}
 use Rattle.abs_tree.specs.Syntax.{ProgramTree}
-use Rattle.abs_tree.specs.ValueTrees.{ValueTree}
+use Rattle.abs_values.specs.ValueTrees.{ValueTree}
 use Rattle.config_state.specs.Configurations.{FrameState, TaskState, Configuration}
 use Rattle.config_state.specs.OfProgram.{next_point}
 use Rattle.config_state.specs.declared.task.State.TheVariants.{Ready, Running, Awaiting}

@@ -2,14 +2,14 @@
 --
 --   `Row`                      what the event of the task with an index changes
 use Rattle.std.specs.Prelude.{◌≡◌, ℕ, Bool, true, List, [], ◌∷◌, length, slice_get, Option, Some, None}
-use Rattle.abs_tree.specs.Bodies.{ClassEntryTree}
-use Rattle.abs_tree.specs.Control.{Point}
-use Rattle.abs_tree.specs.Instructions.{Skips, Suspends, Awaits, Chooses, Prints, Clears, Stores, Makes, Sends, CallsOwn, Gets, effect_of}
-use Rattle.abs_tree.specs.Operations.{truth_of}
-use Rattle.abs_tree.specs.Results.{Gives, Fails}
+use Rattle.abs_program.specs.Bodies.{ClassEntryTree}
+use Rattle.abs_program.specs.Control.{Point}
+use Rattle.abs_program.specs.Instructions.{Skips, Suspends, Awaits, Chooses, Prints, Clears, Stores, Makes, Sends, CallsOwn, Gets, effect_of}
+use Rattle.abs_values.specs.Operations.{truth_of}
+use Rattle.abs_values.specs.Results.{Gives, Fails}
 use Rattle.abs_tree.specs.Syntax.{Name, VariableTree, ProgramTree}
-use Rattle.abs_tree.specs.ValueTrees.{ValueTree, StringValue, ObjectValue, FutureValue, NullValue}
-use Rattle.abs_tree.specs.declared.evaluated.Fault.{Fault}
+use Rattle.abs_values.specs.ValueTrees.{ValueTree, StringValue, ObjectValue, FutureValue, NullValue}
+use Rattle.abs_values.specs.declared.evaluated.Fault.{Fault}
 use Rattle.abs_tree.specs.declared.syntax.statement.Mode.{Mode}
 use Rattle.config_state.specs.Bodies.{BodyAt, entry_of_body, class_taking}
 use Rattle.config_state.specs.Configurations.{ObjectState, FrameState, TaskState, Configuration, object_at, fields_of}

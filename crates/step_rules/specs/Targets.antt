@@ -6,7 +6,7 @@
 --   `put`, `advanced`          a value goes to a target of a frame, and no value goes anywhere
 use Rattle.std.specs.Prelude.{ℕ, List, ◌∷◌, set, Option, Some, None}
 use Rattle.abs_tree.specs.Syntax.{VariableTree, AtSlot, AtField, AtBound, Unresolved}
-use Rattle.abs_tree.specs.ValueTrees.{ValueTree, NullValue}
+use Rattle.abs_values.specs.ValueTrees.{ValueTree, NullValue}
 use Rattle.config_state.specs.Configurations.{FrameState}
 use Rattle.config_state.specs.declared.frame.Target.{Target}
 use Rattle.config_state.specs.declared.frame.Target.TheVariants.{Nothing, Local, Field}

@@ -5,12 +5,12 @@
 --   `get_row`, `await_row`         get, await passed and await released
 --   `suspend_row`                  suspend
 use Rattle.std.specs.Prelude.{ℕ, List, [], ◌∷◌, slice_get, Option, Some, None, option_and_then}
-use Rattle.abs_tree.specs.Instructions.{EffectTree, Awaits, effect_of}
-use Rattle.abs_tree.specs.Results.{Result, Gives, Fails}
+use Rattle.abs_program.specs.Instructions.{EffectTree, Awaits, effect_of}
+use Rattle.abs_values.specs.Results.{Result, Gives, Fails}
 use Rattle.abs_tree.specs.Syntax.{VariableTree, ProgramTree}
-use Rattle.abs_tree.specs.ValueTrees.{ValueTree, NullValue, FutureValue}
-use Rattle.abs_tree.specs.declared.evaluated.Fault.{Fault}
-use Rattle.abs_tree.specs.declared.evaluated.Fault.TheVariants as fault
+use Rattle.abs_values.specs.ValueTrees.{ValueTree, NullValue, FutureValue}
+use Rattle.abs_values.specs.declared.evaluated.Fault.{Fault}
+use Rattle.abs_values.specs.declared.evaluated.Fault.TheVariants as fault
 use Rattle.config_state.specs.Configurations.{FrameState, TaskState, Configuration}
 use Rattle.config_state.specs.OfProgram.{next_point}
 use Rattle.config_state.specs.declared.cog.Cog.{Cog}

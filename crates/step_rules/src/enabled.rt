@@ -1,11 +1,11 @@
 //! Whether a task has an event. It takes no memory, and constant time but for the futures of a guard.
 ghost use Rattle.std.specs.Prelude.{◌≡◌, ◌≢◌, ◌<◌, All, List, MatchBool, Some, length, slice_get, is_some};
 ghost use Rattle.std.specs.Option.{option_map};
-ghost use Rattle.abs_tree.specs.InstructionViews.{effect_tree};
-ghost use Rattle.abs_tree.specs.Instructions.{effect_of};
-ghost use Rattle.abs_tree.specs.SourceViews.{program_tree};
+ghost use Rattle.abs_program.specs.InstructionViews.{effect_tree};
+ghost use Rattle.abs_program.specs.Instructions.{effect_of};
+ghost use Rattle.abs_program.specs.NamedViews.{program_tree};
 ghost use Rattle.abs_tree.specs.Syntax.{Name};
-ghost use Rattle.abs_tree.specs.ValueViews.{value_tree};
+ghost use Rattle.abs_values.specs.ValueViews.{value_tree};
 ghost use Rattle.config_state.specs.ConfigViews.{configuration};
 ghost use Rattle.config_state.specs.Configurations.{IsUnfinished};
 ghost use Rattle.config_state.specs.OfProgram.{next_point, IsConfigOf};
@@ -15,7 +15,8 @@ ghost use Rattle.step_rules.specs.Events.{event_of};
 ghost use Rattle.step_rules.specs.Lookups.{named_value};
 ghost use Rattle.step_rules.specs.WaitRows.{Unresolved, guard_by_value};
 
-use abs_tree::{Effect, Named, Value, Values};
+use abs_program::{Effect, Named};
+use abs_values::{Value, Values};
 use config_state::{Config, Frame, State, TaskCell};
 
 /// Whether a task has an event in a configuration of the program.

@@ -1,7 +1,7 @@
 //! The events in code. An event is the change that a task makes with the output of its input.
 ghost use Rattle.std.specs.Prelude.{◌≡◌, ◌<◌, ◌++◌, List, length, Some, IsSome, IfOk, OnOk, OnErr};
-ghost use Rattle.abs_tree.specs.Results.{results_tree};
-ghost use Rattle.abs_tree.specs.SourceViews.{program_tree};
+ghost use Rattle.abs_values.specs.Results.{results_tree};
+ghost use Rattle.abs_program.specs.NamedViews.{program_tree};
 ghost use Rattle.config_state.specs.ConfigViews.{configuration};
 ghost use Rattle.config_state.specs.OfProgram.{IsConfigOf};
 ghost use Rattle.step_rules.specs.Changes.{Change};
@@ -13,7 +13,8 @@ use crate::Did;
 use crate::install::install;
 use crate::planning::plan_of;
 use crate::reading::output;
-use abs_tree::{Named, Output};
+use abs_program::Named;
+use abs_values::Output;
 use config_state::{Config, Lines};
 use std::alloc::{AllocError, Global};
 

@@ -2,13 +2,13 @@
 ghost use Rattle.std.specs.Prelude.{◌≡◌, List};
 ghost use Rattle.std.specs.Option.{option_map};
 ghost use Rattle.abs_tree.specs.Syntax.{Name};
-ghost use Rattle.abs_tree.specs.ValueViews.{value_tree};
+ghost use Rattle.abs_values.specs.ValueViews.{value_tree};
 ghost use Rattle.config_state.specs.ConfigViews.{configuration};
 ghost use Rattle.step_rules.specs.Lookups.{named_value as value_named};
 ghost use Rattle.step_rules.specs.Plans.{guard_tree};
 ghost use Rattle.step_rules.specs.WaitRows.{guard_by_value, guard_of};
 
-use abs_tree::{Fault, Value, Values};
+use abs_values::{Fault, Value, Values};
 use config_state::Config;
 
 /// The value in the slot that a statement names, if it names one.

@@ -1,14 +1,16 @@
 //! What tasks evaluate for their events.
 ghost use Rattle.std.specs.Prelude.{◌≡◌, ◌↔◌, List, map, IsTrue};
 ghost use Rattle.std.specs.Cmp.Lexicographic.{pointwise};
-ghost use Rattle.abs_tree.specs.InstructionViews.{exprs_tree, shared_phrases};
+ghost use Rattle.abs_program.specs.InstructionViews.{exprs_tree, shared_phrases};
 ghost use Rattle.abs_tree.specs.Syntax.{Name};
-ghost use Rattle.abs_tree.specs.ValueTrees.{same_value};
-ghost use Rattle.abs_tree.specs.ValueViews.{value_tree};
+ghost use Rattle.abs_values.specs.ValueTrees.{same_value};
+ghost use Rattle.abs_values.specs.ValueViews.{value_tree};
 ghost use Rattle.fun_eval.specs.Reading.{env_scope};
 ghost use Rattle.step_rules.specs.InputViews.{IsSameInput, initials_tree};
 
-use abs_tree::{Env, Expr, Exprs, Value, value_equal};
+use abs_program::Exprs;
+use abs_tree::Expr;
+use abs_values::{Env, Value, value_equal};
 use std::sync::Arc;
 
 /// The initial values of the fields of a class. A copy shares them.

@@ -1,7 +1,7 @@
 //! Laws of the table of events, which hold whatever the code does.
 ghost use Rattle.std.specs.Prelude.{◌≡◌, ◌≢◌, ◌↔◌, ℕ, slice_get, Some, None, IsSome};
 ghost use Rattle.abs_tree.specs.Syntax.{ProgramTree};
-ghost use Rattle.abs_tree.specs.Whole.{IsWhole};
+ghost use Rattle.abs_program.specs.Whole.{IsWhole};
 ghost use Rattle.config_state.specs.Configurations.{ObjectState, TaskState, Configuration};
 ghost use Rattle.config_state.specs.declared.cog.Cog.{Cog};
 ghost use Rattle.config_state.specs.declared.task.State.TheVariants.{Ready, Running, Awaiting};

@@ -1,13 +1,13 @@
 //! What the plans of events look up, and the frames and tasks that they make.
 ghost use Rattle.std.specs.Prelude.{◌≡◌, List, Some, IfOk};
 ghost use Rattle.std.specs.Option.{option_map};
-ghost use Rattle.abs_tree.specs.InstructionViews.{goes_tree, class_entry_tree};
+ghost use Rattle.abs_program.specs.InstructionViews.{goes_tree, class_entry_tree};
 ghost use Rattle.abs_tree.specs.Names.{name_of};
-ghost use Rattle.abs_tree.specs.Operations.{truth_of as truth_in};
-ghost use Rattle.abs_tree.specs.SourceViews.{program_tree};
+ghost use Rattle.abs_values.specs.Operations.{truth_of as truth_in};
+ghost use Rattle.abs_program.specs.NamedViews.{program_tree};
 ghost use Rattle.abs_tree.specs.Syntax.{Name};
 ghost use Rattle.abs_tree.specs.SyntaxViews.{variable_tree};
-ghost use Rattle.abs_tree.specs.ValueViews.{value_tree};
+ghost use Rattle.abs_values.specs.ValueViews.{value_tree};
 ghost use Rattle.config_state.specs.Bodies.{BodyAt, class_taking as class_found, entry_of_body, method_at};
 ghost use Rattle.config_state.specs.ConfigViews.{configuration};
 ghost use Rattle.config_state.specs.Configurations.{object_at};
@@ -18,9 +18,9 @@ ghost use Rattle.step_rules.specs.NewEntries.{task_for as task_at_start};
 ghost use Rattle.step_rules.specs.Plans.{only as only_of};
 ghost use Rattle.step_rules.specs.Targets.{target_of as target_in};
 
-use abs_tree::{
-    BodyEntry, ClassEntry, Named, Successor, Symbol, Value, Values, Variable, answer_of,
-};
+use abs_program::{BodyEntry, ClassEntry, Named, Successor};
+use abs_tree::{Symbol, Variable};
+use abs_values::{Value, Values, answer_of};
 use config_state::{Config, Frame, Frames, ObjectCell, State, Target, TaskCell};
 use std::alloc::{AllocError, Global};
 

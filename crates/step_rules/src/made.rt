@@ -1,10 +1,10 @@
 //! The plans of the rows that make objects and tasks.
 ghost use Rattle.std.specs.Prelude.{◌≡◌, true, List, Some, slice_get, IfOk, OnErr};
 ghost use Rattle.std.specs.Option.{option_map};
-ghost use Rattle.abs_tree.specs.Control.{Point};
-ghost use Rattle.abs_tree.specs.InstructionViews.{class_entry_tree};
+ghost use Rattle.abs_program.specs.Control.{Point};
+ghost use Rattle.abs_program.specs.InstructionViews.{class_entry_tree};
 ghost use Rattle.abs_tree.specs.Names.{name_of};
-ghost use Rattle.abs_tree.specs.SourceViews.{program_tree};
+ghost use Rattle.abs_program.specs.NamedViews.{program_tree};
 ghost use Rattle.abs_tree.specs.Syntax.{Name};
 ghost use Rattle.abs_tree.specs.SyntaxViews.{variable_tree};
 ghost use Rattle.config_state.specs.Bodies.{class_taking as class_found};
@@ -20,7 +20,9 @@ use crate::Did;
 use crate::lookups::{callable, class_taking, method, object_of, successor, target_of, task_for};
 use crate::mover::Mover;
 use crate::plan::{Plan, Turn};
-use abs_tree::{ClassEntry, Fault, Mode, Named, Symbol, Value, Values, Variable};
+use abs_program::{ClassEntry, Named};
+use abs_tree::{Mode, Symbol, Variable};
+use abs_values::{Fault, Value, Values};
 use config_state::{Cog, Config, ObjectCell, TaskCell};
 use std::alloc::{AllocError, Global};
 

@@ -1,5 +1,5 @@
 //! The task that moves, where it is.
-use abs_tree::{Instruction, Named};
+use abs_program::{Instruction, Named};
 use config_state::{Config, Frame, TaskCell};
 
 /// A task that runs, with its innermost frame and its next statement.

@@ -1,6 +1,6 @@
 //! What an event is going to change. A plan is made from the configuration as it is, and then put in place.
 ghost use Rattle.std.specs.Prelude.{◌≡◌, List, None, Some};
-ghost use Rattle.abs_tree.specs.Results.{Fails};
+ghost use Rattle.abs_values.specs.Results.{Fails};
 ghost use Rattle.abs_tree.specs.Syntax.{Name};
 ghost use Rattle.config_state.specs.Configurations.{Configuration};
 ghost use Rattle.step_rules.specs.Changes.{ended_change};
@@ -8,7 +8,8 @@ ghost use Rattle.step_rules.specs.Lookups.{Runner};
 ghost use Rattle.step_rules.specs.Plans.{planned};
 
 use crate::Did;
-use abs_tree::{Evaluated, Fault, Text, Value};
+use abs_tree::Text;
+use abs_values::{Evaluated, Fault, Value};
 use config_state::{Cog, Frame, ObjectCell, Target, TaskCell};
 
 /// What becomes of the task that moves.

@@ -1,11 +1,11 @@
 //! The plan of the event of a task, with the output of its input.
 ghost use Rattle.std.specs.Prelude.{◌≡◌, ◌<◌, ◌∷◌, true, length, Some, None, option_and_then, IfOk, OnErr};
 ghost use Rattle.std.specs.Option.{option_map};
-ghost use Rattle.abs_tree.specs.Control.{Point};
-ghost use Rattle.abs_tree.specs.InstructionViews.{instruction_tree};
-ghost use Rattle.abs_tree.specs.Instructions.{effect_of, instruction_of};
-ghost use Rattle.abs_tree.specs.Results.{results_tree};
-ghost use Rattle.abs_tree.specs.SourceViews.{program_tree};
+ghost use Rattle.abs_program.specs.Control.{Point};
+ghost use Rattle.abs_program.specs.InstructionViews.{instruction_tree};
+ghost use Rattle.abs_program.specs.Instructions.{effect_of, instruction_of};
+ghost use Rattle.abs_values.specs.Results.{results_tree};
+ghost use Rattle.abs_program.specs.NamedViews.{program_tree};
 ghost use Rattle.config_state.specs.ConfigViews.{configuration};
 ghost use Rattle.config_state.specs.OfProgram.{next_point};
 ghost use Rattle.config_state.specs.Views.{frame_state, task_state};
@@ -24,7 +24,8 @@ use crate::mover::Mover;
 use crate::plan::{Plan, Turn};
 use crate::rows::{advance, choose, enter, give, print, store};
 use crate::waits::{get, take, wait, wake};
-use abs_tree::{Effect, Fault, Named, Output, Value, Values};
+use abs_program::{Effect, Named};
+use abs_values::{Fault, Output, Value, Values};
 use config_state::{Config, Frame, State, TaskCell};
 use std::alloc::{AllocError, Global};
 

@@ -2,10 +2,10 @@
 //! of its next statement.
 ghost use Rattle.std.specs.Prelude.{◌≡◌, ◌<◌, List, length, Some, IsSome, IfOk};
 ghost use Rattle.std.specs.Option.{option_map};
-ghost use Rattle.abs_tree.specs.InstructionViews.{class_entry_tree, exprs_tree, instruction_tree, shared_phrases};
-ghost use Rattle.abs_tree.specs.Instructions.{instruction_of};
-ghost use Rattle.abs_tree.specs.Results.{results_tree};
-ghost use Rattle.abs_tree.specs.SourceViews.{program_tree};
+ghost use Rattle.abs_program.specs.InstructionViews.{class_entry_tree, exprs_tree, instruction_tree, shared_phrases};
+ghost use Rattle.abs_program.specs.Instructions.{instruction_of};
+ghost use Rattle.abs_values.specs.Results.{results_tree};
+ghost use Rattle.abs_program.specs.NamedViews.{program_tree};
 ghost use Rattle.abs_tree.specs.Syntax.{Name};
 ghost use Rattle.abs_tree.specs.SyntaxViews.{phrases};
 ghost use Rattle.config_state.specs.ConfigViews.{configuration};
@@ -19,7 +19,9 @@ ghost use Rattle.step_rules.specs.Inputs.{Input as InputTree, initials_of, input
 use crate::enabled::innermost;
 use crate::inputs::{Initials, Input};
 use crate::lookups::{class_taking, object_of};
-use abs_tree::{ClassEntry, Effect, Env, Expr, Exprs, Instruction, Named, Output, Value, Values};
+use abs_program::{ClassEntry, Effect, Exprs, Instruction, Named};
+use abs_tree::Expr;
+use abs_values::{Env, Output, Value, Values};
 use config_state::{Config, Frame, State};
 use fun_eval::{Scope, eval_all_in};
 use std::alloc::{AllocError, Global};

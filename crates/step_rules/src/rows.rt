@@ -2,14 +2,14 @@
 //! which frames end.
 ghost use Rattle.std.specs.Prelude.{◌≡◌, suc, true, List, [], length, Some, option_and_then, IfOk, OnErr};
 ghost use Rattle.std.specs.Option.{option_map};
-ghost use Rattle.abs_tree.specs.Control.{Point};
-ghost use Rattle.abs_tree.specs.InstructionViews.{goes_tree};
+ghost use Rattle.abs_program.specs.Control.{Point};
+ghost use Rattle.abs_program.specs.InstructionViews.{goes_tree};
 ghost use Rattle.abs_tree.specs.Names.{name_of};
 ghost use Rattle.abs_tree.specs.Syntax.{Name};
 ghost use Rattle.abs_tree.specs.SyntaxViews.{variable_tree};
-ghost use Rattle.abs_tree.specs.ValueTrees.{NullValue};
-ghost use Rattle.abs_tree.specs.ValueViews.{value_tree};
-ghost use Rattle.abs_tree.specs.declared.value.Value.TheVariants.{Null};
+ghost use Rattle.abs_values.specs.ValueTrees.{NullValue};
+ghost use Rattle.abs_values.specs.ValueViews.{value_tree};
+ghost use Rattle.abs_values.specs.declared.value.Value.TheVariants.{Null};
 ghost use Rattle.config_state.specs.Bodies.{entry_of_body};
 ghost use Rattle.config_state.specs.Configurations.{Configuration, object_at, fields_of};
 ghost use Rattle.config_state.specs.declared.frame.Target.TheVariants.{Nothing};
@@ -25,7 +25,9 @@ use crate::Did;
 use crate::lookups::{callable, frame_for, object_of, successor, target_of, truth_of};
 use crate::mover::Mover;
 use crate::plan::{Plan, Turn};
-use abs_tree::{BodyEntry, Evaluated, Fault, Named, Successor, Symbol, Value, Values, Variable};
+use abs_program::{BodyEntry, Named, Successor};
+use abs_tree::{Symbol, Variable};
+use abs_values::{Evaluated, Fault, Value, Values};
 use config_state::Target;
 use std::alloc::AllocError;
 

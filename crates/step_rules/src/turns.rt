@@ -2,7 +2,7 @@
 //! value goes.
 ghost use Rattle.std.specs.Prelude.{◌≡◌, ℕ, List, Option, ◌∷◌, map, set, OnOk, OnErr};
 ghost use Rattle.abs_tree.specs.Syntax.{Name};
-ghost use Rattle.abs_tree.specs.ValueViews.{value_tree};
+ghost use Rattle.abs_values.specs.ValueViews.{value_tree};
 ghost use Rattle.config_state.specs.Configurations.{FrameState};
 ghost use Rattle.config_state.specs.Views.{frame_state, object_state, task_state};
 ghost use Rattle.config_state.specs.declared.frame.Frame.{Frame};
@@ -14,7 +14,7 @@ ghost use Rattle.step_rules.specs.declared.plan.Turn.TheVariants.{Enters};
 
 use crate::plan::Turn;
 use crate::room::reserve_one;
-use abs_tree::{Value, Values};
+use abs_values::{Value, Values};
 use config_state::{Frame, Frames, ObjectCell, State, Target, TaskCell};
 use std::alloc::{AllocError, Global};
 

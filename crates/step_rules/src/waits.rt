@@ -1,8 +1,8 @@
 //! The plans of the rows by which tasks wait, and go on after it.
 ghost use Rattle.std.specs.Prelude.{◌≡◌, ◌∷◌, true, ℕ, List, Some, slice_get, option_and_then, IfOk, OnErr};
 ghost use Rattle.std.specs.Option.{option_map};
-ghost use Rattle.abs_tree.specs.Control.{Point};
-ghost use Rattle.abs_tree.specs.SourceViews.{program_tree};
+ghost use Rattle.abs_program.specs.Control.{Point};
+ghost use Rattle.abs_program.specs.NamedViews.{program_tree};
 ghost use Rattle.abs_tree.specs.Syntax.{Name};
 ghost use Rattle.abs_tree.specs.SyntaxViews.{variable_tree};
 ghost use Rattle.config_state.specs.ConfigViews.{configuration};
@@ -20,7 +20,9 @@ use crate::lookups::{successor, target_of};
 use crate::mover::Mover;
 use crate::plan::{Plan, Turn};
 use crate::rows::{advance, store};
-use abs_tree::{Effect, Evaluated, Fault, Named, Value, Values, Variable};
+use abs_program::{Effect, Named};
+use abs_tree::Variable;
+use abs_values::{Evaluated, Fault, Value, Values};
 use config_state::{Config, Frame, TaskCell};
 use std::alloc::AllocError;
 

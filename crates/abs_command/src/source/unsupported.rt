@@ -2,12 +2,13 @@
 ghost use Rattle.std.specs.Prelude.{◌≡◌, List, fold, map};
 ghost use Rattle.std.specs.List.{flat_map};
 ghost use Rattle.abs_tree.specs.Offences.{earlier, first_offence};
-ghost use Rattle.abs_tree.specs.SourceViews.{named_tree};
+ghost use Rattle.abs_program.specs.NamedViews.{named_tree};
 ghost use Rattle.abs_tree.specs.Syntax.{Name};
 ghost use Rattle.abs_tree.specs.SyntaxViews.{decl_tree, maybe_side, maybe_statements, member_tree, side_tree, statement as statement_tree, statements as statement_trees};
 ghost use Rattle.abs_command.specs.Unsupported.{decl_gets, else_gets, get_offences, initial_gets, member_gets, side_gets, statement_gets, statements_gets};
 
-use abs_tree::{Code, Decl, Member, Named, Offence, RightSide, Stmt};
+use abs_program::Named;
+use abs_tree::{Code, Decl, Member, Offence, RightSide, Stmt};
 
 /// The offence of the first statement of a source that gets a future, or `None` if no statement does.
 pub fn unsupported(program: &Named<'_>) -> Option<Offence>

@@ -1,14 +1,15 @@
 //! The output for a report, and for a run.
 ghost use Rattle.std.specs.Prelude.{◌≡◌, ◌++◌, ℕ, List, length, map, IfOk, OnOk, codes, string_bytes};
 ghost use Rattle.std.specs.Option.{option_map};
-ghost use Rattle.abs_tree.specs.Results.{result_tree};
+ghost use Rattle.abs_values.specs.Results.{result_tree};
 ghost use Rattle.abs_tree.specs.Syntax.{Name};
 ghost use Rattle.config_state.specs.ConfigViews.{configuration};
 ghost use Rattle.config_state.specs.Views.{task_state};
 ghost use Rattle.abs_command.specs.Texts.{report_lines, lines_text, end_line, fault_line as line_of, fault_lines, end_text as text_of, unfinished_of};
 
 use crate::analysis::report::Report;
-use abs_tree::{Evaluated, Text};
+use abs_tree::Text;
+use abs_values::Evaluated;
 use config_state::{Config, Lines, TaskCell};
 use std::alloc::{AllocError, Global};
 use step_rules::End;

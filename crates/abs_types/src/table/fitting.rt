@@ -1,7 +1,7 @@
 //! Whether a type of a table fits another one.
 ghost use Rattle.std.specs.Prelude.{◌≡◌, ◌≢◌, false, List};
 ghost use Rattle.abs_tree.specs.Names.{name_of};
-ghost use Rattle.abs_tree.specs.SourceViews.{named_tree};
+ghost use Rattle.abs_program.specs.NamedViews.{named_tree};
 ghost use Rattle.abs_tree.specs.Syntax.{Name};
 ghost use Rattle.abs_types.specs.PlainTypes.{PlainType, PlainClass, PlainInterface, PlainNull};
 ghost use Rattle.abs_types.specs.Subtyping.{fits, takes_null as takes_null_of};
@@ -13,7 +13,8 @@ use crate::subtyping::{extends, implements};
 use crate::table::parts::Parts;
 use crate::table::shape::TypePair;
 use crate::table::{Shape, TypeIndex, TypeTable};
-use abs_tree::{Named, Symbol};
+use abs_program::Named;
+use abs_tree::Symbol;
 
 impl TypeTable<'_> {
     /// Whether a type fits another one.

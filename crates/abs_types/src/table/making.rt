@@ -8,7 +8,8 @@ ghost use Rattle.abs_types.specs.TypeShapes.{shape_type, type_at, HasOwnNames, H
 ghost use Rattle.abs_types.specs.TypeTables.{types_in, Keeps, StandsFor};
 
 use crate::table::{Shape, TypeIndex, TypeTable};
-use abs_tree::{Named, Symbol};
+use abs_program::Named;
+use abs_tree::Symbol;
 use indexmap::IndexMap;
 use std::alloc::{AllocError, Global};
 

@@ -1,7 +1,7 @@
 use Rattle.std.proofs.Common.{◌≡◌, ◌≤◌, ◌∙◌, ◌++◌, refl, ap, sym, subst, ℕ, List, length, arith}
 use Rattle.std.specs.Io.KnownBytes.{Appends}
 use Rattle.std.specs.Prelude.{Some, None}
-use Rattle.abs_tree.specs.SourceViews.{program_tree}
+use Rattle.abs_program.specs.NamedViews.{program_tree}
 use Rattle.abs_tree.specs.Limits.{event_limit}
 use Rattle.abs_command.specs.Promises.Answer.{prefix}
 use Rattle.abs_command.specs.Promises.CameTo.{reported, ran}

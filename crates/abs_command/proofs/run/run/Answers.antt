@@ -1,6 +1,6 @@
 use Rattle.std.proofs.Common.{◌∷◌, [], arith, refl, sym, ap, ◌∙◌, subst, length}
 use Rattle.std.proofs.lemmas.List.{length-append}
-use Rattle.abs_tree.specs.SourceViews.{program_tree}
+use Rattle.abs_program.specs.NamedViews.{program_tree}
 use Rattle.config_state.specs.ConfigViews.{configuration}
 use Rattle.run_history.proofs.ReplayLemmas.{run_of_none}
 use Rattle.run_history.proofs.RunLemmas.{last_there, there_in_code}

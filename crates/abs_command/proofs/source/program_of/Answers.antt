@@ -3,9 +3,10 @@ use Rattle.std.proofs.lemmas.Result.{err_from_is_err_and}
 use Rattle.std.specs.Option.{option_or}
 use Rattle.abs_tree.proofs.OffenceLemmas.{no_offence}
 use Rattle.abs_tree.specs.Offences.{first_offence}
-use Rattle.abs_tree.specs.declared.named.Named.{Named}
+use Rattle.abs_program.specs.declared.named.Named.{Named}
 use Rattle.abs_tree.specs.SourceErrors.{HasCause}
-use Rattle.abs_tree.specs.SourceViews.{named_tree, source_tree}
+use Rattle.abs_program.specs.NamedViews.{named_tree}
+use Rattle.abs_tree.specs.SourceViews.{source_tree}
 use Rattle.abs_tree.specs.Syntax.{SourceTree}
 use Rattle.abs_names.specs.Answers.{RefusesFirst}
 use Rattle.abs_names.specs.Resolution.{resolved}

@@ -1,6 +1,6 @@
 use Rattle.std.proofs.Common.{◌≡◌, ◌∙◌, ◌++◌, List, refl, ap, fold, map, take}
 use Rattle.std.specs.Prelude.{None}
-use Rattle.abs_tree.specs.NameSpaces.{built_in}
+use Rattle.abs_program.specs.NameSpaces.{built_in}
 use Rattle.abs_tree.specs.Offences.{earlier}
 use Rattle.abs_tree.specs.Syntax.{DeclTree}
 use Rattle.abs_tree.specs.SyntaxViews.{decl_tree}

@@ -3,14 +3,14 @@ use Rattle.std.proofs.lemmas.Grind.{merely}
 use Rattle.std.specs.Prelude.{All}
 use Rattle.abs_graph.specs.Graphs.{on_cycles}
 use Rattle.abs_tree.specs.Limits.{table_limit}
-use Rattle.abs_tree.specs.NameSpaces.{spaces_of}
+use Rattle.abs_program.specs.NameSpaces.{spaces_of}
 use Rattle.abs_tree.specs.Offences.{first_offence}
 use Rattle.abs_tree.specs.SourceViews.{source_tree}
-use Rattle.abs_tree.specs.Supertypes.{supertypes}
+use Rattle.abs_program.specs.Supertypes.{supertypes}
 use Rattle.abs_tree.specs.Syntax.{Name, DeclTree, SourceTree}
 use Rattle.abs_tree.specs.SyntaxSizes.{all_statements, body_sizes, class_sizes}
 use Rattle.abs_tree.specs.SyntaxViews.{decl_tree, tree_of_parts}
-use Rattle.abs_tree.specs.Whole.{IsWhole}
+use Rattle.abs_program.specs.Whole.{IsWhole}
 use Rattle.abs_tree.proofs.OffenceLemmas.{no_offence}
 use Rattle.abs_names.specs.NameOffences.{name_offences}
 use Rattle.abs_names.specs.Prelude.{prelude}

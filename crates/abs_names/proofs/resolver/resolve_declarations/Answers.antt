@@ -1,10 +1,10 @@
 use Rattle.std.proofs.Common.{◌≡◌, ◌∙◌, ◌++◌, List, [], refl, sym, ap, subst, fold, map, take}
 use Rattle.std.specs.Prelude.{All, None}
 use Rattle.abs_graph.specs.Graphs.{on_cycles}
-use Rattle.abs_tree.specs.NameSpaces.{NameSpaces, spaces_of}
+use Rattle.abs_program.specs.NameSpaces.{NameSpaces, spaces_of}
 use Rattle.abs_tree.specs.Offences.{earlier, first_offence}
-use Rattle.abs_tree.specs.SlotViews.{DeclHasSlots}
-use Rattle.abs_tree.specs.Supertypes.{supertypes}
+use Rattle.abs_program.specs.SlotViews.{DeclHasSlots}
+use Rattle.abs_program.specs.Supertypes.{supertypes}
 use Rattle.abs_tree.specs.Syntax.{Name, DeclTree}
 use Rattle.abs_tree.specs.SyntaxViews.{decl_tree}
 use Rattle.abs_names.specs.Extension.{extension_offences}

@@ -1,8 +1,8 @@
 use Rattle.std.proofs.Common.{◌≡◌, ◌∙◌, ◌++◌, ℕ, List, [], refl, ap, subst, length, fold, map, take}
 use Rattle.std.specs.Prelude.{Option, None}
-use Rattle.abs_tree.specs.NameSpaces.{spaces_of}
+use Rattle.abs_program.specs.NameSpaces.{spaces_of}
 use Rattle.abs_tree.specs.Offences.{earlier}
-use Rattle.abs_tree.specs.Slots.{statements_slots, body_slots}
+use Rattle.abs_program.specs.Slots.{statements_slots, body_slots}
 use Rattle.abs_tree.specs.Syntax.{Name, DeclTree, SourceTree, Statements}
 use Rattle.abs_tree.specs.SyntaxViews.{decl_tree, statements}
 use Rattle.abs_tree.specs.declared.place.Place.{Place}
@@ -14,7 +14,7 @@ use Rattle.abs_names.specs.Resolution.{resolved_declarations, resolved_statement
 use Rattle.abs_names.specs.Scopes.{Meanings, Scope, body_scope}
 use Rattle.abs_names.specs.TypeNames.{Around, around_of}
 use Rattle.abs_names.specs.Visible.{Names, Visible}
-use Rattle.abs_tree.specs.KeptSpaces.{spaces_by_name, AreProper}
+use Rattle.abs_program.specs.KeptSpaces.{spaces_by_name, AreProper}
 use Rattle.abs_names.specs.declared.scope.Routine.TheVariants.{Main}
 use Rattle.abs_names.proofs.FormLemmas.{both_noted}
 use Rattle.abs_names.proofs.BothLemmas.{in_main}

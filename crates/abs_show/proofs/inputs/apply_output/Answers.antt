@@ -1,4 +1,4 @@
-use Rattle.abs_tree.specs.SourceViews.{program_tree}
+use Rattle.abs_program.specs.NamedViews.{program_tree}
 use Rattle.abs_show.proofs.StepLemmas.{moved_in_code}
 use Rattle.abs_show.proofs.inputs.apply_output.Goals as goal
 

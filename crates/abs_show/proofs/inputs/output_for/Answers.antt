@@ -1,8 +1,8 @@
 use Rattle.std.proofs.Common.{◌∙◌, map, sym, ap}
 use Rattle.std.proofs.lemmas.Result.{IfOk-weaker}
-use Rattle.abs_tree.specs.Results.{AllGive, result_tree}
-use Rattle.abs_tree.specs.SourceViews.{program_tree}
-use Rattle.abs_tree.specs.ValueViews.{value_tree}
+use Rattle.abs_values.specs.Results.{AllGive, result_tree}
+use Rattle.abs_program.specs.NamedViews.{program_tree}
+use Rattle.abs_values.specs.ValueViews.{value_tree}
 use Rattle.step_rules.specs.InputViews.{input_tree}
 use Rattle.abs_show.proofs.OutputLemmas.{only, output_of_one, output_of_rows}
 use Rattle.abs_show.proofs.inputs.output_for.Goals as goal

@@ -1,4 +1,4 @@
-use Rattle.abs_tree.specs.SourceViews.{program_tree}
+use Rattle.abs_program.specs.NamedViews.{program_tree}
 use Rattle.config_state.specs.ConfigViews.{configuration}
 use Rattle.abs_command.proofs.RunLemmas.{IsNext-has_event, IsNext-there}
 use Rattle.abs_show.proofs.steps.step_lines.Goals as goal

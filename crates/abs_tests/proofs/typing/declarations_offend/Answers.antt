@@ -3,7 +3,7 @@ use Rattle.abs_types.specs.Methods.{inherited_signatures}
 use Rattle.abs_types.specs.Subtyping.{fits}
 use Rattle.abs_types.specs.TypeOffences.{class_offences, function_offences, interface_offences, main_offences, type_offences}
 use Rattle.abs_graph.specs.Graphs.{reaches_within}
-use Rattle.abs_tree.specs.Supertypes.{is_below}
+use Rattle.abs_program.specs.Supertypes.{is_below}
 use Rattle.abs_tests.proofs.typing.declarations_offend.Goals as goal
 
 pub returns-clause-met : goal.returns-clause-met

@@ -1,8 +1,8 @@
 use Rattle.std.proofs.Common.{refl}
-use Rattle.abs_tree.specs.Evaluation.{evaluate}
-use Rattle.abs_tree.specs.Operations.{matched}
-use Rattle.abs_tree.specs.Printed.{inner_form}
-use Rattle.abs_tree.specs.ValueTrees.{same_value, value_nodes, value_depth}
+use Rattle.abs_values.specs.Evaluation.{evaluate}
+use Rattle.abs_values.specs.Operations.{matched}
+use Rattle.abs_values.specs.Printed.{inner_form}
+use Rattle.abs_values.specs.ValueTrees.{same_value, value_nodes, value_depth}
 use Rattle.abs_tests.proofs.values.expressions_have_results.Goals as goal
 
 pub returns-clause-sum : goal.returns-clause-sum

@@ -1,5 +1,5 @@
 use Rattle.std.proofs.Common.{refl}
-use Rattle.abs_tree.specs.ValueTrees.{value_nodes, value_depth}
+use Rattle.abs_values.specs.ValueTrees.{value_nodes, value_depth}
 use Rattle.abs_tests.proofs.values.values_have_sizes.Goals as goal
 
 pub returns-clause-number : goal.returns-clause-number

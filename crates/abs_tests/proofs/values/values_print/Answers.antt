@@ -1,6 +1,6 @@
 use Rattle.std.proofs.Common.{refl}
 use Rattle.std.specs.Fmt.{digits}
-use Rattle.abs_tree.specs.Printed.{inner_form}
+use Rattle.abs_values.specs.Printed.{inner_form}
 use Rattle.abs_tests.proofs.values.values_print.Goals as goal
 
 pub returns-clause-text : goal.returns-clause-text

@@ -1,4 +1,4 @@
-use Rattle.abs_tree.specs.SourceViews.{named_tree}
+use Rattle.abs_program.specs.NamedViews.{named_tree}
 use Rattle.abs_tree.specs.SyntaxViews.{type_trees}
 use Rattle.abs_types.proofs.PassedLemmas.{PassedSoFar}
 use Rattle.abs_types.specs.Holds.{any_holds_objects}

@@ -1,5 +1,5 @@
 use Rattle.std.proofs.Common.{sym, refl, arith}
-use Rattle.abs_tree.specs.SourceViews.{named_tree}
+use Rattle.abs_program.specs.NamedViews.{named_tree}
 use Rattle.abs_types.proofs.FittingLemmas.{fitting_init, fitting_step, fitting_stop, fitting_short, fitting_done, all_fit_by_length, none_fit_by_length}
 use Rattle.abs_types.proofs.FormLemmas.{int_apart, string_apart, future_apart}
 use Rattle.abs_types.proofs.SpineLemmas.{data_fits_data}

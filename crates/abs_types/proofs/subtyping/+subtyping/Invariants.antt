@@ -1,4 +1,4 @@
-use Rattle.abs_tree.specs.SourceViews.{named_tree}
+use Rattle.abs_program.specs.NamedViews.{named_tree}
 use Rattle.abs_types.proofs.FittingLemmas.{FittingSoFar}
 use Rattle.abs_types.proofs.subtyping.+subtyping.Given as goal
 

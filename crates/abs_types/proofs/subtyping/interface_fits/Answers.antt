@@ -1,5 +1,5 @@
 use Rattle.abs_tree.specs.Names.{name_of}
-use Rattle.abs_tree.specs.SourceViews.{named_tree}
+use Rattle.abs_program.specs.NamedViews.{named_tree}
 use Rattle.abs_types.proofs.FormLemmas.{interface_apart}
 use Rattle.abs_types.proofs.subtyping.interface_fits.Goals as goal
 

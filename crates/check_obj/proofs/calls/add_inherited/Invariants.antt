@@ -1,5 +1,5 @@
-use Rattle.abs_tree.specs.SourceViews.{named_tree}
-use Rattle.abs_tree.specs.Supertypes.{is_below}
+use Rattle.abs_program.specs.NamedViews.{named_tree}
+use Rattle.abs_program.specs.Supertypes.{is_below}
 use Rattle.check_obj.proofs.PickedLemmas.{AddedSoFar}
 use Rattle.check_obj.proofs.calls.add_inherited.Given as goal
 use Rattle.check_obj.specs.Calls.{trees_of}

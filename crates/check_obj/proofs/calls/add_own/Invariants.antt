@@ -1,5 +1,5 @@
 use Rattle.std.proofs.Common.{ℕ, nat_eq}
-use Rattle.abs_tree.specs.SourceViews.{named_tree}
+use Rattle.abs_program.specs.NamedViews.{named_tree}
 use Rattle.check_obj.proofs.PickedLemmas.{AddedSoFar}
 use Rattle.check_obj.proofs.calls.add_own.Given as goal
 use Rattle.check_obj.specs.Calls.{trees_of}

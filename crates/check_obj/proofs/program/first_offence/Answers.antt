@@ -1,5 +1,5 @@
 use Rattle.std.proofs.Common.{false}
-use Rattle.abs_tree.specs.SourceViews.{named_tree}
+use Rattle.abs_program.specs.NamedViews.{named_tree}
 use Rattle.abs_tree.specs.SyntaxViews.{statements}
 use Rattle.abs_types.proofs.KeepLemmas.{keeps_transitive}
 use Rattle.abs_types.specs.StatementOffences.{statements_offences}

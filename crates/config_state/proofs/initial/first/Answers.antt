@@ -1,5 +1,5 @@
 use Rattle.std.proofs.Common.{sym, subst}
-use Rattle.abs_tree.specs.SourceViews.{program_tree}
+use Rattle.abs_program.specs.NamedViews.{program_tree}
 use Rattle.config_state.proofs.FirstLemmas.{first-well_formed, first-of_program, configuration-is_first}
 use Rattle.config_state.specs.OfProgram.{IsConfigOf}
 use Rattle.config_state.specs.WellFormed.{IsWellFormed}

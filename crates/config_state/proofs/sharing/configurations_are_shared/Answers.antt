@@ -1,6 +1,6 @@
 use denote.Param.Send.{IsSend, IsSync, sendable}
 use Rattle.std.proofs.Crossing.{crosses}
-use Rattle.abs_tree.proofs.value.Parts.TheLaws.TheKnot.{crosses as values_cross}
+use Rattle.abs_values.proofs.value.Parts.TheLaws.TheKnot.{crosses as values_cross}
 use Rattle.config_state.specs.contracts.cog.Cogs
 use Rattle.config_state.specs.contracts.object.Objects
 use Rattle.config_state.specs.contracts.task.Tasks

@@ -1,10 +1,10 @@
 use Rattle.std.proofs.Common.{subst, sym}
-use Rattle.abs_tree.specs.Evaluation.{results_of}
-use Rattle.abs_tree.specs.Scopes.{library_of}
-use Rattle.abs_tree.specs.SourceViews.{program_tree}
-use Rattle.abs_tree.specs.InstructionViews.{shared_phrases}
+use Rattle.abs_values.specs.Evaluation.{results_of}
+use Rattle.abs_values.specs.Scopes.{library_of}
+use Rattle.abs_program.specs.NamedViews.{program_tree}
+use Rattle.abs_program.specs.InstructionViews.{shared_phrases}
 use Rattle.abs_tree.specs.SyntaxViews.{phrases}
-use Rattle.abs_tree.specs.declared.named.Named.{Named}
+use Rattle.abs_program.specs.declared.named.Named.{Named}
 use Rattle.fun_eval.specs.Evaluating.{AreStopped}
 use Rattle.fun_eval.specs.Reading.{scope_tree}
 use Rattle.fun_eval.specs.declared.stop.Stop.TheVariants as stop

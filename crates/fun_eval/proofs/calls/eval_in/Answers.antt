@@ -1,6 +1,6 @@
 use Rattle.std.proofs.Common.{ap, map, subst, sym}
-use Rattle.abs_tree.specs.Evaluation.{Outcome}
-use Rattle.abs_tree.specs.ValueViews.{value_tree}
+use Rattle.abs_values.specs.Evaluation.{Outcome}
+use Rattle.abs_values.specs.ValueViews.{value_tree}
 use Rattle.fun_eval.specs.Evaluating.{IsStopped}
 use Rattle.fun_eval.specs.declared.stop.Stop.TheVariants as stop
 use Rattle.fun_eval.proofs.InitialLemmas.{first_outcome}

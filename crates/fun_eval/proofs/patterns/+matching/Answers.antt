@@ -3,7 +3,7 @@ use Rattle.std.proofs.Common.{FitsSigned, map, refl, rules, false, inl, inr, ⊎
 use Rattle.std.proofs.lemmas.Int.{to_z-of_z}
 use Rattle.std.proofs.lemmas.Result.{IfOk-weaker}
 use Rattle.abs_tree.specs.SyntaxViews.{variable_tree}
-use Rattle.abs_tree.specs.ValueViews.{value_tree}
+use Rattle.abs_values.specs.ValueViews.{value_tree}
 use Rattle.fun_eval.proofs.PatternLemmas.{built_in_memory, matches_any, matches_binds, matches_if, matches_number, matches_string, other_length, so_far_all, so_far_more, so_far_not}
 use Rattle.fun_eval.proofs.StackLemmas.{begins_same, pushed}
 use Rattle.fun_eval.proofs.patterns.+matching.Goals as goal

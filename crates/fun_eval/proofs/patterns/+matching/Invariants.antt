@@ -1,7 +1,7 @@
 use Rattle.std.proofs.Common.{◌+◌, ◌*◌, map}
-use Rattle.abs_tree.specs.Operations.{all_matched}
+use Rattle.abs_values.specs.Operations.{all_matched}
 use Rattle.abs_tree.specs.SyntaxViews.{pattern_trees}
-use Rattle.abs_tree.specs.ValueViews.{value_tree, value_trees}
+use Rattle.abs_values.specs.ValueViews.{value_tree, value_trees}
 use Rattle.fun_eval.proofs.PatternLemmas.{PatternsSoFar}
 use Rattle.fun_eval.proofs.patterns.+matching.Given as goal
 

@@ -1,10 +1,10 @@
 use Rattle.std.proofs.Common.{ap, ◌∙◌, map, refl, subst, List}
-use Rattle.abs_tree.specs.Evaluation.{branches_outcome}
-use Rattle.abs_tree.specs.Operations.{matched}
+use Rattle.abs_values.specs.Evaluation.{branches_outcome}
+use Rattle.abs_values.specs.Operations.{matched}
 use Rattle.abs_tree.specs.Syntax.{Branches}
 use Rattle.abs_tree.specs.SyntaxViews.{pattern_tree, phrase}
-use Rattle.abs_tree.specs.ValueTrees.{ValueTree}
-use Rattle.abs_tree.specs.ValueViews.{value_tree}
+use Rattle.abs_values.specs.ValueTrees.{ValueTree}
+use Rattle.abs_values.specs.ValueViews.{value_tree}
 use Rattle.fun_eval.specs.Matching.{Matches}
 use Rattle.fun_eval.proofs.PatternLemmas.{first_begins, first_matches, none_matches}
 use Rattle.fun_eval.proofs.RowLemmas.{branches_at, branches_end}

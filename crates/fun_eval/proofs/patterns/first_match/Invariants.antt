@@ -1,9 +1,9 @@
 use Rattle.std.proofs.Common.{◌≡◌, ℕ, List, drop, map}
-use Rattle.abs_tree.specs.Evaluation.{Outcome, branches_outcome}
+use Rattle.abs_values.specs.Evaluation.{Outcome, branches_outcome}
 use Rattle.abs_tree.specs.Syntax.{Phrase}
 use Rattle.abs_tree.specs.SyntaxViews.{branches as branch_trees}
-use Rattle.abs_tree.specs.ValueTrees.{ValueTree}
-use Rattle.abs_tree.specs.ValueViews.{value_tree}
+use Rattle.abs_values.specs.ValueTrees.{ValueTree}
+use Rattle.abs_values.specs.ValueViews.{value_tree}
 use Rattle.fun_eval.proofs.patterns.first_match.Given as goal
 
 -- the branches so far do not match, so those that are left give what all give; the variables are as before

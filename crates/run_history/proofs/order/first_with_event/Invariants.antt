@@ -1,4 +1,4 @@
-use Rattle.abs_tree.specs.SourceViews.{program_tree}
+use Rattle.abs_program.specs.NamedViews.{program_tree}
 use Rattle.config_state.specs.ConfigViews.{configuration}
 use Rattle.run_history.specs.Ranges.{HasNoneWithin}
 use Rattle.run_history.proofs.order.first_with_event.Given as goal

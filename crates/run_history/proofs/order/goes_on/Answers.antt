@@ -1,4 +1,4 @@
-use Rattle.abs_tree.specs.SourceViews.{program_tree}
+use Rattle.abs_program.specs.NamedViews.{program_tree}
 use Rattle.run_history.proofs.TurnLemmas.{goes_on_if}
 use Rattle.run_history.proofs.order.goes_on.Goals as goal
 

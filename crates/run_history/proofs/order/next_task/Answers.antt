@@ -1,5 +1,5 @@
 use Rattle.std.proofs.Common.{refl}
-use Rattle.abs_tree.specs.SourceViews.{program_tree}
+use Rattle.abs_program.specs.NamedViews.{program_tree}
 use Rattle.run_history.proofs.TurnLemmas.{first_has_event}
 use Rattle.run_history.proofs.order.next_task.Goals as goal
 use Rattle.run_history.specs.Turns.{Begins}

@@ -1,5 +1,5 @@
 use Rattle.std.proofs.Common.{◌≡◌, None, arith, sym, ◌∙◌, subst}
-use Rattle.abs_tree.specs.SourceViews.{program_tree}
+use Rattle.abs_program.specs.NamedViews.{program_tree}
 use Rattle.config_state.specs.ConfigViews.{configuration}
 use Rattle.run_history.proofs.ReplayLemmas.{run_of_none, replayed_more, no_step, no_task, illegal_at}
 use Rattle.run_history.proofs.replays.replay.Goals as goal

@@ -1,5 +1,5 @@
 use Rattle.std.proofs.Common.{rules, ◌∙◌}
-use Rattle.abs_tree.specs.SourceViews.{program_tree}
+use Rattle.abs_program.specs.NamedViews.{program_tree}
 use Rattle.step_rules.proofs.HasStepLemmas.{ended_step, ready_step, running_step, awaiting_step, held_step}
 use Rattle.step_rules.proofs.enabled.has_step.Goals as goal
 

@@ -1,5 +1,5 @@
 use Rattle.std.proofs.Common.{option_map}
-use Rattle.abs_tree.specs.SourceViews.{program_tree}
+use Rattle.abs_program.specs.NamedViews.{program_tree}
 use Rattle.abs_tree.specs.SyntaxViews.{variable_tree}
 use Rattle.config_state.specs.ConfigViews.{configuration}
 use Rattle.config_state.specs.Views.{frame_state, task_state}

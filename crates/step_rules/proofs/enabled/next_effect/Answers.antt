@@ -1,6 +1,6 @@
 use Rattle.std.proofs.Common.{Some, None}
-use Rattle.abs_tree.specs.InstructionViews.{instruction_tree}
-use Rattle.abs_tree.specs.SourceViews.{program_tree}
+use Rattle.abs_program.specs.InstructionViews.{instruction_tree}
+use Rattle.abs_program.specs.NamedViews.{program_tree}
 use Rattle.config_state.specs.Views.{frame_state}
 use Rattle.step_rules.proofs.BlockedLemmas.{next_effect_found}
 use Rattle.step_rules.proofs.enabled.next_effect.Goals as goal

@@ -2,8 +2,8 @@ use mathlib.Core.Logic.{∥∥₁_map, ∥∥₁_map₂}
 use Rattle.std.proofs.Common.{◌++◌, sym, ap, ◌∙◌, subst}
 use Rattle.std.proofs.lemmas.Option.{same_Some}
 use Rattle.std.proofs.lemmas.Result.{IfOk-weaker, on_ok_weaker, on_err_weaker}
-use Rattle.abs_tree.specs.Results.{results_tree}
-use Rattle.abs_tree.specs.SourceViews.{program_tree}
+use Rattle.abs_values.specs.Results.{results_tree}
+use Rattle.abs_program.specs.NamedViews.{program_tree}
 use Rattle.config_state.specs.ConfigViews.{configuration}
 use Rattle.config_state.specs.OfProgram.{IsConfigOf}
 use Rattle.config_state.specs.declared.config.Config.{Config}

@@ -3,7 +3,7 @@ use Rattle.std.proofs.lemmas.Bool.Decides.{Decides-at}
 use Rattle.std.proofs.lemmas.Grind.{common_steps}
 use Rattle.std.specs.Cmp.Lexicographic.{pointwise}
 use Rattle.std.specs.Option.{option_eq}
-use Rattle.abs_tree.specs.ValueTrees.{same_value}
+use Rattle.abs_values.specs.ValueTrees.{same_value}
 use Rattle.step_rules.proofs.EqualScopeLemmas.{scope_equal-Decides}
 use Rattle.step_rules.proofs.inputs.env_equal.Goals as goal
 

@@ -1,7 +1,7 @@
 use Rattle.std.proofs.Common.{◌≡◌, map, length}
 use Rattle.std.specs.Cmp.Lexicographic.{pointwise}
-use Rattle.abs_tree.specs.ValueTrees.{same_value}
-use Rattle.abs_tree.specs.ValueViews.{value_tree}
+use Rattle.abs_values.specs.ValueTrees.{same_value}
+use Rattle.abs_values.specs.ValueViews.{value_tree}
 use Rattle.step_rules.proofs.inputs.values_equal.Given as goal
 
 -- the values so far are the same, so those that are left tell whether all are; as many are left on both sides

@@ -1,6 +1,6 @@
 use Rattle.std.proofs.Common.{◌≡◌, ◌++◌}
 use Rattle.std.specs.Prelude.{replicate}
-use Rattle.abs_tree.specs.ValueTrees.{NullValue}
+use Rattle.abs_values.specs.ValueTrees.{NullValue}
 use Rattle.step_rules.proofs.lookups.frame_for.Given as goal
 
 -- a null value follows the arguments for each turn that was made

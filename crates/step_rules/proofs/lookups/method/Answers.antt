@@ -1,6 +1,6 @@
 use Rattle.std.proofs.Common.{Some, None, ◌∙◌}
 use Rattle.abs_tree.specs.Names.{name_of}
-use Rattle.abs_tree.specs.SourceViews.{program_tree}
+use Rattle.abs_program.specs.NamedViews.{program_tree}
 use Rattle.step_rules.proofs.LookupLemmas.{found_method}
 use Rattle.step_rules.proofs.lookups.method.Goals as goal
 

@@ -1,8 +1,8 @@
 use Rattle.std.proofs.Common.{refl, ap, ◌∙◌, map}
-use Rattle.abs_tree.specs.InstructionViews.{class_entry_tree}
+use Rattle.abs_program.specs.InstructionViews.{class_entry_tree}
 use Rattle.abs_tree.specs.Names.{name_of}
-use Rattle.abs_tree.specs.SourceViews.{program_tree}
-use Rattle.abs_tree.specs.ValueViews.{value_tree}
+use Rattle.abs_program.specs.NamedViews.{program_tree}
+use Rattle.abs_values.specs.ValueViews.{value_tree}
 use Rattle.config_state.specs.Views.{task_state}
 use Rattle.step_rules.proofs.RunLemmas.{run_is_named, run_without_body, run_starts}
 use Rattle.step_rules.proofs.made.run_task.Goals as goal

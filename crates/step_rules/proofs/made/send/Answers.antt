@@ -1,5 +1,5 @@
 use Rattle.std.proofs.Common.{rules, ◌≡◌, ◌∷◌}
-use Rattle.abs_tree.specs.ValueTrees.{ObjectValue}
+use Rattle.abs_values.specs.ValueTrees.{ObjectValue}
 use Rattle.step_rules.proofs.made.send.Goals as goal
 
 pub returns-in-Object-clause-memory : goal.returns-in-Object-clause-memory

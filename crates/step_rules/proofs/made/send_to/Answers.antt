@@ -1,7 +1,7 @@
 use Rattle.std.proofs.Common.{◌≡◌, true, length, Some, option_map, sym, ap, ◌∙◌}
 use Rattle.std.proofs.lemmas.List.{length-map}
 use Rattle.abs_tree.specs.Names.{name_of}
-use Rattle.abs_tree.specs.SourceViews.{program_tree}
+use Rattle.abs_program.specs.NamedViews.{program_tree}
 use Rattle.abs_tree.specs.SyntaxViews.{variable_tree}
 use Rattle.config_state.specs.Bodies.{entry_of_body}
 use Rattle.config_state.specs.ConfigViews.{configuration}

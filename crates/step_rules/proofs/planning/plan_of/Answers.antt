@@ -2,8 +2,8 @@ use mathlib.Core.Logic.{∥∥₁_elim}
 use Rattle.std.proofs.Common.{rules, drop, refl, sym, ◌∙◌}
 use Rattle.std.proofs.Math.Bool.{Bool-set}
 use Rattle.std.proofs.lemmas.Result.{IfOk-weaker}
-use Rattle.abs_tree.specs.Results.{results_tree}
-use Rattle.abs_tree.specs.SourceViews.{program_tree}
+use Rattle.abs_values.specs.Results.{results_tree}
+use Rattle.abs_program.specs.NamedViews.{program_tree}
 use Rattle.config_state.specs.ConfigViews.{configuration}
 use Rattle.config_state.specs.Views.{frame_state, task_state}
 use Rattle.config_state.specs.declared.task.State.TheVariants.{Ready}

@@ -1,9 +1,9 @@
 use Rattle.std.proofs.Common.{Some, sym, ap, subst, ◌∙◌}
 use Rattle.std.proofs.lemmas.Option.{same_Some}
 use Rattle.std.proofs.lemmas.Result.{IfOk-weaker, err_from_is_err_and, on_err_weaker}
-use Rattle.abs_tree.specs.InstructionViews.{instruction_tree}
-use Rattle.abs_tree.specs.SourceViews.{named_tree, program_tree}
-use Rattle.abs_tree.specs.ValueTrees.{ValueTree}
+use Rattle.abs_program.specs.InstructionViews.{instruction_tree}
+use Rattle.abs_program.specs.NamedViews.{named_tree, program_tree}
+use Rattle.abs_values.specs.ValueTrees.{ValueTree}
 use Rattle.config_state.specs.ConfigViews.{configuration}
 use Rattle.config_state.specs.Configurations.{FrameState, TaskState}
 use Rattle.step_rules.proofs.MoverLemmas.{counted}

@@ -1,8 +1,8 @@
 use Rattle.std.proofs.Common.{[], ◌∷◌, true, Some, refl, ap, ◌∙◌}
 use Rattle.std.proofs.lemmas.Result.{err_from_is_err_and, on_err_weaker}
-use Rattle.abs_tree.specs.InstructionViews.{goes_tree}
+use Rattle.abs_program.specs.InstructionViews.{goes_tree}
 use Rattle.abs_tree.specs.SyntaxViews.{variable_tree}
-use Rattle.abs_tree.specs.ValueTrees.{NullValue}
+use Rattle.abs_values.specs.ValueTrees.{NullValue}
 use Rattle.config_state.specs.ConfigViews.{configuration}
 use Rattle.step_rules.proofs.MoverLemmas.{goes_is, goes_to, count_is}
 use Rattle.step_rules.proofs.StatementLemmas.{whole_is, whole_open, suspended, stored, chosen, printed, returned}

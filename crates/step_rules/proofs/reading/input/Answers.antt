@@ -1,6 +1,6 @@
 use Rattle.std.proofs.Common.{option_map}
-use Rattle.abs_tree.specs.InstructionViews.{class_entry_tree, instruction_tree}
-use Rattle.abs_tree.specs.SourceViews.{program_tree}
+use Rattle.abs_program.specs.InstructionViews.{class_entry_tree, instruction_tree}
+use Rattle.abs_program.specs.NamedViews.{program_tree}
 use Rattle.config_state.specs.ConfigViews.{configuration}
 use Rattle.config_state.specs.Views.{frame_state, task_state}
 use Rattle.step_rules.proofs.BlockedLemmas.{task_found}

@@ -1,4 +1,4 @@
-use Rattle.abs_tree.specs.SourceViews.{program_tree}
+use Rattle.abs_program.specs.NamedViews.{program_tree}
 use Rattle.config_state.specs.Views.{frame_state}
 use Rattle.step_rules.proofs.ReadingLemmas.{instruction_found}
 use Rattle.step_rules.proofs.reading.next_instruction.Goals as goal

@@ -1,7 +1,7 @@
 use Rattle.std.proofs.Common.{option_map, ◌∙◌}
 use Rattle.std.proofs.lemmas.Result.{IfOk-weaker}
-use Rattle.abs_tree.specs.InstructionViews.{class_entry_tree, instruction_tree, shared_phrases}
-use Rattle.abs_tree.specs.SourceViews.{program_tree}
+use Rattle.abs_program.specs.InstructionViews.{class_entry_tree, instruction_tree, shared_phrases}
+use Rattle.abs_program.specs.NamedViews.{program_tree}
 use Rattle.abs_tree.specs.SyntaxViews.{phrases}
 use Rattle.config_state.specs.ConfigViews.{configuration}
 use Rattle.config_state.specs.Views.{frame_state, task_state}

@@ -1,5 +1,5 @@
 use Rattle.std.proofs.Common.{arith}
-use Rattle.abs_tree.specs.ValueViews.{value_tree}
+use Rattle.abs_values.specs.ValueViews.{value_tree}
 use Rattle.step_rules.proofs.RowPlanLemmas.{leave_inner, leave_last}
 use Rattle.step_rules.specs.Plans.{plan_of_task}
 use Rattle.step_rules.proofs.rows.give.Goals as goal

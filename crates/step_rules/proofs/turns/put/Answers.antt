@@ -1,6 +1,6 @@
 use Rattle.std.proofs.Common.{List, ◌∷◌, refl, sym, ap, ◌∙◌}
-use Rattle.abs_tree.specs.ValueTrees.{ValueTree}
-use Rattle.abs_tree.specs.ValueViews.{value_tree}
+use Rattle.abs_values.specs.ValueTrees.{ValueTree}
+use Rattle.abs_values.specs.ValueViews.{value_tree}
 use Rattle.config_state.specs.Configurations.{FrameState}
 use Rattle.config_state.specs.Views.{frame_state}
 use Rattle.config_state.specs.declared.frame.Target.TheVariants.{Nothing, Local}

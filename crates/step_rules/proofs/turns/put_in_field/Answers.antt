@@ -1,7 +1,7 @@
 use Rattle.std.proofs.Common.{List, get_or, ap, arith}
 use Rattle.std.proofs.lemmas.Option.{slice_get-get_or, slice_get_past}
-use Rattle.abs_tree.specs.ValueTrees.{ValueTree}
-use Rattle.abs_tree.specs.ValueViews.{value_tree}
+use Rattle.abs_values.specs.ValueTrees.{ValueTree}
+use Rattle.abs_values.specs.ValueViews.{value_tree}
 use Rattle.config_state.specs.declared.frame.Target.TheVariants.{Field}
 use Rattle.step_rules.proofs.PlacingLemmas.{written-past, written-there}
 use Rattle.step_rules.proofs.turns.put_in_field.Goals as goal

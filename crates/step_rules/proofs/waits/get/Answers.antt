@@ -1,7 +1,7 @@
 use Rattle.std.proofs.Common.{◌≡◌, Some, ap, sym, ◌∙◌}
 use Rattle.std.proofs.lemmas.Result.{on_err_weaker}
-use Rattle.abs_tree.specs.ValueTrees.{FutureValue}
-use Rattle.abs_tree.specs.ValueViews.{value_tree}
+use Rattle.abs_values.specs.ValueTrees.{FutureValue}
+use Rattle.abs_values.specs.ValueViews.{value_tree}
 use Rattle.step_rules.proofs.MoverLemmas.{slots_are}
 use Rattle.step_rules.specs.Lookups.{named_value}
 use Rattle.step_rules.proofs.waits.get.Goals as goal

@@ -1,6 +1,6 @@
 use Rattle.std.proofs.Common.{◌≡◌, slice_get, Some, true, rules, ap, ◌∙◌}
 use Rattle.std.proofs.lemmas.Option.{slice_get_read}
-use Rattle.abs_tree.specs.declared.evaluated.Evaluated.TheVariants.{Good}
+use Rattle.abs_values.specs.declared.evaluated.Evaluated.TheVariants.{Good}
 use Rattle.config_state.specs.declared.config.Config.{Config}
 use Rattle.step_rules.proofs.BlockedLemmas.{task_found}
 use Rattle.step_rules.proofs.MoverLemmas.{goes_to}

@@ -1,7 +1,7 @@
 use Rattle.std.proofs.Common.{ℕ, Ok, ap}
-use Rattle.abs_tree.specs.Tables.{Table}
+use Rattle.abs_program.specs.Tables.{Table}
 use Rattle.abs_names.specs.TypeNames.{Around}
-use Rattle.abs_tree.specs.KeptSpaces.{spaces_by_name}
+use Rattle.abs_program.specs.KeptSpaces.{spaces_by_name}
 use Rattle.abs_names.proofs.SpaceLemmas.{proper_first, named_first}
 use Rattle.abs_names.proofs.around.Around.add_type_param.Goals as goal
 

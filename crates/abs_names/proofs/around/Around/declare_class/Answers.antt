@@ -1,9 +1,9 @@
 use Rattle.std.proofs.Common.{ap}
 use Rattle.std.proofs.lemmas.Result.{on_ok_weaker}
-use Rattle.abs_tree.specs.Tables.{Table}
-use Rattle.abs_tree.specs.declared.name_spaces.Taking.{Taking}
+use Rattle.abs_program.specs.Tables.{Table}
+use Rattle.abs_program.specs.declared.name_spaces.Taking.{Taking}
 use Rattle.abs_names.specs.TypeNames.{Around}
-use Rattle.abs_tree.specs.KeptSpaces.{named}
+use Rattle.abs_program.specs.KeptSpaces.{named}
 use Rattle.abs_names.proofs.SpaceLemmas.{taken_name, proper_first, named_first}
 use Rattle.abs_names.proofs.around.Around.declare_class.Goals as goal
 

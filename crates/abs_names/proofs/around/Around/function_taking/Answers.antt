@@ -1,8 +1,8 @@
 use Rattle.std.proofs.Common.{◌∙◌, sym, ap}
 use Rattle.std.specs.Prelude.{option_map}
-use Rattle.abs_tree.specs.KeptSpaces.{named}
-use Rattle.abs_tree.specs.NameSpaces.{function_arity}
-use Rattle.abs_tree.specs.Tables.{meaning_of}
+use Rattle.abs_program.specs.KeptSpaces.{named}
+use Rattle.abs_program.specs.NameSpaces.{function_arity}
+use Rattle.abs_program.specs.Tables.{meaning_of}
 use Rattle.abs_names.proofs.around.Around.function_taking.Goals as goal
 
 pub function-requires : goal.function-requires

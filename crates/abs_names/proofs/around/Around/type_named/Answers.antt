@@ -1,6 +1,6 @@
 use Rattle.std.proofs.Common.{◌∙◌, ap}
-use Rattle.abs_tree.specs.KeptSpaces.{named}
-use Rattle.abs_tree.specs.Tables.{meaning_of}
+use Rattle.abs_program.specs.KeptSpaces.{named}
+use Rattle.abs_program.specs.Tables.{meaning_of}
 use Rattle.abs_names.proofs.around.Around.type_named.Goals as goal
 
 pub type_named-requires : goal.type_named-requires

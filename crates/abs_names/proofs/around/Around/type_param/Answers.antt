@@ -1,6 +1,6 @@
 use Rattle.std.proofs.Common.{◌∙◌, ap}
-use Rattle.abs_tree.specs.Numbered.{looked_up}
-use Rattle.abs_tree.proofs.KeptSpaceLemmas.{looked_up-known}
+use Rattle.abs_program.specs.Numbered.{looked_up}
+use Rattle.abs_program.proofs.KeptSpaceLemmas.{looked_up-known}
 use Rattle.abs_names.proofs.around.Around.type_param.Goals as goal
 
 pub returns : goal.returns

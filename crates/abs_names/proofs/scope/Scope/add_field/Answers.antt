@@ -2,7 +2,7 @@ use Rattle.std.proofs.Common.{Ok, ap}
 use Rattle.abs_tree.specs.SyntaxViews.{variable_tree}
 use Rattle.abs_tree.specs.declared.syntax.variable.Variable.TheVariants.{Field}
 use Rattle.abs_names.specs.Scopes.{Scope, Meanings}
-use Rattle.abs_tree.specs.KeptSpaces.{named}
+use Rattle.abs_program.specs.KeptSpaces.{named}
 use Rattle.abs_names.specs.Visible.{binding_tree}
 use Rattle.abs_names.proofs.SpaceLemmas.{proper_first, named_first}
 use Rattle.abs_names.proofs.scope.Scope.add_field.Goals as goal

@@ -4,7 +4,7 @@ use Rattle.abs_tree.specs.Names.{name_of}
 use Rattle.abs_tree.specs.SyntaxViews.{variable_tree}
 use Rattle.abs_names.specs.Numbered.{is_bound, bound_up_to}
 use Rattle.abs_names.specs.Scopes.{Meanings}
-use Rattle.abs_tree.specs.KeptSpaces.{named}
+use Rattle.abs_program.specs.KeptSpaces.{named}
 use Rattle.abs_names.specs.Visible.{binding_tree}
 use Rattle.abs_names.specs.declared.scope.Binding.{Binding}
 use Rattle.abs_names.proofs.ScopeLemmas.{proper_added, named_added, counted_added}

@@ -1,13 +1,13 @@
 use Rattle.std.proofs.Common.{◌≡◌, ◌∙◌, ap, subst}
 use Rattle.std.specs.Prelude.{option_map}
 use Rattle.abs_tree.specs.Names.{name_of}
-use Rattle.abs_tree.specs.Numbered.{looked_up}
+use Rattle.abs_program.specs.Numbered.{looked_up}
 use Rattle.abs_tree.specs.SyntaxViews.{variable_tree}
-use Rattle.abs_tree.specs.Tables.{meaning_of}
+use Rattle.abs_program.specs.Tables.{meaning_of}
 use Rattle.abs_names.specs.Scopes.{field_of}
-use Rattle.abs_tree.specs.KeptSpaces.{named}
+use Rattle.abs_program.specs.KeptSpaces.{named}
 use Rattle.abs_names.specs.Visible.{Visible}
-use Rattle.abs_tree.proofs.KeptSpaceLemmas.{looked_up-named}
+use Rattle.abs_program.proofs.KeptSpaceLemmas.{looked_up-named}
 use Rattle.abs_names.proofs.scope.Scope.field_of.Goals as goal
 
 pub returns : goal.returns

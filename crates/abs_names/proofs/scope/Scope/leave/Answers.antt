@@ -2,7 +2,7 @@ use Rattle.std.proofs.Common.{◌-◌, ◌∙◌, sym, ap, subst, length}
 use Rattle.abs_tree.specs.SyntaxViews.{variable_tree}
 use Rattle.abs_names.specs.Numbered.{EndsIn}
 use Rattle.abs_names.specs.Scopes.{Meanings}
-use Rattle.abs_tree.specs.KeptSpaces.{named}
+use Rattle.abs_program.specs.KeptSpaces.{named}
 use Rattle.abs_names.specs.Visible.{Visible, binding_tree}
 use Rattle.abs_names.proofs.ScopeLemmas.{proper_older, counted_older, named_rest}
 use Rattle.abs_names.proofs.scope.Scope.leave.Goals as goal

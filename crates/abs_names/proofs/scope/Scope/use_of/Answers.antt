@@ -2,7 +2,7 @@ use Rattle.std.proofs.Common.{◌≡◌, ◌∙◌, sym, ap}
 use Rattle.std.specs.Prelude.{None, option_map}
 use Rattle.abs_tree.specs.SyntaxViews.{variable_tree}
 use Rattle.abs_tree.specs.Names.{name_of}
-use Rattle.abs_tree.specs.Tables.{meaning_of}
+use Rattle.abs_program.specs.Tables.{meaning_of}
 use Rattle.abs_names.specs.Scopes.{visible_field, field_of}
 use Rattle.abs_names.specs.declared.scope.Routine.{Routine}
 use Rattle.abs_names.specs.Visible.{Visible}

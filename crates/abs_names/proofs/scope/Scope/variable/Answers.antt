@@ -1,12 +1,12 @@
 use Rattle.std.proofs.Common.{◌≡◌, ◌∙◌, sym, ap, subst}
 use Rattle.std.specs.Prelude.{Some, None, option_map}
 use Rattle.abs_tree.specs.Names.{name_of}
-use Rattle.abs_tree.specs.Numbered.{looked_up}
+use Rattle.abs_program.specs.Numbered.{looked_up}
 use Rattle.abs_tree.specs.SyntaxViews.{variable_tree}
-use Rattle.abs_tree.specs.Tables.{meaning_of}
-use Rattle.abs_tree.specs.KeptSpaces.{named}
+use Rattle.abs_program.specs.Tables.{meaning_of}
+use Rattle.abs_program.specs.KeptSpaces.{named}
 use Rattle.abs_names.specs.Visible.{Visible, binding_tree}
-use Rattle.abs_tree.proofs.KeptSpaceLemmas.{looked_up-named}
+use Rattle.abs_program.proofs.KeptSpaceLemmas.{looked_up-named}
 use Rattle.abs_names.proofs.scope.Scope.variable.Goals as goal
 
 pub returns-in-Some : goal.returns-in-Some

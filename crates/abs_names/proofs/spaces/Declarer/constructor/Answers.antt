@@ -1,7 +1,7 @@
 use Rattle.std.proofs.Common.{◌∙◌, ℕ, ap, arith}
 use Rattle.abs_tree.specs.Names.{name_of}
-use Rattle.abs_tree.specs.Tables.{with_first}
-use Rattle.abs_tree.specs.declared.name_spaces.Taking.{Taking}
+use Rattle.abs_program.specs.Tables.{with_first}
+use Rattle.abs_program.specs.declared.name_spaces.Taking.{Taking}
 use Rattle.abs_names.specs.TypeNames.{Around}
 use Rattle.abs_names.proofs.SpaceLemmas.{count_of_types}
 use Rattle.abs_names.proofs.spaces.Declarer.constructor.Goals as goal

@@ -1,7 +1,7 @@
 use Rattle.std.proofs.Common.{◌≡◌, ◌∙◌, ◌++◌, ◌+◌, ◌*◌, arith, refl, sym, ap, subst, length, fold}
 use Rattle.abs_tree.proofs.StatementLemmas.{statement-block}
 use Rattle.abs_tree.specs.Offences.{earlier}
-use Rattle.abs_tree.specs.Slots.{statement_slots}
+use Rattle.abs_program.specs.Slots.{statement_slots}
 use Rattle.std.specs.Prelude.{Option}
 use Rattle.std.specs.declared.alloc.Global.{Global}
 use Rattle.std.specs.declared.vec.Vec.{Vec}

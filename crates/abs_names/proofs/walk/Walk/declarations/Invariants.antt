@@ -1,5 +1,5 @@
 use Rattle.std.proofs.Common.{◌≡◌, []}
-use Rattle.abs_tree.specs.SlotViews.{DeclHasSlots}
+use Rattle.abs_program.specs.SlotViews.{DeclHasSlots}
 use Rattle.abs_names.proofs.DeclarationLemmas.{in_declarations, declaration_resolution}
 use Rattle.abs_names.proofs.InPlaceLemmas.{ChangedSoFar, HaveSoFar}
 use Rattle.abs_names.proofs.walk.Walk.declarations.Given as goal

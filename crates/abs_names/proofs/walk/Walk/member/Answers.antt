@@ -1,7 +1,7 @@
 use Rattle.std.proofs.Common.{◌∙◌, List, ◌++◌, ap, subst, length, arith}
 use Rattle.std.proofs.lemmas.Grind.{common_steps}
-use Rattle.abs_tree.specs.SlotViews.{BodyHasSlots}
-use Rattle.abs_tree.specs.Slots.{body_slots, statements_slots}
+use Rattle.abs_program.specs.SlotViews.{BodyHasSlots}
+use Rattle.abs_program.specs.Slots.{body_slots, statements_slots}
 use Rattle.abs_tree.specs.SyntaxViews.{statements}
 use Rattle.abs_tree.specs.declared.syntax.declaration.Param.{Param}
 use Rattle.abs_tree.specs.declared.syntax.slot.Slot.{Slot}

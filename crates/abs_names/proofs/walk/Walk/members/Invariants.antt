@@ -1,4 +1,4 @@
-use Rattle.abs_tree.specs.SlotViews.{MemberHasSlots}
+use Rattle.abs_program.specs.SlotViews.{MemberHasSlots}
 use Rattle.abs_names.proofs.InPlaceLemmas.{ChangedSoFar, HaveSoFar}
 use Rattle.abs_names.proofs.MemberLemmas.{in_class, member_resolution}
 use Rattle.abs_names.proofs.walk.Walk.members.Given as goal

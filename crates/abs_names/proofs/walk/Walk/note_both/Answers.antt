@@ -1,6 +1,6 @@
 use Rattle.std.proofs.Common.{◌∙◌, refl, ap, take}
 use Rattle.std.proofs.lemmas.Result.{on_ok_weaker}
-use Rattle.abs_tree.specs.NameSpaces.{NameSpaces, built_in}
+use Rattle.abs_program.specs.NameSpaces.{NameSpaces, built_in}
 use Rattle.abs_names.specs.Repeats.{declarations_repeats}
 use Rattle.abs_names.specs.Visible.{Visible}
 use Rattle.abs_names.proofs.BothLemmas.{both_parts_noted, repeats_of_both}

@@ -3,7 +3,7 @@ use Rattle.abs_graph.specs.Graphs.{on_cycles}
 use Rattle.abs_graph.specs.Views.{graph_of}
 use Rattle.abs_tree.specs.Offences.{earlier}
 use Rattle.abs_tree.specs.SyntaxViews.{decl_tree}
-use Rattle.abs_tree.proofs.EdgeLemmas.{supertypes_built, supertypes_have_nodes}
+use Rattle.abs_program.proofs.EdgeLemmas.{supertypes_built, supertypes_have_nodes}
 use Rattle.abs_names.specs.Extension.{extension_offences}
 use Rattle.abs_names.proofs.ExtensionLemmas.{supertypes_of_walk}
 use Rattle.abs_names.proofs.walk.Walk.note_extensions.Goals as goal

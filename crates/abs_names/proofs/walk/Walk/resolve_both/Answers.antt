@@ -2,7 +2,7 @@ use Rattle.std.proofs.Common.{◌∙◌, List, ap, subst, take}
 use Rattle.std.specs.Prelude.{All}
 use Rattle.std.proofs.lemmas.List.Elements.{All-append}
 use Rattle.std.proofs.lemmas.Result.{on_ok_weaker}
-use Rattle.abs_tree.specs.SlotViews.{DeclHasSlots}
+use Rattle.abs_program.specs.SlotViews.{DeclHasSlots}
 use Rattle.abs_tree.specs.Syntax.{Name}
 use Rattle.abs_names.specs.NameOffences.{declarations_offences}
 use Rattle.abs_names.specs.Scopes.{Scope}

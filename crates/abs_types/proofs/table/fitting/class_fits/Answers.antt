@@ -1,5 +1,5 @@
 use Rattle.abs_tree.specs.Names.{name_of}
-use Rattle.abs_tree.specs.SourceViews.{named_tree}
+use Rattle.abs_program.specs.NamedViews.{named_tree}
 use Rattle.abs_types.proofs.PartLemmas.{class_unfit}
 use Rattle.abs_types.specs.Subtyping.{fits}
 use Rattle.abs_types.specs.TypeShapes.{shape_type}

@@ -1,6 +1,6 @@
 use Rattle.std.proofs.Common.{◌∙◌}
 use Rattle.abs_tree.specs.Names.{name_of}
-use Rattle.abs_tree.specs.SourceViews.{named_tree}
+use Rattle.abs_program.specs.NamedViews.{named_tree}
 use Rattle.abs_types.proofs.PartLemmas.{interface_by_name, interface_unfit}
 use Rattle.abs_types.specs.TypeShapes.{shape_type}
 use Rattle.abs_types.proofs.table.fitting.interface_fits.Goals as goal

@@ -5,14 +5,14 @@ use Rattle.std.proofs.lemmas.Option.{none-some}
 use Rattle.std.proofs.lemmas.Result.{err_from_is_err_and}
 use Rattle.std.specs.Option.{option_map}
 use Rattle.std.specs.Prelude.{slice_get}
-use Rattle.abs_tree.specs.Evaluation.{Outcome, ends_with, evaluate}
+use Rattle.abs_values.specs.Evaluation.{Outcome, ends_with, evaluate}
 use Rattle.abs_tree.specs.Names.{name_of}
-use Rattle.abs_tree.specs.Operations.{operation_result}
-use Rattle.abs_tree.specs.Scopes.{Scope, own_scope}
+use Rattle.abs_values.specs.Operations.{operation_result}
+use Rattle.abs_values.specs.Scopes.{Scope, own_scope}
 use Rattle.abs_tree.specs.Syntax.{Name, Phrase}
 use Rattle.abs_tree.specs.SyntaxViews.{decl_tree, operand_trees, phrase}
-use Rattle.abs_tree.specs.ValueTrees.{ValueTree}
-use Rattle.abs_tree.specs.ValueViews.{value_tree}
+use Rattle.abs_values.specs.ValueTrees.{ValueTree}
+use Rattle.abs_values.specs.ValueViews.{value_tree}
 use Rattle.fun_eval.proofs.ApplicationLemmas.{applied, body_entered, body_other, built_given, built_large, counted, defined_named, left_counted, to_string_named}
 use Rattle.fun_eval.proofs.BranchLemmas.{case_taken, if_taken, let_taken}
 use Rattle.fun_eval.proofs.FormLemmas.{apply_form, build_form, case_form, destiny_form, field_form, if_form, let_form, no_level, null_form, number_form, operators_form, own_call_form, prefixed_form, string_form, this_form, variable_form}

@@ -1,5 +1,5 @@
 use Rattle.std.proofs.Common.{◌+◌, ◌*◌, drop}
-use Rattle.abs_tree.specs.Evaluation.{operators_outcome, outcomes_of}
+use Rattle.abs_values.specs.Evaluation.{operators_outcome, outcomes_of}
 use Rattle.abs_tree.specs.SyntaxViews.{operand_trees, phrase, phrases}
 use Rattle.fun_eval.specs.Evaluating.{gives_in, names_in, outcome_in}
 use Rattle.fun_eval.proofs.SoFarLemmas.{OperatorsSoFar}

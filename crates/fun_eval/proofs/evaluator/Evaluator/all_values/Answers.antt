@@ -1,9 +1,9 @@
 use Rattle.std.proofs.Common.{ap, ◌∙◌, map, subst, sym}
 use Rattle.std.proofs.lemmas.Result.{err_from_is_err_and}
-use Rattle.abs_tree.specs.Evaluation.{Outcome, Outcomes}
-use Rattle.abs_tree.specs.InstructionViews.{shared_phrases}
+use Rattle.abs_values.specs.Evaluation.{Outcome, Outcomes}
+use Rattle.abs_program.specs.InstructionViews.{shared_phrases}
 use Rattle.abs_tree.specs.SyntaxViews.{phrases}
-use Rattle.abs_tree.specs.ValueViews.{value_tree}
+use Rattle.abs_values.specs.ValueViews.{value_tree}
 use Rattle.fun_eval.proofs.InitialLemmas.{initial_outcome, initials_end, initials_step, initials_stopped, own_outcomes, own_stopped, own_values}
 use Rattle.fun_eval.specs.Evaluating.{library_in, names_in, AreStopped, IsStopped}
 use Rattle.fun_eval.specs.Reading.{scope_tree}

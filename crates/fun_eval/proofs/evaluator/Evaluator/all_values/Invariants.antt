@@ -1,7 +1,7 @@
 use Rattle.std.proofs.Common.{drop}
 use Rattle.fun_eval.proofs.InitialLemmas.{InitialsSoFar}
-use Rattle.abs_tree.specs.Evaluation.{results_of}
-use Rattle.abs_tree.specs.InstructionViews.{shared_phrases}
+use Rattle.abs_values.specs.Evaluation.{results_of}
+use Rattle.abs_program.specs.InstructionViews.{shared_phrases}
 use Rattle.abs_tree.specs.SyntaxViews.{phrases}
 use Rattle.fun_eval.specs.Evaluating.{library_in, names_in}
 use Rattle.fun_eval.specs.Reading.{scope_tree}

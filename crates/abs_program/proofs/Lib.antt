@@ -1,0 +1,16 @@
+pub mod LinkLemmas
+pub mod KeptSpaceLemmas
+pub mod EdgeLemmas
+pub mod HolderLemmas
+pub mod DeclaredLemmas
+pub mod FieldLemmas
+pub mod SignatureLemmas
+pub mod MethodLemmas
+pub mod PointLemmas
+pub mod LeftLemmas
+pub mod FlowLemmas
+pub mod InstructionLemmas
+pub mod CountLemmas
+pub mod MakerLemmas
+pub mod BodyRowLemmas
+pub mod ClassEntryLemmas

@@ -1,0 +1,12 @@
+use Rattle.std.proofs.Common.{[], map}
+use Rattle.abs_graph.specs.Views.{graph_of}
+use Rattle.abs_tree.proofs.AddedLemmas.{AddedToSoFar}
+use Rattle.abs_program.specs.Holdings.{holdings_in}
+use Rattle.abs_program.specs.KeptSpaces.{spaces_by_name}
+use Rattle.abs_tree.specs.SyntaxViews.{decl_tree}
+use Rattle.abs_program.proofs.tables.holders.holding_graph.Given as goal
+
+abbrev pub invariant-loop-declaration : goal.invariant-loop-declaration
+invariant-loop-declaration l =
+    AddedToSoFar (λ items. holdings_in (spaces_by_name l.fn.symbols l.fn.spaces) (map (decl_tree l.fn.symbols) items))
+    [] l.declarations l.declaration-index (graph_of l.graph.items)

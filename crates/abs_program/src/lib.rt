@@ -1,0 +1,19 @@
+//! A source whose names are resolved: what its names stand for, with the tables that tell it in constant time, and what
+//! its statements do and where control goes.
+#![tactic(auto)]
+
+pub mod laws;
+pub mod meanings;
+pub mod name_spaces;
+pub mod named;
+pub mod readers;
+pub mod tables;
+
+pub use laws::{control_leaves_the_rest, declared_is_there, facts_follow_control, named_is_whole};
+pub use meanings::Meanings;
+pub use name_spaces::{ConstructorMeaning, FunctionMeaning, NameSpaces, Taking, TypeMeaning};
+pub use named::Named;
+pub use tables::Tables;
+pub use tables::control::{BodyEntry, ClassEntry, Effect, Exprs, Instruction, Successor};
+pub use tables::members::{FieldAt, SignatureAt};
+pub use tables::supertypes::supertype_graph;

@@ -1,7 +1,0 @@
-use Rattle.abs_tree.proofs.KeptSpaceLemmas.{number_means}
-use Rattle.abs_tree.proofs.name_spaces.NameSpaces.class.Goals as goal
-
-pub returns : goal.returns
-returns c =
-    number_means c.args.symbols.now c.args.self.now.classes c.args.name c.number.result c.look_up.result c.requires.classes
-    c.number.ensures.number c.look_up.ensures

@@ -1,5 +1,0 @@
-use Rattle.abs_tree.proofs.tables.effects.side_effect.Goals as goal
-
-pub returns-in-Value : goal.returns-in-Value
-returns-in-Value c = λ names.
-    rw (c.in-Value.is, ← c.deref.ensures) (c.value_effect.ensures names c.in-Value.field-0)

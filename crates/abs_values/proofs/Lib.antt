@@ -1,0 +1,10 @@
+pub mod AnswerLemmas
+pub mod SameValueLemmas
+pub mod ComparisonLemmas
+pub mod ResultLemmas
+pub mod ListOutcomeLemmas
+pub mod InsideLemmas
+pub mod MatchingLemmas
+pub mod OperationLemmas
+pub mod ReferenceLemmas
+pub mod EarlierLemmas

@@ -1,0 +1,15 @@
+pub mod ValueTrees
+pub mod ValueCodes
+pub mod ValueViews
+pub mod ValueSizes
+pub mod Measures
+pub mod Results
+pub mod EvaluatedCodes
+pub mod Printed
+pub mod PrintedWithin
+pub mod Numbers
+pub mod Operations
+pub mod Scopes
+pub mod Evaluation
+pub mod References
+pub mod Faults
