@@ -27,8 +27,9 @@ use Rattle.abs_command.proofs.PromiseLemmas.{due_is}
 use Rattle.abs_command.proofs.RunLemmas.{IsNext-has_event}
 use Rattle.abs_command.proofs.SourceLemmas.{one_program, no_offence, one_first_offence}
 use Rattle.abs_command.specs.Analysis.{report_of}
-use Rattle.abs_command.specs.Promises.{SourceView, HoldsOnly, IsMisused, IsOversized, IsRefused, HasRun, CameTo, IsSame}
-use Rattle.abs_command.specs.Promises.CameTo.{misused, unread, oversized, refused, reported, ran}
+use Rattle.abs_command.specs.Promises.{IsSame}
+use Rattle.abs_command.specs.Ways.{SourceView, HoldsOnly, IsMisused, IsOversized, IsRefused, HasRun, CameTo}
+use Rattle.abs_command.specs.Ways.CameTo.{misused, unread, oversized, refused, reported, ran}
 use Rattle.abs_command.specs.Statuses.{status_of, WasRead}
 use Rattle.abs_command.specs.Texts.{refusal_line, report_lines, end_text}
 use Rattle.abs_command.specs.declared.command.Ended.{Ended}

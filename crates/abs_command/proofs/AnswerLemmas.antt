@@ -11,8 +11,9 @@ use Rattle.abs_command.specs.declared.command.Status.{Status}
 use Rattle.abs_command.specs.declared.command.Status.TheVariants as status
 use Rattle.abs_command.specs.Analysis.{report_of}
 use Rattle.abs_command.specs.Bytes.{WritesPrefix}
-use Rattle.abs_command.specs.Promises.{SourceView, HoldsOnly, IsMisused, IsUnread, IsOversized, IsRefused, IsAnalysed, IsReported, HasRun, CameTo, Answer, IsAccepted}
-use Rattle.abs_command.specs.Promises.CameTo.{misused, unread, oversized, refused, reported, ran}
+use Rattle.abs_command.specs.Promises.{Answer}
+use Rattle.abs_command.specs.Ways.{SourceView, HoldsOnly, IsMisused, IsUnread, IsOversized, IsRefused, IsAnalysed, IsReported, HasRun, CameTo, IsAccepted}
+use Rattle.abs_command.specs.Ways.CameTo.{misused, unread, oversized, refused, reported, ran}
 use Rattle.abs_command.specs.Promises.Answer.{whole, prefix}
 use Rattle.abs_command.specs.Taking.{Delivers}
 use Rattle.abs_command.specs.Words.{Names}

@@ -13,7 +13,7 @@ use Rattle.abs_program.specs.Control.{Point, entry, points, points_of, else_poin
 use Rattle.abs_program.specs.Instructions.{EffectTree, CallsOwn, CallsOther, Gets, side_effect, effect_of}
 use Rattle.abs_tree.specs.Limits.{event_limit}
 use Rattle.abs_program.specs.Slots.{is_this}
-use Rattle.abs_tree.specs.Syntax.{VariableTree, OwnCallOf, NoPhrase, NextPhrase, SideTree, NewOf, ValueOf, SendOf, GetOf, CallOf, NoSide, SomeSide, Statement, BlockOf, IfOf, WhileOf, DeclareOf, AssignOf, DoOf, MaybeStatements, NoElse, Else, Statements, NoStatement, NextStatement, MemberTree, FieldTree, MethodTree, DeclTree, ClassTree, SourceTree, ProgramTree}
+use Rattle.abs_tree.specs.Syntax.{VariableTree, OwnCallOf, NoExpr, NextExpr, SideTree, NewOf, ValueOf, SendOf, GetOf, CallOf, NoSide, SomeSide, Statement, BlockOf, IfOf, WhileOf, DeclareOf, AssignOf, DoOf, MaybeStatements, NoElse, Else, Statements, NoStatement, NextStatement, MemberTree, FieldTree, MethodTree, DeclTree, ClassTree, SourceTree, ProgramTree}
 use Rattle.abs_tree.specs.SyntaxSizes.{count_of, statement_count, member_statements, decl_statements}
 use Rattle.abs_program.specs.Whole.{IsWhole}
 use Rattle.step_rules.proofs.ProgressLemmas.{never_stuck as never_stuck_without_waits}
@@ -22,7 +22,7 @@ use Rattle.step_rules.specs.declared.kind.End.{End}
 use Rattle.step_rules.specs.declared.kind.End.TheVariants as ends
 use Rattle.abs_command.proofs.SourceLemmas.{one_program}
 use Rattle.abs_command.specs.Headline.{NeverAwaits, NeverStuck}
-use Rattle.abs_command.specs.Promises.{IsAccepted, HasRun}
+use Rattle.abs_command.specs.Ways.{IsAccepted, HasRun}
 use Rattle.abs_command.specs.Sources.{IsProgramOf}
 use Rattle.abs_command.specs.Statuses.{status_by, main_failed}
 use Rattle.abs_command.specs.Unsupported.{side_gets, statement_gets, statements_gets, else_gets, member_gets, decl_gets, get_offences}
@@ -112,12 +112,12 @@ neither_gets false first second slot target one other is = other is
 side_never_gets : (side : SideTree) (goal : Option VariableTree) (slot : Option ℕ) (target : Option VariableTree)
     → side_gets side ≡ [] → side_effect side goal ≡ Gets slot target → ⊥
 side_never_gets (GetOf place get_place future) goal slot target none is = absurd cc
-side_never_gets (CallOf place method NoPhrase named) goal slot target none is = absurd cc
-side_never_gets (CallOf place method (NextPhrase receiver arguments) named) goal slot target none is =
+side_never_gets (CallOf place method NoExpr named) goal slot target none is = absurd cc
+side_never_gets (CallOf place method (NextExpr receiver arguments) named) goal slot target none is =
     neither_gets (is_this receiver) (CallsOwn method goal) (CallsOther method named goal) slot target
     (λ own. absurd cc) (λ other. absurd cc) is
 side_never_gets (NewOf place mode class_place class arguments) goal slot target none is = absurd cc
-side_never_gets (SendOf place method row) goal slot target none is = absurd cc
+side_never_gets (SendOf place method operands) goal slot target none is = absurd cc
 side_never_gets (ValueOf place (OwnCallOf at method arguments)) goal slot target none is = absurd cc
 side_never_gets (ValueOf place value) goal slot target none is = absurd cc
 

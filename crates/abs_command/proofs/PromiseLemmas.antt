@@ -6,8 +6,9 @@ use Rattle.abs_command.specs.declared.command.Ended.{Ended}
 use Rattle.abs_command.specs.declared.command.Status.{Status}
 use Rattle.abs_command.specs.declared.command.Status.TheVariants as status
 use Rattle.abs_tree.specs.Limits.{source_limit}
-use Rattle.abs_command.specs.Promises.{SourceView, SinkView, HasRun, IsAccepted, Answer, BytesIn, ComesTo, NoneRose, Promises}
-use Rattle.abs_command.specs.Promises.CameTo.{misused, unread, oversized, refused, reported, ran}
+use Rattle.abs_command.specs.Promises.{SinkView, Answer, BytesIn, ComesTo, NoneRose, Promises}
+use Rattle.abs_command.specs.Ways.{SourceView, HasRun, IsAccepted}
+use Rattle.abs_command.specs.Ways.CameTo.{misused, unread, oversized, refused, reported, ran}
 use Rattle.abs_command.specs.Promises.Answer.{whole, prefix, exhausted}
 use Rattle.abs_command.specs.Sources.{HasOffence}
 use Rattle.abs_command.specs.Statuses.{status_by, status_of, main_failed, IsOfRun, GivesUp}

@@ -5,11 +5,12 @@ use Rattle.std.proofs.Math.Seq.{take-append_seam}
 use Rattle.std.proofs.lemmas.List.{append-nil, take_all}
 use Rattle.std.specs.Prelude.{Option, Some, None, ◌⊎◌, Bool, true, false}
 use Rattle.std.specs.Io.KnownBytes.{Consumes}
-use Rattle.abs_outside.specs.Names.{Under, Untold, Absent, Holding}
+use Rattle.abs_outside.specs.Names.{Under, Unstated, Absent, Holding}
 use Rattle.abs_command.specs.declared.command.Status.{Status}
 use Rattle.abs_tree.specs.Limits.{source_limit}
 use Rattle.abs_command.specs.Bytes.{TakesWhole}
-use Rattle.abs_command.specs.Promises.{SourceView, IsGiven, BytesIn}
+use Rattle.abs_command.specs.Promises.{IsGiven, BytesIn}
+use Rattle.abs_command.specs.Ways.{SourceView}
 use Rattle.abs_command.specs.Statuses.{WasRead}
 use Rattle.abs_command.specs.Taking.{TookWhole, TookSome}
 use Rattle.abs_command.specs.Words.{Names, AreCommandWords}
@@ -42,14 +43,14 @@ taken_whole content (Some rest) bytes h =
 
 most_taken : (under : Under) (left : Option (List ℕ)) (bytes : List ℕ) → TookWhole under left bytes
     → length bytes ≤ source_limit + 1
-most_taken Untold left bytes h = h
+most_taken Unstated left bytes h = h
 most_taken Absent left bytes h = absurd h
 most_taken (Holding content) left bytes h = h.at_most
 
 -- the content that the source tells is that of the file that was read
-told : (words : List (List ℕ)) (source : SourceView) (file content : List ℕ) → Names words file
+reported : (words : List (List ℕ)) (source : SourceView) (file content : List ℕ) → Names words file
     → IsGiven words source content → source.under file ≡ Holding content
-told words source file content named given =
+reported words source file content named given =
     ap source.under (named_once words file given.file named given.named) ∙ given.held
 
 -- The file was read to its end, or past the limit.
@@ -61,9 +62,9 @@ pub read_whole : (words : List (List ℕ)) (source source' : SourceView) (file b
 read_whole words source source' file bytes came named took missing same = record {
   at_most = most_taken (source.under file) source'.left bytes took;
   taken = λ content given. (subst (λ (u : Under). TookWhole u source'.left bytes)
-      (told words source file content named given) took).taken;
+      (reported words source file content named given) took).taken;
   whole = λ content given read. taken_whole content source'.left bytes
-      (subst (λ (u : Under). TookWhole u source'.left bytes) (told words source file content named given) took);
+      (subst (λ (u : Under). TookWhole u source'.left bytes) (reported words source file content named given) took);
   absent = λ other names gone read.
       subst (λ (u : Under). TookWhole u source'.left bytes)
       (ap source.under (named_once words file other named names) ∙ gone) took;
@@ -78,7 +79,7 @@ pub record SomeTaken (under : Under) (left : Option (List ℕ)) : Type 0 where
   pub taken : (content : List ℕ) → under ≡ Holding content → Consumes (Some content) left bytes
 
 pub some_taken : (under : Under) (old new : Option (List ℕ)) → TookSome under old new → SomeTaken under new
-some_taken Untold old new h = record { bytes = []; at_most = omega arith; taken = λ content e. absurd (cc) }
+some_taken Unstated old new h = record { bytes = []; at_most = omega arith; taken = λ content e. absurd (cc) }
 some_taken Absent old new h = record { bytes = []; at_most = omega arith; taken = λ content e. absurd (cc) }
 some_taken (Holding held) old new h = record {
   bytes = h.bytes;
@@ -94,7 +95,7 @@ pub read_in_part : (words : List (List ℕ)) (source source' : SourceView) (file
     → BytesIn words source source' part.bytes came
 read_in_part words source source' file came named failed part same = record {
   at_most = part.at_most;
-  taken = λ content given. part.taken content (told words source file content named given);
+  taken = λ content given. part.taken content (reported words source file content named given);
   whole = λ content given read. absurd (failed read);
   absent = λ other names gone read. failed read;
   missing = λ read. absurd (failed read);

@@ -8,4 +8,5 @@ pub mod Sources
 pub mod Statuses
 pub mod Taking
 pub mod Texts
+pub mod Ways
 pub mod Words

@@ -3,7 +3,7 @@
 use Rattle.std.specs.Prelude.{◌≡◌, ◌+◌, ◌≤◌, ◌⊎◌, ℕ, List, length, ⊤, Option, Some}
 use Rattle.std.specs.Io.KnownBytes.{Appends}
 use Rattle.abs_outside.specs.Counts.{Rose}
-use Rattle.abs_outside.specs.Names.{Under, Untold, Absent, Holding, IsNotHeld}
+use Rattle.abs_outside.specs.Names.{Under, Unstated, Absent, Holding, IsNotHeld}
 use Rattle.abs_command.specs.declared.command.Ended.{Ended}
 use Rattle.abs_command.specs.declared.command.Status.TheVariants as status
 use Rattle.abs_tree.specs.Limits.{source_limit}
@@ -12,14 +12,14 @@ use Rattle.abs_command.specs.Bytes.{TakesWhole, TakesSome, WritesPrefix}
 -- the content under the name was taken whole, or as many bytes of it as show that there are too many; where the source
 -- does not tell the content, only the number of bytes is bounded
 abbrev pub TookWhole : Under → Option (List ℕ) → List ℕ → Type 0
-TookWhole Untold left bytes = length bytes ≤ source_limit + 1
+TookWhole Unstated left bytes = length bytes ≤ source_limit + 1
 TookWhole Absent left bytes = ⊥
 TookWhole (Holding content) left bytes = TakesWhole (Some content) left bytes
 
 -- the source failed: if it tells that it holds nothing under the name, nothing was taken; if it tells the content, some
 -- bytes of it were
 abbrev pub TookSome : Under → Option (List ℕ) → Option (List ℕ) → Type 0
-TookSome Untold old new = ⊤
+TookSome Unstated old new = ⊤
 TookSome Absent old new = new ≡ old
 TookSome (Holding content) old new = TakesSome (Some content) new
 

@@ -6,7 +6,8 @@ ghost use Rattle.abs_outside.specs.Counts.{Rose};
 ghost use Rattle.abs_tree.specs.Limits.{source_limit};
 ghost use Rattle.abs_tree.specs.Syntax.{Name};
 ghost use Rattle.config_state.specs.ConfigViews.{configuration};
-ghost use Rattle.abs_command.specs.Promises.{Promises, SourceView, source_view, sink_view, Answer, CameTo, IsSame, WrittenBefore, IsAccepted};
+ghost use Rattle.abs_command.specs.Promises.{Promises, sink_view, Answer, IsSame, WrittenBefore};
+ghost use Rattle.abs_command.specs.Ways.{SourceView, source_view, CameTo, IsAccepted};
 ghost use Rattle.abs_command.specs.Sources.{IsProgramOf, FirstOffence};
 ghost use Rattle.abs_command.specs.Statuses.{status_of as status_for, main_failed as main_failed_in, WasRead};
 ghost use Rattle.abs_command.specs.Taking.{Delivers, TookWhole, TookSome, SourceFailed};
@@ -76,7 +77,7 @@ pub struct Ended {
 }
 
 impl Ended {
-    ghost use Rattle.abs_command.specs.Promises.{HoldsOnly};
+    ghost use Rattle.abs_command.specs.Ways.{HoldsOnly};
 
     /// A call that came to this status before any analysis.
     fn before_analysis(alloc: Global, status: Status, refusal: Option<Refusal>) -> Ended

@@ -226,11 +226,11 @@ stays_more rows places node row place items b found nodes rises ways there is at
     let graph = graph_of rows in
     let whether = λ (n : ℕ). reaches graph n n in
     let row_is : items ≡ successors graph node = at_items ∙ sym (row_successors rows node row there is) in
-    let told : b ≡ reaches graph node node =
+    let reported : b ≡ reaches graph node node =
     test
     ∙ (ap (λ (p : Place). list_any (λ next. nat_eq (place_of places next).root p.root) items) at_place
     ∙ (ap (list_any (λ next. nat_eq (place_of places next).root (place_of places node).root)) row_is
     ∙ stays_is_reaches graph places node nodes rises ways)) in
-    ap (λ (x : Bool). found ++ x ∷ []) told
+    ap (λ (x : Bool). found ++ x ∷ []) reported
     ∙ (ap (λ (xs : List Bool). xs ++ reaches graph node node ∷ []) so_far
     ∙ sym (map-range_with_len_more whether 0 node node (omega arith)))

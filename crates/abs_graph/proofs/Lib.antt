@@ -1,4 +1,4 @@
-pub mod BitRowLemmas
+pub mod BitSetLemmas
 pub mod CertificateLemmas
 pub mod ColumnLemmas
 pub mod ListedLemmas

@@ -1,4 +1,4 @@
--- Lists of the numbers that a row has, and of the nodes that have them as columns.
+-- Lists of the numbers that bits have, and of the nodes that have them as columns.
 --
 --   `listed_push`, `listed_none`       a list with one more number, and one without any
 --   `listed_as`                        what a list that is found has, by a test that is the same
@@ -14,11 +14,11 @@ use Rattle.std.specs.declared.vec.Vec.{Vec}
 use Rattle.std.proofs.lemmas.Bool.{and_from, and_left, and_parts, and_right, cases_lt, false_from_ne_true, or_cases, or_left, or_right}
 use Rattle.std.proofs.lemmas.List.Folds.{list_any-append, list_any_more}
 use Rattle.std.proofs.lemmas.Nat.Bits.{bit_at-zero}
-use Rattle.abs_graph.specs.BitRows.{word_bit, word_has}
+use Rattle.abs_graph.specs.BitSets.{word_bit, word_has}
 use Rattle.abs_graph.specs.Graphs.{is_listed}
 use Rattle.abs_graph.specs.Columns.{column_of, count_of, has_column}
 use Rattle.abs_graph.specs.declared.columns.Columns.{Columns}
-use Rattle.abs_graph.proofs.BitRowLemmas.{word_has-past}
+use Rattle.abs_graph.proofs.BitSetLemmas.{word_has-past}
 use Rattle.abs_graph.proofs.ColumnLemmas.{column_inside, column_owner, has_owned}
 use Rattle.abs_graph.proofs.ReachLemmas.{same_test}
 
@@ -57,8 +57,8 @@ pub listed_as : {one other : ℕ → Bool} (found : Result (Vec ℕ Global) Allo
     → IfOk found (λ (one_found : Vec ℕ Global). (number : ℕ) → is_listed one_found.items number ≡ one number)
     → ((number : ℕ) → one number ≡ other number)
     → IfOk found (λ (one_found : Vec ℕ Global). (number : ℕ) → is_listed one_found.items number ≡ other number)
-listed_as (Ok found) told same = λ number. told number ∙ same number
-listed_as (Err failed) told same = tt
+listed_as (Ok found) reported same = λ number. reported number ∙ same number
+listed_as (Err failed) reported same = tt
 
 -- the first numbers of a list, with one more
 pub listed_more : (numbers : List ℕ) (index number : ℕ) → index < length numbers
@@ -76,8 +76,8 @@ record IsBit (words : List ℕ) (index bits number : ℕ) : Type 0 where
 is_bit : (words : List ℕ) (index bits number : ℕ) → word_bit words index bits number ≡ true
     → IsBit words index bits number
 unfolding word_bit
-is_bit words index bits number told =
-    let whole = and_parts (nat_eq (number / 64) index && nat_lt (number % 64) bits) (word_has words number) told in
+is_bit words index bits number reported =
+    let whole = and_parts (nat_eq (number / 64) index && nat_lt (number % 64) bits) (word_has words number) reported in
     let place = and_parts (nat_eq (number / 64) index) (nat_lt (number % 64) bits) whole.0 in
     record {
       at = eqb-true (number / 64) index place.0;
@@ -85,10 +85,10 @@ is_bit words index bits number told =
       had = whole.1;
     }
 
-bit_told : (words : List ℕ) (index bits number : ℕ) → IsBit words index bits number
+bit_reported : (words : List ℕ) (index bits number : ℕ) → IsBit words index bits number
     → word_bit words index bits number ≡ true
 unfolding word_bit
-bit_told words index bits number bit =
+bit_reported words index bits number bit =
     and_from (nat_eq (number / 64) index && nat_lt (number % 64) bits) (word_has words number)
     (and_from (nat_eq (number / 64) index) (nat_lt (number % 64) bits) (eq-eqb (number / 64) index bit.at)
     (lt-ltb (number % 64) bits bit.low)) bit.had
@@ -99,7 +99,7 @@ pub bit_none : (words : List ℕ) (index number : ℕ) (before : Bool)
 bit_none words index number before =
     let none : word_bit words index 0 number ≡ false =
     false_from_ne_true (word_bit words index 0 number)
-    (λ told. let bit = is_bit words index 0 number told in absurd (omega (arith, bit.low))) in
+    (λ reported. let bit = is_bit words index 0 number reported in absurd (omega (arith, bit.low))) in
     sym (ap (λ (b : Bool). before || b) none ∙ or-false before)
 
 -- a number whose word is zero
@@ -111,7 +111,7 @@ word_has-zero words number is =
 
 nat_eq_comm : (one other : ℕ) → nat_eq one other ≡ nat_eq other one
 nat_eq_comm one other = same_test (nat_eq one other) (nat_eq other one)
-    (λ told. eq-eqb other one (sym (eqb-true one other told))) (λ told. eq-eqb one other (sym (eqb-true other one told)))
+    (λ reported. eq-eqb other one (sym (eqb-true one other reported))) (λ reported. eq-eqb one other (sym (eqb-true other one reported)))
 
 -- one more bit
 bit_more : (words : List ℕ) (index bits place number : ℕ) → place ≡ 64 * index + bits → bits < 64
@@ -121,10 +121,10 @@ bit_more words index bits place number is low =
     let before : Bool = word_bit words index bits number in
     let here : Bool = nat_eq number place && word_has words place in
     same_test (before || here) (word_bit words index (bits + 1) number)
-    (λ told. ⊎_elim
+    (λ reported. ⊎_elim
     (λ earlier.
     let bit = is_bit words index bits number earlier in
-    bit_told words index (bits + 1) number (record {
+    bit_reported words index (bits + 1) number (record {
       at = bit.at;
       low = omega (arith, bit.low);
       had = bit.had;
@@ -132,17 +132,17 @@ bit_more words index bits place number is low =
     (λ now.
     let both = and_parts (nat_eq number place) (word_has words place) now in
     let same : number ≡ place = eqb-true number place both.0 in
-    bit_told words index (bits + 1) number (record {
+    bit_reported words index (bits + 1) number (record {
       at = omega (arith, same, is, low);
       low = omega (arith, same, is, low);
       had = ap (word_has words) same ∙ both.1;
     }))
-    (or_cases before here told))
-    (λ told.
-    let bit = is_bit words index (bits + 1) number told in
+    (or_cases before here reported))
+    (λ reported.
+    let bit = is_bit words index (bits + 1) number reported in
     elim (cases_lt (number % 64) bits) [
       | inl less ↦
-          or_left before here (bit_told words index bits number (record {
+          or_left before here (bit_reported words index bits number (record {
             at = bit.at;
             low = less;
             had = bit.had;
@@ -181,7 +181,7 @@ bit_taken words index bits place number before old is low has so =
 
 ltb-none : (number : ℕ) → nat_lt number 0 ≡ false
 ltb-none number =
-    false_from_ne_true (nat_lt number 0) (λ told. let less = ltb-true number 0 told in absurd (omega (arith, less)))
+    false_from_ne_true (nat_lt number 0) (λ reported. let less = ltb-true number 0 reported in absurd (omega (arith, less)))
 
 -- what the first words have, before the first one and after the last one
 pub words_none : (words : List ℕ) (number : ℕ)
@@ -206,7 +206,7 @@ words_more words index number =
     let had : Bool = word_has words number in
     let before : Bool = nat_lt (number / 64) index && had in
     same_test (before || word_bit words index 64 number) (nat_lt (number / 64) (index + 1) && had)
-    (λ told. ⊎_elim
+    (λ reported. ⊎_elim
     (λ earlier.
     let both = and_parts (nat_lt (number / 64) index) had earlier in
     let less : number / 64 < index = ltb-true (number / 64) index both.0 in
@@ -214,16 +214,16 @@ words_more words index number =
     (λ now.
     let bit = is_bit words index 64 number now in
     and_from (nat_lt (number / 64) (index + 1)) had (lt-ltb (number / 64) (index + 1) (omega (arith, bit.at))) bit.had)
-    (or_cases before (word_bit words index 64 number) told))
-    (λ told.
-    let both = and_parts (nat_lt (number / 64) (index + 1)) had told in
+    (or_cases before (word_bit words index 64 number) reported))
+    (λ reported.
+    let both = and_parts (nat_lt (number / 64) (index + 1)) had reported in
     let within : number / 64 < index + 1 = ltb-true (number / 64) (index + 1) both.0 in
     elim (cases_lt (number / 64) index) [
       | inl less ↦
           or_left before (word_bit words index 64 number)
           (and_from (nat_lt (number / 64) index) had (lt-ltb (number / 64) index less) both.1)
       | inr over ↦
-          or_right before (word_bit words index 64 number) (bit_told words index 64 number (record {
+          or_right before (word_bit words index 64 number) (bit_reported words index 64 number (record {
             at = omega (arith, within, over);
             low = omega arith;
             had = both.1;
@@ -237,8 +237,8 @@ pub words_skipped : (words : List ℕ) (index number : ℕ) → get_or words ind
 words_skipped words index number zero_there =
     let before : Bool = nat_lt (number / 64) index && word_has words number in
     let none : word_bit words index 64 number ≡ false = false_from_ne_true (word_bit words index 64 number)
-    (λ told.
-    let bit = is_bit words index 64 number told in
+    (λ reported.
+    let bit = is_bit words index 64 number reported in
     true≢false (sym bit.had ∙ word_has-zero words number
     (ap (λ (i : ℕ). get_or words i 0) bit.at ∙ zero_there))) in
     sym (or-false before)
@@ -247,16 +247,16 @@ words_skipped words index number zero_there =
 -- the nodes whose column is one of several, with one column more
 column_found : (columns : Columns) (column node other : ℕ) → get_or columns.nodes.items column 0 ≡ node
     → column < count_of columns → has_column columns other ≡ true → column_of columns other ≡ column → other ≡ node
-column_found columns column node other is inside told same =
-    sym (column_owner columns other told) ∙ (ap (λ (c : ℕ). get_or columns.nodes.items c 0) same ∙ is)
+column_found columns column node other is inside reported same =
+    sym (column_owner columns other reported) ∙ (ap (λ (c : ℕ). get_or columns.nodes.items c 0) same ∙ is)
 
 -- a column without a node
 pub column_past : (columns : Columns) (column node : ℕ) (before : Bool) → count_of columns ≤ column
     → before ≡ (before || (has_column columns node && nat_eq column (column_of columns node)))
 column_past columns column node before past =
     let none = false_from_ne_true (has_column columns node && nat_eq column (column_of columns node))
-    (λ told.
-    let both = and_parts (has_column columns node) (nat_eq column (column_of columns node)) told in
+    (λ reported.
+    let both = and_parts (has_column columns node) (nat_eq column (column_of columns node)) reported in
     let same : column ≡ column_of columns node = eqb-true column (column_of columns node) both.1 in
     absurd (omega (arith, past, same, column_inside columns node both.0))) in
     sym (ap (λ (b : Bool). before || b) none ∙ or-false before)
@@ -268,8 +268,8 @@ pub column_skipped : (columns : Columns) (column node other : ℕ) (before : Boo
     → before ≡ (before || (has_column columns other && nat_eq column (column_of columns other)))
 column_skipped columns column node other before is inside differs =
     let none = false_from_ne_true (has_column columns other && nat_eq column (column_of columns other))
-    (λ told.
-    let both = and_parts (has_column columns other) (nat_eq column (column_of columns other)) told in
+    (λ reported.
+    let both = and_parts (has_column columns other) (nat_eq column (column_of columns other)) reported in
     let same : column ≡ column_of columns other = eqb-true column (column_of columns other) both.1 in
     let here : other ≡ node = column_found columns column node other is inside both.0 (sym same) in
     differs (ap (column_of columns) (sym here) ∙ sym same)) in
@@ -287,13 +287,13 @@ column_taken columns column node other old is inside owns =
     listed_push old node other
     ∙ ap (λ (b : Bool). is_listed old other || b)
     (same_test (nat_eq other node) (has_column columns other && nat_eq column (column_of columns other))
-    (λ told.
-    let here : other ≡ node = eqb-true other node told in
+    (λ reported.
+    let here : other ≡ node = eqb-true other node reported in
     and_from (has_column columns other) (nat_eq column (column_of columns other))
     (ap (has_column columns) here ∙ own)
     (eq-eqb column (column_of columns other) (sym owns ∙ ap (column_of columns) (sym here))))
-    (λ told.
-    let both = and_parts (has_column columns other) (nat_eq column (column_of columns other)) told in
+    (λ reported.
+    let both = and_parts (has_column columns other) (nat_eq column (column_of columns other)) reported in
     let same : column ≡ column_of columns other = eqb-true column (column_of columns other) both.1 in
     eq-eqb other node (column_found columns column node other is inside both.0 (sym same))))
 

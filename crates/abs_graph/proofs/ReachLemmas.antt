@@ -51,10 +51,10 @@ each_fails test (x ∷ xs) none = ⊎_elim
 found_within : (steps : ℕ) (graph : Graph) (node goal : ℕ) → reaches_within steps graph node goal ≡ true
     → Reaches graph goal node
 unfolding reaches_within
-found_within zero graph node goal told = absurd (true≢false (sym told))
-found_within (suc steps) graph node goal told =
+found_within zero graph node goal reported = absurd (true≢false (sym reported))
+found_within (suc steps) graph node goal reported =
     let test : ℕ → Bool = λ next. nat_eq next goal || reaches_within steps graph next goal in
-    let step = passing test (successors graph node) told in
+    let step = passing test (successors graph node) reported in
     ⊎_elim
     (λ here. in_one node (subst (λ (n : ℕ). leads graph node n ≡ true) (eqb-true step.item goal here) step.had))
     (λ there. in_more node step.item step.had (found_within steps graph step.item goal there))
@@ -178,8 +178,8 @@ whole_step graph goal node (in_more _ next led far) =
 found_step : (graph : Graph) (goal node : ℕ)
     → list_any (λ next. nat_eq next goal || reaches graph next goal) (successors graph node) ≡ true
     → Reaches graph goal node
-found_step graph goal node told =
-    let step = passing (λ next. nat_eq next goal || reaches graph next goal) (successors graph node) told in
+found_step graph goal node reported =
+    let step = passing (λ next. nat_eq next goal || reaches graph next goal) (successors graph node) reported in
     ⊎_elim
     (λ here. in_one node (subst (λ (n : ℕ). leads graph node n ≡ true) (eqb-true step.item goal here) step.had))
     (λ there. in_more node step.item step.had (reaches_found graph step.item goal there))
@@ -190,5 +190,5 @@ pub reaches_step : (graph : Graph) (node goal : ℕ)
     → list_any (λ next. nat_eq next goal || reaches graph next goal) (successors graph node) ≡ reaches graph node goal
 reaches_step graph node goal =
     same_test (list_any (λ next. nat_eq next goal || reaches graph next goal) (successors graph node))
-    (reaches graph node goal) (λ told. reaches_whole graph node goal (found_step graph goal node told))
-    (λ told. whole_step graph goal node (reaches_found graph node goal told))
+    (reaches graph node goal) (λ reported. reaches_whole graph node goal (found_step graph goal node reported))
+    (λ reported. whole_step graph goal node (reaches_found graph node goal reported))

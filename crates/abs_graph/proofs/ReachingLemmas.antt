@@ -38,19 +38,19 @@ reached_node : (graph : Graph) (goal node : ℕ) → HasNodes graph → Reaches 
 reached_node graph goal node nodes (in_one _ led) = lead_end graph node goal nodes led
 reached_node graph goal node nodes (in_more _ next led far) = reached_node graph goal next nodes far
 
--- a marked node is told
-told_marked : (graph : Graph) (marked : List Bool) (node : ℕ) → is_marked marked node ≡ true
+-- a marked node is reported
+reported_marked : (graph : Graph) (marked : List Bool) (node : ℕ) → is_marked marked node ≡ true
     → reaches_marked graph marked node ≡ true
 unfolding reaches_marked
-told_marked graph marked node marks =
+reported_marked graph marked node marks =
     or_left (is_marked marked node)
     (list_any (λ goal. is_marked marked goal && reaches graph node goal) (range_with_len 0 (length graph))) marks
 
--- a node that reaches a marked one is told
-told_reaching : (graph : Graph) (marked : List Bool) (node : ℕ) → HasNodes graph → ToMarked graph marked node
+-- a node that reaches a marked one is reported
+reported_reaching : (graph : Graph) (marked : List Bool) (node : ℕ) → HasNodes graph → ToMarked graph marked node
     → reaches_marked graph marked node ≡ true
 unfolding reaches_marked
-told_reaching graph marked node nodes to =
+reported_reaching graph marked node nodes to =
     let test : ℕ → Bool = λ goal. is_marked marked goal && reaches graph node goal in
     let inside : to.goal < length graph = reached_node graph to.goal node nodes to.reached in
     let count = length-range_with_len 0 (length graph) in
@@ -63,11 +63,11 @@ told_reaching graph marked node nodes to =
     (list_any_at test (range_with_len 0 (length graph)) to.goal 0 (omega (arith, inside, count))
     (subst (λ (n : ℕ). test n ≡ true) (sym at) passes))
 
--- what is told of a node
-told_cases : (graph : Graph) (marked : List Bool) (node : ℕ) → reaches_marked graph marked node ≡ true
+-- what is reported of a node
+reported_cases : (graph : Graph) (marked : List Bool) (node : ℕ) → reaches_marked graph marked node ≡ true
     → (is_marked marked node ≡ true) ⊎ ToMarked graph marked node
 unfolding reaches_marked
-told_cases graph marked node told = ⊎_elim
+reported_cases graph marked node reported = ⊎_elim
     (λ here. inl here)
     (λ far.
     let some = passing (λ goal. is_marked marked goal && reaches graph node goal) (range_with_len 0 (length graph)) far
@@ -79,15 +79,15 @@ told_cases graph marked node told = ⊎_elim
           (second_passes (is_marked marked some.item) (reaches graph node some.item) some.passes);
     }))
     (or_cases (is_marked marked node)
-    (list_any (λ goal. is_marked marked goal && reaches graph node goal) (range_with_len 0 (length graph))) told)
+    (list_any (λ goal. is_marked marked goal && reaches graph node goal) (range_with_len 0 (length graph))) reported)
 
--- an edge to a node that is told
-told_step : (graph : Graph) (marked : List Bool) (node next : ℕ) → HasNodes graph → leads graph node next ≡ true
+-- an edge to a node that is reported
+reported_step : (graph : Graph) (marked : List Bool) (node next : ℕ) → HasNodes graph → leads graph node next ≡ true
     → reaches_marked graph marked next ≡ true → reaches_marked graph marked node ≡ true
-told_step graph marked node next nodes led told = told_reaching graph marked node nodes (⊎_elim
+reported_step graph marked node next nodes led reported = reported_reaching graph marked node nodes (⊎_elim
     (λ here. record { goal = next; marks = here; reached = in_one node led })
     (λ far. record { goal = far.goal; marks = far.marks; reached = in_more node next led far.reached })
-    (told_cases graph marked next told))
+    (reported_cases graph marked next reported))
 
 -- nothing was found
 pub keeps_same : (graph : Graph) (found : List Bool) → KeepsSound graph found found
@@ -105,11 +105,11 @@ pub keeps_more : (graph : Graph) (found : List Bool) (node next : ℕ) → HasNo
     → is_marked found next ≡ true → KeepsSound graph found (set found node true)
 keeps_more graph found node next nodes led has = record {
   keeps = λ marked sound. record {
-    tells = λ other told. elim (cases_eq other node) [
+    tells = λ other reported. elim (cases_eq other node) [
       | inl here ↦
           subst (λ (n : ℕ). reaches_marked graph marked n ≡ true) (sym here)
-          (told_step graph marked node next nodes led (sound.tells next has))
-      | inr away ↦ sound.tells other (sym (get_or-set_other found node other true false away) ∙ told)
+          (reported_step graph marked node next nodes led (sound.tells next has))
+      | inr away ↦ sound.tells other (sym (get_or-set_other found node other true false away) ∙ reported)
     ];
   };
 }
@@ -118,15 +118,15 @@ keeps_more graph found node next nodes led has = record {
 marks_sound : (graph : Graph) (marked : List Bool) (count : ℕ)
     → IsSound graph marked (map (is_marked marked) (range_with_len 0 count))
 marks_sound graph marked count = record {
-  tells = λ node told. elim (cases_lt node count) [
+  tells = λ node reported. elim (cases_lt node count) [
     | inl less ↦
-        told_marked graph marked node
-        (sym (get_or-map-range_with_len (is_marked marked) 0 count node node false less (omega arith)) ∙ told)
+        reported_marked graph marked node
+        (sym (get_or-map-range_with_len (is_marked marked) 0 count node node false less (omega arith)) ∙ reported)
     | inr over ↦
         let long = length-map-range_with_len (is_marked marked) 0 count in
         let none =
         get_or_past (map (is_marked marked) (range_with_len 0 count)) node false (omega (arith, over, long)) in
-        absurd (true≢false (sym told ∙ none))
+        absurd (true≢false (sym reported ∙ none))
   ];
 }
 
@@ -145,20 +145,20 @@ closed_more rows marked found node row items before inside is at closed =
     let graph = graph_of rows in
     let row_is : successors graph node ≡ items = row_successors rows node row inside is ∙ sym at in
     record {
-      marks = λ other below told. elim (cases_eq other node) [
+      marks = λ other below reported. elim (cases_eq other node) [
         | inl here ↦
             subst (λ (n : ℕ). is_marked found n ≡ true) (sym here)
-            (closed.mark (subst (λ (n : ℕ). is_marked marked n ≡ true) here told))
-        | inr away ↦ before.marks other (omega (arith, away)) told
+            (closed.mark (subst (λ (n : ℕ). is_marked marked n ≡ true) here reported))
+        | inr away ↦ before.marks other (omega (arith, away)) reported
       ];
-      steps = λ other next below led told. elim (cases_eq other node) [
+      steps = λ other next below led reported. elim (cases_eq other node) [
         | inl here ↦
             let edge : list_any (λ end. nat_eq end next) items ≡ true =
             subst (λ (ns : List ℕ). list_any (λ end. nat_eq end next) ns ≡ true)
             (ap (successors graph) here ∙ row_is) led in
             subst (λ (n : ℕ). is_marked found n ≡ true) (sym here)
-            (closed.step (some_passes (is_marked found) next items edge told))
-        | inr away ↦ before.steps other next (omega (arith, away)) led told
+            (closed.step (some_passes (is_marked found) next items edge reported))
+        | inr away ↦ before.steps other next (omega (arith, away)) led reported
       ];
     }
 
@@ -173,26 +173,26 @@ closed_path graph marked found bound goal node closed whole has (in_more _ next 
     closed.steps node next (omega (arith, inside, whole)) led
     (closed_path graph marked found bound goal next closed whole has far)
 
--- a node that is told was found
-closed_told : (graph : Graph) (marked found : List Bool) (bound node : ℕ) → HasNodes graph
+-- a node that is reported was found
+closed_reported : (graph : Graph) (marked found : List Bool) (bound node : ℕ) → HasNodes graph
     → IsClosed graph marked found bound → length graph ≤ bound → node < length graph
     → reaches_marked graph marked node ≡ true → is_marked found node ≡ true
-closed_told graph marked found bound node nodes closed whole inside told = ⊎_elim
+closed_reported graph marked found bound node nodes closed whole inside reported = ⊎_elim
     (λ here. closed.marks node (omega (arith, inside, whole)) here)
     (λ to.
     let end = reached_node graph to.goal node nodes to.reached in
     closed_path graph marked found bound to.goal node closed whole
     (closed.marks to.goal (omega (arith, end, whole)) to.marks) to.reached)
-    (told_cases graph marked node told)
+    (reported_cases graph marked node reported)
 
--- a search that is sound and closed finds just the nodes that are told
+-- a search that is sound and closed finds just the nodes that are reported
 found_all : (graph : Graph) (marked found : List Bool) (bound : ℕ) → HasNodes graph
     → length found ≡ length graph → IsSound graph marked found → IsClosed graph marked found bound
     → length graph ≤ bound → found ≡ reach_marked graph marked
 found_all graph marked found bound nodes count sound closed whole =
     fill_by_all (reaches_marked graph marked) found (length graph) false count
     (λ node inside. same_test (is_marked found node) (reaches_marked graph marked node) (sound.tells node)
-    (closed_told graph marked found bound node nodes closed whole inside))
+    (closed_reported graph marked found bound node nodes closed whole inside))
 
 -- what a search finds that begins with the marks, once it was checked
 pub search_found : (rows : List (Vec ℕ Global)) (marked first start found checked : List Bool)
@@ -214,8 +214,8 @@ search_found rows marked first start found checked nodes marks is kept same same
 pub marks_more : (marked found new : List Bool) (node : ℕ) (b : Bool) → new ≡ found ++ b ∷ []
     → found ≡ map (is_marked marked) (range_with_len 0 node) → b ≡ is_marked marked node
     → new ≡ map (is_marked marked) (range_with_len 0 (node + 1))
-marks_more marked found new node b pushed so_far told =
+marks_more marked found new node b pushed so_far reported =
     pushed
     ∙ (ap (λ (bs : List Bool). bs ++ b ∷ []) so_far
-    ∙ (ap (λ (x : Bool). map (is_marked marked) (range_with_len 0 node) ++ x ∷ []) told
+    ∙ (ap (λ (x : Bool). map (is_marked marked) (range_with_len 0 node) ++ x ∷ []) reported
     ∙ sym (map-range_with_len_more (is_marked marked) 0 node node (omega arith))))

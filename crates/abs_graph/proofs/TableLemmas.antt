@@ -7,44 +7,44 @@ use Rattle.std.proofs.lemmas.Bool.{cases_lt, cases_eq}
 use Rattle.std.proofs.lemmas.List.{get_or_past, get_or-set_same, get_or-set_other, get_or_append_left, get_or_push, length_push, length-set, length-map}
 use Rattle.std.proofs.lemmas.List.Elements.{All-more}
 use Rattle.std.proofs.lemmas.List.Folds.{list_any_more}
-use Rattle.abs_graph.specs.BitRows.{has, room_for, IsNewRow}
+use Rattle.abs_graph.specs.BitSets.{has, room_for, AreNewBits}
 use Rattle.abs_graph.specs.Columns.{count_of, column_of, has_column, has_node}
 use Rattle.abs_graph.specs.Graphs.{Graph, HasNodes, successors, reaches, is_marked}
-use Rattle.abs_graph.specs.Tables.{row_at, IsTable, HasNoRoom, HasRoom, IsUnion, IsWide, IsFilled}
+use Rattle.abs_graph.specs.Tables.{bits_at, IsTable, HasNoRoom, HasRoom, IsUnion, IsWide, IsFilled}
 use Rattle.abs_graph.specs.Views.{graph_of}
 use Rattle.abs_graph.specs.declared.columns.Columns.{Columns}
 use Rattle.abs_graph.proofs.ColumnLemmas.{column_inside, has_node_none, has_node_added, has_node_joined}
 use Rattle.abs_graph.proofs.ReachLemmas.{reaches_step}
 
--- a new row is the union for no node
-pub union_none : (columns : Columns) (rows : List (List Bool)) (filled row : List Bool) (bound : ℕ)
-    → IsNewRow bound row → length row ≤ room_for (count_of columns) → IsUnion columns rows filled [] row
-union_none columns rows filled row bound new room = record {
+-- new bits are the union for no node
+pub union_none : (columns : Columns) (rows : List (List Bool)) (filled bits : List Bool) (bound : ℕ)
+    → AreNewBits bound bits → length bits ≤ room_for (count_of columns) → IsUnion columns rows filled [] bits
+union_none columns rows filled bits bound new room = record {
   room = room;
   all_filled = λ k d less. absurd (omega arith);
-  tells = λ goal. has_node_none columns row goal (new.none (column_of columns goal));
+  tells = λ goal. has_node_none columns bits goal (new.none (column_of columns goal));
 }
 
 -- also where it has no room
-pub union_empty : (columns : Columns) (rows : List (List Bool)) (filled row : List Bool) (nodes : List ℕ)
-    → IsNewRow 0 row → length nodes ≡ 0 → IsUnion columns rows filled nodes row
+pub union_empty : (columns : Columns) (rows : List (List Bool)) (filled bits : List Bool) (nodes : List ℕ)
+    → AreNewBits 0 bits → length nodes ≡ 0 → IsUnion columns rows filled nodes bits
 unfolding room_for
-union_empty columns rows filled row [] new none = union_none columns rows filled row 0 new (omega (arith, new.room))
-union_empty columns rows filled row (node ∷ nodes) new none = absurd (omega (arith, none))
+union_empty columns rows filled bits [] new none = union_none columns rows filled bits 0 new (omega (arith, new.room))
+union_empty columns rows filled bits (node ∷ nodes) new none = absurd (omega (arith, none))
 
--- a new row has room
-pub wide_new : (bound : ℕ) (row : List Bool) → IsNewRow bound row → IsWide bound row
-wide_new bound row new = record { room = new.room; fits = new.fits }
+-- new bits have room
+pub wide_new : (bound : ℕ) (bits : List Bool) → AreNewBits bound bits → IsWide bound bits
+wide_new bound bits new = record { room = new.room; fits = new.fits }
 
--- a row with room for each column has room for that of a node
-pub wide_column : (columns : Columns) (row : List Bool) (node column : ℕ) → IsWide (count_of columns) row
-    → has_column columns node ≡ true → column ≡ column_of columns node → column < length row
-wide_column columns row node column wide told is = omega (arith, wide.fits, column_inside columns node told, is)
+-- bits with room for each column have room for that of a node
+pub wide_column : (columns : Columns) (bits : List Bool) (node column : ℕ) → IsWide (count_of columns) bits
+    → has_column columns node ≡ true → column ≡ column_of columns node → column < length bits
+wide_column columns bits node column wide reported is = omega (arith, wide.fits, column_inside columns node reported, is)
 
--- a row that takes no more and no less room than another one
-pub wide_same : (bound : ℕ) (row added joined : List Bool) → IsWide bound row → length added ≡ length row
+-- bits that take no more and no less room than others
+pub wide_same : (bound : ℕ) (bits added joined : List Bool) → IsWide bound bits → length added ≡ length bits
     → length joined ≡ length added → IsWide bound joined
-wide_same bound row added joined wide long longer = record {
+wide_same bound bits added joined wide long longer = record {
   room = longer ∙ (long ∙ wide.room);
   fits = omega (arith, wide.fits, longer, long);
 }
@@ -56,17 +56,17 @@ or_turn true false c = refl
 or_turn false true c = refl
 or_turn false false c = refl
 
--- a row to which one more node and its row were added
+-- bits to which one more node and its bits were added
 pub union_more : (columns : Columns) (rows : List (List Bool)) (filled : List Bool) (nodes : List ℕ) (index next
-    column : ℕ) (row added joined other : List Bool) → IsUnion columns rows filled (take index nodes) row → index < length nodes
+    column : ℕ) (bits added joined other : List Bool) → IsUnion columns rows filled (take index nodes) bits → index < length nodes
     → next ≡ get_or nodes index 0 → is_marked filled next ≡ true → has_column columns next ≡ true
-    → column ≡ column_of columns next → other ≡ row_at rows next → length added ≡ length row
-    → ((number : ℕ) → has added number ≡ (nat_eq column number || has row number))
+    → column ≡ column_of columns next → other ≡ bits_at rows next → length added ≡ length bits
+    → ((number : ℕ) → has added number ≡ (nat_eq column number || has bits number))
     → length joined ≡ length added → ((number : ℕ) → has joined number ≡ (has added number || has other number))
     → IsUnion columns rows filled (take (index + 1) nodes) joined
-union_more columns rows filled nodes index next column row added joined other union less is done told owns at long adds
+union_more columns rows filled nodes index next column bits added joined other union less is done reported owns at long adds
     longer joins =
-    let member : ℕ → ℕ → Bool = λ goal after. nat_eq after goal || has_node columns (row_at rows after) goal in
+    let member : ℕ → ℕ → Bool = λ goal after. nat_eq after goal || has_node columns (bits_at rows after) goal in
     record {
       room = omega (arith, union.room, longer, long);
       all_filled = All-more (λ after. is_marked filled after ≡ true) nodes index 0 less union.all_filled
@@ -74,10 +74,10 @@ union_more columns rows filled nodes index next column row added joined other un
       tells = λ goal.
           has_node_joined columns added joined other goal joins
           ∙ (ap (λ (b : Bool). b || has_node columns other goal)
-          (has_node_added columns row added next column goal told owns adds)
-          ∙ (or_turn (has_node columns row goal) (nat_eq next goal) (has_node columns other goal)
-          ∙ (ap (λ (r : List Bool). has_node columns row goal || (nat_eq next goal || has_node columns r goal)) at
-          ∙ (ap (λ (n : ℕ). has_node columns row goal || member goal n) is
+          (has_node_added columns bits added next column goal reported owns adds)
+          ∙ (or_turn (has_node columns bits goal) (nat_eq next goal) (has_node columns other goal)
+          ∙ (ap (λ (r : List Bool). has_node columns bits goal || (nat_eq next goal || has_node columns r goal)) at
+          ∙ (ap (λ (n : ℕ). has_node columns bits goal || member goal n) is
           ∙ (ap (λ (b : Bool). b || member goal (get_or nodes index 0)) (union.tells goal)
           ∙ sym (list_any_more (member goal) nodes index 0 less))))));
     }
@@ -90,64 +90,64 @@ any_same p q (x ∷ xs) same =
     ∙ ap (λ (b : Bool). q x || b) (any_same p q xs (λ k d less. same (suc k) d (omega (arith, less))))
 
 -- a union over the nodes to which the edges of a node lead tells what the node reaches
-union_reaches : (graph : Graph) (columns : Columns) (rows : List (List Bool)) (filled row : List Bool) (node goal : ℕ)
-    → IsFilled graph columns rows filled → IsUnion columns rows filled (successors graph node) row
-    → has_node columns row goal ≡ reaches graph node goal
-union_reaches graph columns rows filled row node goal known union =
+union_reaches : (graph : Graph) (columns : Columns) (rows : List (List Bool)) (filled bits : List Bool) (node goal : ℕ)
+    → IsFilled graph columns rows filled → IsUnion columns rows filled (successors graph node) bits
+    → has_node columns bits goal ≡ reaches graph node goal
+union_reaches graph columns rows filled bits node goal known union =
     union.tells goal
-    ∙ (any_same (λ next. nat_eq next goal || has_node columns (row_at rows next) goal)
+    ∙ (any_same (λ next. nat_eq next goal || has_node columns (bits_at rows next) goal)
     (λ next. nat_eq next goal || reaches graph next goal) (successors graph node)
     (λ k d less. ap (λ (b : Bool). nat_eq (get_or (successors graph node) k d) goal || b)
     (known.tells (get_or (successors graph node) k d) goal (union.all_filled k d less)))
     ∙ reaches_step graph node goal)
 
 -- the rows after one more of them was filled
-pub filled_more : (graph : Graph) (columns : Columns) (rows : List (List Bool)) (filled row : List Bool) (node : ℕ)
-    → IsFilled graph columns rows filled → node < length graph → IsUnion columns rows filled (successors graph node) row
-    → IsFilled graph columns (set rows node row) (set filled node true)
-filled_more graph columns rows filled row node known inside union =
+pub filled_more : (graph : Graph) (columns : Columns) (rows : List (List Bool)) (filled bits : List Bool) (node : ℕ)
+    → IsFilled graph columns rows filled → node < length graph → IsUnion columns rows filled (successors graph node) bits
+    → IsFilled graph columns (set rows node bits) (set filled node true)
+filled_more graph columns rows filled bits node known inside union =
     let at_row : node < length rows = omega (arith, known.count) in
     let at_flag : node < length filled = omega (arith, known.flags) in
-    let as_long : length (set rows node row) ≡ length rows = length-set rows node row in
+    let as_long : length (set rows node bits) ≡ length rows = length-set rows node bits in
     record {
       count = as_long ∙ known.count;
       flags = length-set filled node true ∙ known.flags;
       room = record {
         room = λ other. elim (cases_eq other node) [
           | inl here ↦
-              let is : row_at (set rows node row) other ≡ row =
-              ap (row_at (set rows node row)) here ∙ get_or-set_same rows node row [] at_row in
+              let is : bits_at (set rows node bits) other ≡ bits =
+              ap (bits_at (set rows node bits)) here ∙ get_or-set_same rows node bits [] at_row in
               subst (λ (r : List Bool). length r ≤ room_for (count_of columns)) (sym is) union.room
           | inr away ↦
               subst (λ (r : List Bool). length r ≤ room_for (count_of columns))
-              (sym (get_or-set_other rows node other row [] away)) (known.room.room other)
+              (sym (get_or-set_other rows node other bits [] away)) (known.room.room other)
         ];
       };
-      tells = λ other goal told. elim (cases_eq other node) [
+      tells = λ other goal reported. elim (cases_eq other node) [
         | inl here ↦
-            ap (λ (n : ℕ). has_node columns (row_at (set rows node row) n) goal) here
-            ∙ (ap (λ (r : List Bool). has_node columns r goal) (get_or-set_same rows node row [] at_row)
-            ∙ (union_reaches graph columns rows filled row node goal known union
+            ap (λ (n : ℕ). has_node columns (bits_at (set rows node bits) n) goal) here
+            ∙ (ap (λ (r : List Bool). has_node columns r goal) (get_or-set_same rows node bits [] at_row)
+            ∙ (union_reaches graph columns rows filled bits node goal known union
             ∙ ap (λ (n : ℕ). reaches graph n goal) (sym here)))
         | inr away ↦
-            ap (λ (r : List Bool). has_node columns r goal) (get_or-set_other rows node other row [] away)
-            ∙ known.tells other goal (sym (get_or-set_other filled node other true false away) ∙ told)
+            ap (λ (r : List Bool). has_node columns r goal) (get_or-set_other rows node other bits [] away)
+            ∙ known.tells other goal (sym (get_or-set_other filled node other true false away) ∙ reported)
       ];
     }
 
 -- one more row without room
-pub none_more : (rows : List (List Bool)) (row : List Bool) → HasNoRoom rows → IsNewRow 0 row
-    → HasNoRoom (rows ++ row ∷ [])
+pub none_more : (rows : List (List Bool)) (bits : List Bool) → HasNoRoom rows → AreNewBits 0 bits
+    → HasNoRoom (rows ++ bits ∷ [])
 unfolding room_for
-none_more rows row none new = record {
+none_more rows bits none new = record {
   none = λ node. elim (cases_lt node (length rows)) [
-    | inl less ↦ ap (λ (r : List Bool). length r) (get_or_append_left rows (row ∷ []) [] node less) ∙ none.none node
+    | inl less ↦ ap (λ (r : List Bool). length r) (get_or_append_left rows (bits ∷ []) [] node less) ∙ none.none node
     | inr over ↦ elim (cases_eq node (length rows)) [
-      | inl last ↦ ap (λ (r : List Bool). length r) (get_or_push rows row [] node (sym last)) ∙ new.room
+      | inl last ↦ ap (λ (r : List Bool). length r) (get_or_push rows bits [] node (sym last)) ∙ new.room
       | inr past ↦
-          let long = length_push rows row in
-          let beyond : length (rows ++ row ∷ []) ≤ node = omega (arith, long, over, past) in
-          ap (λ (r : List Bool). length r) (get_or_past (rows ++ row ∷ []) node [] beyond)
+          let long = length_push rows bits in
+          let beyond : length (rows ++ bits ∷ []) ≤ node = omega (arith, long, over, past) in
+          ap (λ (r : List Bool). length r) (get_or_past (rows ++ bits ∷ []) node [] beyond)
     ]
   ];
 }

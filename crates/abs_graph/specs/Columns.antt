@@ -5,9 +5,9 @@
 --   `has_column`               whether a node has a column
 --   `IsExtended`               some nodes have columns, and so has each node that had one before
 --   `HasColumns`               each node to which an edge leads has a column
---   `has_node`                 whether a row has a node, which it has by its column
+--   `has_node`                 whether bits have a node, which they have by its column
 use Rattle.std.specs.Prelude.{◌≡◌, ℕ, ◌<◌, Bool, true, ◌&&◌, List, length, get_or, nat_eq, nat_lt, All}
-use Rattle.abs_graph.specs.BitRows.{has}
+use Rattle.abs_graph.specs.BitSets.{has}
 use Rattle.abs_graph.specs.Graphs.{Graph, successors}
 use Rattle.abs_graph.specs.declared.columns.Columns.{Columns}
 
@@ -35,6 +35,6 @@ pub record IsExtended (old new : Columns) (nodes : List ℕ) : Type 0 where
 pub record HasColumns (columns : Columns) (graph : Graph) (bound : ℕ) : Type 0 where
   pub each : (node : ℕ) → node < bound → All (λ next. has_column columns next ≡ true) (successors graph node)
 
--- whether a row has a node, which it has by its column
+-- whether bits have a node, which they have by its column
 unfoldable pub has_node : Columns → List Bool → ℕ → Bool
-has_node columns row node = has_column columns node && has row (column_of columns node)
+has_node columns bits node = has_column columns node && has bits (column_of columns node)

@@ -1,4 +1,4 @@
-pub mod BitRows
+pub mod BitSets
 pub mod Certificates
 pub mod Columns
 pub mod Graphs

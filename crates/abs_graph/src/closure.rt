@@ -9,7 +9,7 @@ ghost use Rattle.abs_graph.specs.Graphs.{HasNodes, reaches as reaches_by, on_cyc
 ghost use Rattle.abs_graph.specs.Tables.{HasNoRoom, HasRoom, IsFilled, IsTable, IsUnion};
 ghost use Rattle.abs_graph.specs.Views.{graph_of};
 
-use crate::bit_row::BitRow;
+use crate::bit_set::BitSet;
 use crate::certificate::leaving_order;
 use crate::columns::Columns;
 use std::alloc::{AllocError, Global};
@@ -20,7 +20,7 @@ use std::marker::Model;
 pub struct Closure {
     graph: Vec<Vec<u32>>,
     columns: Columns,
-    rows: Vec<BitRow>,
+    rows: Vec<BitSet>,
 }
 
 impl Model for Closure {
@@ -40,33 +40,33 @@ impl Model for Closure {
 ///
 /// # Errors
 /// [`AllocError`] if an allocation fails, or if the row of one of the nodes was not filled.
-fn row_over(
+fn bits_over(
     alloc: Global,
     nodes: &[u32],
     columns: &Columns,
-    rows: &[BitRow],
+    rows: &[BitSet],
     filled: &[bool],
-) -> Result<BitRow, AllocError>
+) -> Result<BitSet, AllocError>
     requires nodes { All (λ next. next < length rows.now) nodes.now }
     requires columns { All (λ next. has_column columns.now next ≡ true) nodes.now }
     requires flags { length filled.now ≡ length rows.now }
     requires room { HasRoom columns.now rows.now }
-    ensures { IfOk result (λ row. IsUnion columns.now rows.now filled.now nodes.now row) }
+    ensures { IfOk result (λ bits. IsUnion columns.now rows.now filled.now nodes.now bits) }
 {
     if nodes.is_empty() {
-        let empty = BitRow::new(alloc, 0)?;
+        let empty = BitSet::new(alloc, 0)?;
         return Ok(empty);
     }
-    let mut row = BitRow::new(alloc, columns.count())?;
+    let mut bits = BitSet::new(alloc, columns.count())?;
     for next in nodes {
         let next = *next as usize;
         if !filled[next] {
             return Err(AllocError);
         }
-        row.add(columns.column(next));
-        row.add_all(&rows[next]);
+        bits.add(columns.column(next));
+        bits.add_all(&rows[next]);
     }
-    Ok(row)
+    Ok(bits)
 }
 
 /// Fills the row of a node.
@@ -78,7 +78,7 @@ fn fill(
     graph: &[Vec<u32>],
     columns: &Columns,
     node: usize,
-    rows: &mut [BitRow],
+    rows: &mut [BitSet],
     filled: &mut [bool],
 ) -> Result<(), AllocError>
     requires nodes { HasNodes (graph_of graph.now) }
@@ -87,8 +87,8 @@ fn fill(
     requires filled { IsFilled (graph_of graph.now) columns.now rows.old filled.old }
     ensures { IfOk result (λ _. IsFilled (graph_of graph.now) columns.now rows.new filled.new) }
 {
-    let row = row_over(alloc, graph[node].as_slice(), columns, rows, filled)?;
-    rows[node] = row;
+    let bits = bits_over(alloc, graph[node].as_slice(), columns, rows, filled)?;
+    rows[node] = bits;
     filled[node] = true;
     Ok(())
 }
@@ -102,7 +102,7 @@ fn fill_in_order(
     graph: &[Vec<u32>],
     columns: &Columns,
     order: &[usize],
-    rows: &mut [BitRow],
+    rows: &mut [BitSet],
     filled: &mut [bool],
 ) -> Result<(), AllocError>
     requires nodes { HasNodes (graph_of graph.now) }
@@ -122,12 +122,12 @@ fn fill_in_order(
 ///
 /// # Errors
 /// [`AllocError`] if an allocation fails.
-fn no_rows(alloc: Global, nodes: usize) -> Result<Vec<BitRow>, AllocError>
+fn no_rows(alloc: Global, nodes: usize) -> Result<Vec<BitSet>, AllocError>
     ensures { IfOk result (λ rows. (length rows.items ≡ nodes) × HasNoRoom rows.items) }
 {
     let mut rows = Vec::with_capacity(alloc, nodes)?;
     for _ in 0..nodes {
-        rows.push(BitRow::new(alloc, 0)?)?;
+        rows.push(BitSet::new(alloc, 0)?)?;
     }
     Ok(rows)
 }
@@ -143,7 +143,7 @@ fn all_filled(filled: &[bool]) -> bool
 ///
 /// # Errors
 /// [`AllocError`] if an allocation fails, or if the graph has a cycle.
-fn table(alloc: Global, graph: &[Vec<u32>], columns: &Columns) -> Result<Vec<BitRow>, AllocError>
+fn table(alloc: Global, graph: &[Vec<u32>], columns: &Columns) -> Result<Vec<BitSet>, AllocError>
     requires nodes { HasNodes (graph_of graph.now) }
     requires columns { HasColumns columns.now (graph_of graph.now) (length graph.now) }
     ensures { IfOk result (λ rows. IsTable (graph_of graph.now) columns.now rows.items) }
@@ -204,7 +204,7 @@ impl Closure {
         ensures { result ≡ reaches_by self.now from to }
     {
         match self.rows.get(from as usize) {
-            Some(row) => self.columns.has_node(row, to as usize),
+            Some(bits) => self.columns.has_node(bits, to as usize),
             None => false,
         }
     }
@@ -218,7 +218,7 @@ impl Closure {
         ensures { IfOk result (λ found. (to : ℕ) → is_listed found.items to ≡ reaches_by self.now from to) }
     {
         match self.rows.get(from as usize) {
-            Some(row) => self.columns.nodes_of(alloc, row),
+            Some(bits) => self.columns.nodes_of(alloc, bits),
             None => Ok(Vec::new(alloc)),
         }
     }

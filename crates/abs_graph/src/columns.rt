@@ -5,7 +5,7 @@ ghost use Rattle.abs_graph.specs.Columns.{HasColumns, IsExtended, count_of, colu
 ghost use Rattle.abs_graph.specs.Graphs.{HasNodes, is_listed};
 ghost use Rattle.abs_graph.specs.Views.{graph_of};
 
-use crate::bit_row::BitRow;
+use crate::bit_set::BitSet;
 use std::alloc::{AllocError, Global};
 
 /// The columns of a table.
@@ -92,23 +92,23 @@ impl Columns {
         column < self.nodes.len() && self.nodes[column] == node
     }
 
-    /// Whether a row has a node.
+    /// Whether bits have a node.
     #[tactic(auto, unfolding(crate::specs::Columns::has_node))]
-    pub fn has_node(&self, row: &BitRow, node: usize) -> bool
-        ensures { result ≡ has_node self.now row.now node }
+    pub fn has_node(&self, bits: &BitSet, node: usize) -> bool
+        ensures { result ≡ has_node self.now bits.now node }
     {
-        self.has(node) && row.has(self.column(node))
+        self.has(node) && bits.has(self.column(node))
     }
 
-    /// The nodes that a row has.
+    /// The nodes that bits have.
     ///
     /// # Errors
     /// [`AllocError`] if an allocation fails, or if a node takes more than 32 bits.
-    pub fn nodes_of(&self, alloc: Global, row: &BitRow) -> Result<Vec<u32>, AllocError>
+    pub fn nodes_of(&self, alloc: Global, bits: &BitSet) -> Result<Vec<u32>, AllocError>
         ensures { IfOk result (λ found. (node : ℕ)
-            → is_listed found.items node ≡ has_node self.now row.now node) }
+            → is_listed found.items node ≡ has_node self.now bits.now node) }
     {
-        let numbers = row.numbers(alloc)?;
+        let numbers = bits.numbers(alloc)?;
         let mut found = Vec::new(alloc);
         for column in numbers.iter() {
             self.add_node(*column, &mut found)?;

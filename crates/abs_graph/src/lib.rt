@@ -1,7 +1,7 @@
 //! Directed graphs: which nodes reach themselves, which reach a marked one, and a table of which reach which.
 #![tactic(auto)]
 
-mod bit_row;
+mod bit_set;
 mod certificate;
 mod closure;
 mod columns;
@@ -11,5 +11,5 @@ mod marked;
 
 pub use closure::{Closure, closure_of};
 pub use cycles::on_cycles;
-pub use laws::reaches_is_told;
+pub use laws::reaches_is_reported;
 pub use marked::{is_marked, reaching};

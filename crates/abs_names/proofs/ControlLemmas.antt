@@ -8,16 +8,16 @@ use Rattle.std.proofs.lemmas.List.{length-append}
 use Rattle.abs_tree.proofs.StatementLemmas.{statement-block, statement-while, statement-if}
 use Rattle.abs_tree.specs.Offences.{earlier}
 use Rattle.abs_program.specs.Slots.{statement_slots, statements_slots, else_slots}
-use Rattle.abs_tree.specs.Syntax.{Name, Phrase, Statement, Statements, BlockOf, IfOf, WhileOf}
-use Rattle.abs_tree.specs.SyntaxViews.{phrase, statement, statements, maybe_statements}
+use Rattle.abs_tree.specs.Syntax.{Name, ExprTree, Statement, Statements, BlockOf, IfOf, WhileOf}
+use Rattle.abs_tree.specs.SyntaxViews.{expr_tree, statement, statements, maybe_statements}
 use Rattle.abs_tree.specs.declared.place.Place.{Place}
 use Rattle.abs_tree.specs.declared.refusal.Offence.{Offence}
 use Rattle.abs_tree.specs.declared.syntax.expression.Expr.{Expr}
 use Rattle.abs_tree.specs.declared.syntax.slot.Slot.{Slot}
 use Rattle.abs_tree.specs.declared.syntax.statement.Stmt as code
 use Rattle.abs_tree.specs.declared.syntax.statement.Stmt.{Stmt}
-use Rattle.abs_names.specs.NameOffences.{phrase_offences, statement_offences, statements_offences, else_offences}
-use Rattle.abs_names.specs.Resolution.{resolved_phrase, resolved_statement, resolved_statements, resolved_else}
+use Rattle.abs_names.specs.NameOffences.{expr_offences, statement_offences, statements_offences, else_offences}
+use Rattle.abs_names.specs.Resolution.{resolved_expr, resolved_statement, resolved_statements, resolved_else}
 use Rattle.abs_names.specs.Visible.{Visible}
 use Rattle.abs_names.proofs.FormLemmas.{both_noted}
 
@@ -34,37 +34,37 @@ block_tree names stmt place block items is items_are =
 pub while_tree : (names : List Name) (stmt : Stmt) (index : ℕ) (place : Place) (condition : Arc Expr Global)
     (body : Vec Stmt Global) (value : Expr) (items : List Stmt) → stmt ≡ code.While index place condition body
     → value ≡ condition.value → items ≡ body.items
-    → statement names stmt ≡ WhileOf index place (phrase names value) (statements names items)
+    → statement names stmt ≡ WhileOf index place (expr_tree names value) (statements names items)
 while_tree names stmt index place condition body value items is value_is items_are =
     ap (statement names) is
     ∙ (statement-while names index place condition body
-    ∙ (ap (λ (e : Expr). WhileOf index place (phrase names e) (statements names body.items)) (sym value_is)
-    ∙ ap (λ (xs : List Stmt). WhileOf index place (phrase names value) (statements names xs)) (sym items_are)))
+    ∙ (ap (λ (e : Expr). WhileOf index place (expr_tree names e) (statements names body.items)) (sym value_is)
+    ∙ ap (λ (xs : List Stmt). WhileOf index place (expr_tree names value) (statements names xs)) (sym items_are)))
 
 -- the tree of an `if`
 pub if_tree : (names : List Name) (stmt : Stmt) (index : ℕ) (place : Place) (condition : Arc Expr Global)
     (first : Vec Stmt Global) (second : Option (Vec Stmt Global)) (value : Expr) (items : List Stmt)
     → stmt ≡ code.If index place condition first second → value ≡ condition.value → items ≡ first.items
     → statement names stmt
-    ≡ IfOf index place (phrase names value) (statements names items) (maybe_statements names second)
+    ≡ IfOf index place (expr_tree names value) (statements names items) (maybe_statements names second)
 if_tree names stmt index place condition first second value items is value_is items_are =
     let other = maybe_statements names second in
     ap (statement names) is
     ∙ (statement-if names index place condition first second
-    ∙ (ap (λ (e : Expr). IfOf index place (phrase names e) (statements names first.items) other) (sym value_is)
-    ∙ ap (λ (xs : List Stmt). IfOf index place (phrase names value) (statements names xs) other) (sym items_are)))
+    ∙ (ap (λ (e : Expr). IfOf index place (expr_tree names e) (statements names first.items) other) (sym value_is)
+    ∙ ap (λ (xs : List Stmt). IfOf index place (expr_tree names value) (statements names xs) other) (sym items_are)))
 
 -- a resolved loop, and its offences
 pub while_found : (start now : Visible) (next : ℕ) (tree : Statement) (index : ℕ) (place : Place)
     (made : Arc Expr Global) (found : Vec Stmt Global) (value : Expr) (items : List Stmt)
-    → tree ≡ WhileOf index place (phrase start.names.before value) (statements start.names.before items) → now ≡ start
-    → phrase start.names.after made.value ≡ resolved_phrase start.scope (phrase start.names.before value)
+    → tree ≡ WhileOf index place (expr_tree start.names.before value) (statements start.names.before items) → now ≡ start
+    → expr_tree start.names.after made.value ≡ resolved_expr start.scope (expr_tree start.names.before value)
     → statements now.names.after found.items ≡ resolved_statements now.scope next (statements now.names.before items)
     → statement start.names.after (code.While index place made found) ≡ resolved_statement start.scope next tree
 while_found start now next tree index place made found value items is same condition body =
     statement-while start.names.after index place made found
-    ∙ (ap (λ (p : Phrase). WhileOf index place p (statements start.names.after found.items)) condition
-    ∙ (ap (WhileOf index place (resolved_phrase start.scope (phrase start.names.before value)))
+    ∙ (ap (λ (p : ExprTree). WhileOf index place p (statements start.names.after found.items)) condition
+    ∙ (ap (WhileOf index place (resolved_expr start.scope (expr_tree start.names.before value)))
     (subst (λ (v : Visible). statements v.names.after found.items ≡ resolved_statements v.scope next
     (statements v.names.before items))
     same body)
@@ -72,12 +72,12 @@ while_found start now next tree index place made found value items is same condi
 
 pub while_noted : (start now : Visible) (next : ℕ) (tree : Statement) (index : ℕ) (place : Place) (value : Expr)
     (items : List Stmt) (first between after : Option Offence)
-    → tree ≡ WhileOf index place (phrase start.names.before value) (statements start.names.before items) → now ≡ start
-    → between ≡ fold earlier first (phrase_offences start.scope (phrase start.names.before value))
+    → tree ≡ WhileOf index place (expr_tree start.names.before value) (statements start.names.before items) → now ≡ start
+    → between ≡ fold earlier first (expr_offences start.scope (expr_tree start.names.before value))
     → after ≡ fold earlier between (statements_offences now.scope next (statements now.names.before items))
     → after ≡ fold earlier first (statement_offences start.scope next tree)
 while_noted start now next tree index place value items first between after is same note noted =
-    both_noted first between after (phrase_offences start.scope (phrase start.names.before value))
+    both_noted first between after (expr_offences start.scope (expr_tree start.names.before value))
     (statements_offences start.scope next (statements start.names.before items)) note
     (subst (λ (v : Visible).
     after ≡ fold earlier between (statements_offences v.scope next (statements v.names.before items))) same noted)
@@ -96,20 +96,20 @@ pub if_found : (start now later : Visible) (next after : ℕ) (tree : Statement)
     (made : Arc Expr Global) (found : Vec Stmt Global) (other : Option (Vec Stmt Global)) (value : Expr)
     (items : List Stmt) (second : Option (Vec Stmt Global))
     → tree
-    ≡ IfOf index place (phrase start.names.before value) (statements start.names.before items)
+    ≡ IfOf index place (expr_tree start.names.before value) (statements start.names.before items)
     (maybe_statements start.names.before second) → now ≡ start → later ≡ start
     → after ≡ next + length (statements_slots (statements start.names.before items))
-    → phrase start.names.after made.value ≡ resolved_phrase start.scope (phrase start.names.before value)
+    → expr_tree start.names.after made.value ≡ resolved_expr start.scope (expr_tree start.names.before value)
     → statements now.names.after found.items ≡ resolved_statements now.scope next (statements now.names.before items)
     → maybe_statements later.names.after other ≡ resolved_else later.scope after
     (maybe_statements later.names.before second)
     → statement start.names.after (code.If index place made found other) ≡ resolved_statement start.scope next tree
 if_found start now later next after tree index place made found other value items second is same still grown condition
     branch branch_else =
-    let p = resolved_phrase start.scope (phrase start.names.before value) in
+    let p = resolved_expr start.scope (expr_tree start.names.before value) in
     let first = resolved_statements start.scope next (statements start.names.before items) in
     statement-if start.names.after index place made found other
-    ∙ (ap (λ (q : Phrase). IfOf index place q (statements start.names.after found.items)
+    ∙ (ap (λ (q : ExprTree). IfOf index place q (statements start.names.after found.items)
     (maybe_statements start.names.after other)) condition
     ∙ (ap (λ (ts : Statements). IfOf index place p ts (maybe_statements start.names.after other))
     (subst (λ (v : Visible). statements v.names.after found.items ≡ resolved_statements v.scope next
@@ -125,10 +125,10 @@ if_found start now later next after tree index place made found other value item
 pub if_noted : (start now later : Visible) (next after : ℕ) (tree : Statement) (index : ℕ) (place : Place)
     (value : Expr) (items : List Stmt) (second : Option (Vec Stmt Global)) (first between middle last : Option Offence)
     → tree
-    ≡ IfOf index place (phrase start.names.before value) (statements start.names.before items)
+    ≡ IfOf index place (expr_tree start.names.before value) (statements start.names.before items)
     (maybe_statements start.names.before second) → now ≡ start → later ≡ start
     → after ≡ next + length (statements_slots (statements start.names.before items))
-    → between ≡ fold earlier first (phrase_offences start.scope (phrase start.names.before value))
+    → between ≡ fold earlier first (expr_offences start.scope (expr_tree start.names.before value))
     → middle ≡ fold earlier between (statements_offences now.scope next (statements now.names.before items))
     → last ≡ fold earlier middle (else_offences later.scope after (maybe_statements later.names.before second))
     → last ≡ fold earlier first (statement_offences start.scope next tree)
@@ -138,7 +138,7 @@ if_noted start now later next after tree index place value items second first be
     let other : List Offence = else_offences start.scope
     (next + length (statements_slots (statements start.names.before items)))
     (maybe_statements start.names.before second) in
-    both_noted first between last (phrase_offences start.scope (phrase start.names.before value)) (branch ++ other) note
+    both_noted first between last (expr_offences start.scope (expr_tree start.names.before value)) (branch ++ other) note
     (both_noted between middle last branch other
     (subst (λ (v : Visible).
     middle ≡ fold earlier between (statements_offences v.scope next (statements v.names.before items))) same noted)

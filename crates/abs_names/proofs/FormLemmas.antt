@@ -6,11 +6,11 @@ use Rattle.std.specs.declared.boxed.Box.{Box}
 use Rattle.std.specs.declared.sync.Arc.{Arc}
 use Rattle.std.specs.declared.vec.Vec.{Vec}
 use Rattle.std.proofs.lemmas.List.Sums.{fold-append}
-use Rattle.abs_tree.proofs.SyntaxLemmas.{phrase-own_call, phrase-apply, phrase-build, phrase-operators, phrase-case}
+use Rattle.abs_tree.proofs.SyntaxLemmas.{expr_tree-own_call, expr_tree-apply, expr_tree-build, expr_tree-operators, expr_tree-case}
 use Rattle.abs_tree.specs.Offences.{earlier}
-use Rattle.abs_tree.specs.Syntax.{Name, Phrase, OperatorsOf, OwnCallOf, ApplyOf, BuildOf, CaseOf}
-use Rattle.abs_tree.specs.SyntaxCounts.{count_phrases}
-use Rattle.abs_tree.specs.SyntaxViews.{phrase, phrases, operand_trees, branches}
+use Rattle.abs_tree.specs.Syntax.{Name, ExprTree, OperatorsOf, OwnCallOf, ApplyOf, BuildOf, CaseOf}
+use Rattle.abs_tree.specs.SyntaxCounts.{count_exprs}
+use Rattle.abs_tree.specs.SyntaxViews.{expr_tree, expr_trees, operand_trees, branches}
 use Rattle.abs_tree.specs.Names.{name_of}
 use Rattle.abs_tree.specs.declared.place.Place.{Place}
 use Rattle.abs_tree.specs.declared.refusal.Offence.{Offence}
@@ -19,8 +19,8 @@ use Rattle.abs_tree.specs.declared.syntax.expression.Expr as code
 use Rattle.abs_tree.specs.declared.syntax.expression.Expr.{Expr}
 use Rattle.abs_tree.specs.declared.syntax.expression.Operand.{Operand}
 use Rattle.abs_tree.specs.declared.syntax.expression.Branch.{Branch}
-use Rattle.abs_names.specs.NameOffences.{phrases_offences}
-use Rattle.abs_names.specs.Resolution.{resolved_phrases, resolved_operands, resolved_branches}
+use Rattle.abs_names.specs.NameOffences.{exprs_offences}
+use Rattle.abs_names.specs.Resolution.{resolved_exprs, resolved_operands, resolved_branches}
 use Rattle.abs_names.specs.TypeNames.{Around, applied}
 use Rattle.abs_names.specs.Visible.{Names, Known, Visible}
 
@@ -57,21 +57,21 @@ kept_in known names kept name is same =
 pub operators_tree : (names : List Name) (expr : Expr) (place : Place) (first : Box Expr Global)
     (operands : Vec Operand Global) (value : Expr) (items : List Operand) → expr ≡ code.Operators place first operands
     → value ≡ first.value → items ≡ operands.items
-    → phrase names expr ≡ OperatorsOf place (phrase names value) (operand_trees names items)
+    → expr_tree names expr ≡ OperatorsOf place (expr_tree names value) (operand_trees names items)
 operators_tree names expr place first operands value items is value_is items_are =
-    ap (phrase names) is
-    ∙ (phrase-operators names place first operands
-    ∙ (ap (λ (e : Expr). OperatorsOf place (phrase names e) (operand_trees names operands.items)) (sym value_is)
-    ∙ ap (λ (os : List Operand). OperatorsOf place (phrase names value) (operand_trees names os)) (sym items_are)))
+    ap (expr_tree names) is
+    ∙ (expr_tree-operators names place first operands
+    ∙ (ap (λ (e : Expr). OperatorsOf place (expr_tree names e) (operand_trees names operands.items)) (sym value_is)
+    ∙ ap (λ (os : List Operand). OperatorsOf place (expr_tree names value) (operand_trees names os)) (sym items_are)))
 
 pub operators_found : (start now : Visible) (place : Place) (made : Box Expr Global) (found : Vec Operand Global)
-    (first : Phrase) (items : List Operand) → now ≡ start → phrase start.names.after made.value ≡ first
+    (first : ExprTree) (items : List Operand) → now ≡ start → expr_tree start.names.after made.value ≡ first
     → operand_trees now.names.after found.items ≡ resolved_operands now.scope (operand_trees now.names.before items)
-    → phrase start.names.after (code.Operators place made found)
+    → expr_tree start.names.after (code.Operators place made found)
     ≡ OperatorsOf place first (resolved_operands start.scope (operand_trees start.names.before items))
 operators_found start now place made found first items same one others =
-    phrase-operators start.names.after place made found
-    ∙ (ap (λ (p : Phrase). OperatorsOf place p (operand_trees start.names.after found.items)) one
+    expr_tree-operators start.names.after place made found
+    ∙ (ap (λ (p : ExprTree). OperatorsOf place p (operand_trees start.names.after found.items)) one
     ∙ ap (OperatorsOf place first) (subst (λ (v : Visible).
     operand_trees v.names.after found.items ≡ resolved_operands v.scope (operand_trees v.names.before items))
     same others))
@@ -79,101 +79,101 @@ operators_found start now place made found first items same one others =
 -- the tree of a `case`
 pub case_tree : (names : List Name) (expr : Expr) (place : Place) (subject : Box Expr Global) (arms : Vec Branch Global)
     (value : Expr) (items : List Branch) → expr ≡ code.Case place subject arms → value ≡ subject.value
-    → items ≡ arms.items → phrase names expr ≡ CaseOf place (phrase names value) (branches names items)
+    → items ≡ arms.items → expr_tree names expr ≡ CaseOf place (expr_tree names value) (branches names items)
 case_tree names expr place subject arms value items is value_is items_are =
-    ap (phrase names) is
-    ∙ (phrase-case names place subject arms
-    ∙ (ap (λ (e : Expr). CaseOf place (phrase names e) (branches names arms.items)) (sym value_is)
-    ∙ ap (λ (bs : List Branch). CaseOf place (phrase names value) (branches names bs)) (sym items_are)))
+    ap (expr_tree names) is
+    ∙ (expr_tree-case names place subject arms
+    ∙ (ap (λ (e : Expr). CaseOf place (expr_tree names e) (branches names arms.items)) (sym value_is)
+    ∙ ap (λ (bs : List Branch). CaseOf place (expr_tree names value) (branches names bs)) (sym items_are)))
 
 pub case_found : (start now : Visible) (place : Place) (made : Box Expr Global) (found : Vec Branch Global)
-    (subject : Phrase) (items : List Branch) → now ≡ start → phrase start.names.after made.value ≡ subject
+    (subject : ExprTree) (items : List Branch) → now ≡ start → expr_tree start.names.after made.value ≡ subject
     → branches now.names.after found.items ≡ resolved_branches now.scope (branches now.names.before items)
-    → phrase start.names.after (code.Case place made found)
+    → expr_tree start.names.after (code.Case place made found)
     ≡ CaseOf place subject (resolved_branches start.scope (branches start.names.before items))
 case_found start now place made found subject items same one others =
-    phrase-case start.names.after place made found
-    ∙ (ap (λ (p : Phrase). CaseOf place p (branches start.names.after found.items)) one
+    expr_tree-case start.names.after place made found
+    ∙ (ap (λ (p : ExprTree). CaseOf place p (branches start.names.after found.items)) one
     ∙ ap (CaseOf place subject) (subst (λ (v : Visible).
     branches v.names.after found.items ≡ resolved_branches v.scope (branches v.names.before items)) same others))
 
 -- the trees of a call on `this`, of a function and of a constructor
 pub own_call_tree : (names : List Name) (expr : Expr) (place : Place) (method : Symbol)
     (arguments : Arc (Vec Expr Global) Global) (items : List Expr) → expr ≡ code.OwnCall place method arguments
-    → items ≡ arguments.value.items → phrase names expr ≡ OwnCallOf place (name_of names method) (phrases names items)
+    → items ≡ arguments.value.items → expr_tree names expr ≡ OwnCallOf place (name_of names method) (expr_trees names items)
 own_call_tree names expr place method arguments items is items_are =
-    ap (phrase names) is
-    ∙ (phrase-own_call names place method arguments
-    ∙ ap (λ (es : List Expr). OwnCallOf place (name_of names method) (phrases names es)) (sym items_are))
+    ap (expr_tree names) is
+    ∙ (expr_tree-own_call names place method arguments
+    ∙ ap (λ (es : List Expr). OwnCallOf place (name_of names method) (expr_trees names es)) (sym items_are))
 
 pub apply_tree : (names : List Name) (expr : Expr) (place : Place) (function : Symbol) (arguments : Vec Expr Global)
     (items : List Expr) → expr ≡ code.Apply place function arguments → items ≡ arguments.items
-    → phrase names expr ≡ ApplyOf place (name_of names function) (phrases names items)
+    → expr_tree names expr ≡ ApplyOf place (name_of names function) (expr_trees names items)
 apply_tree names expr place function arguments items is items_are =
-    ap (phrase names) is
-    ∙ (phrase-apply names place function arguments
-    ∙ ap (λ (es : List Expr). ApplyOf place (name_of names function) (phrases names es)) (sym items_are))
+    ap (expr_tree names) is
+    ∙ (expr_tree-apply names place function arguments
+    ∙ ap (λ (es : List Expr). ApplyOf place (name_of names function) (expr_trees names es)) (sym items_are))
 
 pub build_tree : (names : List Name) (expr : Expr) (place : Place) (constructor : Symbol)
     (arguments : Vec Expr Global) (items : List Expr) → expr ≡ code.Build place constructor arguments
-    → items ≡ arguments.items → phrase names expr ≡ BuildOf place (name_of names constructor) (phrases names items)
+    → items ≡ arguments.items → expr_tree names expr ≡ BuildOf place (name_of names constructor) (expr_trees names items)
 build_tree names expr place constructor arguments items is items_are =
-    ap (phrase names) is
-    ∙ (phrase-build names place constructor arguments
-    ∙ ap (λ (es : List Expr). BuildOf place (name_of names constructor) (phrases names es)) (sym items_are))
+    ap (expr_tree names) is
+    ∙ (expr_tree-build names place constructor arguments
+    ∙ ap (λ (es : List Expr). BuildOf place (name_of names constructor) (expr_trees names es)) (sym items_are))
 
 -- a resolved call on `this`, of a function and of a constructor
 pub own_call_found : (start now : Visible) (place : Place) (method : Name) (kept : Symbol)
     (made : Arc (Vec Expr Global) Global) (found : Vec Expr Global) (items : List Expr) → now ≡ start
     → name_of start.names.after kept ≡ method → made.value ≡ found
-    → phrases now.names.after found.items ≡ resolved_phrases now.scope (phrases now.names.before items)
-    → phrase start.names.after (code.OwnCall place kept made)
-    ≡ OwnCallOf place method (resolved_phrases start.scope (phrases start.names.before items))
+    → expr_trees now.names.after found.items ≡ resolved_exprs now.scope (expr_trees now.names.before items)
+    → expr_tree start.names.after (code.OwnCall place kept made)
+    ≡ OwnCallOf place method (resolved_exprs start.scope (expr_trees start.names.before items))
 own_call_found start now place method kept made found items same name shared resolved =
-    phrase-own_call start.names.after place kept made
+    expr_tree-own_call start.names.after place kept made
     ∙ (ap (λ (v : Vec Expr Global). OwnCallOf place (name_of start.names.after kept)
-    (phrases start.names.after v.items)) shared
-    ∙ (ap (λ (n : Name). OwnCallOf place n (phrases start.names.after found.items)) name
+    (expr_trees start.names.after v.items)) shared
+    ∙ (ap (λ (n : Name). OwnCallOf place n (expr_trees start.names.after found.items)) name
     ∙ ap (OwnCallOf place method) (subst (λ (v : Visible).
-    phrases v.names.after found.items ≡ resolved_phrases v.scope (phrases v.names.before items)) same resolved)))
+    expr_trees v.names.after found.items ≡ resolved_exprs v.scope (expr_trees v.names.before items)) same resolved)))
 
 pub apply_found : (start now : Visible) (place : Place) (function : Name) (kept : Symbol) (found : Vec Expr Global)
     (items : List Expr) → now ≡ start → name_of start.names.after kept ≡ function
-    → phrases now.names.after found.items ≡ resolved_phrases now.scope (phrases now.names.before items)
-    → phrase start.names.after (code.Apply place kept found)
-    ≡ ApplyOf place function (resolved_phrases start.scope (phrases start.names.before items))
+    → expr_trees now.names.after found.items ≡ resolved_exprs now.scope (expr_trees now.names.before items)
+    → expr_tree start.names.after (code.Apply place kept found)
+    ≡ ApplyOf place function (resolved_exprs start.scope (expr_trees start.names.before items))
 apply_found start now place function kept found items same name resolved =
-    phrase-apply start.names.after place kept found
-    ∙ (ap (λ (n : Name). ApplyOf place n (phrases start.names.after found.items)) name
+    expr_tree-apply start.names.after place kept found
+    ∙ (ap (λ (n : Name). ApplyOf place n (expr_trees start.names.after found.items)) name
     ∙ ap (ApplyOf place function) (subst (λ (v : Visible).
-    phrases v.names.after found.items ≡ resolved_phrases v.scope (phrases v.names.before items)) same resolved))
+    expr_trees v.names.after found.items ≡ resolved_exprs v.scope (expr_trees v.names.before items)) same resolved))
 
 pub build_found : (start now : Visible) (place : Place) (constructor : Name) (kept : Symbol) (found : Vec Expr Global)
     (items : List Expr) → now ≡ start → name_of start.names.after kept ≡ constructor
-    → phrases now.names.after found.items ≡ resolved_phrases now.scope (phrases now.names.before items)
-    → phrase start.names.after (code.Build place kept found)
-    ≡ BuildOf place constructor (resolved_phrases start.scope (phrases start.names.before items))
+    → expr_trees now.names.after found.items ≡ resolved_exprs now.scope (expr_trees now.names.before items)
+    → expr_tree start.names.after (code.Build place kept found)
+    ≡ BuildOf place constructor (resolved_exprs start.scope (expr_trees start.names.before items))
 build_found start now place constructor kept found items same name resolved =
-    phrase-build start.names.after place kept found
-    ∙ (ap (λ (n : Name). BuildOf place n (phrases start.names.after found.items)) name
+    expr_tree-build start.names.after place kept found
+    ∙ (ap (λ (n : Name). BuildOf place n (expr_trees start.names.after found.items)) name
     ∙ ap (BuildOf place constructor) (subst (λ (v : Visible).
-    phrases v.names.after found.items ≡ resolved_phrases v.scope (phrases v.names.before items)) same resolved))
+    expr_trees v.names.after found.items ≡ resolved_exprs v.scope (expr_trees v.names.before items)) same resolved))
 
 -- a list has as many expressions as trees
-pub phrases_counted : (names : List Name) (exprs : List Expr) → count_phrases (phrases names exprs) ≡ length exprs
-phrases_counted names [] = refl
-phrases_counted names (one ∷ others) = omega (arith, phrases_counted names others)
+pub exprs_counted : (names : List Name) (exprs : List Expr) → count_exprs (expr_trees names exprs) ≡ length exprs
+exprs_counted names [] = refl
+exprs_counted names (one ∷ others) = omega (arith, exprs_counted names others)
 
 -- the offences of a name with its arguments, which are expressions
-pub phrases_noted : (start now : Visible) (place : Place) (items : List Expr) (taken known : Option ℕ)
+pub exprs_noted : (start now : Visible) (place : Place) (items : List Expr) (taken known : Option ℕ)
     (first between after : Option Offence) → now ≡ start → taken ≡ known
     → between ≡ fold earlier first (applied taken (length items) place)
-    → after ≡ fold earlier between (phrases_offences now.scope (phrases now.names.before items))
-    → after ≡ fold earlier first (applied known (count_phrases (phrases start.names.before items)) place
-    ++ phrases_offences start.scope (phrases start.names.before items))
-phrases_noted start now place items taken known first between after same is note noted =
+    → after ≡ fold earlier between (exprs_offences now.scope (expr_trees now.names.before items))
+    → after ≡ fold earlier first (applied known (count_exprs (expr_trees start.names.before items)) place
+    ++ exprs_offences start.scope (expr_trees start.names.before items))
+exprs_noted start now place items taken known first between after same is note noted =
     applied_noted first between after taken known (length items)
-    (count_phrases (phrases start.names.before items)) place
-    (phrases_offences start.scope (phrases start.names.before items)) is (phrases_counted start.names.before items) note
+    (count_exprs (expr_trees start.names.before items)) place
+    (exprs_offences start.scope (expr_trees start.names.before items)) is (exprs_counted start.names.before items) note
     (subst (λ (v : Visible).
-    after ≡ fold earlier between (phrases_offences v.scope (phrases v.names.before items))) same noted)
+    after ≡ fold earlier between (exprs_offences v.scope (expr_trees v.names.before items))) same noted)

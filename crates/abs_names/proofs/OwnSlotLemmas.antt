@@ -5,13 +5,13 @@ use Rattle.std.specs.List.{range_with_len}
 use Rattle.std.proofs.lemmas.List.Elements.{All-nil, All-cons}
 use Rattle.std.proofs.lemmas.List.FromFn.{length-map-range_with_len}
 use Rattle.abs_program.specs.Slots.{is_this, side_slots, maybe_side_slots, statement_slots, else_slots, statements_slots, param_slots, body_slots}
-use Rattle.abs_tree.specs.Syntax.{Name, VariableTree, AtSlot, Phrases, NoPhrase, NextPhrase, SideTree, NewOf, ValueOf, SendOf, GetOf, CallOf, MaybeSide, NoSide, SomeSide, Statement, BlockOf, SkipOf, SuspendOf, AwaitOf, ReturnOf, PrintOf, IfOf, WhileOf, DeclareOf, AssignOf, DoOf, MaybeStatements, NoElse, Else, Statements, NoStatement, NextStatement, ParamTree, MemberTree, FieldTree, MethodTree, DeclTree, DataTree, FunctionTree, InterfaceTree, ClassTree, SourceTree}
+use Rattle.abs_tree.specs.Syntax.{Name, VariableTree, AtSlot, ExprTrees, NoExpr, NextExpr, SideTree, NewOf, ValueOf, SendOf, GetOf, CallOf, MaybeSide, NoSide, SomeSide, Statement, BlockOf, SkipOf, SuspendOf, AwaitOf, ReturnOf, PrintOf, IfOf, WhileOf, DeclareOf, AssignOf, DoOf, MaybeStatements, NoElse, Else, Statements, NoStatement, NextStatement, ParamTree, MemberTree, FieldTree, MethodTree, DeclTree, DataTree, FunctionTree, InterfaceTree, ClassTree, SourceTree}
 use Rattle.abs_tree.specs.declared.place.Place.{Place}
 use Rattle.abs_tree.specs.declared.syntax.slot.Slot.{Slot}
 use Rattle.abs_tree.specs.declared.syntax.slot.Slot.TheVariants.{Parameter, Local, Hidden}
 use Rattle.abs_program.specs.NameSpaces.{NameSpaces, spaces_of}
 use Rattle.abs_names.specs.OwnSlots.{Given, numbered, given_params, given_side, given_maybe_side, given_statement, given_else, given_statements, HasOwnSlots, MemberHasOwnSlots, DeclarationHasOwnSlots, AllHaveOwnSlots}
-use Rattle.abs_names.specs.Resolution.{resolved_phrases, resolved_side, resolved_maybe_side, resolved_statement, resolved_else, resolved_statements, resolved_params, resolved_members, resolved_declarations, resolved}
+use Rattle.abs_names.specs.Resolution.{resolved_exprs, resolved_side, resolved_maybe_side, resolved_statement, resolved_else, resolved_statements, resolved_params, resolved_members, resolved_declarations, resolved}
 use Rattle.abs_names.specs.Prelude.{prelude}
 use Rattle.abs_names.specs.TypeNames.{Around, around_of}
 use Rattle.abs_names.specs.Scopes.{Meanings, Scope, statement_scope, body_scope, class_fields}
@@ -44,21 +44,21 @@ params_given around index (param ∷ others) =
     ap (λ (given : Given). (Parameter index, AtSlot index) ∷ given) (params_given around (index + 1) others)
 
 -- a call has its slot, unless its receiver is `this`
-call_given : (next index : ℕ) (place : Place) (method : Name) (row : Phrases) (own : Bool)
-    → given_side index (CallOf place method row (cond own None (Some next)))
+call_given : (next index : ℕ) (place : Place) (method : Name) (operands : ExprTrees) (own : Bool)
+    → given_side index (CallOf place method operands (cond own None (Some next)))
     ≡ numbered next (cond own [] (Hidden index ∷ []))
-call_given next index place method row true = refl
-call_given next index place method row false = refl
+call_given next index place method operands true = refl
+call_given next index place method operands false = refl
 
 side_given : (scope : Scope) (next index : ℕ) (side : SideTree)
     → given_side index (resolved_side scope next side) ≡ numbered next (side_slots index side)
 side_given scope next index (NewOf place mode class_place class arguments) = refl
 side_given scope next index (ValueOf place value) = refl
-side_given scope next index (SendOf place method row) = refl
+side_given scope next index (SendOf place method operands) = refl
 side_given scope next index (GetOf place get_place future) = refl
-side_given scope next index (CallOf place method NoPhrase slot) = refl
-side_given scope next index (CallOf place method (NextPhrase receiver arguments) slot) =
-    call_given next index place method (resolved_phrases scope (NextPhrase receiver arguments)) (is_this receiver)
+side_given scope next index (CallOf place method NoExpr slot) = refl
+side_given scope next index (CallOf place method (NextExpr receiver arguments) slot) =
+    call_given next index place method (resolved_exprs scope (NextExpr receiver arguments)) (is_this receiver)
 
 maybe_side_given : (scope : Scope) (next index : ℕ) (side : MaybeSide)
     → given_maybe_side index (resolved_maybe_side scope next side) ≡ numbered next (maybe_side_slots index side)

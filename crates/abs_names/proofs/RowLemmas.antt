@@ -2,19 +2,19 @@
 use Rattle.std.proofs.Common.{◌≡◌, ℕ, ◌+◌, ◌<◌, List, [], ◌∷◌, ◌++◌, refl, sym, ap, ◌∙◌, subst, length, get_or, fold, append_assoc}
 use Rattle.std.specs.Prelude.{Option}
 use Rattle.abs_tree.specs.Offences.{earlier}
-use Rattle.abs_tree.specs.Syntax.{Name, Phrase, NextPhrase, NextOperand, PatternTree, NextBranch, NextTest}
-use Rattle.abs_tree.specs.SyntaxViews.{pattern_tree, phrase, phrases, operand_trees, branches, tests}
+use Rattle.abs_tree.specs.Syntax.{Name, ExprTree, NextExpr, NextOperand, PatternTree, NextBranch, NextTest}
+use Rattle.abs_tree.specs.SyntaxViews.{pattern_tree, expr_tree, expr_trees, operand_trees, branches, tests}
 use Rattle.abs_tree.specs.declared.refusal.Offence.{Offence}
 use Rattle.abs_tree.specs.declared.syntax.expression.Expr.{Expr}
 use Rattle.abs_tree.specs.declared.syntax.expression.Operand.{Operand}
 use Rattle.abs_tree.specs.declared.syntax.expression.Branch.{Branch}
 use Rattle.abs_tree.specs.declared.syntax.statement.Test.{Test}
-use Rattle.abs_names.specs.NameOffences.{pattern_offences, phrase_offences, phrases_offences, operands_offences, branches_offences, tests_offences}
-use Rattle.abs_names.specs.Resolution.{resolved_pattern, resolved_phrase, resolved_phrases, resolved_operands, resolved_branches, resolved_tests}
+use Rattle.abs_names.specs.NameOffences.{pattern_offences, expr_offences, exprs_offences, operands_offences, branches_offences, tests_offences}
+use Rattle.abs_names.specs.Resolution.{resolved_pattern, resolved_expr, resolved_exprs, resolved_operands, resolved_branches, resolved_tests}
 use Rattle.abs_names.specs.Scopes.{Scope, pattern_scope}
 use Rattle.abs_names.specs.Visible.{Visible}
 use Rattle.abs_names.proofs.LoopLemmas.{SoFar, one_more}
-use Rattle.abs_names.proofs.TreeLemmas.{phrases_before, phrases_more, operands_before, operands_more, branches_before, branches_more, tests_before, tests_more}
+use Rattle.abs_names.proofs.TreeLemmas.{exprs_before, exprs_more, operands_before, operands_more, branches_before, branches_more, tests_before, tests_more}
 
 -- the scope is the same after each tree
 abbrev pub same_scope : {T : Type 0} → Scope → T → Scope
@@ -61,7 +61,7 @@ row_step {A} {T} {trees} {before} {made} {met} {start} {first} {items} {index} {
 
 -- expressions, operands and branches of which a prefix was resolved
 abbrev pub ExprsSoFar : Visible → Option Offence → List Expr → ℕ → List Expr → Visible → Option Offence → Type 0
-ExprsSoFar = RowSoFar phrases phrases_before resolved_phrases phrases_offences
+ExprsSoFar = RowSoFar expr_trees exprs_before resolved_exprs exprs_offences
 
 abbrev pub OperandsSoFar : Visible → Option Offence → List Operand → ℕ → List Operand → Visible → Option Offence
     → Type 0
@@ -74,17 +74,17 @@ BranchesSoFar = RowSoFar branches branches_before resolved_branches branches_off
 pub exprs_step : {start : Visible} {first : Option Offence} {exprs : List Expr} {index : ℕ} {found : List Expr}
     {now after : Visible} {noted after_noted : Option Offence} {all : List Expr} (item one : Expr)
     → ExprsSoFar start first exprs index found now noted → index < length exprs → item ≡ get_or exprs index item
-    → phrase now.names.after one ≡ resolved_phrase now.scope (phrase now.names.before item)
-    → after_noted ≡ fold earlier noted (phrase_offences now.scope (phrase now.names.before item)) → after ≡ now
+    → expr_tree now.names.after one ≡ resolved_expr now.scope (expr_tree now.names.before item)
+    → after_noted ≡ fold earlier noted (expr_offences now.scope (expr_tree now.names.before item)) → after ≡ now
     → all ≡ found ++ one ∷ [] → ExprsSoFar start first exprs (index + 1) all after after_noted
 exprs_step {found = found} {now = now} item one h there is made note same added =
-    row_step item (NextPhrase (phrase now.names.after one))
-    (phrase_offences now.scope (phrase now.names.before item)) h there is
-    (λ others. ap (λ (t : Phrase).
-    NextPhrase t (resolved_phrases now.scope (phrases now.names.before others))) (sym made))
+    row_step item (NextExpr (expr_tree now.names.after one))
+    (expr_offences now.scope (expr_tree now.names.before item)) h there is
+    (λ others. ap (λ (t : ExprTree).
+    NextExpr t (resolved_exprs now.scope (expr_trees now.names.before others))) (sym made))
     (λ others. refl)
-    (λ rest. ap (λ (xs : List Expr). phrases_before now.names.after xs rest) added
-    ∙ phrases_more now.names.after found one rest)
+    (λ rest. ap (λ (xs : List Expr). exprs_before now.names.after xs rest) added
+    ∙ exprs_more now.names.after found one rest)
     note same
 
 -- one more operand
@@ -93,15 +93,15 @@ pub operands_step : {start : Visible} {first : Option Offence} {operands : List 
     (item one : Operand)
     → OperandsSoFar start first operands index found now noted → index < length operands
     → item ≡ get_or operands index item → one.operator ≡ item.operator
-    → phrase now.names.after one.right ≡ resolved_phrase now.scope (phrase now.names.before item.right)
-    → after_noted ≡ fold earlier noted (phrase_offences now.scope (phrase now.names.before item.right)) → after ≡ now
+    → expr_tree now.names.after one.right ≡ resolved_expr now.scope (expr_tree now.names.before item.right)
+    → after_noted ≡ fold earlier noted (expr_offences now.scope (expr_tree now.names.before item.right)) → after ≡ now
     → all ≡ found ++ one ∷ [] → OperandsSoFar start first operands (index + 1) all after after_noted
 operands_step {found = found} {now = now} item one h there is operator made note same added =
-    row_step item (NextOperand one.operator (phrase now.names.after one.right))
-    (phrase_offences now.scope (phrase now.names.before item.right)) h there is
+    row_step item (NextOperand one.operator (expr_tree now.names.after one.right))
+    (expr_offences now.scope (expr_tree now.names.before item.right)) h there is
     (λ others. let rest = resolved_operands now.scope (operand_trees now.names.before others) in
-    ap (λ (t : Phrase). NextOperand item.operator t rest) (sym made)
-    ∙ ap (λ o. NextOperand o (phrase now.names.after one.right) rest) (sym operator))
+    ap (λ (t : ExprTree). NextOperand item.operator t rest) (sym made)
+    ∙ ap (λ o. NextOperand o (expr_tree now.names.after one.right) rest) (sym operator))
     (λ others. refl)
     (λ rest. ap (λ (xs : List Operand). operands_before now.names.after xs rest) added
     ∙ operands_more now.names.after found one rest)
@@ -112,23 +112,23 @@ pub branches_step : {start : Visible} {first : Option Offence} {arms : List Bran
     {now after : Visible} {noted after_noted : Option Offence} {all : List Branch} (item one : Branch)
     → BranchesSoFar start first arms index found now noted → index < length arms → item ≡ get_or arms index item
     → pattern_tree now.names.after one.pattern ≡ resolved_pattern now.scope (pattern_tree now.names.before item.pattern)
-    → phrase now.names.after one.value
-    ≡ resolved_phrase (pattern_scope now.scope (pattern_tree now.names.before item.pattern))
-    (phrase now.names.before item.value)
+    → expr_tree now.names.after one.value
+    ≡ resolved_expr (pattern_scope now.scope (pattern_tree now.names.before item.pattern))
+    (expr_tree now.names.before item.value)
     → after_noted ≡ fold earlier noted (pattern_offences now.scope (pattern_tree now.names.before item.pattern)
-    ++ phrase_offences (pattern_scope now.scope (pattern_tree now.names.before item.pattern))
-    (phrase now.names.before item.value))
+    ++ expr_offences (pattern_scope now.scope (pattern_tree now.names.before item.pattern))
+    (expr_tree now.names.before item.value))
     → after ≡ now → all ≡ found ++ one ∷ [] → BranchesSoFar start first arms (index + 1) all after after_noted
 branches_step {found = found} {now = now} item one h there is pattern value note same added =
     let tree = pattern_tree now.names.before item.pattern in
     let inside = pattern_scope now.scope tree in
-    let body = phrase now.names.before item.value in
-    row_step item (NextBranch (pattern_tree now.names.after one.pattern) (phrase now.names.after one.value))
-    (pattern_offences now.scope tree ++ phrase_offences inside body) h there is
+    let body = expr_tree now.names.before item.value in
+    row_step item (NextBranch (pattern_tree now.names.after one.pattern) (expr_tree now.names.after one.value))
+    (pattern_offences now.scope tree ++ expr_offences inside body) h there is
     (λ others. let rest = resolved_branches now.scope (branches now.names.before others) in
-    ap (λ (p : PatternTree). NextBranch p (resolved_phrase inside body) rest) (sym pattern)
-    ∙ ap (λ (t : Phrase). NextBranch (pattern_tree now.names.after one.pattern) t rest) (sym value))
-    (λ others. sym (append_assoc (pattern_offences now.scope tree) (phrase_offences inside body)
+    ap (λ (p : PatternTree). NextBranch p (resolved_expr inside body) rest) (sym pattern)
+    ∙ ap (λ (t : ExprTree). NextBranch (pattern_tree now.names.after one.pattern) t rest) (sym value))
+    (λ others. sym (append_assoc (pattern_offences now.scope tree) (expr_offences inside body)
     (branches_offences now.scope (branches now.names.before others))))
     (λ rest. ap (λ (xs : List Branch). branches_before now.names.after xs rest) added
     ∙ branches_more now.names.after found one rest)
@@ -143,15 +143,15 @@ pub tests_step : {start : Visible} {first : Option Offence} {items : List Test} 
     {now after : Visible} {noted after_noted : Option Offence} {all : List Test} (item one : Test)
     → TestsSoFar start first items index found now noted → index < length items → item ≡ get_or items index item
     → one.place ≡ item.place → one.asks ≡ item.asks
-    → phrase now.names.after one.value.value ≡ resolved_phrase now.scope (phrase now.names.before item.value.value)
-    → after_noted ≡ fold earlier noted (phrase_offences now.scope (phrase now.names.before item.value.value))
+    → expr_tree now.names.after one.value.value ≡ resolved_expr now.scope (expr_tree now.names.before item.value.value)
+    → after_noted ≡ fold earlier noted (expr_offences now.scope (expr_tree now.names.before item.value.value))
     → after ≡ now → all ≡ found ++ one ∷ [] → TestsSoFar start first items (index + 1) all after after_noted
 tests_step {found = found} {now = now} item one h there is place asks made note same added =
-    let value = phrase now.names.after one.value.value in
-    row_step item (NextTest one.place value one.asks) (phrase_offences now.scope
-    (phrase now.names.before item.value.value)) h there is
+    let value = expr_tree now.names.after one.value.value in
+    row_step item (NextTest one.place value one.asks) (expr_offences now.scope
+    (expr_tree now.names.before item.value.value)) h there is
     (λ others. let rest = resolved_tests now.scope (tests now.names.before others) in
-    ap (λ (t : Phrase). NextTest item.place t item.asks rest) (sym made)
+    ap (λ (t : ExprTree). NextTest item.place t item.asks rest) (sym made)
     ∙ (ap (λ p. NextTest p value item.asks rest) (sym place) ∙ ap (λ a. NextTest one.place value a rest) (sym asks)))
     (λ others. refl)
     (λ rest. ap (λ (xs : List Test). tests_before now.names.after xs rest) added

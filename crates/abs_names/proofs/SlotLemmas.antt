@@ -7,21 +7,21 @@ use Rattle.abs_program.specs.Slots.{is_this, side_slots, maybe_side_slots, state
 use Rattle.abs_tree.specs.SyntaxViews.{statements}
 use Rattle.abs_tree.specs.declared.syntax.declaration.Body.{Body}
 use Rattle.abs_tree.specs.declared.syntax.declaration.Param.{Param}
-use Rattle.abs_tree.specs.Syntax.{Name, VariableTree, Phrase, LetIn, IfElse, OperatorsOf, Prefixed, NumberOf, StringOf, NullOf, DestinyOf, ThisOf, FieldOf, OwnCallOf, VariableOf, ApplyOf, BuildOf, CaseOf, NoPhrase, NextPhrase, SideTree, NewOf, ValueOf, SendOf, GetOf, CallOf, MaybeSide, NoSide, SomeSide, Statement, BlockOf, SkipOf, SuspendOf, AwaitOf, ReturnOf, PrintOf, IfOf, WhileOf, DeclareOf, AssignOf, DoOf, MaybeStatements, NoElse, Else, Statements, NoStatement, NextStatement}
+use Rattle.abs_tree.specs.Syntax.{Name, VariableTree, ExprTree, LetIn, IfElse, OperatorsOf, Prefixed, NumberOf, StringOf, NullOf, DestinyOf, ThisOf, FieldOf, OwnCallOf, VariableOf, ApplyOf, BuildOf, CaseOf, NoExpr, NextExpr, SideTree, NewOf, ValueOf, SendOf, GetOf, CallOf, MaybeSide, NoSide, SomeSide, Statement, BlockOf, SkipOf, SuspendOf, AwaitOf, ReturnOf, PrintOf, IfOf, WhileOf, DeclareOf, AssignOf, DoOf, MaybeStatements, NoElse, Else, Statements, NoStatement, NextStatement}
 use Rattle.abs_tree.specs.declared.place.Place.{Place}
 use Rattle.abs_tree.specs.declared.syntax.slot.Slot.{Slot}
 use Rattle.abs_tree.specs.declared.syntax.slot.Slot.TheVariants.{Local, Hidden}
-use Rattle.abs_names.specs.Resolution.{field_phrase, resolved_phrase, resolved_side, resolved_maybe_side, resolved_statement, resolved_else, resolved_statements}
+use Rattle.abs_names.specs.Resolution.{field_expr, resolved_expr, resolved_side, resolved_maybe_side, resolved_statement, resolved_else, resolved_statements}
 use Rattle.abs_names.specs.Scopes.{Scope, field_of, statement_scope}
 
 -- a field is not `this`
 field_is_not : (place name_place : Place) (name : Name) (field : Option VariableTree)
-    → is_this (field_phrase place name_place name field) ≡ is_this (FieldOf place name_place name)
+    → is_this (field_expr place name_place name field) ≡ is_this (FieldOf place name_place name)
 field_is_not place name_place name (Some variable) = refl
 field_is_not place name_place name None = refl
 
 -- an expression is `this` where the resolved one is
-this_kept : (scope : Scope) (phrase : Phrase) → is_this (resolved_phrase scope phrase) ≡ is_this phrase
+this_kept : (scope : Scope) (expr_tree : ExprTree) → is_this (resolved_expr scope expr_tree) ≡ is_this expr_tree
 this_kept scope (LetIn place type variable_place variable value body) = refl
 this_kept scope (IfElse place condition first second) = refl
 this_kept scope (OperatorsOf place first operands) = refl
@@ -43,10 +43,10 @@ side_kept : (scope : Scope) (next index : ℕ) (side : SideTree)
     → side_slots index (resolved_side scope next side) ≡ side_slots index side
 side_kept scope next index (NewOf place mode class_place class arguments) = refl
 side_kept scope next index (ValueOf place value) = refl
-side_kept scope next index (SendOf place method row) = refl
+side_kept scope next index (SendOf place method operands) = refl
 side_kept scope next index (GetOf place get_place future) = refl
-side_kept scope next index (CallOf place method NoPhrase slot) = refl
-side_kept scope next index (CallOf place method (NextPhrase receiver arguments) slot) =
+side_kept scope next index (CallOf place method NoExpr slot) = refl
+side_kept scope next index (CallOf place method (NextExpr receiver arguments) slot) =
     ap (λ (b : Bool). cond b [] (Hidden index ∷ [])) (this_kept scope receiver)
 
 maybe_side_kept : (scope : Scope) (next index : ℕ) (side : MaybeSide)

@@ -9,14 +9,14 @@ use Rattle.std.proofs.lemmas.List.Elements.{All-nil, All-cons, All-head, All-tai
 use Rattle.abs_tree.specs.Limits.{table_limit}
 use Rattle.abs_program.specs.NameSpaces.{NameSpaces, spaces_of}
 use Rattle.abs_tree.specs.Syntax.{AtSlot, AtField, ParamTree, NoValue, Value, MemberTree, FieldTree, MethodTree, DeclTree, DataTree, FunctionTree, InterfaceTree, ClassTree, SourceTree}
-use Rattle.abs_tree.specs.SyntaxSizes.{statement_count, member_statements, decl_statements, all_statements, phrase_variables, statements_variables, field_variables, method_sizes, decl_sizes, body_sizes, fields_among, decl_fields, class_sizes}
+use Rattle.abs_tree.specs.SyntaxSizes.{statement_count, member_statements, decl_statements, all_statements, expr_variables, statements_variables, field_variables, method_sizes, decl_sizes, body_sizes, fields_among, decl_fields, class_sizes}
 use Rattle.abs_names.specs.Prelude.{prelude}
 use Rattle.abs_names.specs.Resolution.{resolved_params, resolved_members, resolved_declarations, resolved}
 use Rattle.abs_names.specs.Scopes.{Meanings, body_scope, class_fields}
 use Rattle.abs_names.specs.TypeNames.{Around, around_of}
 use Rattle.abs_names.specs.declared.scope.Routine.TheVariants.{Main, Method, Function, Initial}
 use Rattle.abs_names.proofs.ParamLemmas.{params_length}
-use Rattle.abs_names.proofs.SizeLemmas.{counts_kept, phrase_vars, statements_vars}
+use Rattle.abs_names.proofs.SizeLemmas.{counts_kept, expr_vars, statements_vars}
 
 -- members have as many statements as before
 members_count : (around : Around) (fields : Meanings) (earlier : ℕ) (members : List MemberTree)
@@ -59,8 +59,8 @@ fields_vars around fields earlier (FieldTree type name NoValue ∷ others) =
     fields_vars around fields (earlier + 1) others
 fields_vars around fields earlier (FieldTree type name (Value value) ∷ others) =
     ap (λ (n : ℕ). n + field_variables (resolved_members around fields (earlier + 1) others))
-    (phrase_vars (body_scope around (Initial earlier) fields []) value)
-    ∙ ap (λ (n : ℕ). phrase_variables value + n) (fields_vars around fields (earlier + 1) others)
+    (expr_vars (body_scope around (Initial earlier) fields []) value)
+    ∙ ap (λ (n : ℕ). expr_variables value + n) (fields_vars around fields (earlier + 1) others)
 fields_vars around fields earlier (MethodTree signature end body ∷ others) = fields_vars around fields earlier others
 
 -- a body with parameters has the same size
@@ -90,8 +90,8 @@ decls_kept spaces (DataTree place name type_params constructors ∷ others) = de
 decls_kept spaces (FunctionTree place result name type_params params value ∷ others) =
     let around = around_of spaces type_params in
     ap (λ (n : ℕ). n ∷ decl_sizes (resolved_declarations spaces others))
-    (body_size_kept around params (phrase_vars (body_scope around Function [] params) value))
-    ∙ ap (λ (ns : List ℕ). (length params + phrase_variables value) ∷ ns) (decls_kept spaces others)
+    (body_size_kept around params (expr_vars (body_scope around Function [] params) value))
+    ∙ ap (λ (ns : List ℕ). (length params + expr_variables value) ∷ ns) (decls_kept spaces others)
 decls_kept spaces (InterfaceTree place name extended signatures ∷ others) = decls_kept spaces others
 decls_kept spaces (ClassTree place name params implemented members ∷ others) =
     let around = around_of spaces [] in

@@ -3,15 +3,15 @@ use Rattle.std.proofs.Common.{◌≡◌, ℕ, ◌+◌, [], ◌++◌, refl, sym, 
 use Rattle.std.specs.Prelude.{Option, Some, None, option_map}
 use Rattle.std.proofs.lemmas.Bool.{true≢false}
 use Rattle.abs_program.specs.NameSpaces.{NameSpaces, function_arity}
-use Rattle.abs_tree.specs.Syntax.{Name, VariableTree, AtBound, PatternTree, AnyValue, Binds, SameNumber, SameString, Built, PatternTrees, NoPattern, NextPattern, Phrase, LetIn, IfElse, OperatorsOf, Prefixed, NumberOf, StringOf, NullOf, DestinyOf, ThisOf, FieldOf, OwnCallOf, VariableOf, ApplyOf, BuildOf, CaseOf, Phrases, NoPhrase, NextPhrase, Operands, NoOperands, NextOperand, Branches, NoBranch, NextBranch}
-use Rattle.abs_tree.specs.SyntaxCounts.{count_patterns, count_phrases}
+use Rattle.abs_tree.specs.Syntax.{Name, VariableTree, AtBound, PatternTree, AnyValue, Binds, SameNumber, SameString, Built, PatternTrees, NoPattern, NextPattern, ExprTree, LetIn, IfElse, OperatorsOf, Prefixed, NumberOf, StringOf, NullOf, DestinyOf, ThisOf, FieldOf, OwnCallOf, VariableOf, ApplyOf, BuildOf, CaseOf, ExprTrees, NoExpr, NextExpr, Operands, NoOperands, NextOperand, Branches, NoBranch, NextBranch}
+use Rattle.abs_tree.specs.SyntaxCounts.{count_patterns, count_exprs}
 use Rattle.abs_tree.specs.SyntaxSizes.{pattern_variables}
 use Rattle.abs_program.specs.Tables.{meaning_of}
-use Rattle.abs_program.specs.Whole.{Inside, PatternIsThere, PatternsAreThere, PhraseIsThere, PhrasesAreThere, OperandsAreThere, BranchesAreThere}
+use Rattle.abs_program.specs.Whole.{Inside, PatternIsThere, PatternsAreThere, ExprIsThere, ExprsAreThere, OperandsAreThere, BranchesAreThere}
 use Rattle.abs_program.specs.declared.name_spaces.ConstructorMeaning.{ConstructorMeaning}
 use Rattle.abs_tree.specs.declared.place.Place.{Place}
-use Rattle.abs_names.specs.NameOffences.{bind_offences, this_offences, pattern_offences, patterns_offences, phrase_offences, phrases_offences, operands_offences, branches_offences}
-use Rattle.abs_names.specs.Resolution.{field_phrase, resolved_pattern, resolved_patterns, resolved_phrase, resolved_phrases, resolved_operands, resolved_branches}
+use Rattle.abs_names.specs.NameOffences.{bind_offences, this_offences, pattern_offences, patterns_offences, expr_offences, exprs_offences, operands_offences, branches_offences}
+use Rattle.abs_names.specs.Resolution.{field_expr, resolved_pattern, resolved_patterns, resolved_expr, resolved_exprs, resolved_operands, resolved_branches}
 use Rattle.abs_names.specs.Scopes.{Scope, has_this, has_task, field_of, with_bound, pattern_scope}
 use Rattle.abs_names.specs.TypeNames.{applied, function_taking, constructor_taking, type_offences}
 use Rattle.abs_names.proofs.SizeLemmas.{pattern_vars}
@@ -25,10 +25,10 @@ patterns_kept scope NoPattern = refl
 patterns_kept scope (NextPattern first others) =
     ap (λ (n : ℕ). 1 + n) (patterns_kept (pattern_scope scope first) others)
 
-pub phrases_kept : (scope : Scope) (phrases : Phrases)
-    → count_phrases (resolved_phrases scope phrases) ≡ count_phrases phrases
-phrases_kept scope NoPhrase = refl
-phrases_kept scope (NextPhrase first others) = ap (λ (n : ℕ). 1 + n) (phrases_kept scope others)
+pub exprs_kept : (scope : Scope) (expr_trees : ExprTrees)
+    → count_exprs (resolved_exprs scope expr_trees) ≡ count_exprs expr_trees
+exprs_kept scope NoExpr = refl
+exprs_kept scope (NextExpr first others) = ap (λ (n : ℕ). 1 + n) (exprs_kept scope others)
 
 -- a name that takes as many arguments as it is given takes as many once they are resolved, among equal name spaces
 pub taking_kept : (taking : NameSpaces → Option ℕ) {spaces around : NameSpaces} {given now : ℕ} (place : Place)
@@ -75,93 +75,93 @@ mutual
 
 -- a field of `this` that is known
 field_there : (inside : Inside) (bound : ℕ) (place name_place : Place) (name : Name) (found : Option VariableTree)
-    → FieldKnown inside found → PhraseIsThere inside bound (field_phrase place name_place name found)
+    → FieldKnown inside found → ExprIsThere inside bound (field_expr place name_place name found)
 field_there inside bound place name_place name (Some field) known =
     still_there inside 0 bound field (omega arith) (known.there field refl)
 field_there inside bound place name_place name None known = absurd (true≢false (sym known.known))
 
 mutual
   -- an expression without a name offence
-  pub phrase_there : (inside : Inside) (bound : ℕ) (scope : Scope) (phrase : Phrase) → Agrees inside bound scope
-      → phrase_offences scope phrase ≡ [] → PhraseIsThere inside bound (resolved_phrase scope phrase)
-  phrase_there inside bound scope (LetIn place type variable_place variable value body) agrees none =
+  pub expr_there : (inside : Inside) (bound : ℕ) (scope : Scope) (expr_tree : ExprTree) → Agrees inside bound scope
+      → expr_offences scope expr_tree ≡ [] → ExprIsThere inside bound (resolved_expr scope expr_tree)
+  expr_there inside bound scope (LetIn place type variable_place variable value body) agrees none =
       let under = with_bound scope variable in
-      let parts = both_empty (type_offences scope.around type) (phrase_offences scope value
-      ++ (bind_offences scope variable_place variable ++ phrase_offences under body)) none in
-      let later = both_empty (phrase_offences scope value)
-      (bind_offences scope variable_place variable ++ phrase_offences under body) parts.1 in
-      let last = both_empty (bind_offences scope variable_place variable) (phrase_offences under body) later.1 in (
+      let parts = both_empty (type_offences scope.around type) (expr_offences scope value
+      ++ (bind_offences scope variable_place variable ++ expr_offences under body)) none in
+      let later = both_empty (expr_offences scope value)
+      (bind_offences scope variable_place variable ++ expr_offences under body) parts.1 in
+      let last = both_empty (bind_offences scope variable_place variable) (expr_offences under body) later.1 in (
         type_there inside scope.around type agrees.around parts.0,
-        phrase_there inside bound scope value agrees later.0,
+        expr_there inside bound scope value agrees later.0,
         ap AtBound agrees.count,
-        phrase_there inside (bound + 1) under body
+        expr_there inside (bound + 1) under body
             (bound_agrees inside bound scope variable_place variable agrees last.0) last.1,
       )
-  phrase_there inside bound scope (IfElse place condition first second) agrees none =
-      let parts = both_empty (phrase_offences scope condition)
-      (phrase_offences scope first ++ phrase_offences scope second) none in
-      let later = both_empty (phrase_offences scope first) (phrase_offences scope second) parts.1 in (
-        phrase_there inside bound scope condition agrees parts.0,
-        phrase_there inside bound scope first agrees later.0,
-        phrase_there inside bound scope second agrees later.1,
+  expr_there inside bound scope (IfElse place condition first second) agrees none =
+      let parts = both_empty (expr_offences scope condition)
+      (expr_offences scope first ++ expr_offences scope second) none in
+      let later = both_empty (expr_offences scope first) (expr_offences scope second) parts.1 in (
+        expr_there inside bound scope condition agrees parts.0,
+        expr_there inside bound scope first agrees later.0,
+        expr_there inside bound scope second agrees later.1,
       )
-  phrase_there inside bound scope (OperatorsOf place first operands) agrees none =
-      let parts = both_empty (phrase_offences scope first) (operands_offences scope operands) none in (
-        phrase_there inside bound scope first agrees parts.0,
+  expr_there inside bound scope (OperatorsOf place first operands) agrees none =
+      let parts = both_empty (expr_offences scope first) (operands_offences scope operands) none in (
+        expr_there inside bound scope first agrees parts.0,
         operands_there inside bound scope operands agrees parts.1,
       )
-  phrase_there inside bound scope (Prefixed place prefix operand) agrees none =
-      phrase_there inside bound scope operand agrees none
-  phrase_there inside bound scope (NumberOf place number) agrees none = tt
-  phrase_there inside bound scope (StringOf place string) agrees none = tt
-  phrase_there inside bound scope (NullOf place) agrees none = tt
-  phrase_there inside bound scope (DestinyOf place) agrees none =
+  expr_there inside bound scope (Prefixed place prefix operand) agrees none =
+      expr_there inside bound scope operand agrees none
+  expr_there inside bound scope (NumberOf place number) agrees none = tt
+  expr_there inside bound scope (StringOf place string) agrees none = tt
+  expr_there inside bound scope (NullOf place) agrees none = tt
+  expr_there inside bound scope (DestinyOf place) agrees none =
       sym agrees.task ∙ is_known (has_task scope.routine) place none
-  phrase_there inside bound scope (ThisOf place) agrees none =
+  expr_there inside bound scope (ThisOf place) agrees none =
       sym agrees.this ∙ is_known (has_this scope.routine) place none
-  phrase_there inside bound scope (FieldOf place name_place name) agrees none =
+  expr_there inside bound scope (FieldOf place name_place name) agrees none =
       field_there inside bound place name_place name (field_of scope name)
       (field_known inside bound scope place name_place name agrees none)
-  phrase_there inside bound scope (OwnCallOf place method arguments) agrees none =
-      let parts = both_empty (this_offences scope place) (phrases_offences scope arguments) none in (
+  expr_there inside bound scope (OwnCallOf place method arguments) agrees none =
+      let parts = both_empty (this_offences scope place) (exprs_offences scope arguments) none in (
         sym agrees.this ∙ is_known (has_this scope.routine) place parts.0,
-        phrases_there inside bound scope arguments agrees parts.1,
+        exprs_there inside bound scope arguments agrees parts.1,
       )
-  phrase_there inside bound scope (VariableOf place variable) agrees none =
+  expr_there inside bound scope (VariableOf place variable) agrees none =
       use_there inside bound scope place variable agrees none
-  phrase_there inside bound scope (ApplyOf place function arguments) agrees none =
-      let parts = both_empty (applied (function_taking scope.around function) (count_phrases arguments) place)
-      (phrases_offences scope arguments) none in (
+  expr_there inside bound scope (ApplyOf place function arguments) agrees none =
+      let parts = both_empty (applied (function_taking scope.around function) (count_exprs arguments) place)
+      (exprs_offences scope arguments) none in (
         taking_kept (λ (spaces : NameSpaces). option_map function_arity (meaning_of spaces.functions function)) place
-            agrees.around.spaces (phrases_kept scope arguments) parts.0,
-        phrases_there inside bound scope arguments agrees parts.1,
+            agrees.around.spaces (exprs_kept scope arguments) parts.0,
+        exprs_there inside bound scope arguments agrees parts.1,
       )
-  phrase_there inside bound scope (BuildOf place constructor arguments) agrees none =
-      let parts = both_empty (applied (constructor_taking scope.around constructor) (count_phrases arguments) place)
-      (phrases_offences scope arguments) none in (
-        taking_kept (constructor_arity constructor) place agrees.around.spaces (phrases_kept scope arguments) parts.0,
-        phrases_there inside bound scope arguments agrees parts.1,
+  expr_there inside bound scope (BuildOf place constructor arguments) agrees none =
+      let parts = both_empty (applied (constructor_taking scope.around constructor) (count_exprs arguments) place)
+      (exprs_offences scope arguments) none in (
+        taking_kept (constructor_arity constructor) place agrees.around.spaces (exprs_kept scope arguments) parts.0,
+        exprs_there inside bound scope arguments agrees parts.1,
       )
-  phrase_there inside bound scope (CaseOf place subject branches) agrees none =
-      let parts = both_empty (phrase_offences scope subject) (branches_offences scope branches) none in (
-        phrase_there inside bound scope subject agrees parts.0,
+  expr_there inside bound scope (CaseOf place subject branches) agrees none =
+      let parts = both_empty (expr_offences scope subject) (branches_offences scope branches) none in (
+        expr_there inside bound scope subject agrees parts.0,
         branches_there inside bound scope branches agrees parts.1,
       )
 
   -- expressions without one
-  pub phrases_there : (inside : Inside) (bound : ℕ) (scope : Scope) (phrases : Phrases) → Agrees inside bound scope
-      → phrases_offences scope phrases ≡ [] → PhrasesAreThere inside bound (resolved_phrases scope phrases)
-  phrases_there inside bound scope NoPhrase agrees none = tt
-  phrases_there inside bound scope (NextPhrase first others) agrees none =
-      let parts = both_empty (phrase_offences scope first) (phrases_offences scope others) none in
-      (phrase_there inside bound scope first agrees parts.0, phrases_there inside bound scope others agrees parts.1)
+  pub exprs_there : (inside : Inside) (bound : ℕ) (scope : Scope) (expr_trees : ExprTrees) → Agrees inside bound scope
+      → exprs_offences scope expr_trees ≡ [] → ExprsAreThere inside bound (resolved_exprs scope expr_trees)
+  exprs_there inside bound scope NoExpr agrees none = tt
+  exprs_there inside bound scope (NextExpr first others) agrees none =
+      let parts = both_empty (expr_offences scope first) (exprs_offences scope others) none in
+      (expr_there inside bound scope first agrees parts.0, exprs_there inside bound scope others agrees parts.1)
 
   operands_there : (inside : Inside) (bound : ℕ) (scope : Scope) (operands : Operands) → Agrees inside bound scope
       → operands_offences scope operands ≡ [] → OperandsAreThere inside bound (resolved_operands scope operands)
   operands_there inside bound scope NoOperands agrees none = tt
   operands_there inside bound scope (NextOperand operator right others) agrees none =
-      let parts = both_empty (phrase_offences scope right) (operands_offences scope others) none in
-      (phrase_there inside bound scope right agrees parts.0, operands_there inside bound scope others agrees parts.1)
+      let parts = both_empty (expr_offences scope right) (operands_offences scope others) none in
+      (expr_there inside bound scope right agrees parts.0, operands_there inside bound scope others agrees parts.1)
 
   branches_there : (inside : Inside) (bound : ℕ) (scope : Scope) (branches : Branches) → Agrees inside bound scope
       → branches_offences scope branches ≡ [] → BranchesAreThere inside bound (resolved_branches scope branches)
@@ -169,12 +169,12 @@ mutual
   branches_there inside bound scope (NextBranch pattern value others) agrees none =
       let under = pattern_scope scope pattern in
       let parts = both_empty (pattern_offences scope pattern)
-      (phrase_offences under value ++ branches_offences scope others) none in
-      let later = both_empty (phrase_offences under value) (branches_offences scope others) parts.1 in (
+      (expr_offences under value ++ branches_offences scope others) none in
+      let later = both_empty (expr_offences under value) (branches_offences scope others) parts.1 in (
         pattern_there inside bound scope pattern agrees parts.0,
-        subst (λ (n : ℕ). PhraseIsThere inside (bound + n) (resolved_phrase under value))
+        subst (λ (n : ℕ). ExprIsThere inside (bound + n) (resolved_expr under value))
             (sym (pattern_vars scope pattern))
-            (phrase_there inside (bound + pattern_variables pattern) under value
+            (expr_there inside (bound + pattern_variables pattern) under value
             (pattern_agrees inside bound scope pattern agrees parts.0) later.0),
         branches_there inside bound scope others agrees later.1,
       )

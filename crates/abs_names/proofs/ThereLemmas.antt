@@ -4,13 +4,13 @@ use Rattle.std.specs.Prelude.{All}
 use Rattle.std.proofs.lemmas.List.Elements.{All-nil, All-cons}
 use Rattle.abs_program.specs.NameSpaces.{NameSpaces, means_interface}
 use Rattle.abs_program.specs.Slots.{body_slots}
-use Rattle.abs_tree.specs.Syntax.{VariableTree, AtSlot, AtField, TypeTree, Phrase, Statements, ParamTree, DeclaredTree, ConstructorTree, SignatureTree, MaybePhrase, NoValue, Value, MemberTree, FieldTree, MethodTree, DeclTree, DataTree, FunctionTree, InterfaceTree, ClassTree}
+use Rattle.abs_tree.specs.Syntax.{VariableTree, AtSlot, AtField, TypeTree, ExprTree, Statements, ParamTree, DeclaredTree, ConstructorTree, SignatureTree, MaybeExpr, NoValue, Value, MemberTree, FieldTree, MethodTree, DeclTree, DataTree, FunctionTree, InterfaceTree, ClassTree}
 use Rattle.abs_tree.specs.SyntaxSizes.{fields_among}
 use Rattle.abs_program.specs.Tables.{meaning_of}
 use Rattle.abs_program.specs.Whole.{Inside, inside_types, TypesAreThere, StatementsAreThere, ParamsAreThere, SignatureIsThere, NameInterfaces, InitialIsThere, MemberIsThere, MembersAreThere, ConstructorsAreThere, DeclarationIsThere}
 use Rattle.abs_tree.specs.declared.place.Place.{Place}
-use Rattle.abs_names.specs.NameOffences.{phrase_offences, statements_offences, maybe_phrase_offences, params_offences, signature_offences, signatures_offences, interfaces_offences, constructor_types_offences, member_offences, members_offences, class_offences, declaration_offences, declarations_offences}
-use Rattle.abs_names.specs.Resolution.{resolved_statements, resolved_params, resolved_signature, resolved_signatures, resolved_constructors, resolved_maybe_phrase, resolved_member, resolved_members, resolved_declaration, resolved_declarations}
+use Rattle.abs_names.specs.NameOffences.{expr_offences, statements_offences, maybe_expr_offences, params_offences, signature_offences, signatures_offences, interfaces_offences, constructor_types_offences, member_offences, members_offences, class_offences, declaration_offences, declarations_offences}
+use Rattle.abs_names.specs.Resolution.{resolved_statements, resolved_params, resolved_signature, resolved_signatures, resolved_constructors, resolved_maybe_expr, resolved_member, resolved_members, resolved_declaration, resolved_declarations}
 use Rattle.abs_names.specs.Scopes.{Meanings, body_scope, class_fields}
 use Rattle.abs_names.specs.Single.{unknown}
 use Rattle.abs_names.specs.TypeNames.{Around, around_of, type_offences, types_offences}
@@ -18,7 +18,7 @@ use Rattle.abs_names.specs.declared.scope.Routine.TheVariants.{Main, Method, Fun
 use Rattle.abs_names.proofs.ParamLemmas.{params_length}
 use Rattle.abs_names.proofs.SourceSizeLemmas.{members_fields}
 use Rattle.abs_names.proofs.ThereBodyLemmas.{EachIs, surrounds_of, IsField, class_fields_are, main_fields, function_fields, method_fields, initial_fields, body_agrees, body_there}
-use Rattle.abs_names.proofs.ThereExpressionLemmas.{phrase_there}
+use Rattle.abs_names.proofs.ThereExpressionLemmas.{expr_there}
 use Rattle.abs_names.proofs.ThereTypeLemmas.{both_empty, is_known, Surrounds, type_there, types_there}
 
 -- parameters without a name offence
@@ -82,15 +82,15 @@ constructors_there inside around (constructor ∷ others) surrounds none =
     (constructors_there inside around others surrounds parts.1)
 
 -- an initial value without one
-initial_there : (spaces : NameSpaces) (fields : Meanings) (earlier : ℕ) (initial : MaybePhrase)
-    → maybe_phrase_offences (body_scope (around_of spaces []) (Initial earlier) fields []) initial ≡ []
+initial_there : (spaces : NameSpaces) (fields : Meanings) (earlier : ℕ) (initial : MaybeExpr)
+    → maybe_expr_offences (body_scope (around_of spaces []) (Initial earlier) fields []) initial ≡ []
     → InitialIsThere (record (inside_types spaces 0) { slots = earlier })
-    (resolved_maybe_phrase (body_scope (around_of spaces []) (Initial earlier) fields []) initial)
+    (resolved_maybe_expr (body_scope (around_of spaces []) (Initial earlier) fields []) initial)
 initial_there spaces fields earlier NoValue none = tt
 initial_there spaces fields earlier (Value value) none =
     let inside = record (inside_types spaces 0) { slots = earlier } in
     let around = around_of spaces [] in
-    phrase_there inside 0 (body_scope around (Initial earlier) fields []) value
+    expr_there inside 0 (body_scope around (Initial earlier) fields []) value
     (body_agrees inside around (Initial earlier) fields [] (record {
       around_is = surrounds_of inside [] refl;
       this = refl;
@@ -135,7 +135,7 @@ members_there : (spaces : NameSpaces) (fields : Meanings) (count earlier : ℕ) 
 members_there spaces fields count earlier [] are none = tt
 members_there spaces fields count earlier (FieldTree type name initial ∷ others) are none =
     let around = around_of spaces [] in
-    let initial_offences = maybe_phrase_offences (body_scope around (Initial earlier) fields []) initial in
+    let initial_offences = maybe_expr_offences (body_scope around (Initial earlier) fields []) initial in
     let parts = both_empty (type_offences around type ++ initial_offences)
     (members_offences around fields (earlier + 1) others) none in
     let first = both_empty (type_offences around type) initial_offences parts.0 in (
@@ -180,7 +180,7 @@ class_there spaces params members none now now_is later later_is =
 
 -- a function without one
 function_there : (spaces : NameSpaces) (place : Place) (result : TypeTree) (name : DeclaredTree)
-    (type_params : List DeclaredTree) (params : List ParamTree) (value : Phrase)
+    (type_params : List DeclaredTree) (params : List ParamTree) (value : ExprTree)
     → declaration_offences spaces (FunctionTree place result name type_params params value) ≡ []
     → DeclarationIsThere spaces
     (resolved_declaration spaces (FunctionTree place result name type_params params value))
@@ -190,12 +190,12 @@ function_there spaces place result name type_params params value none =
     let scope = body_scope around Function [] params in
     let inside = record types { slots = length (resolved_params around AtSlot 0 params) } in
     let parts = both_empty (type_offences around result)
-    (params_offences around params ++ phrase_offences scope value) none in
-    let later = both_empty (params_offences around params) (phrase_offences scope value) parts.1 in
+    (params_offences around params ++ expr_offences scope value) none in
+    let later = both_empty (params_offences around params) (expr_offences scope value) parts.1 in
     let same = params_length around AtSlot 0 params in (
       type_there types around result (surrounds_of types type_params refl) parts.0,
       params_there types around AtSlot 0 params (surrounds_of types type_params refl) later.0,
-      phrase_there inside 0 scope value
+      expr_there inside 0 scope value
           (body_agrees inside around Function [] params (record {
             around_is = surrounds_of inside type_params refl;
             this = refl;

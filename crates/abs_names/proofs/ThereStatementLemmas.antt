@@ -4,19 +4,19 @@ use Rattle.std.specs.Prelude.{Option, Some, None, option_map}
 use Rattle.std.proofs.lemmas.Bool.{true≢false}
 use Rattle.abs_program.specs.NameSpaces.{NameSpaces}
 use Rattle.abs_program.specs.Slots.{is_this, side_slots, maybe_side_slots, statement_slots, else_slots, statements_slots}
-use Rattle.abs_tree.specs.Syntax.{Name, VariableTree, Unresolved, AtSlot, AtBound, AtField, Phrases, NoPhrase, NextPhrase, SideTree, NewOf, ValueOf, SendOf, GetOf, CallOf, Tests, NoTest, NextTest, TargetTree, ToVariable, ToField, MaybeSide, NoSide, SomeSide, Statement, BlockOf, SkipOf, SuspendOf, AwaitOf, ReturnOf, PrintOf, IfOf, WhileOf, DeclareOf, AssignOf, DoOf, MaybeStatements, NoElse, Else, Statements, NoStatement, NextStatement}
-use Rattle.abs_tree.specs.SyntaxCounts.{count_phrases}
+use Rattle.abs_tree.specs.Syntax.{Name, VariableTree, Unresolved, AtSlot, AtBound, AtField, ExprTrees, NoExpr, NextExpr, SideTree, NewOf, ValueOf, SendOf, GetOf, CallOf, Tests, NoTest, NextTest, TargetTree, ToVariable, ToField, MaybeSide, NoSide, SomeSide, Statement, BlockOf, SkipOf, SuspendOf, AwaitOf, ReturnOf, PrintOf, IfOf, WhileOf, DeclareOf, AssignOf, DoOf, MaybeStatements, NoElse, Else, Statements, NoStatement, NextStatement}
+use Rattle.abs_tree.specs.SyntaxCounts.{count_exprs}
 use Rattle.abs_program.specs.Tables.{meaning_of}
 use Rattle.abs_program.specs.Whole.{Inside, VariableIsThere, HiddenIsThere, SideIsThere, MaybeSideIsThere, TestsAreThere, TargetIsThere, StatementIsThere, ElseIsThere, StatementsAreThere}
 use Rattle.abs_program.specs.declared.name_spaces.Taking.{Taking}
 use Rattle.abs_tree.specs.declared.place.Place.{Place}
 use Rattle.abs_tree.specs.declared.syntax.slot.Slot.{Slot}
 use Rattle.abs_tree.specs.declared.syntax.slot.Slot.TheVariants.{Local, Hidden}
-use Rattle.abs_names.specs.NameOffences.{phrase_offences, phrases_offences, side_offences, maybe_side_offences, tests_offences, target_offences, local_offences, statement_offences, else_offences, statements_offences}
+use Rattle.abs_names.specs.NameOffences.{expr_offences, exprs_offences, side_offences, maybe_side_offences, tests_offences, target_offences, local_offences, statement_offences, else_offences, statements_offences}
 use Rattle.abs_names.specs.Resolution.{field_target, hidden_slot, resolved_side, resolved_maybe_side, resolved_tests, resolved_target, resolved_statement, resolved_else, resolved_statements}
 use Rattle.abs_names.specs.Scopes.{Scope, field_of, with_variable, statement_scope}
 use Rattle.abs_names.specs.TypeNames.{applied, class_taking, type_offences}
-use Rattle.abs_names.proofs.ThereExpressionLemmas.{phrases_kept, taking_kept, phrase_there, phrases_there}
+use Rattle.abs_names.proofs.ThereExpressionLemmas.{exprs_kept, taking_kept, expr_there, exprs_there}
 use Rattle.abs_names.proofs.ThereScopeLemmas.{Agrees, newest_or, use_there, FieldKnown, field_known}
 use Rattle.abs_names.proofs.ThereTypeLemmas.{both_empty, type_there}
 
@@ -27,11 +27,11 @@ own_slot_there : (inside : Inside) (next index : ℕ) (own : Bool)
 own_slot_there inside next index true fits = tt
 own_slot_there inside next index false fits = omega (arith, fits)
 
-hidden_there : (inside : Inside) (next index : ℕ) (place : Place) (method : Name) (row : Phrases) (slot : Option ℕ)
-    → next + length (side_slots index (CallOf place method row slot)) ≤ inside.slots
-    → HiddenIsThere inside (hidden_slot next row)
-hidden_there inside next index place method NoPhrase slot fits = tt
-hidden_there inside next index place method (NextPhrase receiver arguments) slot fits =
+hidden_there : (inside : Inside) (next index : ℕ) (place : Place) (method : Name) (operands : ExprTrees) (slot : Option ℕ)
+    → next + length (side_slots index (CallOf place method operands slot)) ≤ inside.slots
+    → HiddenIsThere inside (hidden_slot next operands)
+hidden_there inside next index place method NoExpr slot fits = tt
+hidden_there inside next index place method (NextExpr receiver arguments) slot fits =
     own_slot_there inside next index (is_this receiver) fits
 
 -- a right side without a name offence, where its slot is one of those of the body
@@ -39,20 +39,20 @@ side_there : (inside : Inside) (scope : Scope) (next index : ℕ) (side : SideTr
     → side_offences scope side ≡ [] → next + length (side_slots index side) ≤ inside.slots
     → SideIsThere inside (resolved_side scope next side)
 side_there inside scope next index (NewOf place mode class_place class arguments) agrees none fits =
-    let parts = both_empty (applied (class_taking scope.around class) (count_phrases arguments) class_place)
-    (phrases_offences scope arguments) none in (
+    let parts = both_empty (applied (class_taking scope.around class) (count_exprs arguments) class_place)
+    (exprs_offences scope arguments) none in (
       taking_kept (λ (spaces : NameSpaces). option_map (λ (c : Taking). c.arity) (meaning_of spaces.classes class))
-          class_place agrees.around.spaces (phrases_kept scope arguments) parts.0,
-      phrases_there inside 0 scope arguments agrees parts.1,
+          class_place agrees.around.spaces (exprs_kept scope arguments) parts.0,
+      exprs_there inside 0 scope arguments agrees parts.1,
     )
 side_there inside scope next index (ValueOf place value) agrees none fits =
-    phrase_there inside 0 scope value agrees none
-side_there inside scope next index (SendOf place method row) agrees none fits =
-    phrases_there inside 0 scope row agrees none
+    expr_there inside 0 scope value agrees none
+side_there inside scope next index (SendOf place method operands) agrees none fits =
+    exprs_there inside 0 scope operands agrees none
 side_there inside scope next index (GetOf place get_place future) agrees none fits =
-    phrase_there inside 0 scope future agrees none
-side_there inside scope next index (CallOf place method row slot) agrees none fits =
-    (phrases_there inside 0 scope row agrees none, hidden_there inside next index place method row slot fits)
+    expr_there inside 0 scope future agrees none
+side_there inside scope next index (CallOf place method operands slot) agrees none fits =
+    (exprs_there inside 0 scope operands agrees none, hidden_there inside next index place method operands slot fits)
 
 maybe_side_there : (inside : Inside) (scope : Scope) (next index : ℕ) (side : MaybeSide) → Agrees inside 0 scope
     → maybe_side_offences scope side ≡ [] → next + length (maybe_side_slots index side) ≤ inside.slots
@@ -66,8 +66,8 @@ tests_there : (inside : Inside) (scope : Scope) (tests : Tests) → Agrees insid
     → tests_offences scope tests ≡ [] → TestsAreThere inside (resolved_tests scope tests)
 tests_there inside scope NoTest agrees none = tt
 tests_there inside scope (NextTest place value asks others) agrees none =
-    let parts = both_empty (phrase_offences scope value) (tests_offences scope others) none in
-    (phrase_there inside 0 scope value agrees parts.0, tests_there inside scope others agrees parts.1)
+    let parts = both_empty (expr_offences scope value) (tests_offences scope others) none in
+    (expr_there inside 0 scope value agrees parts.0, tests_there inside scope others agrees parts.1)
 
 -- a target without one
 field_target_there : (inside : Inside) (place name_place : Place) (name : Name) (found : Option VariableTree)
@@ -149,24 +149,24 @@ mutual
   statement_there inside scope next (AwaitOf index place guard) agrees none fits =
       tests_there inside scope guard agrees none
   statement_there inside scope next (ReturnOf index place value) agrees none fits =
-      phrase_there inside 0 scope value agrees none
+      expr_there inside 0 scope value agrees none
   statement_there inside scope next (PrintOf index place value) agrees none fits =
-      phrase_there inside 0 scope value agrees none
+      expr_there inside 0 scope value agrees none
   statement_there inside scope next (IfOf index place condition first second) agrees none fits =
       let slots = statements_slots first in
       let after = next + length slots in
-      let parts = both_empty (phrase_offences scope condition)
+      let parts = both_empty (expr_offences scope condition)
       (statements_offences scope next first ++ else_offences scope after second) none in
       let later = both_empty (statements_offences scope next first) (else_offences scope after second) parts.1 in (
-        phrase_there inside 0 scope condition agrees parts.0,
+        expr_there inside 0 scope condition agrees parts.0,
         statements_there inside scope next first agrees later.0
             (first_fits next inside.slots slots (else_slots second) fits),
         else_there inside scope after second agrees later.1
             (others_fit next inside.slots slots (else_slots second) fits),
       )
   statement_there inside scope next (WhileOf index place condition body) agrees none fits =
-      let parts = both_empty (phrase_offences scope condition) (statements_offences scope next body) none in (
-        phrase_there inside 0 scope condition agrees parts.0,
+      let parts = both_empty (expr_offences scope condition) (statements_offences scope next body) none in (
+        expr_there inside 0 scope condition agrees parts.0,
         statements_there inside scope next body agrees parts.1 fits,
       )
   statement_there inside scope next (DeclareOf index place type variable_place variable initial) agrees none fits =

@@ -6,12 +6,12 @@
 --   `name_offences`                                    those of a source
 --   `declaration_offences`, `members_offences`         those of a declaration, of the members of a class
 --   `statement_offences`, `side_offences`, ..          those of statements, right sides, guards
---   `phrase_offences`, `pattern_offences`, ..          those of expressions and patterns
+--   `expr_offences`, `pattern_offences`, ..            those of expressions and patterns
 --   `use_offences`, `bind_offences`, ..                those of one name
 use Rattle.std.specs.Prelude.{ℕ, ◌+◌, List, [], ◌∷◌, ◌++◌, length, is_some, if◌then◌else◌}
 use Rattle.abs_program.specs.Slots.{statement_slots, statements_slots}
-use Rattle.abs_tree.specs.Syntax.{Name, VariableTree, Unresolved, AtSlot, AtBound, AtField, PatternTree, AnyValue, Binds, SameNumber, SameString, Built, PatternTrees, NoPattern, NextPattern, Phrase, LetIn, IfElse, OperatorsOf, Prefixed, NumberOf, StringOf, NullOf, DestinyOf, ThisOf, FieldOf, OwnCallOf, VariableOf, ApplyOf, BuildOf, CaseOf, Phrases, NoPhrase, NextPhrase, Operands, NoOperands, NextOperand, Branches, NoBranch, NextBranch, SideTree, NewOf, ValueOf, SendOf, GetOf, CallOf, Tests, NoTest, NextTest, TargetTree, ToVariable, ToField, MaybeSide, NoSide, SomeSide, Statement, BlockOf, SkipOf, SuspendOf, AwaitOf, ReturnOf, PrintOf, IfOf, WhileOf, DeclareOf, AssignOf, DoOf, MaybeStatements, NoElse, Else, Statements, NoStatement, NextStatement, MaybePhrase, NoValue, Value, ParamTree, DeclaredTree, ConstructorTree, SignatureTree, MemberTree, FieldTree, MethodTree, DeclTree, DataTree, FunctionTree, InterfaceTree, ClassTree, SourceTree}
-use Rattle.abs_tree.specs.SyntaxCounts.{count_patterns, count_phrases}
+use Rattle.abs_tree.specs.Syntax.{Name, VariableTree, Unresolved, AtSlot, AtBound, AtField, PatternTree, AnyValue, Binds, SameNumber, SameString, Built, PatternTrees, NoPattern, NextPattern, ExprTree, LetIn, IfElse, OperatorsOf, Prefixed, NumberOf, StringOf, NullOf, DestinyOf, ThisOf, FieldOf, OwnCallOf, VariableOf, ApplyOf, BuildOf, CaseOf, ExprTrees, NoExpr, NextExpr, Operands, NoOperands, NextOperand, Branches, NoBranch, NextBranch, SideTree, NewOf, ValueOf, SendOf, GetOf, CallOf, Tests, NoTest, NextTest, TargetTree, ToVariable, ToField, MaybeSide, NoSide, SomeSide, Statement, BlockOf, SkipOf, SuspendOf, AwaitOf, ReturnOf, PrintOf, IfOf, WhileOf, DeclareOf, AssignOf, DoOf, MaybeStatements, NoElse, Else, Statements, NoStatement, NextStatement, MaybeExpr, NoValue, Value, ParamTree, DeclaredTree, ConstructorTree, SignatureTree, MemberTree, FieldTree, MethodTree, DeclTree, DataTree, FunctionTree, InterfaceTree, ClassTree, SourceTree}
+use Rattle.abs_tree.specs.SyntaxCounts.{count_patterns, count_exprs}
 use Rattle.abs_tree.specs.declared.place.Place.{Place}
 use Rattle.abs_tree.specs.declared.refusal.Offence.{Offence}
 use Rattle.abs_tree.specs.declared.refusal.Code.TheVariants.{N2}
@@ -76,58 +76,58 @@ abbrev mutual
 
 abbrev mutual
   -- an expression
-  pub phrase_offences : Scope → Phrase → List Offence
-  phrase_offences scope (LetIn place type variable_place variable value body) =
+  pub expr_offences : Scope → ExprTree → List Offence
+  expr_offences scope (LetIn place type variable_place variable value body) =
       type_offences scope.around type
-      ++ (phrase_offences scope value
-      ++ (bind_offences scope variable_place variable ++ phrase_offences (with_bound scope variable) body))
-  phrase_offences scope (IfElse place condition first second) =
-      phrase_offences scope condition ++ (phrase_offences scope first ++ phrase_offences scope second)
-  phrase_offences scope (OperatorsOf place first operands) =
-      phrase_offences scope first ++ operands_offences scope operands
-  phrase_offences scope (Prefixed place prefix operand) = phrase_offences scope operand
-  phrase_offences scope (NumberOf place number) = []
-  phrase_offences scope (StringOf place string) = []
-  phrase_offences scope (NullOf place) = []
-  phrase_offences scope (DestinyOf place) = unknown (has_task scope.routine) place
-  phrase_offences scope (ThisOf place) = this_offences scope place
-  phrase_offences scope (FieldOf place name_place name) = field_offences scope place name_place name
-  phrase_offences scope (OwnCallOf place method arguments) =
-      this_offences scope place ++ phrases_offences scope arguments
-  phrase_offences scope (VariableOf place variable) = use_offences scope place variable
-  phrase_offences scope (ApplyOf place function arguments) =
-      applied (function_taking scope.around function) (count_phrases arguments) place
-      ++ phrases_offences scope arguments
-  phrase_offences scope (BuildOf place constructor arguments) =
-      applied (constructor_taking scope.around constructor) (count_phrases arguments) place
-      ++ phrases_offences scope arguments
-  phrase_offences scope (CaseOf place subject branches) =
-      phrase_offences scope subject ++ branches_offences scope branches
+      ++ (expr_offences scope value
+      ++ (bind_offences scope variable_place variable ++ expr_offences (with_bound scope variable) body))
+  expr_offences scope (IfElse place condition first second) =
+      expr_offences scope condition ++ (expr_offences scope first ++ expr_offences scope second)
+  expr_offences scope (OperatorsOf place first operands) =
+      expr_offences scope first ++ operands_offences scope operands
+  expr_offences scope (Prefixed place prefix operand) = expr_offences scope operand
+  expr_offences scope (NumberOf place number) = []
+  expr_offences scope (StringOf place string) = []
+  expr_offences scope (NullOf place) = []
+  expr_offences scope (DestinyOf place) = unknown (has_task scope.routine) place
+  expr_offences scope (ThisOf place) = this_offences scope place
+  expr_offences scope (FieldOf place name_place name) = field_offences scope place name_place name
+  expr_offences scope (OwnCallOf place method arguments) =
+      this_offences scope place ++ exprs_offences scope arguments
+  expr_offences scope (VariableOf place variable) = use_offences scope place variable
+  expr_offences scope (ApplyOf place function arguments) =
+      applied (function_taking scope.around function) (count_exprs arguments) place
+      ++ exprs_offences scope arguments
+  expr_offences scope (BuildOf place constructor arguments) =
+      applied (constructor_taking scope.around constructor) (count_exprs arguments) place
+      ++ exprs_offences scope arguments
+  expr_offences scope (CaseOf place subject branches) =
+      expr_offences scope subject ++ branches_offences scope branches
 
-  pub phrases_offences : Scope → Phrases → List Offence
-  phrases_offences scope NoPhrase = []
-  phrases_offences scope (NextPhrase first others) = phrase_offences scope first ++ phrases_offences scope others
+  pub exprs_offences : Scope → ExprTrees → List Offence
+  exprs_offences scope NoExpr = []
+  exprs_offences scope (NextExpr first others) = expr_offences scope first ++ exprs_offences scope others
 
   pub operands_offences : Scope → Operands → List Offence
   operands_offences scope NoOperands = []
   operands_offences scope (NextOperand operator right others) =
-      phrase_offences scope right ++ operands_offences scope others
+      expr_offences scope right ++ operands_offences scope others
 
   pub branches_offences : Scope → Branches → List Offence
   branches_offences scope NoBranch = []
   branches_offences scope (NextBranch pattern value others) =
       pattern_offences scope pattern
-      ++ (phrase_offences (pattern_scope scope pattern) value ++ branches_offences scope others)
+      ++ (expr_offences (pattern_scope scope pattern) value ++ branches_offences scope others)
 
 -- a right side
 abbrev pub side_offences : Scope → SideTree → List Offence
 side_offences scope (NewOf place mode class_place class arguments) =
-    applied (class_taking scope.around class) (count_phrases arguments) class_place
-    ++ phrases_offences scope arguments
-side_offences scope (ValueOf place value) = phrase_offences scope value
-side_offences scope (SendOf place method row) = phrases_offences scope row
-side_offences scope (GetOf place get_place future) = phrase_offences scope future
-side_offences scope (CallOf place method row slot) = phrases_offences scope row
+    applied (class_taking scope.around class) (count_exprs arguments) class_place
+    ++ exprs_offences scope arguments
+side_offences scope (ValueOf place value) = expr_offences scope value
+side_offences scope (SendOf place method operands) = exprs_offences scope operands
+side_offences scope (GetOf place get_place future) = expr_offences scope future
+side_offences scope (CallOf place method operands slot) = exprs_offences scope operands
 
 abbrev pub maybe_side_offences : Scope → MaybeSide → List Offence
 maybe_side_offences scope NoSide = []
@@ -136,7 +136,7 @@ maybe_side_offences scope (SomeSide side) = side_offences scope side
 -- a guard
 abbrev pub tests_offences : Scope → Tests → List Offence
 tests_offences scope NoTest = []
-tests_offences scope (NextTest place value asks others) = phrase_offences scope value ++ tests_offences scope others
+tests_offences scope (NextTest place value asks others) = expr_offences scope value ++ tests_offences scope others
 
 -- a target
 abbrev pub target_offences : Scope → TargetTree → List Offence
@@ -150,14 +150,14 @@ abbrev mutual
   statement_offences scope next (SkipOf index place) = []
   statement_offences scope next (SuspendOf index place) = []
   statement_offences scope next (AwaitOf index place guard) = tests_offences scope guard
-  statement_offences scope next (ReturnOf index place value) = phrase_offences scope value
-  statement_offences scope next (PrintOf index place value) = phrase_offences scope value
+  statement_offences scope next (ReturnOf index place value) = expr_offences scope value
+  statement_offences scope next (PrintOf index place value) = expr_offences scope value
   statement_offences scope next (IfOf index place condition first second) =
-      phrase_offences scope condition
+      expr_offences scope condition
       ++ (statements_offences scope next first
       ++ else_offences scope (next + length (statements_slots first)) second)
   statement_offences scope next (WhileOf index place condition body) =
-      phrase_offences scope condition ++ statements_offences scope next body
+      expr_offences scope condition ++ statements_offences scope next body
   statement_offences scope next (DeclareOf index place type variable_place variable initial) =
       type_offences scope.around type
       ++ (maybe_side_offences scope initial ++ local_offences scope variable_place variable)
@@ -177,9 +177,9 @@ abbrev mutual
       ++ statements_offences (statement_scope scope next first) (next + length (statement_slots first)) others
 
 -- an initial value, if there is one
-abbrev pub maybe_phrase_offences : Scope → MaybePhrase → List Offence
-maybe_phrase_offences scope NoValue = []
-maybe_phrase_offences scope (Value value) = phrase_offences scope value
+abbrev pub maybe_expr_offences : Scope → MaybeExpr → List Offence
+maybe_expr_offences scope NoValue = []
+maybe_expr_offences scope (Value value) = expr_offences scope value
 
 -- the types of parameters
 abbrev pub params_offences : Around → List ParamTree → List Offence
@@ -211,7 +211,7 @@ constructor_types_offences around (constructor ∷ others) =
 -- a member of a class with these fields, where `earlier` of the fields come before it
 abbrev pub member_offences : Around → Meanings → ℕ → MemberTree → List Offence
 member_offences around fields earlier (FieldTree type name initial) =
-    type_offences around type ++ maybe_phrase_offences (body_scope around (Initial earlier) fields []) initial
+    type_offences around type ++ maybe_expr_offences (body_scope around (Initial earlier) fields []) initial
 member_offences around fields earlier (MethodTree signature end body) =
     signature_offences around signature
     ++ statements_offences (body_scope around Method fields signature.params) (length signature.params) body
@@ -233,7 +233,7 @@ declaration_offences spaces (DataTree place name type_params constructors) =
 declaration_offences spaces (FunctionTree place result name type_params params value) =
     type_offences (around_of spaces type_params) result
     ++ (params_offences (around_of spaces type_params) params
-    ++ phrase_offences (body_scope (around_of spaces type_params) Function [] params) value)
+    ++ expr_offences (body_scope (around_of spaces type_params) Function [] params) value)
 declaration_offences spaces (InterfaceTree place name extended signatures) =
     interfaces_offences (around_of spaces []) extended ++ signatures_offences (around_of spaces []) signatures
 declaration_offences spaces (ClassTree place name params implemented members) =

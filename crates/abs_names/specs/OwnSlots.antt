@@ -26,11 +26,11 @@ given_params index (param ∷ others) = (Parameter index, param.variable) ∷ gi
 
 -- what the call on the right side of the statement with this index was given
 abbrev pub given_side : ℕ → SideTree → Given
-given_side index (CallOf place method row (Some slot)) = (Hidden index, AtSlot slot) ∷ []
-given_side index (CallOf place method row None) = []
+given_side index (CallOf place method operands (Some slot)) = (Hidden index, AtSlot slot) ∷ []
+given_side index (CallOf place method operands None) = []
 given_side index (NewOf place mode class_place class arguments) = []
 given_side index (ValueOf place value) = []
-given_side index (SendOf place method row) = []
+given_side index (SendOf place method operands) = []
 given_side index (GetOf place get_place future) = []
 
 abbrev pub given_maybe_side : ℕ → MaybeSide → Given

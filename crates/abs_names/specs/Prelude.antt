@@ -5,7 +5,7 @@
 --   `prelude_names`        its names and those that are built in, in the order of first appearance
 --   `at`                   a place in its text
 use Rattle.std.specs.Prelude.{ℕ, pos, ◌+◌, ◌-◌, List, [], ◌∷◌, codes, get_or}
-use Rattle.abs_tree.specs.Syntax.{Name, Unresolved, TypeTree, UnresolvedType, TypeTrees, NoType, NextType, PatternTree, Binds, Built, NoPattern, NextPattern, Phrase, IfElse, OperatorsOf, NumberOf, VariableOf, ApplyOf, BuildOf, CaseOf, NoPhrase, NextPhrase, NoOperands, NextOperand, NoBranch, NextBranch, ParamTree, DeclaredTree, ConstructorTree, DeclTree, DataTree, FunctionTree}
+use Rattle.abs_tree.specs.Syntax.{Name, Unresolved, TypeTree, UnresolvedType, TypeTrees, NoType, NextType, PatternTree, Binds, Built, NoPattern, NextPattern, ExprTree, IfElse, OperatorsOf, NumberOf, VariableOf, ApplyOf, BuildOf, CaseOf, NoExpr, NextExpr, NoOperands, NextOperand, NoBranch, NextBranch, ParamTree, DeclaredTree, ConstructorTree, DeclTree, DataTree, FunctionTree}
 use Rattle.abs_tree.specs.declared.place.Place.{Place}
 use Rattle.abs_tree.specs.declared.syntax.expression.Operator.TheVariants as operator
 
@@ -33,7 +33,7 @@ constructor name types = record { name = name; types = types }
 abbrev pub param : TypeTree → ℕ → ℕ → Name → ParamTree
 param type line column name = record { type_of = type; place = at line column; variable = Unresolved name }
 
-abbrev pub variable : ℕ → ℕ → Name → Phrase
+abbrev pub variable : ℕ → ℕ → Name → ExprTree
 variable line column name = VariableOf (at line column) (Unresolved name)
 
 abbrev pub binds : ℕ → ℕ → Name → PatternTree
@@ -94,8 +94,8 @@ is_empty_function =
     FunctionTree (at 8 1) (type 8 5 (codes "Bool")) (declared 8 10 (codes "isEmpty")) ((declared 8 18 (codes "A")) ∷ [])
     (param (applied 8 21 (codes "List") (NextType (type 8 26 (codes "A")) NoType)) 8 29 (codes "l") ∷ [])
     (CaseOf (at 8 34) (variable 8 39 (codes "l")) (NextBranch (Built (at 8 43) (codes "Nil") NoPattern) (BuildOf
-    (at 8 50) (codes "True") NoPhrase) (NextBranch (Built (at 8 56) (codes "Cons") (NextPattern (binds 8 61
-    (codes "x")) (NextPattern (binds 8 64 (codes "r")) NoPattern))) (BuildOf (at 8 70) (codes "False") NoPhrase) NoBranch)))
+    (at 8 50) (codes "True") NoExpr) (NextBranch (Built (at 8 56) (codes "Cons") (NextPattern (binds 8 61
+    (codes "x")) (NextPattern (binds 8 64 (codes "r")) NoPattern))) (BuildOf (at 8 70) (codes "False") NoExpr) NoBranch)))
 
 -- def Int length<A>(List<A> l) = case l { Nil => 0; Cons(x, r) => 1 + length(r); };
 abbrev pub length_function : DeclTree
@@ -105,7 +105,7 @@ length_function =
     (CaseOf (at 9 32) (variable 9 37 (codes "l")) (NextBranch (Built (at 9 41) (codes "Nil") NoPattern)
     (NumberOf (at 9 48) (pos 0)) (NextBranch (Built (at 9 51) (codes "Cons") (NextPattern (binds 9 56 (codes "x"))
     (NextPattern (binds 9 59 (codes "r")) NoPattern))) (OperatorsOf (at 9 65) (NumberOf (at 9 65) (pos 1))
-    (NextOperand operator.Plus (ApplyOf (at 9 69) (codes "length") (NextPhrase (variable 9 76 (codes "r")) NoPhrase)) NoOperands)) NoBranch)))
+    (NextOperand operator.Plus (ApplyOf (at 9 69) (codes "length") (NextExpr (variable 9 76 (codes "r")) NoExpr)) NoOperands)) NoBranch)))
 
 -- def A nth<A>(List<A> l, Int n) = if n == 0 then head(l) else nth(tail(l), n - 1);
 abbrev pub nth_function : DeclTree
@@ -114,9 +114,9 @@ nth_function =
     (param (applied 10 14 (codes "List") (NextType (type 10 19 (codes "A")) NoType)) 10 22 (codes "l") ∷ param
     (type 10 25 (codes "Int")) 10 29 (codes "n") ∷ []) (IfElse (at 10 34) (OperatorsOf (at 10 37) (variable 10 37
     (codes "n")) (NextOperand operator.Equal (NumberOf (at 10 42) (pos 0)) NoOperands)) (ApplyOf (at 10 49) (codes "head")
-    (NextPhrase (variable 10 54 (codes "l")) NoPhrase)) (ApplyOf (at 10 62) (codes "nth") (NextPhrase (ApplyOf
-    (at 10 66) (codes "tail") (NextPhrase (variable 10 71 (codes "l")) NoPhrase)) (NextPhrase (OperatorsOf (at 10 75)
-    (variable 10 75 (codes "n")) (NextOperand operator.Minus (NumberOf (at 10 79) (pos 1)) NoOperands)) NoPhrase))))
+    (NextExpr (variable 10 54 (codes "l")) NoExpr)) (ApplyOf (at 10 62) (codes "nth") (NextExpr (ApplyOf
+    (at 10 66) (codes "tail") (NextExpr (variable 10 71 (codes "l")) NoExpr)) (NextExpr (OperatorsOf (at 10 75)
+    (variable 10 75 (codes "n")) (NextOperand operator.Minus (NumberOf (at 10 79) (pos 1)) NoOperands)) NoExpr))))
 
 -- def List<A> append<A>(List<A> l, List<A> m) = case l { Nil => m; Cons(x, r) => Cons(x, append(r, m)); };
 abbrev pub append_function : DeclTree
@@ -126,9 +126,9 @@ append_function =
     (codes "A")) NoType)) 11 31 (codes "l") ∷ param (applied 11 34 (codes "List") (NextType (type 11 39 (codes "A")) NoType)) 11 42
     (codes "m") ∷ []) (CaseOf (at 11 47) (variable 11 52 (codes "l")) (NextBranch (Built (at 11 56) (codes "Nil") NoPattern)
     (variable 11 63 (codes "m")) (NextBranch (Built (at 11 66) (codes "Cons") (NextPattern (binds 11 71 (codes "x"))
-    (NextPattern (binds 11 74 (codes "r")) NoPattern))) (BuildOf (at 11 80) (codes "Cons") (NextPhrase (variable 11 85
-    (codes "x")) (NextPhrase (ApplyOf (at 11 88) (codes "append") (NextPhrase (variable 11 95 (codes "r"))
-    (NextPhrase (variable 11 98 (codes "m")) NoPhrase))) NoPhrase))) NoBranch)))
+    (NextPattern (binds 11 74 (codes "r")) NoPattern))) (BuildOf (at 11 80) (codes "Cons") (NextExpr (variable 11 85
+    (codes "x")) (NextExpr (ApplyOf (at 11 88) (codes "append") (NextExpr (variable 11 95 (codes "r"))
+    (NextExpr (variable 11 98 (codes "m")) NoExpr))) NoExpr))) NoBranch)))
 
 -- def A fst<A, B>(Pair<A, B> p) = case p { Pair(a, b) => a; };
 abbrev pub fst_function : DeclTree

@@ -4,11 +4,11 @@
 --   `resolved`                                         that of a source
 --   `resolved_declaration`, `resolved_members`, ..     that of a declaration, of the members of a class
 --   `resolved_statement`, `resolved_side`, ..          that of statements, right sides, guards
---   `resolved_phrase`, `resolved_pattern`, ..          that of expressions and patterns
+--   `resolved_expr`, `resolved_pattern`, ..            that of expressions and patterns
 --   `resolved_use`, `resolved_field`                   that of the use of a name
 use Rattle.std.specs.Prelude.{ℕ, ◌+◌, List, [], ◌∷◌, ◌++◌, length, Option, Some, None, if◌then◌else◌}
 use Rattle.abs_program.specs.Slots.{is_this, statement_slots, statements_slots}
-use Rattle.abs_tree.specs.Syntax.{Name, VariableTree, Unresolved, AtSlot, AtBound, AtField, PatternTree, AnyValue, Binds, SameNumber, SameString, Built, PatternTrees, NoPattern, NextPattern, Phrase, LetIn, IfElse, OperatorsOf, Prefixed, NumberOf, StringOf, NullOf, DestinyOf, ThisOf, FieldOf, OwnCallOf, VariableOf, ApplyOf, BuildOf, CaseOf, Phrases, NoPhrase, NextPhrase, Operands, NoOperands, NextOperand, Branches, NoBranch, NextBranch, SideTree, NewOf, ValueOf, SendOf, GetOf, CallOf, Tests, NoTest, NextTest, TargetTree, ToVariable, ToField, MaybeSide, NoSide, SomeSide, Statement, BlockOf, SkipOf, SuspendOf, AwaitOf, ReturnOf, PrintOf, IfOf, WhileOf, DeclareOf, AssignOf, DoOf, MaybeStatements, NoElse, Else, Statements, NoStatement, NextStatement, ParamTree, ConstructorTree, SignatureTree, MaybePhrase, NoValue, Value, MemberTree, FieldTree, MethodTree, DeclTree, DataTree, FunctionTree, InterfaceTree, ClassTree, SourceTree}
+use Rattle.abs_tree.specs.Syntax.{Name, VariableTree, Unresolved, AtSlot, AtBound, AtField, PatternTree, AnyValue, Binds, SameNumber, SameString, Built, PatternTrees, NoPattern, NextPattern, ExprTree, LetIn, IfElse, OperatorsOf, Prefixed, NumberOf, StringOf, NullOf, DestinyOf, ThisOf, FieldOf, OwnCallOf, VariableOf, ApplyOf, BuildOf, CaseOf, ExprTrees, NoExpr, NextExpr, Operands, NoOperands, NextOperand, Branches, NoBranch, NextBranch, SideTree, NewOf, ValueOf, SendOf, GetOf, CallOf, Tests, NoTest, NextTest, TargetTree, ToVariable, ToField, MaybeSide, NoSide, SomeSide, Statement, BlockOf, SkipOf, SuspendOf, AwaitOf, ReturnOf, PrintOf, IfOf, WhileOf, DeclareOf, AssignOf, DoOf, MaybeStatements, NoElse, Else, Statements, NoStatement, NextStatement, ParamTree, ConstructorTree, SignatureTree, MaybeExpr, NoValue, Value, MemberTree, FieldTree, MethodTree, DeclTree, DataTree, FunctionTree, InterfaceTree, ClassTree, SourceTree}
 use Rattle.abs_tree.specs.declared.place.Place.{Place}
 use Rattle.abs_program.specs.NameSpaces.{NameSpaces, spaces_of}
 use Rattle.abs_names.specs.Prelude.{prelude}
@@ -28,9 +28,9 @@ resolved_use scope (AtBound depth) = AtBound depth
 resolved_use scope (AtField field) = AtField field
 
 -- a field of `this`, which is a variable like others; one that is unknown stays as it is
-abbrev pub field_phrase : Place → Place → Name → Option VariableTree → Phrase
-field_phrase place name_place name (Some field) = VariableOf place field
-field_phrase place name_place name None = FieldOf place name_place name
+abbrev pub field_expr : Place → Place → Name → Option VariableTree → ExprTree
+field_expr place name_place name (Some field) = VariableOf place field
+field_expr place name_place name None = FieldOf place name_place name
 
 abbrev pub field_target : Place → Place → Name → Option VariableTree → TargetTree
 field_target place name_place name (Some field) = ToVariable place field
@@ -53,59 +53,59 @@ abbrev mutual
 
 abbrev mutual
   -- an expression
-  pub resolved_phrase : Scope → Phrase → Phrase
-  resolved_phrase scope (LetIn place type variable_place variable value body) =
-      LetIn place (resolved_type scope.around type) variable_place (next_bound scope) (resolved_phrase scope value)
-      (resolved_phrase (with_bound scope variable) body)
-  resolved_phrase scope (IfElse place condition first second) =
-      IfElse place (resolved_phrase scope condition) (resolved_phrase scope first) (resolved_phrase scope second)
-  resolved_phrase scope (OperatorsOf place first operands) =
-      OperatorsOf place (resolved_phrase scope first) (resolved_operands scope operands)
-  resolved_phrase scope (Prefixed place prefix operand) = Prefixed place prefix (resolved_phrase scope operand)
-  resolved_phrase scope (NumberOf place number) = NumberOf place number
-  resolved_phrase scope (StringOf place string) = StringOf place string
-  resolved_phrase scope (NullOf place) = NullOf place
-  resolved_phrase scope (DestinyOf place) = DestinyOf place
-  resolved_phrase scope (ThisOf place) = ThisOf place
-  resolved_phrase scope (FieldOf place name_place name) = field_phrase place name_place name (field_of scope name)
-  resolved_phrase scope (OwnCallOf place method arguments) =
-      OwnCallOf place method (resolved_phrases scope arguments)
-  resolved_phrase scope (VariableOf place variable) = VariableOf place (resolved_use scope variable)
-  resolved_phrase scope (ApplyOf place function arguments) = ApplyOf place function (resolved_phrases scope arguments)
-  resolved_phrase scope (BuildOf place constructor arguments) =
-      BuildOf place constructor (resolved_phrases scope arguments)
-  resolved_phrase scope (CaseOf place subject branches) =
-      CaseOf place (resolved_phrase scope subject) (resolved_branches scope branches)
+  pub resolved_expr : Scope → ExprTree → ExprTree
+  resolved_expr scope (LetIn place type variable_place variable value body) =
+      LetIn place (resolved_type scope.around type) variable_place (next_bound scope) (resolved_expr scope value)
+      (resolved_expr (with_bound scope variable) body)
+  resolved_expr scope (IfElse place condition first second) =
+      IfElse place (resolved_expr scope condition) (resolved_expr scope first) (resolved_expr scope second)
+  resolved_expr scope (OperatorsOf place first operands) =
+      OperatorsOf place (resolved_expr scope first) (resolved_operands scope operands)
+  resolved_expr scope (Prefixed place prefix operand) = Prefixed place prefix (resolved_expr scope operand)
+  resolved_expr scope (NumberOf place number) = NumberOf place number
+  resolved_expr scope (StringOf place string) = StringOf place string
+  resolved_expr scope (NullOf place) = NullOf place
+  resolved_expr scope (DestinyOf place) = DestinyOf place
+  resolved_expr scope (ThisOf place) = ThisOf place
+  resolved_expr scope (FieldOf place name_place name) = field_expr place name_place name (field_of scope name)
+  resolved_expr scope (OwnCallOf place method arguments) =
+      OwnCallOf place method (resolved_exprs scope arguments)
+  resolved_expr scope (VariableOf place variable) = VariableOf place (resolved_use scope variable)
+  resolved_expr scope (ApplyOf place function arguments) = ApplyOf place function (resolved_exprs scope arguments)
+  resolved_expr scope (BuildOf place constructor arguments) =
+      BuildOf place constructor (resolved_exprs scope arguments)
+  resolved_expr scope (CaseOf place subject branches) =
+      CaseOf place (resolved_expr scope subject) (resolved_branches scope branches)
 
-  pub resolved_phrases : Scope → Phrases → Phrases
-  resolved_phrases scope NoPhrase = NoPhrase
-  resolved_phrases scope (NextPhrase first others) =
-      NextPhrase (resolved_phrase scope first) (resolved_phrases scope others)
+  pub resolved_exprs : Scope → ExprTrees → ExprTrees
+  resolved_exprs scope NoExpr = NoExpr
+  resolved_exprs scope (NextExpr first others) =
+      NextExpr (resolved_expr scope first) (resolved_exprs scope others)
 
   pub resolved_operands : Scope → Operands → Operands
   resolved_operands scope NoOperands = NoOperands
   resolved_operands scope (NextOperand operator right others) =
-      NextOperand operator (resolved_phrase scope right) (resolved_operands scope others)
+      NextOperand operator (resolved_expr scope right) (resolved_operands scope others)
 
   pub resolved_branches : Scope → Branches → Branches
   resolved_branches scope NoBranch = NoBranch
   resolved_branches scope (NextBranch pattern value others) =
-      NextBranch (resolved_pattern scope pattern) (resolved_phrase (pattern_scope scope pattern) value)
+      NextBranch (resolved_pattern scope pattern) (resolved_expr (pattern_scope scope pattern) value)
       (resolved_branches scope others)
 
 -- a right side, where `next` is the first free slot: it is that of the result of a call by "." on another object
-abbrev pub hidden_slot : ℕ → Phrases → Option ℕ
-hidden_slot next NoPhrase = None
-hidden_slot next (NextPhrase receiver arguments) = if is_this receiver then None else Some next
+abbrev pub hidden_slot : ℕ → ExprTrees → Option ℕ
+hidden_slot next NoExpr = None
+hidden_slot next (NextExpr receiver arguments) = if is_this receiver then None else Some next
 
 abbrev pub resolved_side : Scope → ℕ → SideTree → SideTree
 resolved_side scope next (NewOf place mode class_place class arguments) =
-    NewOf place mode class_place class (resolved_phrases scope arguments)
-resolved_side scope next (ValueOf place value) = ValueOf place (resolved_phrase scope value)
-resolved_side scope next (SendOf place method row) = SendOf place method (resolved_phrases scope row)
-resolved_side scope next (GetOf place get_place future) = GetOf place get_place (resolved_phrase scope future)
-resolved_side scope next (CallOf place method row slot) =
-    CallOf place method (resolved_phrases scope row) (hidden_slot next row)
+    NewOf place mode class_place class (resolved_exprs scope arguments)
+resolved_side scope next (ValueOf place value) = ValueOf place (resolved_expr scope value)
+resolved_side scope next (SendOf place method operands) = SendOf place method (resolved_exprs scope operands)
+resolved_side scope next (GetOf place get_place future) = GetOf place get_place (resolved_expr scope future)
+resolved_side scope next (CallOf place method operands slot) =
+    CallOf place method (resolved_exprs scope operands) (hidden_slot next operands)
 
 abbrev pub resolved_maybe_side : Scope → ℕ → MaybeSide → MaybeSide
 resolved_maybe_side scope next NoSide = NoSide
@@ -115,7 +115,7 @@ resolved_maybe_side scope next (SomeSide side) = SomeSide (resolved_side scope n
 abbrev pub resolved_tests : Scope → Tests → Tests
 resolved_tests scope NoTest = NoTest
 resolved_tests scope (NextTest place value asks others) =
-    NextTest place (resolved_phrase scope value) asks (resolved_tests scope others)
+    NextTest place (resolved_expr scope value) asks (resolved_tests scope others)
 
 -- a target
 abbrev pub resolved_target : Scope → TargetTree → TargetTree
@@ -129,13 +129,13 @@ abbrev mutual
   resolved_statement scope next (SkipOf index place) = SkipOf index place
   resolved_statement scope next (SuspendOf index place) = SuspendOf index place
   resolved_statement scope next (AwaitOf index place guard) = AwaitOf index place (resolved_tests scope guard)
-  resolved_statement scope next (ReturnOf index place value) = ReturnOf index place (resolved_phrase scope value)
-  resolved_statement scope next (PrintOf index place value) = PrintOf index place (resolved_phrase scope value)
+  resolved_statement scope next (ReturnOf index place value) = ReturnOf index place (resolved_expr scope value)
+  resolved_statement scope next (PrintOf index place value) = PrintOf index place (resolved_expr scope value)
   resolved_statement scope next (IfOf index place condition first second) =
-      IfOf index place (resolved_phrase scope condition) (resolved_statements scope next first)
+      IfOf index place (resolved_expr scope condition) (resolved_statements scope next first)
       (resolved_else scope (next + length (statements_slots first)) second)
   resolved_statement scope next (WhileOf index place condition body) =
-      WhileOf index place (resolved_phrase scope condition) (resolved_statements scope next body)
+      WhileOf index place (resolved_expr scope condition) (resolved_statements scope next body)
   resolved_statement scope next (DeclareOf index place type variable_place variable initial) =
       DeclareOf index place (resolved_type scope.around type) variable_place (local_slot next index initial)
       (resolved_maybe_side scope next initial)
@@ -182,15 +182,15 @@ resolved_constructors around (constructor ∷ others) =
     ∷ resolved_constructors around others
 
 -- an initial value, if there is one
-abbrev pub resolved_maybe_phrase : Scope → MaybePhrase → MaybePhrase
-resolved_maybe_phrase scope NoValue = NoValue
-resolved_maybe_phrase scope (Value value) = Value (resolved_phrase scope value)
+abbrev pub resolved_maybe_expr : Scope → MaybeExpr → MaybeExpr
+resolved_maybe_expr scope NoValue = NoValue
+resolved_maybe_expr scope (Value value) = Value (resolved_expr scope value)
 
 -- a member of a class with these fields, where `earlier` of the fields come before it
 abbrev pub resolved_member : Around → Meanings → ℕ → MemberTree → MemberTree
 resolved_member around fields earlier (FieldTree type name initial) =
     FieldTree (resolved_type around type) name
-    (resolved_maybe_phrase (body_scope around (Initial earlier) fields []) initial)
+    (resolved_maybe_expr (body_scope around (Initial earlier) fields []) initial)
 resolved_member around fields earlier (MethodTree signature end body) =
     MethodTree (resolved_signature around signature) end
     (resolved_statements (body_scope around Method fields signature.params) (length signature.params) body)
@@ -207,7 +207,7 @@ resolved_declaration spaces (DataTree place name type_params constructors) =
 resolved_declaration spaces (FunctionTree place result name type_params params value) =
     FunctionTree place (resolved_type (around_of spaces type_params) result) name type_params
     (resolved_params (around_of spaces type_params) AtSlot 0 params)
-    (resolved_phrase (body_scope (around_of spaces type_params) Function [] params) value)
+    (resolved_expr (body_scope (around_of spaces type_params) Function [] params) value)
 resolved_declaration spaces (InterfaceTree place name extended signatures) =
     InterfaceTree place name extended (resolved_signatures (around_of spaces []) signatures)
 resolved_declaration spaces (ClassTree place name params implemented members) =

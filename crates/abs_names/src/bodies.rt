@@ -4,9 +4,9 @@ ghost use Rattle.abs_tree.specs.Offences.{earlier as earlier_of};
 ghost use Rattle.abs_tree.specs.Limits.{table_limit};
 ghost use Rattle.abs_program.specs.Slots.{param_slots, statements_slots};
 ghost use Rattle.abs_tree.specs.Syntax.{AtSlot};
-ghost use Rattle.abs_tree.specs.SyntaxViews.{variable_tree, param_tree, maybe_phrase, statements as statement_trees};
-ghost use Rattle.abs_names.specs.NameOffences.{params_offences, statements_offences, maybe_phrase_offences};
-ghost use Rattle.abs_names.specs.Resolution.{resolved_params, resolved_statements, resolved_maybe_phrase};
+ghost use Rattle.abs_tree.specs.SyntaxViews.{variable_tree, param_tree, maybe_expr, statements as statement_trees};
+ghost use Rattle.abs_names.specs.NameOffences.{params_offences, statements_offences, maybe_expr_offences};
+ghost use Rattle.abs_names.specs.Resolution.{resolved_params, resolved_statements, resolved_maybe_expr};
 ghost use Rattle.abs_names.specs.TypeNames.{type_offences, resolved_type};
 ghost use Rattle.abs_names.specs.Scopes.{body_scope};
 ghost use Rattle.abs_names.specs.declared.scope.Routine.TheVariants.{Initial};
@@ -113,12 +113,12 @@ impl Walk<'_> {
         earlier: u32,
         initial: &mut Option<Arc<Expr>>,
     ) -> Result<(), AllocError>
-        ensures found { OnOk result (maybe_phrase self.old.scope.names.after initial.new ≡ resolved_maybe_phrase
+        ensures found { OnOk result (maybe_expr self.old.scope.names.after initial.new ≡ resolved_maybe_expr
             (body_scope self.old.scope.scope.around (Initial earlier) self.old.scope.scope.fields [])
-            (maybe_phrase self.old.scope.names.before initial.old)) }
-        ensures noted { OnOk result (self.new.first ≡ fold earlier_of self.old.first (maybe_phrase_offences
+            (maybe_expr self.old.scope.names.before initial.old)) }
+        ensures noted { OnOk result (self.new.first ≡ fold earlier_of self.old.first (maybe_expr_offences
             (body_scope self.old.scope.scope.around (Initial earlier) self.old.scope.scope.fields [])
-            (maybe_phrase self.old.scope.names.before initial.old))) }
+            (maybe_expr self.old.scope.names.before initial.old))) }
         ensures names { OnOk result (self.new.scope.names ≡ self.old.scope.names) }
         ensures around { OnOk result (self.new.scope.scope.around ≡ self.old.scope.scope.around) }
         ensures fields { OnOk result (self.new.scope.scope.fields ≡ self.old.scope.scope.fields) }

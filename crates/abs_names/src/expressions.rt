@@ -1,11 +1,11 @@
 //! Expressions: each use of a variable becomes what it stands for.
 ghost use Rattle.std.specs.Prelude.{◌≡◌, ◌++◌, ⊤, fold, IfOk, OnOk};
 ghost use Rattle.abs_tree.specs.Offences.{earlier};
-ghost use Rattle.abs_tree.specs.SyntaxViews.{variable_tree, type_tree, pattern_tree, phrase, phrases, operand_trees, branches as branch_trees};
+ghost use Rattle.abs_tree.specs.SyntaxViews.{variable_tree, type_tree, pattern_tree, expr_tree, expr_trees, operand_trees, branches as branch_trees};
 ghost use Rattle.abs_tree.specs.Syntax.{LetIn, IfElse, OperatorsOf, Prefixed as PrefixedOf, CaseOf, OwnCallOf, ApplyOf, BuildOf, FieldOf, DestinyOf, ThisOf};
 ghost use Rattle.abs_tree.specs.Names.{name_of};
-ghost use Rattle.abs_names.specs.NameOffences.{pattern_offences, phrase_offences, phrases_offences, operands_offences, branches_offences};
-ghost use Rattle.abs_names.specs.Resolution.{resolved_pattern, resolved_phrase, resolved_phrases, resolved_operands, resolved_branches};
+ghost use Rattle.abs_names.specs.NameOffences.{pattern_offences, expr_offences, exprs_offences, operands_offences, branches_offences};
+ghost use Rattle.abs_names.specs.Resolution.{resolved_pattern, resolved_expr, resolved_exprs, resolved_operands, resolved_branches};
 ghost use Rattle.abs_names.specs.Scopes.{pattern_scope};
 
 use crate::walk::Walk;
@@ -20,10 +20,10 @@ impl Walk<'_> {
     /// [`AllocError`] if an allocation fails.
     #[cycle(expressions)]
     pub fn expression(&mut self, expr: &Expr) -> Result<Expr, AllocError>
-        ensures found { IfOk result (λ found. phrase self.old.scope.names.after found
-            ≡ resolved_phrase self.old.scope.scope (phrase self.old.scope.names.before expr.now)) }
+        ensures found { IfOk result (λ found. expr_tree self.old.scope.names.after found
+            ≡ resolved_expr self.old.scope.scope (expr_tree self.old.scope.names.before expr.now)) }
         ensures noted { OnOk result (self.new.first ≡ fold earlier self.old.first
-            (phrase_offences self.old.scope.scope (phrase self.old.scope.names.before expr.now))) }
+            (expr_offences self.old.scope.scope (expr_tree self.old.scope.names.before expr.now))) }
         ensures scope { OnOk result (self.new.scope ≡ self.old.scope) }
     {
         match expr {
@@ -75,14 +75,14 @@ impl Walk<'_> {
         value: &Expr,
         body: &Expr,
     ) -> Result<Expr, AllocError>
-        ensures found { IfOk result (λ found. phrase self.old.scope.names.after found
-            ≡ resolved_phrase self.old.scope.scope (LetIn place (type_tree self.old.scope.names.before type_of.now)
+        ensures found { IfOk result (λ found. expr_tree self.old.scope.names.after found
+            ≡ resolved_expr self.old.scope.scope (LetIn place (type_tree self.old.scope.names.before type_of.now)
             variable_place (variable_tree self.old.scope.names.before variable)
-            (phrase self.old.scope.names.before value.now) (phrase self.old.scope.names.before body.now))) }
+            (expr_tree self.old.scope.names.before value.now) (expr_tree self.old.scope.names.before body.now))) }
         ensures noted { OnOk result (self.new.first ≡ fold earlier self.old.first
-            (phrase_offences self.old.scope.scope (LetIn place (type_tree self.old.scope.names.before type_of.now)
+            (expr_offences self.old.scope.scope (LetIn place (type_tree self.old.scope.names.before type_of.now)
             variable_place (variable_tree self.old.scope.names.before variable)
-            (phrase self.old.scope.names.before value.now) (phrase self.old.scope.names.before body.now)))) }
+            (expr_tree self.old.scope.names.before value.now) (expr_tree self.old.scope.names.before body.now)))) }
         ensures scope { OnOk result (self.new.scope ≡ self.old.scope) }
     {
         let type_of = self.type_term(type_of)?;
@@ -110,12 +110,12 @@ impl Walk<'_> {
         first: &Expr,
         second: &Expr,
     ) -> Result<Expr, AllocError>
-        ensures found { IfOk result (λ found. phrase self.old.scope.names.after found
-            ≡ resolved_phrase self.old.scope.scope (IfElse place (phrase self.old.scope.names.before condition.now)
-            (phrase self.old.scope.names.before first.now) (phrase self.old.scope.names.before second.now))) }
+        ensures found { IfOk result (λ found. expr_tree self.old.scope.names.after found
+            ≡ resolved_expr self.old.scope.scope (IfElse place (expr_tree self.old.scope.names.before condition.now)
+            (expr_tree self.old.scope.names.before first.now) (expr_tree self.old.scope.names.before second.now))) }
         ensures noted { OnOk result (self.new.first ≡ fold earlier self.old.first
-            (phrase_offences self.old.scope.scope (IfElse place (phrase self.old.scope.names.before condition.now)
-            (phrase self.old.scope.names.before first.now) (phrase self.old.scope.names.before second.now)))) }
+            (expr_offences self.old.scope.scope (IfElse place (expr_tree self.old.scope.names.before condition.now)
+            (expr_tree self.old.scope.names.before first.now) (expr_tree self.old.scope.names.before second.now)))) }
         ensures scope { OnOk result (self.new.scope ≡ self.old.scope) }
     {
         Ok(Expr::If {
@@ -134,11 +134,11 @@ impl Walk<'_> {
         first: &Expr,
         operands: &[Operand],
     ) -> Result<Expr, AllocError>
-        ensures found { IfOk result (λ found. phrase self.old.scope.names.after found
-            ≡ resolved_phrase self.old.scope.scope (OperatorsOf place (phrase self.old.scope.names.before first.now)
+        ensures found { IfOk result (λ found. expr_tree self.old.scope.names.after found
+            ≡ resolved_expr self.old.scope.scope (OperatorsOf place (expr_tree self.old.scope.names.before first.now)
             (operand_trees self.old.scope.names.before operands.now))) }
         ensures noted { OnOk result (self.new.first ≡ fold earlier self.old.first
-            (phrase_offences self.old.scope.scope (OperatorsOf place (phrase self.old.scope.names.before first.now)
+            (expr_offences self.old.scope.scope (OperatorsOf place (expr_tree self.old.scope.names.before first.now)
             (operand_trees self.old.scope.names.before operands.now)))) }
         ensures scope { OnOk result (self.new.scope ≡ self.old.scope) }
     {
@@ -157,11 +157,11 @@ impl Walk<'_> {
         subject: &Expr,
         branches: &[Branch],
     ) -> Result<Expr, AllocError>
-        ensures found { IfOk result (λ found. phrase self.old.scope.names.after found
-            ≡ resolved_phrase self.old.scope.scope (CaseOf place (phrase self.old.scope.names.before subject.now)
+        ensures found { IfOk result (λ found. expr_tree self.old.scope.names.after found
+            ≡ resolved_expr self.old.scope.scope (CaseOf place (expr_tree self.old.scope.names.before subject.now)
             (branch_trees self.old.scope.names.before branches.now))) }
         ensures noted { OnOk result (self.new.first ≡ fold earlier self.old.first
-            (phrase_offences self.old.scope.scope (CaseOf place (phrase self.old.scope.names.before subject.now)
+            (expr_offences self.old.scope.scope (CaseOf place (expr_tree self.old.scope.names.before subject.now)
             (branch_trees self.old.scope.names.before branches.now)))) }
         ensures scope { OnOk result (self.new.scope ≡ self.old.scope) }
     {
@@ -175,7 +175,7 @@ impl Walk<'_> {
     /// Resolves an expression of the lowest level of the grammar.
     #[cycle(expressions)]
     fn primary(&mut self, expr: &Expr) -> Result<Expr, AllocError>
-        requires primary { elim (phrase self.old.scope.names.before expr.now) [
+        requires primary { elim (expr_tree self.old.scope.names.before expr.now) [
           | LetIn _ _ _ _ _ _ ↦ ⊥
           | IfElse _ _ _ _ ↦ ⊥
           | OperatorsOf _ _ _ ↦ ⊥
@@ -183,10 +183,10 @@ impl Walk<'_> {
           | CaseOf _ _ _ ↦ ⊥
           | _ ↦ ⊤
         ] }
-        ensures found { IfOk result (λ found. phrase self.old.scope.names.after found
-            ≡ resolved_phrase self.old.scope.scope (phrase self.old.scope.names.before expr.now)) }
+        ensures found { IfOk result (λ found. expr_tree self.old.scope.names.after found
+            ≡ resolved_expr self.old.scope.scope (expr_tree self.old.scope.names.before expr.now)) }
         ensures noted { OnOk result (self.new.first ≡ fold earlier self.old.first
-            (phrase_offences self.old.scope.scope (phrase self.old.scope.names.before expr.now))) }
+            (expr_offences self.old.scope.scope (expr_tree self.old.scope.names.before expr.now))) }
         ensures scope { OnOk result (self.new.scope ≡ self.old.scope) }
     {
         match expr {
@@ -228,12 +228,12 @@ impl Walk<'_> {
         method: Symbol,
         arguments: &[Expr],
     ) -> Result<Expr, AllocError>
-        ensures found { IfOk result (λ found. phrase self.old.scope.names.after found
-            ≡ resolved_phrase self.old.scope.scope (OwnCallOf place (name_of self.old.scope.names.before method)
-            (phrases self.old.scope.names.before arguments.now))) }
+        ensures found { IfOk result (λ found. expr_tree self.old.scope.names.after found
+            ≡ resolved_expr self.old.scope.scope (OwnCallOf place (name_of self.old.scope.names.before method)
+            (expr_trees self.old.scope.names.before arguments.now))) }
         ensures noted { OnOk result (self.new.first ≡ fold earlier self.old.first
-            (phrase_offences self.old.scope.scope (OwnCallOf place (name_of self.old.scope.names.before method)
-            (phrases self.old.scope.names.before arguments.now)))) }
+            (expr_offences self.old.scope.scope (OwnCallOf place (name_of self.old.scope.names.before method)
+            (expr_trees self.old.scope.names.before arguments.now)))) }
         ensures scope { OnOk result (self.new.scope ≡ self.old.scope) }
     {
         let known = self.scope.has_this();
@@ -254,12 +254,12 @@ impl Walk<'_> {
         function: Symbol,
         arguments: &[Expr],
     ) -> Result<Expr, AllocError>
-        ensures found { IfOk result (λ found. phrase self.old.scope.names.after found
-            ≡ resolved_phrase self.old.scope.scope (ApplyOf place (name_of self.old.scope.names.before function)
-            (phrases self.old.scope.names.before arguments.now))) }
+        ensures found { IfOk result (λ found. expr_tree self.old.scope.names.after found
+            ≡ resolved_expr self.old.scope.scope (ApplyOf place (name_of self.old.scope.names.before function)
+            (expr_trees self.old.scope.names.before arguments.now))) }
         ensures noted { OnOk result (self.new.first ≡ fold earlier self.old.first
-            (phrase_offences self.old.scope.scope (ApplyOf place (name_of self.old.scope.names.before function)
-            (phrases self.old.scope.names.before arguments.now)))) }
+            (expr_offences self.old.scope.scope (ApplyOf place (name_of self.old.scope.names.before function)
+            (expr_trees self.old.scope.names.before arguments.now)))) }
         ensures scope { OnOk result (self.new.scope ≡ self.old.scope) }
     {
         let taken = self.scope.around().function_taking(function);
@@ -280,12 +280,12 @@ impl Walk<'_> {
         constructor: Symbol,
         arguments: &[Expr],
     ) -> Result<Expr, AllocError>
-        ensures found { IfOk result (λ found. phrase self.old.scope.names.after found
-            ≡ resolved_phrase self.old.scope.scope (BuildOf place (name_of self.old.scope.names.before constructor)
-            (phrases self.old.scope.names.before arguments.now))) }
+        ensures found { IfOk result (λ found. expr_tree self.old.scope.names.after found
+            ≡ resolved_expr self.old.scope.scope (BuildOf place (name_of self.old.scope.names.before constructor)
+            (expr_trees self.old.scope.names.before arguments.now))) }
         ensures noted { OnOk result (self.new.first ≡ fold earlier self.old.first
-            (phrase_offences self.old.scope.scope (BuildOf place (name_of self.old.scope.names.before constructor)
-            (phrases self.old.scope.names.before arguments.now)))) }
+            (expr_offences self.old.scope.scope (BuildOf place (name_of self.old.scope.names.before constructor)
+            (expr_trees self.old.scope.names.before arguments.now)))) }
         ensures scope { OnOk result (self.new.scope ≡ self.old.scope) }
     {
         let taken = self.scope.around().constructor_taking(constructor);
@@ -300,9 +300,9 @@ impl Walk<'_> {
 
     /// A field of `this` as the variable that it is. One that is unknown is noted, and stays as it is.
     fn field(&mut self, place: Place, name_place: Place, name: Symbol) -> Expr
-        ensures found { phrase self.old.scope.names.after result ≡ resolved_phrase self.old.scope.scope
+        ensures found { expr_tree self.old.scope.names.after result ≡ resolved_expr self.old.scope.scope
             (FieldOf place name_place (name_of self.old.scope.names.before name)) }
-        ensures noted { self.new.first ≡ fold earlier self.old.first (phrase_offences self.old.scope.scope
+        ensures noted { self.new.first ≡ fold earlier self.old.first (expr_offences self.old.scope.scope
             (FieldOf place name_place (name_of self.old.scope.names.before name))) }
         ensures scope { self.new.scope ≡ self.old.scope }
     {
@@ -319,9 +319,9 @@ impl Walk<'_> {
 
     /// `destiny`. It is noted where there is no task.
     fn destiny(&mut self, place: Place) -> Expr
-        ensures found { phrase self.old.scope.names.after result ≡ DestinyOf place }
+        ensures found { expr_tree self.old.scope.names.after result ≡ DestinyOf place }
         ensures noted { self.new.first
-            ≡ fold earlier self.old.first (phrase_offences self.old.scope.scope (DestinyOf place)) }
+            ≡ fold earlier self.old.first (expr_offences self.old.scope.scope (DestinyOf place)) }
         ensures scope { self.new.scope ≡ self.old.scope }
     {
         let known = self.scope.has_task();
@@ -331,9 +331,9 @@ impl Walk<'_> {
 
     /// `this`. It is noted where there is none.
     fn this(&mut self, place: Place) -> Expr
-        ensures found { phrase self.old.scope.names.after result ≡ ThisOf place }
+        ensures found { expr_tree self.old.scope.names.after result ≡ ThisOf place }
         ensures noted { self.new.first
-            ≡ fold earlier self.old.first (phrase_offences self.old.scope.scope (ThisOf place)) }
+            ≡ fold earlier self.old.first (expr_offences self.old.scope.scope (ThisOf place)) }
         ensures scope { self.new.scope ≡ self.old.scope }
     {
         let known = self.scope.has_this();
@@ -344,10 +344,10 @@ impl Walk<'_> {
     /// Resolves an expression into a box.
     #[cycle(expressions)]
     fn boxed(&mut self, expr: &Expr) -> Result<Box<Expr>, AllocError>
-        ensures found { IfOk result (λ found. phrase self.old.scope.names.after found.value
-            ≡ resolved_phrase self.old.scope.scope (phrase self.old.scope.names.before expr.now)) }
+        ensures found { IfOk result (λ found. expr_tree self.old.scope.names.after found.value
+            ≡ resolved_expr self.old.scope.scope (expr_tree self.old.scope.names.before expr.now)) }
         ensures noted { OnOk result (self.new.first ≡ fold earlier self.old.first
-            (phrase_offences self.old.scope.scope (phrase self.old.scope.names.before expr.now))) }
+            (expr_offences self.old.scope.scope (expr_tree self.old.scope.names.before expr.now))) }
         ensures scope { OnOk result (self.new.scope ≡ self.old.scope) }
     {
         let found = self.expression(expr)?;
@@ -357,10 +357,10 @@ impl Walk<'_> {
     /// Resolves the expressions of a list.
     #[cycle(expressions)]
     pub fn expressions(&mut self, exprs: &[Expr]) -> Result<Vec<Expr>, AllocError>
-        ensures found { IfOk result (λ found. phrases self.old.scope.names.after found.items
-            ≡ resolved_phrases self.old.scope.scope (phrases self.old.scope.names.before exprs.now)) }
+        ensures found { IfOk result (λ found. expr_trees self.old.scope.names.after found.items
+            ≡ resolved_exprs self.old.scope.scope (expr_trees self.old.scope.names.before exprs.now)) }
         ensures noted { OnOk result (self.new.first ≡ fold earlier self.old.first
-            (phrases_offences self.old.scope.scope (phrases self.old.scope.names.before exprs.now))) }
+            (exprs_offences self.old.scope.scope (expr_trees self.old.scope.names.before exprs.now))) }
         ensures scope { OnOk result (self.new.scope ≡ self.old.scope) }
     {
         let mut found = Vec::with_capacity(self.alloc, exprs.len())?;
@@ -411,14 +411,14 @@ impl Walk<'_> {
     fn branch(&mut self, branch: &Branch) -> Result<Branch, AllocError>
         ensures pattern { IfOk result (λ found. pattern_tree self.old.scope.names.after found.pattern
             ≡ resolved_pattern self.old.scope.scope (pattern_tree self.old.scope.names.before branch.now.pattern)) }
-        ensures value { IfOk result (λ found. phrase self.old.scope.names.after found.value ≡ resolved_phrase
+        ensures value { IfOk result (λ found. expr_tree self.old.scope.names.after found.value ≡ resolved_expr
             (pattern_scope self.old.scope.scope (pattern_tree self.old.scope.names.before branch.now.pattern))
-            (phrase self.old.scope.names.before branch.now.value)) }
+            (expr_tree self.old.scope.names.before branch.now.value)) }
         ensures noted { OnOk result (self.new.first ≡ fold earlier self.old.first
             (pattern_offences self.old.scope.scope (pattern_tree self.old.scope.names.before branch.now.pattern)
-            ++ phrase_offences (pattern_scope self.old.scope.scope
+            ++ expr_offences (pattern_scope self.old.scope.scope
             (pattern_tree self.old.scope.names.before branch.now.pattern))
-            (phrase self.old.scope.names.before branch.now.value))) }
+            (expr_tree self.old.scope.names.before branch.now.value))) }
         ensures scope { OnOk result (self.new.scope ≡ self.old.scope) }
     {
         let outside = self.scope.len();

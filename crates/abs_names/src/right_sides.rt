@@ -5,9 +5,9 @@ ghost use Rattle.abs_program.specs.Slots.{side_slots, maybe_side_slots};
 ghost use Rattle.abs_tree.specs.Names.{name_of};
 ghost use Rattle.abs_tree.specs.Syntax.{Name, NewOf, CallOf};
 ghost use Rattle.abs_tree.specs.declared.place.Place.{Place as PlaceAt};
-ghost use Rattle.abs_tree.specs.SyntaxViews.{phrases, side_tree, maybe_side};
-ghost use Rattle.abs_names.specs.NameOffences.{phrases_offences, side_offences, maybe_side_offences};
-ghost use Rattle.abs_names.specs.Resolution.{resolved_phrases, hidden_slot, resolved_side, resolved_maybe_side};
+ghost use Rattle.abs_tree.specs.SyntaxViews.{expr_trees, side_tree, maybe_side};
+ghost use Rattle.abs_names.specs.NameOffences.{exprs_offences, side_offences, maybe_side_offences};
+ghost use Rattle.abs_names.specs.Resolution.{resolved_exprs, hidden_slot, resolved_side, resolved_maybe_side};
 
 use crate::slots::Slots;
 use crate::walk::Walk;
@@ -69,10 +69,14 @@ impl Walk<'_> {
                 arguments,
             } => self.creation(*place, *mode, *class_place, *class, arguments),
             RightSide::Value(place, value) => Ok(RightSide::Value(*place, self.shared(value)?)),
-            RightSide::Send { place, method, row } => Ok(RightSide::Send {
+            RightSide::Send {
+                place,
+                method,
+                operands,
+            } => Ok(RightSide::Send {
                 place: *place,
                 method: self.scope.around().kept(*method),
-                row: self.row(row)?,
+                operands: self.shared_exprs(operands)?,
             }),
             RightSide::Get {
                 place,
@@ -86,9 +90,9 @@ impl Walk<'_> {
             RightSide::Call {
                 place,
                 method,
-                row,
+                operands,
                 ..
-            } => self.call(slots, index, *place, *method, row),
+            } => self.call(slots, index, *place, *method, operands),
         }
     }
 
@@ -103,10 +107,10 @@ impl Walk<'_> {
     ) -> Result<RightSide, AllocError>
         ensures found { IfOk result (λ found. side_tree self.old.scope.names.after found
             ≡ NewOf place mode class_place (name_of self.old.scope.names.before class)
-            (resolved_phrases self.old.scope.scope (phrases self.old.scope.names.before arguments.now))) }
+            (resolved_exprs self.old.scope.scope (expr_trees self.old.scope.names.before arguments.now))) }
         ensures noted { OnOk result (self.new.first ≡ fold earlier self.old.first
             (side_offences self.old.scope.scope (NewOf place mode class_place
-            (name_of self.old.scope.names.before class) (phrases self.old.scope.names.before arguments.now)))) }
+            (name_of self.old.scope.names.before class) (expr_trees self.old.scope.names.before arguments.now)))) }
         ensures scope { OnOk result (self.new.scope ≡ self.old.scope) }
     {
         let taken = self.scope.around().class_taking(class);
@@ -116,7 +120,7 @@ impl Walk<'_> {
             mode,
             class_place,
             class: self.scope.around().kept(class),
-            arguments: self.row(arguments)?,
+            arguments: self.shared_exprs(arguments)?,
         })
     }
 
@@ -127,37 +131,37 @@ impl Walk<'_> {
         index: u32,
         place: Place,
         method: Symbol,
-        row: &[Expr],
+        operands: &[Expr],
     ) -> Result<RightSide, AllocError>
         ensures found { IfOk result (λ found. side_tree self.old.scope.names.after found
             ≡ resolved_side self.old.scope.scope (length slots.old.items.items)
             (CallOf place (name_of self.old.scope.names.before method)
-            (phrases self.old.scope.names.before row.now) None)) }
+            (expr_trees self.old.scope.names.before operands.now) None)) }
         ensures noted { OnOk result (self.new.first ≡ fold earlier self.old.first
             (side_offences self.old.scope.scope
             (CallOf place (name_of self.old.scope.names.before method)
-            (phrases self.old.scope.names.before row.now) None))) }
+            (expr_trees self.old.scope.names.before operands.now) None))) }
         ensures slots { OnOk result (slots.new.items.items
             ≡ slots.old.items.items ++ side_slots index
             (CallOf place (name_of self.old.scope.names.before method)
-            (phrases self.old.scope.names.before row.now) None)) }
+            (expr_trees self.old.scope.names.before operands.now) None)) }
         ensures scope { OnOk result (self.new.scope ≡ self.old.scope) }
     {
-        let slot = hidden(slots, index, row)?;
+        let slot = hidden(slots, index, operands)?;
         Ok(RightSide::Call {
             place,
             method: self.scope.around().kept(method),
-            row: self.row(row)?,
+            operands: self.shared_exprs(operands)?,
             slot,
         })
     }
 
-    /// Resolves a row of expressions that is shared.
-    fn row(&mut self, exprs: &[Expr]) -> Result<Arc<Vec<Expr>>, AllocError>
-        ensures found { IfOk result (λ found. phrases self.old.scope.names.after found.value.items
-            ≡ resolved_phrases self.old.scope.scope (phrases self.old.scope.names.before exprs.now)) }
+    /// Resolves expressions that are shared.
+    fn shared_exprs(&mut self, exprs: &[Expr]) -> Result<Arc<Vec<Expr>>, AllocError>
+        ensures found { IfOk result (λ found. expr_trees self.old.scope.names.after found.value.items
+            ≡ resolved_exprs self.old.scope.scope (expr_trees self.old.scope.names.before exprs.now)) }
         ensures noted { OnOk result (self.new.first ≡ fold earlier self.old.first
-            (phrases_offences self.old.scope.scope (phrases self.old.scope.names.before exprs.now))) }
+            (exprs_offences self.old.scope.scope (expr_trees self.old.scope.names.before exprs.now))) }
         ensures scope { OnOk result (self.new.scope ≡ self.old.scope) }
     {
         let found = self.expressions(exprs)?;
@@ -166,14 +170,14 @@ impl Walk<'_> {
 }
 
 /// The hidden slot of a call by `.` of the statement with this index, if its receiver is not `this`.
-fn hidden(slots: &mut Slots, index: u32, row: &[Expr]) -> Result<Option<u32>, AllocError>
+fn hidden(slots: &mut Slots, index: u32, operands: &[Expr]) -> Result<Option<u32>, AllocError>
     ensures found { (names : List Name) → IfOk result
-        (λ found. found ≡ hidden_slot (length slots.old.items.items) (phrases names row.now)) }
+        (λ found. found ≡ hidden_slot (length slots.old.items.items) (expr_trees names operands.now)) }
     ensures slots { (names : List Name) (place : PlaceAt) (method : Name) (slot : Option ℕ) → OnOk result
         (slots.new.items.items ≡ slots.old.items.items
-        ++ side_slots index (CallOf place method (phrases names row.now) slot)) }
+        ++ side_slots index (CallOf place method (expr_trees names operands.now) slot)) }
 {
-    match row.first() {
+    match operands.first() {
         Some(Expr::This(_)) | None => Ok(None),
         Some(_) => Ok(Some(slots.add(Slot::Hidden(index))?)),
     }

@@ -4,9 +4,9 @@ ghost use Rattle.abs_tree.specs.Offences.{earlier};
 ghost use Rattle.abs_program.specs.Slots.{statement_slots, statements_slots, else_slots};
 ghost use Rattle.abs_tree.specs.Syntax.{AtSlot, BlockOf, SkipOf, SuspendOf, AwaitOf, ReturnOf, PrintOf, IfOf, WhileOf, DeclareOf};
 ghost use Rattle.abs_tree.specs.declared.syntax.slot.Slot.TheVariants.{Local};
-ghost use Rattle.abs_tree.specs.SyntaxViews.{variable_tree, type_tree, phrase, maybe_side, tests as test_trees, target_tree, statement as statement_tree, statements as statement_trees, maybe_statements};
-ghost use Rattle.abs_names.specs.NameOffences.{phrase_offences, tests_offences, target_offences, local_offences, statement_offences, statements_offences, else_offences};
-ghost use Rattle.abs_names.specs.Resolution.{resolved_phrase, resolved_tests, resolved_target, resolved_statement, resolved_statements, resolved_else};
+ghost use Rattle.abs_tree.specs.SyntaxViews.{variable_tree, type_tree, expr_tree, maybe_side, tests as test_trees, target_tree, statement as statement_tree, statements as statement_trees, maybe_statements};
+ghost use Rattle.abs_names.specs.NameOffences.{expr_offences, tests_offences, target_offences, local_offences, statement_offences, statements_offences, else_offences};
+ghost use Rattle.abs_names.specs.Resolution.{resolved_expr, resolved_tests, resolved_target, resolved_statement, resolved_statements, resolved_else};
 ghost use Rattle.abs_names.specs.Scopes.{with_variable, statement_scope};
 
 use crate::slots::Slots;
@@ -348,10 +348,10 @@ impl Walk<'_> {
 
     /// Resolves an expression that is shared.
     pub fn shared(&mut self, expr: &Expr) -> Result<Arc<Expr>, AllocError>
-        ensures found { IfOk result (λ found. phrase self.old.scope.names.after found.value
-            ≡ resolved_phrase self.old.scope.scope (phrase self.old.scope.names.before expr.now)) }
+        ensures found { IfOk result (λ found. expr_tree self.old.scope.names.after found.value
+            ≡ resolved_expr self.old.scope.scope (expr_tree self.old.scope.names.before expr.now)) }
         ensures noted { OnOk result (self.new.first ≡ fold earlier self.old.first
-            (phrase_offences self.old.scope.scope (phrase self.old.scope.names.before expr.now))) }
+            (expr_offences self.old.scope.scope (expr_tree self.old.scope.names.before expr.now))) }
         ensures scope { OnOk result (self.new.scope ≡ self.old.scope) }
     {
         let found = self.expression(expr)?;

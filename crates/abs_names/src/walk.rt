@@ -1,9 +1,9 @@
 //! The walk over a source, which resolves its names and notes its first name offence.
 ghost use Rattle.std.specs.Prelude.{◌≡◌, [], fold, map, IfOk, OnOk};
-ghost use Rattle.abs_tree.specs.Offences.{earlier};
+ghost use Rattle.abs_tree.specs.Offences.{earlier, offence_if};
 ghost use Rattle.abs_tree.specs.SyntaxViews.{variable_tree, declared as declared_tree};
 ghost use Rattle.abs_tree.specs.Names.{name_of};
-ghost use Rattle.abs_names.specs.Single.{unknown, offence_if};
+ghost use Rattle.abs_names.specs.Single.{unknown};
 ghost use Rattle.abs_names.specs.TypeNames.{applied};
 ghost use Rattle.abs_names.specs.NameOffences.{use_offences, bind_offences, field_offences};
 ghost use Rattle.abs_names.specs.Resolution.{resolved_use};
@@ -25,7 +25,7 @@ pub(crate) struct Walk<'s> {
 
 /// Notes an offence with this code at this place, if there is one.
 pub(crate) fn note_if(first: &mut Option<Offence>, offends: bool, place: Place, code: Code)
-    ensures { first.new ≡ fold earlier first.old (offence_if offends place code) }
+    ensures { first.new ≡ fold earlier first.old (offence_if offends code place) }
 {
     if offends {
         Offence { place, code }.note(first);

@@ -7,19 +7,19 @@ use Rattle.std.specs.Prelude.{◌≡◌, ℕ, List, ⊤, Option, Some, None}
 
 -- what a source holds under a name: it does not tell, it holds nothing, or it holds these bytes
 pub data Under : Type 0 where
-  Untold : Under
+  Unstated : Under
   Absent : Under
   Holding : List ℕ → Under
 
--- the name was selected: if its bytes are told, exactly they are left to read
+-- the name was selected: if its bytes are reported, exactly they are left to read
 abbrev pub Selects : Under → Option (List ℕ) → Type 0
-Selects Untold left = ⊤
+Selects Unstated left = ⊤
 Selects Absent left = ⊥
 Selects (Holding bytes) None = ⊥
 Selects (Holding bytes) (Some left) = left ≡ bytes
 
 -- if the source tells what it holds under the name, it holds nothing
 abbrev pub IsNotHeld : Under → Type 0
-IsNotHeld Untold = ⊤
+IsNotHeld Unstated = ⊤
 IsNotHeld Absent = ⊤
 IsNotHeld (Holding bytes) = ⊥

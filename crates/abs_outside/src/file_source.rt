@@ -3,7 +3,7 @@ ghost use Rattle.std.specs.Prelude.{◌≡◌, ℕ, ◌≤◌, List, Ok, IsSome,
 ghost use Rattle.std.specs.Io.KnownBytes.{ReadConsumes};
 ghost use Rattle.abs_outside.specs.Calls.{one_more};
 ghost use Rattle.abs_outside.specs.Counts.{Rose};
-ghost use Rattle.abs_outside.specs.FileSource.{missing_of, faults_of, under_name, left_of, selected_of, told_by};
+ghost use Rattle.abs_outside.specs.FileSource.{missing_of, faults_of, under_name, left_of, selected_of, reported_by};
 ghost use Rattle.abs_outside.specs.Names.{Selects, IsNotHeld};
 
 use crate::{Failed, Source};
@@ -85,8 +85,8 @@ impl<R: Files> Source for FileSource<'_, R> {
         // What this source promises besides: it gives what the selected file gives, and by how much the count rises.
         ensures none_selected { IsNone (selected_of self.old) → result ≡ Ok 0 }
         ensures handed_over { ReadConsumes
-            (told_by R.File.Read.remaining (selected_of self.old))
-            (told_by R.File.Read.remaining (selected_of self.new)) result buffer.new }
+            (reported_by R.File.Read.remaining (selected_of self.old))
+            (reported_by R.File.Read.remaining (selected_of self.new)) result buffer.new }
         ensures one_fault { OnErr result (faults_of self.new ≡ one_more (faults_of self.old)) }
         ensures no_fault { OnOk result (faults_of self.new ≡ faults_of self.old) }
     {

@@ -7,7 +7,7 @@ ghost use Rattle.abs_outside.specs.Names.{Under, Selects, IsNotHeld};
 
 use thiserror::Error;
 
-/// A call of a source or a sink failed. The cause is not told; the counts of the source or the sink rise.
+/// A call of a source or a sink failed. The cause is not reported; the counts of the source or the sink rise.
 #[derive(Clone, Copy, Debug, PartialEq, Eq, Error)]
 #[error("what lies outside failed")]
 pub struct Failed;

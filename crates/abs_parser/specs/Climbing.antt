@@ -4,7 +4,7 @@
 --   `Climbs`                                           an expression of the second precedence is found
 --   `FailsToClimb`                                     it is refused
 use Rattle.std.specs.Prelude.{◌≡◌, ℕ, List}
-use Rattle.abs_tree.specs.SyntaxViews.{phrase}
+use Rattle.abs_tree.specs.SyntaxViews.{expr_tree}
 use Rattle.abs_tree.specs.declared.place.Place.{Place}
 use Rattle.abs_tree.specs.declared.syntax.expression.Expr.{Expr}
 use Rattle.abs_tree.specs.declared.source_error.SourceError.{SourceError}
@@ -20,14 +20,14 @@ abbrev pub Climbs : Precedence → Precedence → ℕ → List (List ℕ) → Li
 Climbs at to depth old new place first expr from end =
     (older : List (List ℕ)) (begin : Spot) → place ≡ place_of begin
     → FoundAs (One (operand_nonterminal at)) depth older old begin from
-    (λ names inside. phrase names first ≡ operand_in at inside)
+    (λ names inside. expr_tree names first ≡ operand_in at inside)
     → FoundAs (One (nonterminal_of to)) depth older new begin end
-    (λ names inside. phrase names expr ≡ precedence_in to inside)
+    (λ names inside. expr_tree names expr ≡ precedence_in to inside)
 
 -- wherever an operand `first` begins that is found up to `from`, what begins there is refused as the second precedence
 abbrev pub FailsToClimb : Precedence → Precedence → ℕ → List (List ℕ) → Place → Expr → Spot → SourceError → Type 0
 FailsToClimb at to depth old place first from error =
     (older : List (List ℕ)) (begin : Spot) → place ≡ place_of begin
     → FoundAs (One (operand_nonterminal at)) depth older old begin from
-    (λ names inside. phrase names first ≡ operand_in at inside)
+    (λ names inside. expr_tree names first ≡ operand_in at inside)
     → IsRefused (Subgoal (One (nonterminal_of to)) depth) begin error

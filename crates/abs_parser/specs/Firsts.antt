@@ -1,14 +1,14 @@
 -- The variable or field with which a statement begins, as a place, a target and an expression, and the statement
 -- itself. Also the tokens that begin a statement other than a right side, and the body of a block.
 --
---   `place_of_first`, `target_of`, `phrase_of`         the variable or field as a place, a target and an expression
+--   `place_of_first`, `target_of`, `expr_of`           the variable or field as a place, a target and an expression
 --   `after_first`                                      the statement that it begins, by what follows it
 --   `begins_another`                                   the tokens that begin a statement other than a right side
 --   `IsBlock`                                          the body of a block that was read
 --   `is_simple`                                        the keywords of statements without others inside
 use Rattle.std.specs.Prelude.{◌≡◌, ℕ, Bool, true, false, List, Option}
 use Rattle.abs_tree.specs.declared.place.Place.{Place}
-use Rattle.abs_tree.specs.Syntax.{Name, Unresolved, Phrase, Phrases, TargetTree, ToVariable, ToField, Statement}
+use Rattle.abs_tree.specs.Syntax.{Name, Unresolved, ExprTree, ExprTrees, TargetTree, ToVariable, ToField, Statement}
 use Rattle.abs_tree.specs.SyntaxViews.{statements}
 use Rattle.abs_tree.specs.Names.{name_of}
 use Rattle.abs_tree.specs.declared.syntax.declaration.Body.{Body}
@@ -29,9 +29,9 @@ abbrev pub target_of : List Name → First → TargetTree
 target_of names (first.Variable place symbol) = ToVariable place (Unresolved (name_of names symbol))
 target_of names (first.Field place name_place symbol) = ToField place name_place (name_of names symbol)
 
-abbrev pub phrase_of : List Name → First → Option Phrases → Phrase
-phrase_of names (first.Variable place symbol) arguments = named place (name_of names symbol) arguments
-phrase_of names (first.Field place name_place symbol) arguments =
+abbrev pub expr_of : List Name → First → Option ExprTrees → ExprTree
+expr_of names (first.Variable place symbol) arguments = named place (name_of names symbol) arguments
+expr_of names (first.Field place name_place symbol) arguments =
     member place name_place (name_of names symbol) arguments
 
 abbrev pub after_first : ℕ → List Name → First → Forest → Statement

@@ -8,7 +8,7 @@
 --   `precedence_of`, `punctuator_of`                   the precedence and the punctuator of an operator
 --   `prefix_punctuator`                                the punctuator of a prefix operator
 use Rattle.std.specs.Prelude.{ℕ, Bool, true, false}
-use Rattle.abs_tree.specs.Syntax.{Phrase, Operands}
+use Rattle.abs_tree.specs.Syntax.{ExprTree, Operands}
 use Rattle.abs_tree.specs.declared.syntax.expression.Operator.{Operator}
 use Rattle.abs_tree.specs.declared.syntax.expression.Operator.TheVariants as operator
 use Rattle.abs_tree.specs.declared.syntax.expression.Prefix.{Prefix}
@@ -80,7 +80,7 @@ rest_of precedence.Sum = Repeated SumTail
 rest_of precedence.Mul = Repeated MulTail
 
 -- the tree of a precedence
-abbrev pub precedence_in : Precedence → Forest → Phrase
+abbrev pub precedence_in : Precedence → Forest → ExprTree
 precedence_in precedence.Or = or_in
 precedence_in precedence.And = and_in
 precedence_in precedence.Equal = equal_in
@@ -89,7 +89,7 @@ precedence_in precedence.Sum = sum_in
 precedence_in precedence.Mul = mul_in
 
 -- the tree of an operand
-abbrev pub operand_in : Precedence → Forest → Phrase
+abbrev pub operand_in : Precedence → Forest → ExprTree
 operand_in precedence.Or = and_in
 operand_in precedence.And = equal_in
 operand_in precedence.Equal = compare_in

@@ -3,7 +3,7 @@
 --   `left_at`, `names_before`                   the tokens that are left, and the names in what was read
 --   `asked`, `is_asked`, `TakesKind`, `Passes`  the next token, where its kind is asked for
 --   `fixed_kind`, `TakesFixed`                  the next token, where a name with a spelling of its own is asked for
---   `maybe_phrases`                             the trees of arguments that may be left out
+--   `maybe_exprs`                               the trees of arguments that may be left out
 --   `refusal_at`, `wrong_at`                    the refusal of the next token
 --   `FoundAs`, `FoundInParentheses`             what a parsing function found
 --   `AreRefused`, `IsRefused`                   where it refuses, whatever is to follow
@@ -12,8 +12,8 @@
 use Rattle.std.specs.Prelude.{◌≡◌, ◌≤◌, ℕ, Bool, true, false, List, [], ◌∷◌, ◌++◌, ◌+◌, ◌<◌, ◌^◌, length, fold, map, Option, Some, None, Result, Ok, Err}
 use Rattle.std.specs.declared.alloc.Global.{Global}
 use Rattle.std.specs.declared.vec.Vec.{Vec}
-use Rattle.abs_tree.specs.Syntax.{Name, Phrases}
-use Rattle.abs_tree.specs.SyntaxViews.{phrases}
+use Rattle.abs_tree.specs.Syntax.{Name, ExprTrees}
+use Rattle.abs_tree.specs.SyntaxViews.{expr_trees}
 use Rattle.abs_tree.specs.declared.syntax.expression.Expr.{Expr as CodeExpr}
 use Rattle.abs_tree.specs.Names.{with_name}
 use Rattle.abs_tree.specs.Refusals.{refusal_of}
@@ -100,9 +100,9 @@ pub record Passes (kind : Lexeme) (from to : Spot) : Type 0 where
   pub takes : TakesKind kind token from to
 
 -- the trees of arguments that may be left out
-abbrev pub maybe_phrases : List Name → Option (Vec CodeExpr Global) → Option Phrases
-maybe_phrases names None = None
-maybe_phrases names (Some arguments) = Some (phrases names arguments.items)
+abbrev pub maybe_exprs : List Name → Option (Vec CodeExpr Global) → Option ExprTrees
+maybe_exprs names None = None
+maybe_exprs names (Some arguments) = Some (expr_trees names arguments.items)
 
 -- A part nested in `depth` counted nonterminals was read and no token in it is too deeply nested. The table of names is
 -- extended by its names, and what was read is so, whatever names extend the table later.

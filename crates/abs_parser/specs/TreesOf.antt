@@ -15,7 +15,7 @@ use Rattle.std.specs.Prelude.{ℕ, ◌+◌, pos, neg_ℤ, Bool, true, false, Lis
 use Rattle.std.specs.Str.Parse.{digits_value}
 use Rattle.abs_tree.specs.declared.place.Place.{Place}
 use Rattle.abs_tree.specs.Places.{start}
-use Rattle.abs_tree.specs.Syntax.{Name, Unresolved, TypeTree, UnresolvedType, TypeTrees, NoType, NextType, PatternTree, AnyValue, Binds, SameNumber, SameString, Built, PatternTrees, NoPattern, NextPattern, Phrase, LetIn, IfElse, OperatorsOf, Prefixed, NumberOf, StringOf, NullOf, DestinyOf, ThisOf, FieldOf, OwnCallOf, VariableOf, ApplyOf, BuildOf, CaseOf, Phrases, NoPhrase, NextPhrase, Operands, NoOperands, NextOperand, Branches, NoBranch, NextBranch, SideTree, NewOf, ValueOf, SendOf, GetOf, CallOf, Tests, NoTest, NextTest, ToVariable, ToField, MaybeSide, NoSide, SomeSide, Statement, BlockOf, SkipOf, SuspendOf, AwaitOf, ReturnOf, PrintOf, IfOf, WhileOf, DeclareOf, AssignOf, DoOf, MaybeStatements, NoElse, Else, Statements, NoStatement, NextStatement, ParamTree, DeclaredTree, ConstructorTree, SignatureTree, NoValue, Value, MemberTree, FieldTree, MethodTree, DeclTree, DataTree, FunctionTree, InterfaceTree, ClassTree, SourceTree}
+use Rattle.abs_tree.specs.Syntax.{Name, Unresolved, TypeTree, UnresolvedType, TypeTrees, NoType, NextType, PatternTree, AnyValue, Binds, SameNumber, SameString, Built, PatternTrees, NoPattern, NextPattern, ExprTree, LetIn, IfElse, OperatorsOf, Prefixed, NumberOf, StringOf, NullOf, DestinyOf, ThisOf, FieldOf, OwnCallOf, VariableOf, ApplyOf, BuildOf, CaseOf, ExprTrees, NoExpr, NextExpr, Operands, NoOperands, NextOperand, Branches, NoBranch, NextBranch, SideTree, NewOf, ValueOf, SendOf, GetOf, CallOf, Tests, NoTest, NextTest, ToVariable, ToField, MaybeSide, NoSide, SomeSide, Statement, BlockOf, SkipOf, SuspendOf, AwaitOf, ReturnOf, PrintOf, IfOf, WhileOf, DeclareOf, AssignOf, DoOf, MaybeStatements, NoElse, Else, Statements, NoStatement, NextStatement, ParamTree, DeclaredTree, ConstructorTree, SignatureTree, NoValue, Value, MemberTree, FieldTree, MethodTree, DeclTree, DataTree, FunctionTree, InterfaceTree, ClassTree, SourceTree}
 use Rattle.abs_tree.specs.SyntaxSizes.{count_of, statement_count, member_statements, decl_statements}
 use Rattle.abs_tree.specs.declared.syntax.expression.Operator.{Operator}
 use Rattle.abs_tree.specs.declared.syntax.expression.Operator.TheVariants as operator
@@ -123,7 +123,7 @@ abbrev mutual
 -- Expressions
 
 -- a first operand with the operators after it; without any it is the operand itself
-abbrev pub with_operators : Place → Phrase → Operands → Phrase
+abbrev pub with_operators : Place → ExprTree → Operands → ExprTree
 with_operators place first NoOperands = first
 with_operators place first (NextOperand operator right others) =
     OperatorsOf place first (NextOperand operator right others)
@@ -152,23 +152,23 @@ prefix_of (PunctuatorKind punctuator.Minus) = prefix.Minus
 prefix_of _ = prefix.Not
 
 -- a name that begins with a lower-case letter: a variable, or with arguments the application of a function
-abbrev pub named : Place → Name → Option Phrases → Phrase
+abbrev pub named : Place → Name → Option ExprTrees → ExprTree
 named place name None = VariableOf place (Unresolved name)
 named place name (Some arguments) = ApplyOf place name arguments
 
 -- a name after "this" and ".": a field, or with arguments a call of a method
-abbrev pub member : Place → Place → Name → Option Phrases → Phrase
+abbrev pub member : Place → Place → Name → Option ExprTrees → ExprTree
 member place name_place name None = FieldOf place name_place name
 member place name_place name (Some arguments) = OwnCallOf place name arguments
 
 -- a constructor, which may have arguments
-abbrev pub built : Place → Name → Option Phrases → Phrase
-built place name None = BuildOf place name NoPhrase
+abbrev pub built : Place → Name → Option ExprTrees → ExprTree
+built place name None = BuildOf place name NoExpr
 built place name (Some arguments) = BuildOf place name arguments
 
 abbrev mutual
   -- Expr
-  pub expr_in : Forest → Phrase
+  pub expr_in : Forest → ExprTree
   expr_in (Leaf mark _ (Leaf opening _
       (Node _ type (Leaf name _ (Leaf closing _ (Leaf equals _ (Node _ value (Leaf in_token _ (Node _ body _))))))))) =
       LetIn (place_of_mark mark) (type_in type) (place_of_mark name) (Unresolved (written name)) (expr_in value)
@@ -179,7 +179,7 @@ abbrev mutual
   expr_in _ = NullOf start
 
   -- Or, And, Equal, Compare, Sum, Mul: a first operand, and the operators after it
-  pub or_in : Forest → Phrase
+  pub or_in : Forest → ExprTree
   or_in (Node _ first (Node _ others _)) = with_operators (place_in first) (and_in first) (or_operands others)
   or_in _ = NullOf start
 
@@ -188,7 +188,7 @@ abbrev mutual
       NextOperand (operator_of (token_kind mark)) (and_in right) (or_operands others)
   or_operands _ = NoOperands
 
-  pub and_in : Forest → Phrase
+  pub and_in : Forest → ExprTree
   and_in (Node _ first (Node _ others _)) = with_operators (place_in first) (equal_in first) (and_operands others)
   and_in _ = NullOf start
 
@@ -197,7 +197,7 @@ abbrev mutual
       NextOperand (operator_of (token_kind mark)) (equal_in right) (and_operands others)
   and_operands _ = NoOperands
 
-  pub equal_in : Forest → Phrase
+  pub equal_in : Forest → ExprTree
   equal_in (Node _ first (Node _ other _)) = with_operators (place_in first) (compare_in first) (equal_operand other)
   equal_in _ = NullOf start
 
@@ -206,7 +206,7 @@ abbrev mutual
       NextOperand (operator_of (token_kind mark)) (compare_in right) NoOperands
   equal_operand _ = NoOperands
 
-  pub compare_in : Forest → Phrase
+  pub compare_in : Forest → ExprTree
   compare_in (Node _ first (Node _ other _)) = with_operators (place_in first) (sum_in first) (compare_operand other)
   compare_in _ = NullOf start
 
@@ -215,7 +215,7 @@ abbrev mutual
       NextOperand (operator_of (token_kind mark)) (sum_in right) NoOperands
   compare_operand _ = NoOperands
 
-  pub sum_in : Forest → Phrase
+  pub sum_in : Forest → ExprTree
   sum_in (Node _ first (Node _ others _)) = with_operators (place_in first) (mul_in first) (sum_operands others)
   sum_in _ = NullOf start
 
@@ -224,7 +224,7 @@ abbrev mutual
       NextOperand (operator_of (token_kind mark)) (mul_in right) (sum_operands others)
   sum_operands _ = NoOperands
 
-  pub mul_in : Forest → Phrase
+  pub mul_in : Forest → ExprTree
   mul_in (Node _ first (Node _ others _)) = with_operators (place_in first) (unary_in first) (mul_operands others)
   mul_in _ = NullOf start
 
@@ -234,18 +234,18 @@ abbrev mutual
   mul_operands _ = NoOperands
 
   -- Unary
-  pub unary_in : Forest → Phrase
+  pub unary_in : Forest → ExprTree
   unary_in (Leaf mark _ (Node _ operand _)) =
       Prefixed (place_of_mark mark) (prefix_of (token_kind mark)) (unary_in operand)
   unary_in (Node _ primary _) = primary_in primary
   unary_in _ = NullOf start
 
   -- Primary, by its first token
-  pub primary_in : Forest → Phrase
+  pub primary_in : Forest → ExprTree
   primary_in (Leaf mark _ others) = primary_by (token_kind mark) mark others
   primary_in _ = NullOf start
 
-  pub primary_by : TokenKind → Mark → Forest → Phrase
+  pub primary_by : TokenKind → Mark → Forest → ExprTree
   primary_by Number mark others = NumberOf (place_of_mark mark) (pos (number_of mark))
   primary_by Text mark others = StringOf (place_of_mark mark) (text_of mark)
   primary_by (KeywordKind keyword.Null) mark others = NullOf (place_of_mark mark)
@@ -264,32 +264,32 @@ abbrev mutual
   primary_by _ mark others = NullOf (place_of_mark mark)
 
   -- after "this": perhaps ".", a name, and perhaps arguments
-  pub this_in : Place → Forest → Phrase
+  pub this_in : Place → Forest → ExprTree
   this_in place (Node _ (Leaf dot _ (Leaf name _ (Node _ arguments _))) _) =
       member place (place_of_mark name) (written name) (arguments_maybe arguments)
   this_in place _ = ThisOf place
 
   -- perhaps arguments
-  pub arguments_maybe : Forest → Option Phrases
+  pub arguments_maybe : Forest → Option ExprTrees
   arguments_maybe (Node _ arguments _) = Some (arguments_in arguments)
   arguments_maybe _ = None
 
   -- "(", perhaps expressions, ")"
-  pub arguments_in : Forest → Phrases
+  pub arguments_in : Forest → ExprTrees
   arguments_in (Leaf opening _ (Node _ args _)) = args_maybe args
-  arguments_in _ = NoPhrase
+  arguments_in _ = NoExpr
 
-  pub args_maybe : Forest → Phrases
+  pub args_maybe : Forest → ExprTrees
   args_maybe (Node _ args _) = args_in args
-  args_maybe _ = NoPhrase
+  args_maybe _ = NoExpr
 
-  pub args_in : Forest → Phrases
-  args_in (Node _ first (Node _ others _)) = NextPhrase (expr_in first) (more_args others)
-  args_in _ = NoPhrase
+  pub args_in : Forest → ExprTrees
+  args_in (Node _ first (Node _ others _)) = NextExpr (expr_in first) (more_args others)
+  args_in _ = NoExpr
 
-  pub more_args : Forest → Phrases
-  more_args (Node _ (Leaf comma _ (Node _ expr _)) (Node _ others _)) = NextPhrase (expr_in expr) (more_args others)
-  more_args _ = NoPhrase
+  pub more_args : Forest → ExprTrees
+  more_args (Node _ (Leaf comma _ (Node _ expr _)) (Node _ others _)) = NextExpr (expr_in expr) (more_args others)
+  more_args _ = NoExpr
 
   -- Branch, before others
   pub branch_in : Forest → Branches → Branches
@@ -315,16 +315,16 @@ mode_in _ = mode.Plain
 
 -- an expression with what follows its ".": "get", or a name and arguments. The call has its receiver before the
 -- arguments.
-abbrev pub selected_in : Place → Phrase → Forest → SideTree
+abbrev pub selected_in : Place → ExprTree → Forest → SideTree
 selected_in place first (Leaf name _ (Node _ arguments _)) =
-    CallOf place (written name) (NextPhrase first (arguments_in arguments)) None
+    CallOf place (written name) (NextExpr first (arguments_in arguments)) None
 selected_in place first (Leaf get _ _) = GetOf place (place_of_mark get) first
 selected_in place first _ = ValueOf place first
 
 -- an expression with what follows it: "!", a name and arguments; or "." and what follows that; or nothing
-abbrev pub tail_in : Place → Phrase → Forest → SideTree
+abbrev pub tail_in : Place → ExprTree → Forest → SideTree
 tail_in place first (Node _ (Leaf bang _ (Leaf name _ (Node _ arguments _))) _) =
-    SendOf place (written name) (NextPhrase first (arguments_in arguments))
+    SendOf place (written name) (NextExpr first (arguments_in arguments))
 tail_in place first (Node _ (Leaf dot _ (Node _ selected _)) _) = selected_in place first selected
 tail_in place first _ = ValueOf place first
 
@@ -335,7 +335,7 @@ rhs_in (Node _ expr (Node _ tail _)) = tail_in (place_in expr) (expr_in expr) ta
 rhs_in _ = ValueOf start (NullOf start)
 
 -- a right side whose first operand is given, by what follows this operand
-abbrev pub rest_in : Place → Phrase → Forest → SideTree
+abbrev pub rest_in : Place → ExprTree → Forest → SideTree
 rest_in place first (Node _ muls
     (Node _ sums (Node _ compared (Node _ equal (Node _ ands (Node _ ors (Node _ tail _))))))) =
     let product = with_operators place first (mul_operands muls) in

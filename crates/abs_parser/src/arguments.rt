@@ -1,9 +1,9 @@
 //! Reads the arguments of functions, constructors and methods.
 ghost use Rattle.std.specs.Prelude.{◌≡◌, ◌≤◌};
-ghost use Rattle.abs_tree.specs.SyntaxViews.{phrases};
+ghost use Rattle.abs_tree.specs.SyntaxViews.{expr_trees};
 ghost use Rattle.abs_parser.specs.Productions.{Arguments, Args};
 ghost use Rattle.abs_parser.specs.Readings.{One, Optional};
-ghost use Rattle.abs_parser.specs.ReaderAnswers.{Parses, parse_of, HasRoom, maybe_phrases};
+ghost use Rattle.abs_parser.specs.ReaderAnswers.{Parses, parse_of, HasRoom, maybe_exprs};
 ghost use Rattle.abs_parser.specs.Stops.{limit};
 ghost use Rattle.abs_parser.specs.TreesOf.{arguments_in, arguments_maybe as maybe_arguments_in, args_in};
 ghost use Rattle.abs_parser.specs.Views.{spot};
@@ -20,7 +20,7 @@ use std::alloc::Global;
 ///
 /// # Errors
 /// The refusal of the first token that is a syntax error or too deeply nested.
-#[cycle(phrases)]
+#[cycle(expressions)]
 pub(crate) fn arguments_maybe<'a, 'b>(
     alloc: Global,
     symbols: &mut Symbols<'a>,
@@ -30,7 +30,7 @@ pub(crate) fn arguments_maybe<'a, 'b>(
     requires names { HasRoom symbols.old (spot from) }
     requires depth { depth ≤ limit }
     ensures { Parses result (parse_of (Optional Arguments) depth symbols.old symbols.new (spot from.entry)
-        (λ found. spot found.1) (λ found names inside. maybe_phrases names found.0 ≡ maybe_arguments_in inside)) }
+        (λ found. spot found.1) (λ found names inside. maybe_exprs names found.0 ≡ maybe_arguments_in inside)) }
 {
     if !from.is(Lexeme::Punctuator(Punctuator::OpenParen)) {
         return Ok((None, from));
@@ -43,7 +43,7 @@ pub(crate) fn arguments_maybe<'a, 'b>(
 ///
 /// # Errors
 /// The refusal of the first token that is a syntax error or too deeply nested.
-#[cycle(phrases)]
+#[cycle(expressions)]
 pub(crate) fn arguments<'a, 'b>(
     alloc: Global,
     symbols: &mut Symbols<'a>,
@@ -53,7 +53,7 @@ pub(crate) fn arguments<'a, 'b>(
     requires names { HasRoom symbols.old (spot from) }
     requires depth { depth ≤ limit }
     ensures { Parses result (parse_of (One Arguments) depth symbols.old symbols.new (spot from.entry)
-        (λ found. spot found.1) (λ found names inside. phrases names found.0.items ≡ arguments_in inside)) }
+        (λ found. spot found.1) (λ found names inside. expr_trees names found.0.items ≡ arguments_in inside)) }
 {
     let (_, after) = from.take(Lexeme::Punctuator(Punctuator::OpenParen), depth)?;
     if let Some((_, end)) = after.accept(Lexeme::Punctuator(Punctuator::CloseParen)) {
@@ -65,7 +65,7 @@ pub(crate) fn arguments<'a, 'b>(
 }
 
 /// An expression, and others after commas, and the cursor after them.
-#[cycle(phrases)]
+#[cycle(expressions)]
 fn expressions<'a, 'b>(
     alloc: Global,
     symbols: &mut Symbols<'a>,
@@ -75,7 +75,7 @@ fn expressions<'a, 'b>(
     requires names { HasRoom symbols.old (spot from) }
     requires depth { depth ≤ limit }
     ensures { Parses result (parse_of (One Args) depth symbols.old symbols.new (spot from.entry)
-        (λ found. spot found.1) (λ found names inside. phrases names found.0.items ≡ args_in inside)) }
+        (λ found. spot found.1) (λ found names inside. expr_trees names found.0.items ≡ args_in inside)) }
 {
     let (first, mut here) = expression(alloc, symbols, depth, from)?;
     let mut expressions = vec![in alloc; first]?;

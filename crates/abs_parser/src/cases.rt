@@ -2,7 +2,7 @@
 ghost use Rattle.std.specs.Prelude.{◌≡◌, true, ◌+◌, ◌≤◌};
 ghost use Rattle.abs_lexer.specs.declared.lexeme.Keyword.TheVariants as keyword;
 ghost use Rattle.abs_tree.specs.Syntax.{Branches, NextBranch};
-ghost use Rattle.abs_tree.specs.SyntaxViews.{phrase, pattern_tree};
+ghost use Rattle.abs_tree.specs.SyntaxViews.{expr_tree, pattern_tree};
 ghost use Rattle.abs_parser.specs.TokenKinds.{KeywordKind, fits, next};
 ghost use Rattle.abs_parser.specs.Productions.{Primary, Branch as BranchSymbol};
 ghost use Rattle.abs_parser.specs.Readings.{One};
@@ -24,7 +24,7 @@ use std::alloc::Global;
 ///
 /// # Errors
 /// The refusal of the first token that is a syntax error or too deeply nested.
-#[cycle(phrases)]
+#[cycle(expressions)]
 pub(crate) fn case_primary<'a, 'b>(
     alloc: Global,
     symbols: &mut Symbols<'a>,
@@ -35,7 +35,7 @@ pub(crate) fn case_primary<'a, 'b>(
     requires names { HasRoom symbols.old (spot from) }
     requires depth { depth ≤ limit + 3 }
     ensures { Parses result (parse_of (One Primary) depth symbols.old symbols.new (spot from.entry)
-        (λ found. spot found.1) (λ found names inside. phrase names found.0 ≡ primary_in inside)) }
+        (λ found. spot found.1) (λ found names inside. expr_tree names found.0 ≡ primary_in inside)) }
 {
     let (token, subject_at) = from.take(Lexeme::Keyword(Keyword::Case), depth)?;
     let (subject, open) = expression(alloc, symbols, depth, subject_at)?;
@@ -58,7 +58,7 @@ pub(crate) fn case_primary<'a, 'b>(
 }
 
 /// `p => e;`, and the cursor after it.
-#[cycle(phrases)]
+#[cycle(expressions)]
 fn branch<'a, 'b>(
     alloc: Global,
     symbols: &mut Symbols<'a>,
@@ -70,7 +70,7 @@ fn branch<'a, 'b>(
     ensures { Parses result (parse_of (One BranchSymbol) depth symbols.old symbols.new (spot from.entry)
         (λ found. spot found.1)
         (λ found names inside. (others : Branches) → NextBranch (pattern_tree names found.0.pattern)
-        (phrase names found.0.value) others ≡ branch_in inside others)) }
+        (expr_tree names found.0.value) others ≡ branch_in inside others)) }
 {
     let (pattern, arrow) = pattern(alloc, symbols, depth, from)?;
     let (_, value_at) = arrow.take(Lexeme::Punctuator(Punctuator::Arrow), depth)?;

@@ -1,7 +1,7 @@
 //! Reads expressions: `let`, `if`, and operator lists by the precedences of their operators.
 ghost use Rattle.std.specs.Prelude.{◌≡◌, true, ◌+◌, ◌≤◌, IfOk, IfErr};
 ghost use Rattle.abs_lexer.specs.declared.lexeme.Keyword.TheVariants as keyword;
-ghost use Rattle.abs_tree.specs.SyntaxViews.{phrase};
+ghost use Rattle.abs_tree.specs.SyntaxViews.{expr_tree};
 ghost use Rattle.abs_parser.specs.TokenKinds.{KeywordKind, fits, next};
 ghost use Rattle.abs_parser.specs.Productions.{Expr as ExprSymbol};
 ghost use Rattle.abs_parser.specs.Readings.{One};
@@ -23,7 +23,7 @@ use std::alloc::Global;
 ///
 /// # Errors
 /// The refusal of the first token that is a syntax error or too deeply nested.
-#[cycle(phrases)]
+#[cycle(expressions)]
 pub(crate) fn expression<'a, 'b>(
     alloc: Global,
     symbols: &mut Symbols<'a>,
@@ -33,7 +33,7 @@ pub(crate) fn expression<'a, 'b>(
     requires names { HasRoom symbols.old (spot from) }
     requires depth { depth ≤ limit + 1 }
     ensures { Parses result (parse_of (One ExprSymbol) depth symbols.old symbols.new (spot from.entry)
-        (λ found. spot found.1) (λ found names inside. phrase names found.0 ≡ expr_in inside)) }
+        (λ found. spot found.1) (λ found names inside. expr_tree names found.0 ≡ expr_in inside)) }
 {
     if from.is(Lexeme::Keyword(Keyword::Let)) {
         return let_expression(alloc, symbols, depth, from);
@@ -58,7 +58,7 @@ pub(crate) fn in_parentheses<'a, 'b>(
     requires depth { depth ≤ limit + 1 }
     ensures found { IfOk result (λ found. FoundInParentheses depth symbols.old symbols.new (spot from.entry)
         (spot found.1)
-        (λ names inside. phrase names found.0 ≡ expr_in inside)) }
+        (λ names inside. expr_tree names found.0 ≡ expr_in inside)) }
     ensures refused { IfErr result (λ error. AreRefused (in_parentheses_at depth) (spot from.entry) error) }
 {
     let (_, expr_at) = from.take(Lexeme::Punctuator(Punctuator::OpenParen), depth)?;
@@ -68,7 +68,7 @@ pub(crate) fn in_parentheses<'a, 'b>(
 }
 
 /// `let (T x) = e in e`, and the cursor after it.
-#[cycle(phrases)]
+#[cycle(expressions)]
 fn let_expression<'a, 'b>(
     alloc: Global,
     symbols: &mut Symbols<'a>,
@@ -79,7 +79,7 @@ fn let_expression<'a, 'b>(
     requires names { HasRoom symbols.old (spot from) }
     requires depth { depth ≤ limit + 1 }
     ensures { Parses result (parse_of (One ExprSymbol) depth symbols.old symbols.new (spot from.entry)
-        (λ found. spot found.1) (λ found names inside. phrase names found.0 ≡ expr_in inside)) }
+        (λ found. spot found.1) (λ found names inside. expr_tree names found.0 ≡ expr_in inside)) }
 {
     let (token, open) = from.take(Lexeme::Keyword(Keyword::Let), depth + 1)?;
     let (_, type_at) = open.take(Lexeme::Punctuator(Punctuator::OpenParen), depth + 1)?;
@@ -106,7 +106,7 @@ fn let_expression<'a, 'b>(
 }
 
 /// `if e then e else e`, and the cursor after it.
-#[cycle(phrases)]
+#[cycle(expressions)]
 fn if_expression<'a, 'b>(
     alloc: Global,
     symbols: &mut Symbols<'a>,
@@ -117,7 +117,7 @@ fn if_expression<'a, 'b>(
     requires names { HasRoom symbols.old (spot from) }
     requires depth { depth ≤ limit + 1 }
     ensures { Parses result (parse_of (One ExprSymbol) depth symbols.old symbols.new (spot from.entry)
-        (λ found. spot found.1) (λ found names inside. phrase names found.0 ≡ expr_in inside)) }
+        (λ found. spot found.1) (λ found names inside. expr_tree names found.0 ≡ expr_in inside)) }
 {
     let (token, test_at) = from.take(Lexeme::Keyword(Keyword::If), depth + 1)?;
     let (test, then_at) = expression(alloc, symbols, depth + 1, test_at)?;

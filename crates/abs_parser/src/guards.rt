@@ -1,7 +1,7 @@
 //! Reads guards.
 ghost use Rattle.std.specs.Prelude.{◌≡◌, ◌≤◌};
 ghost use Rattle.abs_tree.specs.Syntax.{Tests, NextTest};
-ghost use Rattle.abs_tree.specs.SyntaxViews.{phrase, tests as test_trees};
+ghost use Rattle.abs_tree.specs.SyntaxViews.{expr_tree, tests as test_trees};
 ghost use Rattle.abs_parser.specs.Productions.{Guard, Test as TestSymbol};
 ghost use Rattle.abs_parser.specs.Readings.{One};
 ghost use Rattle.abs_parser.specs.ReaderAnswers.{Parses, parse_of, HasRoom};
@@ -55,7 +55,7 @@ fn test<'a, 'b>(
     ensures { Parses result (parse_of (One TestSymbol) depth symbols.old symbols.new (spot from.entry)
         (λ found. spot found.1)
         (λ found names inside. (others : Tests) → NextTest found.0.place
-        (phrase names found.0.value.value) found.0.asks others ≡ test_in inside others)) }
+        (expr_tree names found.0.value.value) found.0.asks others ≡ test_in inside others)) }
 {
     let place = from.place();
     let (value, after) = operators(alloc, symbols, Precedence::Equal, depth, from)?;

@@ -8,7 +8,7 @@ mod cursor;
 mod declarations;
 mod expressions;
 mod guards;
-pub mod law;
+pub mod laws;
 mod literals;
 mod names;
 mod operators;

@@ -1,7 +1,7 @@
 //! Reads operator lists. A unary is read once, and then the operators after it, one precedence after another, from the
 //! one that binds most.
 ghost use Rattle.std.specs.Prelude.{◌≡◌, ℕ, List, false, ◌+◌, ◌≤◌, IfOk, IfErr, IfSome, IfNone};
-ghost use Rattle.abs_tree.specs.SyntaxViews.{phrase, operand_trees};
+ghost use Rattle.abs_tree.specs.SyntaxViews.{expr_tree, operand_trees};
 ghost use Rattle.abs_lexer.specs.declared.lexeme.Lexeme.TheVariants as lexeme;
 ghost use Rattle.abs_tree.specs.declared.syntax.expression.Operator as operator_type;
 ghost use Rattle.abs_parser.specs.TokenKinds.{PunctuatorKind, fits, next};
@@ -143,7 +143,7 @@ fn operator_follows(from: Cursor<'_, '_>) -> bool
 ///
 /// # Errors
 /// The refusal of the first token that is a syntax error or too deeply nested.
-#[cycle(phrases)]
+#[cycle(expressions)]
 pub(crate) fn operators<'a, 'b>(
     alloc: Global,
     symbols: &mut Symbols<'a>,
@@ -154,7 +154,7 @@ pub(crate) fn operators<'a, 'b>(
     requires names { HasRoom symbols.old (spot from) }
     requires depth { depth ≤ limit + 2 }
     ensures { Parses result (parse_of (One (nonterminal_of precedence)) depth symbols.old symbols.new (spot from.entry)
-        (λ found. spot found.1) (λ found names inside. phrase names found.0 ≡ precedence_in precedence inside)) }
+        (λ found. spot found.1) (λ found names inside. expr_tree names found.0 ≡ precedence_in precedence inside)) }
 {
     let (first, here) = unary(alloc, symbols, depth, from)?;
     climb(
@@ -171,7 +171,7 @@ pub(crate) fn operators<'a, 'b>(
 
 /// An expression of the precedence `to`, and the cursor after it. Its first operand is of the precedence `at` and
 /// begins at `place`; the operators and operands after it are read.
-#[cycle(phrases)]
+#[cycle(expressions)]
 fn climb<'a, 'b>(
     alloc: Global,
     symbols: &mut Symbols<'a>,
@@ -204,7 +204,7 @@ fn climb<'a, 'b>(
 ///
 /// # Errors
 /// The refusal of the first token that is a syntax error or too deeply nested.
-#[cycle(phrases)]
+#[cycle(expressions)]
 pub(crate) fn operators_after<'a, 'b>(
     alloc: Global,
     symbols: &mut Symbols<'a>,
@@ -218,8 +218,8 @@ pub(crate) fn operators_after<'a, 'b>(
     requires depth { depth ≤ limit }
     ensures { Parses result (parse_of (rest_of precedence) depth symbols.old symbols.new (spot from.entry)
         (λ found. spot found.1)
-        (λ found names inside. phrase names found.0
-        ≡ with_operators place (phrase names first) (operands_in precedence inside))) }
+        (λ found names inside. expr_tree names found.0
+        ≡ with_operators place (expr_tree names first) (operands_in precedence inside))) }
 {
     let mut operands = Vec::new(alloc);
     let mut here = from;
@@ -235,7 +235,7 @@ pub(crate) fn operators_after<'a, 'b>(
 }
 
 /// An operand of a precedence, and the cursor after it.
-#[cycle(phrases)]
+#[cycle(expressions)]
 fn operand<'a, 'b>(
     alloc: Global,
     symbols: &mut Symbols<'a>,
@@ -247,7 +247,7 @@ fn operand<'a, 'b>(
     requires depth { depth ≤ limit + 2 }
     ensures { Parses result (parse_of (One (operand_nonterminal precedence)) depth symbols.old symbols.new
         (spot from.entry) (λ found. spot found.1)
-        (λ found names inside. phrase names found.0 ≡ operand_in precedence inside)) }
+        (λ found names inside. expr_tree names found.0 ≡ operand_in precedence inside)) }
 {
     match precedence {
         Precedence::Or => operators(alloc, symbols, Precedence::And, depth, from),
@@ -267,7 +267,7 @@ fn node(
     operands: Vec<Operand>,
 ) -> Result<Expr, AllocError>
     ensures { IfOk result (λ expr. (names : List (List ℕ))
-        → phrase names expr ≡ with_operators place (phrase names first) (operand_trees names operands.items)) }
+        → expr_tree names expr ≡ with_operators place (expr_tree names first) (operand_trees names operands.items)) }
 {
     if operands.is_empty() {
         return Ok(first);

@@ -5,13 +5,13 @@ ghost use Rattle.abs_lexer.specs.declared.lexeme.Keyword.TheVariants as keyword;
 ghost use Rattle.abs_lexer.specs.declared.lexeme.Lexeme.TheVariants as lexeme;
 ghost use Rattle.abs_tree.specs.declared.syntax.expression.Prefix as prefix_type;
 ghost use Rattle.abs_tree.specs.Syntax.{Name};
-ghost use Rattle.abs_tree.specs.SyntaxViews.{phrase};
+ghost use Rattle.abs_tree.specs.SyntaxViews.{expr_tree};
 ghost use Rattle.abs_tree.specs.Names.{name_of};
 ghost use Rattle.abs_parser.specs.TokenKinds.{LowerName, UpperName, KeywordKind, PunctuatorKind, fits, next, token_kind_of};
 ghost use Rattle.abs_parser.specs.Precedences.{prefix_punctuator};
 ghost use Rattle.abs_parser.specs.Productions.{begins, Unary, Primary};
 ghost use Rattle.abs_parser.specs.Readings.{One};
-ghost use Rattle.abs_parser.specs.ReaderAnswers.{Parses, parse_of, HasRoom, left_at, maybe_phrases};
+ghost use Rattle.abs_parser.specs.ReaderAnswers.{Parses, parse_of, HasRoom, left_at, maybe_exprs};
 ghost use Rattle.abs_parser.specs.Stops.{limit};
 ghost use Rattle.abs_parser.specs.TreesOf.{unary_in, primary_in, named as named_tree, member as member_tree};
 ghost use Rattle.abs_parser.specs.Views.{spot};
@@ -49,7 +49,7 @@ fn prefix_of(kind: Lexeme) -> Option<Prefix>
 ///
 /// # Errors
 /// The refusal of the first token that is a syntax error or too deeply nested.
-#[cycle(phrases)]
+#[cycle(expressions)]
 pub(crate) fn unary<'a, 'b>(
     alloc: Global,
     symbols: &mut Symbols<'a>,
@@ -59,7 +59,7 @@ pub(crate) fn unary<'a, 'b>(
     requires names { HasRoom symbols.old (spot from) }
     requires depth { depth ≤ limit + 2 }
     ensures { Parses result (parse_of (One Unary) depth symbols.old symbols.new (spot from.entry)
-        (λ found. spot found.1) (λ found names inside. phrase names found.0 ≡ unary_in inside)) }
+        (λ found. spot found.1) (λ found names inside. expr_tree names found.0 ≡ unary_in inside)) }
 {
     let Some((first, _)) = from.next() else {
         return Err(from.wrong());
@@ -79,7 +79,7 @@ pub(crate) fn unary<'a, 'b>(
 }
 
 /// A primary nested in `depth` counted nonterminals, and the cursor after it.
-#[cycle(phrases)]
+#[cycle(expressions)]
 fn primary<'a, 'b>(
     alloc: Global,
     symbols: &mut Symbols<'a>,
@@ -89,7 +89,7 @@ fn primary<'a, 'b>(
     requires names { HasRoom symbols.old (spot from) }
     requires depth { depth ≤ limit + 3 }
     ensures { Parses result (parse_of (One Primary) depth symbols.old symbols.new (spot from.entry)
-        (λ found. spot found.1) (λ found names inside. phrase names found.0 ≡ primary_in inside)) }
+        (λ found. spot found.1) (λ found names inside. expr_tree names found.0 ≡ primary_in inside)) }
 {
     let Some((first, _)) = from.next() else {
         return Err(from.wrong());
@@ -112,7 +112,7 @@ fn primary<'a, 'b>(
 }
 
 /// A variable, or a function with its arguments, and the cursor after it.
-#[cycle(phrases)]
+#[cycle(expressions)]
 fn name_primary<'a, 'b>(
     alloc: Global,
     symbols: &mut Symbols<'a>,
@@ -123,7 +123,7 @@ fn name_primary<'a, 'b>(
     requires names { HasRoom symbols.old (spot from) }
     requires depth { depth ≤ limit + 3 }
     ensures { Parses result (parse_of (One Primary) depth symbols.old symbols.new (spot from.entry)
-        (λ found. spot found.1) (λ found names inside. phrase names found.0 ≡ primary_in inside)) }
+        (λ found. spot found.1) (λ found names inside. expr_tree names found.0 ≡ primary_in inside)) }
 {
     let (name, after) = from.take(Lexeme::LowerName, depth)?;
     let symbol = symbols.intern(name.slice)?;
@@ -134,7 +134,7 @@ fn name_primary<'a, 'b>(
 /// `x`, or with arguments `f(es)`.
 pub(crate) fn named(place: Place, name: Symbol, arguments: Option<Vec<Expr>>) -> Expr
     ensures { (names : List Name)
-        → phrase names result ≡ named_tree place (name_of names name) (maybe_phrases names arguments) }
+        → expr_tree names result ≡ named_tree place (name_of names name) (maybe_exprs names arguments) }
 {
     match arguments {
         Some(arguments) => Expr::Apply {
@@ -147,7 +147,7 @@ pub(crate) fn named(place: Place, name: Symbol, arguments: Option<Vec<Expr>>) ->
 }
 
 /// A constructor with its arguments, if it has any, and the cursor after it.
-#[cycle(phrases)]
+#[cycle(expressions)]
 fn constructor_primary<'a, 'b>(
     alloc: Global,
     symbols: &mut Symbols<'a>,
@@ -158,7 +158,7 @@ fn constructor_primary<'a, 'b>(
     requires names { HasRoom symbols.old (spot from) }
     requires depth { depth ≤ limit + 3 }
     ensures { Parses result (parse_of (One Primary) depth symbols.old symbols.new (spot from.entry)
-        (λ found. spot found.1) (λ found names inside. phrase names found.0 ≡ primary_in inside)) }
+        (λ found. spot found.1) (λ found names inside. expr_tree names found.0 ≡ primary_in inside)) }
 {
     let (name, after) = from.take(Lexeme::UpperName, depth)?;
     let symbol = symbols.intern(name.slice)?;
@@ -176,7 +176,7 @@ fn constructor_primary<'a, 'b>(
 }
 
 /// A primary that begins with a keyword, and the cursor after it.
-#[cycle(phrases)]
+#[cycle(expressions)]
 fn keyword_primary<'a, 'b>(
     alloc: Global,
     symbols: &mut Symbols<'a>,
@@ -188,7 +188,7 @@ fn keyword_primary<'a, 'b>(
     requires names { HasRoom symbols.old (spot from) }
     requires depth { depth ≤ limit + 3 }
     ensures { Parses result (parse_of (One Primary) depth symbols.old symbols.new (spot from.entry)
-        (λ found. spot found.1) (λ found names inside. phrase names found.0 ≡ primary_in inside)) }
+        (λ found. spot found.1) (λ found names inside. expr_tree names found.0 ≡ primary_in inside)) }
 {
     match keyword {
         Keyword::Null => {
@@ -206,7 +206,7 @@ fn keyword_primary<'a, 'b>(
 }
 
 /// `this`, a field of it, or a call on it, and the cursor after it.
-#[cycle(phrases)]
+#[cycle(expressions)]
 fn this_primary<'a, 'b>(
     alloc: Global,
     symbols: &mut Symbols<'a>,
@@ -217,7 +217,7 @@ fn this_primary<'a, 'b>(
     requires names { HasRoom symbols.old (spot from) }
     requires depth { depth ≤ limit + 3 }
     ensures { Parses result (parse_of (One Primary) depth symbols.old symbols.new (spot from.entry)
-        (λ found. spot found.1) (λ found names inside. phrase names found.0 ≡ primary_in inside)) }
+        (λ found. spot found.1) (λ found names inside. expr_tree names found.0 ≡ primary_in inside)) }
 {
     let (this, after) = from.take(Lexeme::Keyword(Keyword::This), depth)?;
     let Some((_, name_at)) = after.accept(Lexeme::Punctuator(Punctuator::Dot)) else {
@@ -239,7 +239,7 @@ pub(crate) fn member(
     arguments: Option<Vec<Expr>>,
 ) -> Result<Expr, AllocError>
     ensures { IfOk result (λ expr. (names : List Name)
-        → phrase names expr ≡ member_tree place name_place (name_of names name) (maybe_phrases names arguments)) }
+        → expr_tree names expr ≡ member_tree place name_place (name_of names name) (maybe_exprs names arguments)) }
 {
     match arguments {
         Some(arguments) => Ok(Expr::OwnCall {
@@ -256,7 +256,7 @@ pub(crate) fn member(
 }
 
 /// An expression in parentheses, which leave no node in the tree, and the cursor after it.
-#[cycle(phrases)]
+#[cycle(expressions)]
 fn parenthesized<'a, 'b>(
     alloc: Global,
     symbols: &mut Symbols<'a>,
@@ -268,7 +268,7 @@ fn parenthesized<'a, 'b>(
     requires names { HasRoom symbols.old (spot from) }
     requires depth { depth ≤ limit + 3 }
     ensures { Parses result (parse_of (One Primary) depth symbols.old symbols.new (spot from.entry)
-        (λ found. spot found.1) (λ found names inside. phrase names found.0 ≡ primary_in inside)) }
+        (λ found. spot found.1) (λ found names inside. expr_tree names found.0 ≡ primary_in inside)) }
 {
     let (_, inside) = from.take(Lexeme::Punctuator(Punctuator::OpenParen), depth)?;
     let (expr, close) = expression(alloc, symbols, depth, inside)?;

@@ -1,8 +1,8 @@
 //! Reads right sides: a new object, or an expression with what follows it.
 ghost use Rattle.std.specs.Prelude.{◌≡◌, ℕ, List, true, ◌+◌, ◌≤◌, IfOk};
 ghost use Rattle.abs_lexer.specs.declared.lexeme.Keyword.TheVariants as keyword;
-ghost use Rattle.abs_tree.specs.Syntax.{Name, NextPhrase};
-ghost use Rattle.abs_tree.specs.SyntaxViews.{phrase, phrases, side_tree};
+ghost use Rattle.abs_tree.specs.Syntax.{Name, NextExpr};
+ghost use Rattle.abs_tree.specs.SyntaxViews.{expr_tree, expr_trees, side_tree};
 ghost use Rattle.abs_parser.specs.TokenKinds.{KeywordKind, fits, next};
 ghost use Rattle.abs_parser.specs.Productions.{Rhs, RhsTail, Selected, Where};
 ghost use Rattle.abs_parser.specs.Readings.{One, Optional};
@@ -109,14 +109,21 @@ pub(crate) fn right_side_tail<'a, 'b>(
     requires depth { depth ≤ limit }
     ensures { Parses result (parse_of (Optional RhsTail) depth symbols.old symbols.new (spot from.entry)
         (λ found. spot found.1)
-        (λ found names inside. side_tree names found.0 ≡ tail_in place (phrase names first) inside)) }
+        (λ found names inside. side_tree names found.0 ≡ tail_in place (expr_tree names first) inside)) }
 {
     if let Some((_, after)) = from.accept(Lexeme::Punctuator(Punctuator::Not)) {
         let (name, open) = after.take(Lexeme::LowerName, depth)?;
         let method = symbols.intern(name.slice)?;
         let (arguments, end) = arguments(alloc, symbols, depth, open)?;
-        let row = row_of(alloc, first, arguments)?;
-        return Ok((RightSide::Send { place, method, row }, end));
+        let operands = operands_of(alloc, first, arguments)?;
+        return Ok((
+            RightSide::Send {
+                place,
+                method,
+                operands,
+            },
+            end,
+        ));
     }
     let Some((_, after)) = from.accept(Lexeme::Punctuator(Punctuator::Dot)) else {
         return Ok((RightSide::Value(place, Arc::new(alloc, first)?), from));
@@ -137,7 +144,7 @@ fn selected<'a, 'b>(
     requires depth { depth ≤ limit }
     ensures { Parses result (parse_of (One Selected) depth symbols.old symbols.new (spot from.entry)
         (λ found. spot found.1)
-        (λ found names inside. side_tree names found.0 ≡ selected_in place (phrase names first) inside)) }
+        (λ found names inside. side_tree names found.0 ≡ selected_in place (expr_tree names first) inside)) }
 {
     if let Some((token, end)) = from.accept(Lexeme::Keyword(Keyword::Get)) {
         let side = RightSide::Get {
@@ -153,18 +160,22 @@ fn selected<'a, 'b>(
     let side = RightSide::Call {
         place,
         method,
-        row: row_of(alloc, first, arguments)?,
+        operands: operands_of(alloc, first, arguments)?,
         slot: None,
     };
     Ok((side, end))
 }
 
 /// The receiver of a call, followed by its arguments.
-fn row_of(alloc: Global, receiver: Expr, arguments: Vec<Expr>) -> Result<Arc<Vec<Expr>>, AllocError>
-    ensures { IfOk result (λ row. (names : List Name) → phrases names row.value.items
-        ≡ NextPhrase (phrase names receiver) (phrases names arguments.items)) }
+fn operands_of(
+    alloc: Global,
+    receiver: Expr,
+    arguments: Vec<Expr>,
+) -> Result<Arc<Vec<Expr>>, AllocError>
+    ensures { IfOk result (λ operands. (names : List Name) → expr_trees names operands.value.items
+        ≡ NextExpr (expr_tree names receiver) (expr_trees names arguments.items)) }
 {
-    let mut row = arguments;
-    row.insert(0, receiver)?;
-    Ok(Arc::new(alloc, row)?)
+    let mut operands = arguments;
+    operands.insert(0, receiver)?;
+    Ok(Arc::new(alloc, operands)?)
 }

@@ -5,13 +5,13 @@ ghost use Rattle.abs_lexer.specs.declared.lexeme.Lexeme.TheVariants as lexeme;
 ghost use Rattle.abs_lexer.specs.declared.lexeme.Punctuator.TheVariants as punctuator;
 ghost use Rattle.abs_tree.specs.Syntax.{Name};
 ghost use Rattle.abs_tree.specs.SyntaxSizes.{count_of};
-ghost use Rattle.abs_tree.specs.SyntaxViews.{phrase, side_tree, target_tree, statement as statement_tree, maybe_side};
+ghost use Rattle.abs_tree.specs.SyntaxViews.{expr_tree, side_tree, target_tree, statement as statement_tree, maybe_side};
 ghost use Rattle.abs_parser.specs.TokenKinds.{LowerName, UpperName, KeywordKind, PunctuatorKind, fits, next};
 ghost use Rattle.abs_parser.specs.Productions.{begins, Stmt as StmtSymbol, Initial, Rest, AfterName};
 ghost use Rattle.abs_parser.specs.Readings.{One, Optional, Terminal};
-ghost use Rattle.abs_parser.specs.ReaderAnswers.{Parses, parse_of, Passes, IsRefused, HasRoom, left_at, maybe_phrases};
+ghost use Rattle.abs_parser.specs.ReaderAnswers.{Parses, parse_of, Passes, IsRefused, HasRoom, left_at, maybe_exprs};
 ghost use Rattle.abs_parser.specs.Stops.{limit};
-ghost use Rattle.abs_parser.specs.Firsts.{place_of_first, target_of, phrase_of, after_first, begins_another, is_simple};
+ghost use Rattle.abs_parser.specs.Firsts.{place_of_first, target_of, expr_of, after_first, begins_another, is_simple};
 ghost use Rattle.abs_parser.specs.TreesOf.{statement_in, initial_in, rest_in};
 ghost use Rattle.abs_parser.specs.Views.{spot};
 
@@ -69,7 +69,7 @@ impl First {
     /// [`AllocError`] if an allocation fails.
     fn expr(self, alloc: Global, arguments: Option<Vec<Expr>>) -> Result<Expr, AllocError>
         ensures { IfOk result (λ expr. (names : List Name)
-            → phrase names expr ≡ phrase_of names self (maybe_phrases names arguments)) }
+            → expr_tree names expr ≡ expr_of names self (maybe_exprs names arguments)) }
     {
         match self {
             First::Variable(place, symbol) => Ok(named(place, symbol, arguments)),
@@ -306,7 +306,7 @@ fn rest<'a, 'b>(
     requires names { HasRoom symbols.old (spot from) }
     ensures { Parses result (parse_of (One Rest) depth symbols.old symbols.new (spot from.entry)
         (λ found. spot found.1)
-        (λ found names inside. side_tree names found.0 ≡ rest_in place (phrase names first) inside)) }
+        (λ found names inside. side_tree names found.0 ≡ rest_in place (expr_tree names first) inside)) }
 {
     let precedence = depth + 1;
     let (product, here) = operators_after(

@@ -10,14 +10,15 @@
 --   `initial_offences`, `side_offences`                the value of a declaration, and a right side
 --   `receiver_offences`, `mode_offences`               the receiver of a call by ".", and where a new object lives
 --   `guard_offences`, `test_offences`                  a guard, and a part of it
---   `phrase_offences`, `phrases_offences`              expressions
+--   `expr_offences`, `exprs_offences`                  expressions
 --   `operands_offences`, `branches_offences`           the right operands of operators, and the branches of a `case`
 --   `future_offences`, `types_offences`                types in which `Fut` may not occur
 --   `type_place`                                       where a type begins
---   `offence_at`, `offences_at`                        an offence with a code at a place, which may be missing
+--   `offences_at`                                      an offence with a code at a place that may be missing
 use Rattle.std.specs.Prelude.{Bool, List, [], ◌∷◌, ◌++◌, Option, Some, None, if◌then◌else◌}
 use Rattle.std.specs.List.{flat_map}
-use Rattle.abs_tree.specs.Syntax.{TypeTree, UnresolvedType, IntType, StringType, FutType, DataType, InterfaceType, ParameterType, BottomType, NullType, ClassType, TypeTrees, NoType, NextType, Phrase, LetIn, IfElse, OperatorsOf, Prefixed, NumberOf, StringOf, NullOf, DestinyOf, ThisOf, FieldOf, OwnCallOf, VariableOf, ApplyOf, BuildOf, CaseOf, Phrases, NoPhrase, NextPhrase, Operands, NoOperands, NextOperand, Branches, NoBranch, NextBranch, SideTree, NewOf, ValueOf, SendOf, GetOf, CallOf, Tests, NoTest, NextTest, MaybeSide, NoSide, SomeSide, Statement, BlockOf, SkipOf, SuspendOf, AwaitOf, ReturnOf, PrintOf, IfOf, WhileOf, DeclareOf, AssignOf, DoOf, MaybeStatements, NoElse, Else, Statements, NoStatement, NextStatement, ParamTree, ConstructorTree, MaybePhrase, NoValue, Value, MemberTree, FieldTree, MethodTree, DeclTree, DataTree, FunctionTree, InterfaceTree, ClassTree, SourceTree}
+use Rattle.abs_tree.specs.Offences.{offence_at}
+use Rattle.abs_tree.specs.Syntax.{TypeTree, UnresolvedType, IntType, StringType, FutType, DataType, InterfaceType, ParameterType, BottomType, NullType, ClassType, TypeTrees, NoType, NextType, ExprTree, LetIn, IfElse, OperatorsOf, Prefixed, NumberOf, StringOf, NullOf, DestinyOf, ThisOf, FieldOf, OwnCallOf, VariableOf, ApplyOf, BuildOf, CaseOf, ExprTrees, NoExpr, NextExpr, Operands, NoOperands, NextOperand, Branches, NoBranch, NextBranch, SideTree, NewOf, ValueOf, SendOf, GetOf, CallOf, Tests, NoTest, NextTest, MaybeSide, NoSide, SomeSide, Statement, BlockOf, SkipOf, SuspendOf, AwaitOf, ReturnOf, PrintOf, IfOf, WhileOf, DeclareOf, AssignOf, DoOf, MaybeStatements, NoElse, Else, Statements, NoStatement, NextStatement, ParamTree, ConstructorTree, MaybeExpr, NoValue, Value, MemberTree, FieldTree, MethodTree, DeclTree, DataTree, FunctionTree, InterfaceTree, ClassTree, SourceTree}
 use Rattle.abs_tree.specs.declared.place.Place.{Place}
 use Rattle.abs_tree.specs.declared.refusal.Code.{Code}
 use Rattle.abs_tree.specs.declared.refusal.Code.TheVariants as code
@@ -26,11 +27,7 @@ use Rattle.abs_tree.specs.declared.syntax.statement.Mode.{Mode}
 use Rattle.abs_tree.specs.declared.syntax.statement.Mode.TheVariants as mode
 use Rattle.abs_types.specs.Holds.{holds_futures_in}
 
--- the offence with this code at this place
-abbrev pub offence_at : Code → Place → List Offence
-offence_at code place = record { place = place; code = code } ∷ []
-
--- the same at a place that may be missing: where there is none, nothing offends
+-- the offence with this code at a place that may be missing: where there is none, nothing offends
 abbrev pub offences_at : Code → Option Place → List Offence
 offences_at code None = []
 offences_at code (Some place) = offence_at code place
@@ -58,39 +55,39 @@ types_offences (NextType first others) = future_offences first ++ types_offences
 
 abbrev mutual
   -- an expression: `destiny` offends
-  pub phrase_offences : Phrase → List Offence
-  phrase_offences (DestinyOf place) = offence_at code.P3 place
-  phrase_offences (LetIn place type variable_place variable value body) = phrase_offences value ++ phrase_offences body
-  phrase_offences (IfElse place condition first second) =
-      phrase_offences condition ++ (phrase_offences first ++ phrase_offences second)
-  phrase_offences (OperatorsOf place first operands) = phrase_offences first ++ operands_offences operands
-  phrase_offences (Prefixed place prefix operand) = phrase_offences operand
-  phrase_offences (OwnCallOf place method arguments) = phrases_offences arguments
-  phrase_offences (ApplyOf place function arguments) = phrases_offences arguments
-  phrase_offences (BuildOf place constructor arguments) = phrases_offences arguments
-  phrase_offences (CaseOf place subject branches) = phrase_offences subject ++ branches_offences branches
-  phrase_offences (NumberOf place number) = []
-  phrase_offences (StringOf place string) = []
-  phrase_offences (NullOf place) = []
-  phrase_offences (ThisOf place) = []
-  phrase_offences (FieldOf place name_place name) = []
-  phrase_offences (VariableOf place variable) = []
+  pub expr_offences : ExprTree → List Offence
+  expr_offences (DestinyOf place) = offence_at code.P3 place
+  expr_offences (LetIn place type variable_place variable value body) = expr_offences value ++ expr_offences body
+  expr_offences (IfElse place condition first second) =
+      expr_offences condition ++ (expr_offences first ++ expr_offences second)
+  expr_offences (OperatorsOf place first operands) = expr_offences first ++ operands_offences operands
+  expr_offences (Prefixed place prefix operand) = expr_offences operand
+  expr_offences (OwnCallOf place method arguments) = exprs_offences arguments
+  expr_offences (ApplyOf place function arguments) = exprs_offences arguments
+  expr_offences (BuildOf place constructor arguments) = exprs_offences arguments
+  expr_offences (CaseOf place subject branches) = expr_offences subject ++ branches_offences branches
+  expr_offences (NumberOf place number) = []
+  expr_offences (StringOf place string) = []
+  expr_offences (NullOf place) = []
+  expr_offences (ThisOf place) = []
+  expr_offences (FieldOf place name_place name) = []
+  expr_offences (VariableOf place variable) = []
 
-  pub phrases_offences : Phrases → List Offence
-  phrases_offences NoPhrase = []
-  phrases_offences (NextPhrase first others) = phrase_offences first ++ phrases_offences others
+  pub exprs_offences : ExprTrees → List Offence
+  exprs_offences NoExpr = []
+  exprs_offences (NextExpr first others) = expr_offences first ++ exprs_offences others
 
   pub operands_offences : Operands → List Offence
   operands_offences NoOperands = []
-  operands_offences (NextOperand operator right others) = phrase_offences right ++ operands_offences others
+  operands_offences (NextOperand operator right others) = expr_offences right ++ operands_offences others
 
   pub branches_offences : Branches → List Offence
   branches_offences NoBranch = []
-  branches_offences (NextBranch pattern value others) = phrase_offences value ++ branches_offences others
+  branches_offences (NextBranch pattern value others) = expr_offences value ++ branches_offences others
 
 -- a part of a guard: without "?" it offends, and what stands in it is looked at too
-abbrev pub test_offences : Place → Phrase → Bool → List Offence
-test_offences place value asks = (if asks then [] else offence_at code.P1 place) ++ phrase_offences value
+abbrev pub test_offences : Place → ExprTree → Bool → List Offence
+test_offences place value asks = (if asks then [] else offence_at code.P1 place) ++ expr_offences value
 
 abbrev pub guard_offences : Tests → List Offence
 guard_offences NoTest = []
@@ -103,16 +100,16 @@ mode_offences mode.Cog = []
 mode_offences (mode.Local place) = offence_at code.P5 place
 
 -- a call by "." that begins here, with its receiver before its arguments: another receiver than `this` offends
-abbrev pub receiver_offences : Place → Phrases → List Offence
-receiver_offences place (NextPhrase (ThisOf at) arguments) = []
-receiver_offences place row = offence_at code.P4 place
+abbrev pub receiver_offences : Place → ExprTrees → List Offence
+receiver_offences place (NextExpr (ThisOf at) arguments) = []
+receiver_offences place operands = offence_at code.P4 place
 
 abbrev pub side_offences : SideTree → List Offence
-side_offences (NewOf place mode class_place class arguments) = mode_offences mode ++ phrases_offences arguments
-side_offences (ValueOf place value) = phrase_offences value
-side_offences (SendOf place method row) = phrases_offences row
-side_offences (GetOf place get_place future) = phrase_offences future
-side_offences (CallOf place method row slot) = receiver_offences place row ++ phrases_offences row
+side_offences (NewOf place mode class_place class arguments) = mode_offences mode ++ exprs_offences arguments
+side_offences (ValueOf place value) = expr_offences value
+side_offences (SendOf place method operands) = exprs_offences operands
+side_offences (GetOf place get_place future) = expr_offences future
+side_offences (CallOf place method operands slot) = receiver_offences place operands ++ exprs_offences operands
 
 abbrev pub initial_offences : MaybeSide → List Offence
 initial_offences NoSide = []
@@ -124,11 +121,11 @@ abbrev mutual
   statement_offences (SkipOf index place) = []
   statement_offences (SuspendOf index place) = []
   statement_offences (AwaitOf index place guard) = guard_offences guard
-  statement_offences (ReturnOf index place value) = phrase_offences value
-  statement_offences (PrintOf index place value) = phrase_offences value
+  statement_offences (ReturnOf index place value) = expr_offences value
+  statement_offences (PrintOf index place value) = expr_offences value
   statement_offences (IfOf index place condition first second) =
-      phrase_offences condition ++ (statements_offences first ++ else_offences second)
-  statement_offences (WhileOf index place condition body) = phrase_offences condition ++ statements_offences body
+      expr_offences condition ++ (statements_offences first ++ else_offences second)
+  statement_offences (WhileOf index place condition body) = expr_offences condition ++ statements_offences body
   statement_offences (DeclareOf index place type variable_place variable initial) = initial_offences initial
   statement_offences (AssignOf index place target side) = side_offences side
   statement_offences (DoOf index place side) = side_offences side
@@ -147,9 +144,9 @@ constructor_offences constructor = types_offences constructor.types
 abbrev pub param_offences : ParamTree → List Offence
 param_offences param = future_offences param.type_of
 
-abbrev pub value_offences : MaybePhrase → List Offence
+abbrev pub value_offences : MaybeExpr → List Offence
 value_offences NoValue = []
-value_offences (Value value) = phrase_offences value
+value_offences (Value value) = expr_offences value
 
 abbrev pub member_offences : MemberTree → List Offence
 member_offences (FieldTree type name initial) = future_offences type ++ value_offences initial
@@ -157,7 +154,7 @@ member_offences (MethodTree signature end body) = statements_offences body
 
 abbrev pub decl_offences : DeclTree → List Offence
 decl_offences (DataTree place name type_params constructors) = flat_map constructor_offences constructors
-decl_offences (FunctionTree place result name type_params params value) = phrase_offences value
+decl_offences (FunctionTree place result name type_params params value) = expr_offences value
 decl_offences (InterfaceTree place name extended signatures) = []
 decl_offences (ClassTree place name params implemented members) =
     flat_map param_offences params ++ flat_map member_offences members

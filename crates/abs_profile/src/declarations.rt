@@ -4,7 +4,7 @@ ghost use Rattle.std.specs.Prelude.{◌≡◌, fold, List, map};
 ghost use Rattle.std.specs.List.{flat_map};
 ghost use Rattle.abs_tree.specs.Offences.{earlier};
 ghost use Rattle.abs_tree.specs.Syntax.{Name};
-ghost use Rattle.abs_tree.specs.SyntaxViews.{constructor_tree, decl_tree, maybe_phrase, member_tree, param_tree, type_tree, type_trees};
+ghost use Rattle.abs_tree.specs.SyntaxViews.{constructor_tree, decl_tree, maybe_expr, member_tree, param_tree, type_tree, type_trees};
 ghost use Rattle.abs_profile.specs.Profile.{constructor_offences, decl_offences, future_offences, member_offences, param_offences, type_place as place_of_type, types_offences, value_offences};
 
 use crate::expressions::{note_at, note_in_expression};
@@ -93,7 +93,7 @@ fn note_in_member(member: &Member, first: &mut Option<Offence>)
 /// Notes those of the initial value of a field, if it has one.
 fn note_in_value(value: &Option<Arc<Expr>>, first: &mut Option<Offence>)
     ensures { (names : List Name) → first.new
-        ≡ fold earlier first.old (value_offences (maybe_phrase names value.now)) }
+        ≡ fold earlier first.old (value_offences (maybe_expr names value.now)) }
 {
     if let Some(value) = value {
         note_in_expression(value, first);

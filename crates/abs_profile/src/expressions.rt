@@ -1,16 +1,16 @@
 //! The profile offences of expressions: each `destiny` in them.
 ghost use Rattle.std.specs.Prelude.{◌≡◌, ◌++◌, fold, List};
-ghost use Rattle.abs_tree.specs.Offences.{earlier};
+ghost use Rattle.abs_tree.specs.Offences.{earlier, offence_at};
 ghost use Rattle.abs_tree.specs.Syntax.{Name};
-ghost use Rattle.abs_tree.specs.SyntaxViews.{branches as branch_trees, operand_trees, phrase, phrases};
-ghost use Rattle.abs_profile.specs.Profile.{branches_offences, offence_at, operands_offences, phrase_offences, phrases_offences};
+ghost use Rattle.abs_tree.specs.SyntaxViews.{branches as branch_trees, operand_trees, expr_tree, expr_trees};
+ghost use Rattle.abs_profile.specs.Profile.{branches_offences, operands_offences, expr_offences, exprs_offences};
 
 use abs_tree::{Branch, Code, Expr, Offence, Operand, Place};
 
 /// Notes the profile offences of an expression.
 #[cycle(expressions)]
 pub(crate) fn note_in_expression(expr: &Expr, first: &mut Option<Offence>)
-    ensures { (names : List Name) → first.new ≡ fold earlier first.old (phrase_offences (phrase names expr.now)) }
+    ensures { (names : List Name) → first.new ≡ fold earlier first.old (expr_offences (expr_tree names expr.now)) }
 {
     match expr {
         Expr::Destiny(place) => note_at(*place, Code::P3, first),
@@ -52,7 +52,7 @@ pub(crate) fn note_in_expression(expr: &Expr, first: &mut Option<Offence>)
 #[cycle(expressions)]
 fn note_in_both(one: &Expr, other: &Expr, first: &mut Option<Offence>)
     ensures { (names : List Name) → first.new ≡ fold earlier first.old
-        (phrase_offences (phrase names one.now) ++ phrase_offences (phrase names other.now)) }
+        (expr_offences (expr_tree names one.now) ++ expr_offences (expr_tree names other.now)) }
 {
     note_in_expression(one, first);
     note_in_expression(other, first);
@@ -61,7 +61,7 @@ fn note_in_both(one: &Expr, other: &Expr, first: &mut Option<Offence>)
 /// Notes those of several expressions.
 #[cycle(expressions)]
 pub(crate) fn note_in_expressions(exprs: &[Expr], first: &mut Option<Offence>)
-    ensures { (names : List Name) → first.new ≡ fold earlier first.old (phrases_offences (phrases names exprs.now)) }
+    ensures { (names : List Name) → first.new ≡ fold earlier first.old (exprs_offences (expr_trees names exprs.now)) }
 {
     for expr in exprs {
         note_in_expression(expr, first);
@@ -72,7 +72,7 @@ pub(crate) fn note_in_expressions(exprs: &[Expr], first: &mut Option<Offence>)
 #[cycle(expressions)]
 fn note_in_operators(left: &Expr, operands: &[Operand], first: &mut Option<Offence>)
     ensures { (names : List Name) → first.new ≡ fold earlier first.old
-        (phrase_offences (phrase names left.now) ++ operands_offences (operand_trees names operands.now)) }
+        (expr_offences (expr_tree names left.now) ++ operands_offences (operand_trees names operands.now)) }
 {
     note_in_expression(left, first);
     for operand in operands {
@@ -84,7 +84,7 @@ fn note_in_operators(left: &Expr, operands: &[Operand], first: &mut Option<Offen
 #[cycle(expressions)]
 fn note_in_case(subject: &Expr, branches: &[Branch], first: &mut Option<Offence>)
     ensures { (names : List Name) → first.new ≡ fold earlier first.old
-        (phrase_offences (phrase names subject.now) ++ branches_offences (branch_trees names branches.now)) }
+        (expr_offences (expr_tree names subject.now) ++ branches_offences (branch_trees names branches.now)) }
 {
     note_in_expression(subject, first);
     for branch in branches {

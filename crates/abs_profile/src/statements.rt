@@ -3,7 +3,7 @@
 ghost use Rattle.std.specs.Prelude.{◌≡◌, fold, List};
 ghost use Rattle.abs_tree.specs.Offences.{earlier};
 ghost use Rattle.abs_tree.specs.Syntax.{Name};
-ghost use Rattle.abs_tree.specs.SyntaxViews.{maybe_side, maybe_statements, phrase, phrases, side_tree, statement, statements, tests};
+ghost use Rattle.abs_tree.specs.SyntaxViews.{maybe_side, maybe_statements, expr_tree, expr_trees, side_tree, statement, statements, tests};
 ghost use Rattle.abs_profile.specs.Profile.{else_offences, guard_offences, initial_offences, mode_offences, receiver_offences, side_offences, statement_offences, statements_offences, test_offences};
 
 use crate::expressions::{note_at, note_in_expression, note_in_expressions};
@@ -86,7 +86,7 @@ fn note_in_guard(guard: &[Test], first: &mut Option<Offence>)
 /// Notes those of a part of a guard: without `?` it offends itself.
 fn note_in_test(test: &Test, first: &mut Option<Offence>)
     ensures { (names : List Name) → first.new ≡ fold earlier first.old
-        (test_offences test.now.place (phrase names test.now.value.value) test.now.asks) }
+        (test_offences test.now.place (expr_tree names test.now.value.value) test.now.asks) }
 {
     if !test.asks {
         note_at(test.place, Code::P1, first);
@@ -108,21 +108,25 @@ fn note_in_side(side: &RightSide, first: &mut Option<Offence>)
             note_in_expressions(arguments, first);
         }
         RightSide::Value(_, value) => note_in_expression(value, first),
-        RightSide::Send { row, .. } => note_in_expressions(row, first),
+        RightSide::Send { operands, .. } => note_in_expressions(operands, first),
         RightSide::Get { future, .. } => note_in_expression(future, first),
-        RightSide::Call { place, row, .. } => {
-            note_receiver(*place, row, first);
-            note_in_expressions(row, first);
+        RightSide::Call {
+            place,
+            operands,
+            ..
+        } => {
+            note_receiver(*place, operands, first);
+            note_in_expressions(operands, first);
         }
     }
 }
 
-/// Notes a call by `.` that begins at this place, if its receiver, the first of the row, is not `this`.
-fn note_receiver(place: Place, row: &[Expr], first: &mut Option<Offence>)
+/// Notes a call by `.` that begins at this place, if its receiver, the first of the operands, is not `this`.
+fn note_receiver(place: Place, operands: &[Expr], first: &mut Option<Offence>)
     ensures { (names : List Name) → first.new
-        ≡ fold earlier first.old (receiver_offences place (phrases names row.now)) }
+        ≡ fold earlier first.old (receiver_offences place (expr_trees names operands.now)) }
 {
-    match row.first() {
+    match operands.first() {
         Some(Expr::This(_)) => {}
         _ => note_at(place, Code::P4, first),
     }

@@ -22,12 +22,12 @@ use Rattle.abs_tree.proofs.SyntaxLemmas.{type_tree-data}
 use Rattle.abs_tree.proofs.TableLemmas.{look_up-map}
 use Rattle.abs_program.specs.Bodies.{initial_of, initials_among, is_unit, starts_alone, if_alone, run_among, entry_of_class, class_entry, ClassEntryTree}
 use Rattle.abs_program.specs.BodyRows.{is_called}
-use Rattle.abs_program.specs.InstructionViews.{shared_phrases, class_entry_tree}
+use Rattle.abs_program.specs.InstructionViews.{shared_expr_trees, class_entry_tree}
 use Rattle.abs_program.specs.KeptControl.{class_in}
 use Rattle.abs_program.specs.Members.{method_among}
 use Rattle.abs_tree.specs.Names.{name_of}
-use Rattle.abs_tree.specs.Syntax.{Name, Phrase, Phrases, NoPhrase, NextPhrase, MemberTree, FieldTree, MethodTree, DeclTree, DataType}
-use Rattle.abs_tree.specs.SyntaxViews.{type_tree, type_trees, phrase, declared, maybe_phrase, member_tree}
+use Rattle.abs_tree.specs.Syntax.{Name, ExprTree, ExprTrees, NoExpr, NextExpr, MemberTree, FieldTree, MethodTree, DeclTree, DataType}
+use Rattle.abs_tree.specs.SyntaxViews.{type_tree, type_trees, expr_tree, declared, maybe_expr, member_tree}
 use Rattle.abs_tree.specs.declared.place.Place.{Place}
 use Rattle.abs_tree.specs.declared.symbol.Symbol.{Symbol}
 use Rattle.abs_tree.specs.declared.syntax.declaration.Body.{Body}
@@ -63,28 +63,28 @@ is_unit-data names term place name arguments is =
     ∙ unit_of-arguments names place (name_of names name) arguments.items)
 
 -- shared expressions, followed by others
-abbrev pub shared_before : List Name → List (Arc Expr Global) → Phrases → Phrases
+abbrev pub shared_before : List Name → List (Arc Expr Global) → ExprTrees → ExprTrees
 shared_before names [] rest = rest
-shared_before names (expr ∷ others) rest = NextPhrase (phrase names expr.value) (shared_before names others rest)
+shared_before names (expr ∷ others) rest = NextExpr (expr_tree names expr.value) (shared_before names others rest)
 
 -- one more shared expression comes before the rest
-shared_before-push : (names : List Name) (exprs : List (Arc Expr Global)) (expr : Arc Expr Global) (rest : Phrases)
+shared_before-push : (names : List Name) (exprs : List (Arc Expr Global)) (expr : Arc Expr Global) (rest : ExprTrees)
     → shared_before names (exprs ++ expr ∷ []) rest
-    ≡ shared_before names exprs (NextPhrase (phrase names expr.value) rest)
+    ≡ shared_before names exprs (NextExpr (expr_tree names expr.value) rest)
 shared_before-push names [] expr rest = refl
 shared_before-push names (first ∷ others) expr rest =
-    ap (NextPhrase (phrase names first.value)) (shared_before-push names others expr rest)
+    ap (NextExpr (expr_tree names first.value)) (shared_before-push names others expr rest)
 
 -- nothing follows
 shared_before-none : (names : List Name) (exprs : List (Arc Expr Global))
-    → shared_before names exprs NoPhrase ≡ shared_phrases names exprs
+    → shared_before names exprs NoExpr ≡ shared_expr_trees names exprs
 shared_before-none names [] = refl
-shared_before-none names (first ∷ others) = ap (NextPhrase (phrase names first.value)) (shared_before-none names others)
+shared_before-none names (first ∷ others) = ap (NextExpr (expr_tree names first.value)) (shared_before-none names others)
 
 -- the initial value of a member, if it is a field, before others
-abbrev own_initial : List Name → Member → Phrases → Phrases
+abbrev own_initial : List Name → Member → ExprTrees → ExprTrees
 own_initial names (Field type name initial) rest =
-    NextPhrase (initial_of (declared names name) (maybe_phrase names initial)) rest
+    NextExpr (initial_of (declared names name) (maybe_expr names initial)) rest
 own_initial names (Method signature body) rest = rest
 
 -- The initial values of the members before a place were found: those of the rest follow.
@@ -102,7 +102,7 @@ initials_next names (Method signature body) others = refl
 -- one more member was looked at
 initials_step : {members : List Member} {place : ℕ} {found after : List (Arc Expr Global)} (member : Member)
     → InitialsSoFar members place found → place < length members → member ≡ get_or members place member
-    → ((names : List Name) (rest : Phrases)
+    → ((names : List Name) (rest : ExprTrees)
     → shared_before names after rest ≡ shared_before names found (own_initial names member rest))
     → InitialsSoFar members (place + 1) after
 initials_step {members} {place} {found} {after} member before there is added = record {
@@ -121,13 +121,13 @@ pub field_found : {members : List Member} {place : ℕ} {found after : List (Arc
     (type : TypeTerm) (name : Declared) (initial : Option (Arc Expr Global)) (value : Arc Expr Global)
     → InitialsSoFar members place found → place < length members → member ≡ get_or members place member
     → member ≡ Field type name initial
-    → ((names : List Name) → phrase names value.value ≡ initial_of (declared names name) (maybe_phrase names initial))
+    → ((names : List Name) → expr_tree names value.value ≡ initial_of (declared names name) (maybe_expr names initial))
     → after ≡ found ++ value ∷ [] → InitialsSoFar members (place + 1) after
 field_found {members} {place} {found} {after} member type name initial value before there is field has added =
     initials_step member before there is (λ names rest.
     ap (λ (exprs : List (Arc Expr Global)). shared_before names exprs rest) added
     ∙ (shared_before-push names found value rest
-    ∙ (ap (λ (own : Phrase). shared_before names found (NextPhrase own rest)) (has names)
+    ∙ (ap (λ (own : ExprTree). shared_before names found (NextExpr own rest)) (has names)
     ∙ sym (ap (λ (one : Member). shared_before names found (own_initial names one rest)) field))))
 
 -- it is a method
@@ -143,7 +143,7 @@ method_passed {members} {place} {found} {after} member signature body before the
 -- all members were looked at
 pub initials_done : {members : List Member} {place : ℕ} {found : List (Arc Expr Global)} (names : List Name)
     → InitialsSoFar members place found → length members ≤ place
-    → shared_phrases names found ≡ initials_among (map (member_tree names) members)
+    → shared_expr_trees names found ≡ initials_among (map (member_tree names) members)
 initials_done {members} {place} {found} names before over =
     sym (shared_before-none names found)
     ∙ (ap (λ (left : List Member). shared_before names found (initials_among (map (member_tree names) left)))
@@ -185,7 +185,7 @@ pub run_found : {names : List Name} {members : List Member} {place : ℕ} {start
     → RunSoFar names members place → place < length members → member ≡ get_or members place member
     → is_called (codes "run") (member_tree names member) ≡ true → starts ≡ starts_alone (member_tree names member)
     → then_some starts place ≡ run_among (map (member_tree names) members)
-run_found {names} {members} {place} {starts} member before there is called told =
+run_found {names} {members} {place} {starts} member before there is called reported =
     let tree = member_tree names in
     let at : Some place ≡ method_among 0 (map tree members) (codes "run") =
     rw called at (run_from member before there is) in
@@ -193,7 +193,7 @@ run_found {names} {members} {place} {starts} member before there is called told 
     slice_get-map tree members place
     ∙ ap (option_map tree) (slice_get_read members (length members) place member refl there is) in
     then_some_if starts place
-    ∙ (ap (λ (b : Bool). if b then Some place else None) told
+    ∙ (ap (λ (b : Bool). if b then Some place else None) reported
     ∙ (ap (if_alone place) (sym own)
     ∙ ap (option_and_then (λ (index : ℕ). if_alone index (slice_get (map tree members) index))) at))
 

@@ -3,19 +3,19 @@ use Rattle.std.proofs.Common.{◌≡◌, List, ap, ◌∙◌}
 use Rattle.std.specs.declared.alloc.Global.{Global}
 use Rattle.std.specs.declared.sync.Arc.{Arc}
 use Rattle.std.specs.declared.vec.Vec.{Vec}
-use Rattle.abs_tree.proofs.SyntaxLemmas.{phrase-own_call}
-use Rattle.abs_program.specs.Instructions.{side_phrases}
-use Rattle.abs_tree.specs.Syntax.{Name, Phrase, ValueOf}
-use Rattle.abs_tree.specs.SyntaxViews.{phrase, phrases}
+use Rattle.abs_tree.proofs.SyntaxLemmas.{expr_tree-own_call}
+use Rattle.abs_program.specs.Instructions.{side_expr_trees}
+use Rattle.abs_tree.specs.Syntax.{Name, ExprTree, ValueOf}
+use Rattle.abs_tree.specs.SyntaxViews.{expr_tree, expr_trees}
 use Rattle.abs_tree.specs.declared.place.Place.{Place}
 use Rattle.abs_tree.specs.declared.symbol.Symbol.{Symbol}
 use Rattle.abs_tree.specs.declared.syntax.expression.Expr as code
 use Rattle.abs_tree.specs.declared.syntax.expression.Expr.{Expr}
 
--- a right side that is a call on `this` has the expressions of its row
-pub side_phrases-own_call : (names : List Name) (place : Place) {value : Expr} (at : Place) (method : Symbol)
-    (row : Arc (Vec Expr Global) Global) → value ≡ code.OwnCall at method row
-    → side_phrases (ValueOf place (phrase names value)) ≡ phrases names row.value.items
-side_phrases-own_call names place at method row is =
-    let side = λ (whole : Phrase). side_phrases (ValueOf place whole) in
-    ap (λ (expr : Expr). side (phrase names expr)) is ∙ ap side (phrase-own_call names at method row)
+-- a right side that is a call on `this` has its operands
+pub side_expr_trees-own_call : (names : List Name) (place : Place) {value : Expr} (at : Place) (method : Symbol)
+    (operands : Arc (Vec Expr Global) Global) → value ≡ code.OwnCall at method operands
+    → side_expr_trees (ValueOf place (expr_tree names value)) ≡ expr_trees names operands.value.items
+side_expr_trees-own_call names place at method operands is =
+    let side = λ (whole : ExprTree). side_expr_trees (ValueOf place whole) in
+    ap (λ (expr : Expr). side (expr_tree names expr)) is ∙ ap side (expr_tree-own_call names at method operands)

@@ -11,7 +11,7 @@ use Rattle.abs_program.specs.Control.{Goes, Point, ByAnswer, entry, entry_of, el
 use Rattle.abs_program.specs.InstructionViews.{instruction_tree}
 use Rattle.abs_program.specs.Instructions.{InstructionTree, instruction_of, instructions}
 use Rattle.abs_program.specs.MadeInstructions.{made_by, loop_sizes, Counts, MayMake, Makes, MadeOne, MadeStatement, MadeStatements, MadeOther, MadeBranches, MadeBody, MadeMembers, MadeDecls, MayEnter, Entered, MayMakeLoop, MayMakeStatements}
-use Rattle.abs_tree.specs.Syntax.{Name, Phrase, Statement, BlockOf, IfOf, WhileOf, MaybeStatements, NoElse, Else, Statements, NoStatement, NextStatement, MemberTree, FieldTree, MethodTree, DeclTree, DataTree, FunctionTree, InterfaceTree, ClassTree, SourceTree}
+use Rattle.abs_tree.specs.Syntax.{Name, ExprTree, Statement, BlockOf, IfOf, WhileOf, MaybeStatements, NoElse, Else, Statements, NoStatement, NextStatement, MemberTree, FieldTree, MethodTree, DeclTree, DataTree, FunctionTree, InterfaceTree, ClassTree, SourceTree}
 use Rattle.abs_tree.specs.SyntaxSizes.{count_of, statement_count, member_statements, decl_statements}
 use Rattle.abs_tree.specs.SyntaxViews.{member_tree, decl_tree}
 use Rattle.abs_tree.specs.declared.place.Place.{Place}
@@ -152,7 +152,7 @@ made_branches {names} {first} {second} {after} {when_true} {when_false} {old} {b
     }
 
 -- the instruction of an `if` is made after those of its branches
-if_made : {names : List Name} {own : ℕ} {place : Place} {condition : Phrase} {first : Statements}
+if_made : {names : List Name} {own : ℕ} {place : Place} {condition : ExprTree} {first : Statements}
     {second : MaybeStatements} {after index : Option ℕ} {goes : Successor} {old between new : Maker}
     → MadeBranches names first second after goes old between
     → MadeOne names (IfOf own place condition first second) goes index between new
@@ -173,7 +173,7 @@ if_made {own = own} {place} {condition} {first} {second} {after} {between = betw
     }
 
 -- so it is if the statement is known to be an `if`
-pub made_if : {names : List Name} {stmt : Statement} {own : ℕ} {place : Place} {condition : Phrase}
+pub made_if : {names : List Name} {stmt : Statement} {own : ℕ} {place : Place} {condition : ExprTree}
     {first : Statements} {second : MaybeStatements} {after index : Option ℕ} {goes : Successor}
     {old between new : Maker} → stmt ≡ IfOf own place condition first second
     → MadeBranches names first second after goes old between → MadeOne names stmt goes index between new
@@ -236,7 +236,7 @@ made_body {names} {body = body} other_body {after} {when_true} {own} {old} {betw
     }
 
 -- the instruction of a loop is made after those of its body
-while_made : {names : List Name} {own : ℕ} {place : Place} {condition : Phrase} {body : Statements}
+while_made : {names : List Name} {own : ℕ} {place : Place} {condition : ExprTree} {body : Statements}
     {after index : Option ℕ} {goes : Successor} {old between new : Maker}
     → MadeBody names body after goes old between
     → MadeOne names (WhileOf own place condition body) goes index between new
@@ -260,7 +260,7 @@ while_made {own = own} {place} {condition} {body} {after} {between = between} {n
     }
 
 -- so it is if the statement is known to be a loop
-pub made_while : {names : List Name} {stmt : Statement} {own : ℕ} {place : Place} {condition : Phrase}
+pub made_while : {names : List Name} {stmt : Statement} {own : ℕ} {place : Place} {condition : ExprTree}
     {body : Statements} {after index : Option ℕ} {goes : Successor} {old between new : Maker}
     → stmt ≡ WhileOf own place condition body → MadeBody names body after goes old between
     → MadeOne names stmt goes index between new → MadeStatement names stmt after index old new

@@ -10,7 +10,7 @@ use Rattle.std.specs.Str.{bytes_eq}
 use Rattle.abs_program.specs.Control.{entry}
 use Rattle.abs_program.specs.Members.{method_among}
 use Rattle.abs_program.specs.Slots.{body_slots}
-use Rattle.abs_tree.specs.Syntax.{TypeTree, DataType, NoType, Phrase, NullOf, Phrases, NoPhrase, NextPhrase, Statements, MaybePhrase, NoValue, Value, DeclaredTree, SignatureTree, MemberTree, FieldTree, MethodTree, DeclTree, ClassTree, SourceTree}
+use Rattle.abs_tree.specs.Syntax.{TypeTree, DataType, NoType, ExprTree, NullOf, ExprTrees, NoExpr, NextExpr, Statements, MaybeExpr, NoValue, Value, DeclaredTree, SignatureTree, MemberTree, FieldTree, MethodTree, DeclTree, ClassTree, SourceTree}
 use Rattle.abs_tree.specs.SyntaxSizes.{member_statements, decl_statements}
 use Rattle.abs_program.specs.declared.tables.control.BodyEntry.{BodyEntry}
 
@@ -44,14 +44,14 @@ unfoldable pub method_entry : List DeclTree → ℕ → ℕ → Option BodyEntry
 method_entry declarations class member = entry_in_class 0 declarations class member
 
 -- an initial value; that of a field without one is `null`
-abbrev pub initial_of : DeclaredTree → MaybePhrase → Phrase
+abbrev pub initial_of : DeclaredTree → MaybeExpr → ExprTree
 initial_of name NoValue = NullOf name.place
 initial_of name (Value value) = value
 
 -- the initial values of the fields among members, in their order
-abbrev pub initials_among : List MemberTree → Phrases
-initials_among [] = NoPhrase
-initials_among (FieldTree type name initial ∷ others) = NextPhrase (initial_of name initial) (initials_among others)
+abbrev pub initials_among : List MemberTree → ExprTrees
+initials_among [] = NoExpr
+initials_among (FieldTree type name initial ∷ others) = NextExpr (initial_of name initial) (initials_among others)
 initials_among (MethodTree signature end body ∷ others) = initials_among others
 
 -- whether a type is Unit
@@ -78,7 +78,7 @@ run_among members =
 -- method that runs at once
 pub record ClassEntryTree : Type 0 where
   pub params : ℕ
-  pub initials : Phrases
+  pub initials : ExprTrees
   pub run : Option ℕ
 
 -- that of a declaration, if it is a class

@@ -3,7 +3,7 @@
 --   `exprs_tree`               the expressions of an instruction
 --   `effect_tree`, `goes_tree`         its effect, and where control goes
 --   `instruction_tree`         the instruction
---   `shared_phrases`           expressions that are shared one by one
+--   `shared_expr_trees`        expressions that are shared one by one
 --   `class_entry_tree`         what a new object of a class takes
 use Rattle.std.specs.Prelude.{List, [], ◌∷◌, drop}
 use Rattle.std.specs.Option.{option_map}
@@ -11,10 +11,10 @@ use Rattle.std.specs.declared.alloc.Global.{Global}
 use Rattle.std.specs.declared.sync.Arc.{Arc}
 use Rattle.abs_program.specs.Bodies.{ClassEntryTree}
 use Rattle.abs_program.specs.Control.{Goes, Next, ByAnswer}
-use Rattle.abs_program.specs.Instructions.{EffectTree, Skips, Suspends, Awaits, Chooses, Returns, Prints, Clears, Stores, Makes, Sends, CallsOwn, CallsOther, Gets, InstructionTree, one_phrase}
+use Rattle.abs_program.specs.Instructions.{EffectTree, Skips, Suspends, Awaits, Chooses, Returns, Prints, Clears, Stores, Makes, Sends, CallsOwn, CallsOther, Gets, InstructionTree, one_expr}
 use Rattle.abs_tree.specs.Names.{name_of}
-use Rattle.abs_tree.specs.Syntax.{Name, Phrases, NoPhrase, NextPhrase}
-use Rattle.abs_tree.specs.SyntaxViews.{variable_tree, phrase, phrases}
+use Rattle.abs_tree.specs.Syntax.{Name, ExprTrees, NoExpr, NextExpr}
+use Rattle.abs_tree.specs.SyntaxViews.{variable_tree, expr_tree, expr_trees}
 use Rattle.abs_tree.specs.declared.syntax.expression.Expr.{Expr}
 use Rattle.abs_program.specs.declared.tables.control.ClassEntry.{ClassEntry}
 use Rattle.abs_program.specs.declared.tables.control.Exprs.{Exprs}
@@ -26,11 +26,11 @@ use Rattle.abs_program.specs.declared.tables.control.Successor.{Successor}
 use Rattle.abs_program.specs.declared.tables.control.Successor.TheVariants as successor
 
 -- the expressions of an instruction
-abbrev pub exprs_tree : List Name → Exprs → Phrases
-exprs_tree names exprs.None = NoPhrase
-exprs_tree names (exprs.One expr) = one_phrase (phrase names expr.value)
-exprs_tree names (exprs.Row row) = phrases names row.value.items
-exprs_tree names (exprs.Arguments row) = phrases names (drop 1 row.value.items)
+abbrev pub exprs_tree : List Name → Exprs → ExprTrees
+exprs_tree names exprs.None = NoExpr
+exprs_tree names (exprs.One expr) = one_expr (expr_tree names expr.value)
+exprs_tree names (exprs.Several operands) = expr_trees names operands.value.items
+exprs_tree names (exprs.Arguments operands) = expr_trees names (drop 1 operands.value.items)
 
 -- the effect of an instruction
 abbrev pub effect_tree : List Name → Effect → EffectTree
@@ -60,20 +60,20 @@ goes_tree (successor.ByAnswer when_true when_false) = ByAnswer when_true when_fa
 abbrev pub instruction_tree : List Name → Instruction → InstructionTree
 instruction_tree names instruction = record {
   place = instruction.place;
-  phrases = exprs_tree names instruction.exprs;
+  expr_trees = exprs_tree names instruction.exprs;
   effect = effect_tree names instruction.effect;
   goes = goes_tree instruction.goes;
 }
 
 -- expressions that are shared one by one
-abbrev pub shared_phrases : List Name → List (Arc Expr Global) → Phrases
-shared_phrases names [] = NoPhrase
-shared_phrases names (expr ∷ others) = NextPhrase (phrase names expr.value) (shared_phrases names others)
+abbrev pub shared_expr_trees : List Name → List (Arc Expr Global) → ExprTrees
+shared_expr_trees names [] = NoExpr
+shared_expr_trees names (expr ∷ others) = NextExpr (expr_tree names expr.value) (shared_expr_trees names others)
 
 -- what a new object of a class takes
 abbrev pub class_entry_tree : List Name → ClassEntry → ClassEntryTree
 class_entry_tree names entry = record {
   params = entry.params;
-  initials = shared_phrases names entry.initials.value.items;
+  initials = shared_expr_trees names entry.initials.value.items;
   run = entry.run;
 }

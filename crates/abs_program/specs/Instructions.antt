@@ -3,13 +3,13 @@
 --   `EffectTree`                           what happens with the values of a statement's expressions
 --   `InstructionTree`                      a statement's place, its expressions, its effect, and where control goes
 --   `waits_of`, `slot_of`                  the slots that a guard names, and the slot that an expression is
---   `side_phrases`, `side_effect`          the expressions and the effect of a right side
---   `phrases_of`, `effect_of`              those of a statement
+--   `side_expr_trees`, `side_effect`       the expressions and the effect of a right side
+--   `expr_trees_of`, `effect_of`           those of a statement
 --   `instruction_of`, `instructions`       the instruction of a point, and all of a program
 use Rattle.std.specs.Prelude.{ℕ, Bool, List, [], ◌∷◌, map, Option, Some, None, if◌then◌else◌}
 use Rattle.abs_program.specs.Control.{Goes, Point, program_points}
 use Rattle.abs_program.specs.Slots.{is_this}
-use Rattle.abs_tree.specs.Syntax.{Name, VariableTree, Unresolved, AtSlot, Phrase, VariableOf, OwnCallOf, Phrases, NoPhrase, NextPhrase, SideTree, NewOf, ValueOf, SendOf, GetOf, CallOf, Tests, NoTest, NextTest, TargetTree, ToVariable, ToField, MaybeSide, NoSide, SomeSide, Statement, BlockOf, SkipOf, SuspendOf, AwaitOf, ReturnOf, PrintOf, IfOf, WhileOf, DeclareOf, AssignOf, DoOf, SourceTree}
+use Rattle.abs_tree.specs.Syntax.{Name, VariableTree, Unresolved, AtSlot, ExprTree, VariableOf, OwnCallOf, ExprTrees, NoExpr, NextExpr, SideTree, NewOf, ValueOf, SendOf, GetOf, CallOf, Tests, NoTest, NextTest, TargetTree, ToVariable, ToField, MaybeSide, NoSide, SomeSide, Statement, BlockOf, SkipOf, SuspendOf, AwaitOf, ReturnOf, PrintOf, IfOf, WhileOf, DeclareOf, AssignOf, DoOf, SourceTree}
 use Rattle.abs_tree.specs.SyntaxPlaces.{statement_place}
 use Rattle.abs_tree.specs.declared.syntax.statement.Mode.{Mode}
 
@@ -35,16 +35,16 @@ pub data EffectTree : Type 0 where
 -- happens with their values, and where control goes.
 pub record InstructionTree : Type 0 where
   pub place : ℕ
-  pub phrases : Phrases
+  pub expr_trees : ExprTrees
   pub effect : EffectTree
   pub goes : Goes
 
 -- one expression
-abbrev pub one_phrase : Phrase → Phrases
-one_phrase phrase = NextPhrase phrase NoPhrase
+abbrev pub one_expr : ExprTree → ExprTrees
+one_expr expr_tree = NextExpr expr_tree NoExpr
 
 -- the slot that an expression is
-abbrev pub slot_of : Phrase → Option ℕ
+abbrev pub slot_of : ExprTree → Option ℕ
 slot_of (VariableOf place (AtSlot slot)) = Some slot
 slot_of _ = None
 
@@ -59,38 +59,38 @@ target_variable (ToVariable place variable) = variable
 target_variable (ToField place name_place name) = Unresolved name
 
 -- the expressions of a right side: a receiver comes before its arguments, and `this` as a receiver is not evaluated
-abbrev pub side_phrases : SideTree → Phrases
-side_phrases (NewOf place mode class_place class arguments) = arguments
-side_phrases (ValueOf place (OwnCallOf at method arguments)) = arguments
-side_phrases (ValueOf place value) = one_phrase value
-side_phrases (SendOf place method row) = row
-side_phrases (GetOf place get_place future) = NoPhrase
-side_phrases (CallOf place method NoPhrase slot) = NoPhrase
-side_phrases (CallOf place method (NextPhrase receiver arguments) slot) =
-    if is_this receiver then arguments else NextPhrase receiver arguments
+abbrev pub side_expr_trees : SideTree → ExprTrees
+side_expr_trees (NewOf place mode class_place class arguments) = arguments
+side_expr_trees (ValueOf place (OwnCallOf at method arguments)) = arguments
+side_expr_trees (ValueOf place value) = one_expr value
+side_expr_trees (SendOf place method operands) = operands
+side_expr_trees (GetOf place get_place future) = NoExpr
+side_expr_trees (CallOf place method NoExpr slot) = NoExpr
+side_expr_trees (CallOf place method (NextExpr receiver arguments) slot) =
+    if is_this receiver then arguments else NextExpr receiver arguments
 
 -- the effect of a right side whose value goes to this target
 abbrev pub side_effect : SideTree → Option VariableTree → EffectTree
 side_effect (NewOf place mode class_place class arguments) target = Makes mode class target
 side_effect (ValueOf place (OwnCallOf at method arguments)) target = CallsOwn method target
 side_effect (ValueOf place value) target = Stores target
-side_effect (SendOf place method row) target = Sends method target
+side_effect (SendOf place method operands) target = Sends method target
 side_effect (GetOf place get_place future) target = Gets (slot_of future) target
-side_effect (CallOf place method NoPhrase slot) target = CallsOther method slot target
-side_effect (CallOf place method (NextPhrase receiver arguments) slot) target =
+side_effect (CallOf place method NoExpr slot) target = CallsOther method slot target
+side_effect (CallOf place method (NextExpr receiver arguments) slot) target =
     if is_this receiver then CallsOwn method target else CallsOther method slot target
 
 -- the expressions of a statement
-abbrev pub phrases_of : Statement → Phrases
-phrases_of (ReturnOf index place value) = one_phrase value
-phrases_of (PrintOf index place value) = one_phrase value
-phrases_of (IfOf index place condition first second) = one_phrase condition
-phrases_of (WhileOf index place condition body) = one_phrase condition
-phrases_of (DeclareOf index place type variable_place variable NoSide) = NoPhrase
-phrases_of (DeclareOf index place type variable_place variable (SomeSide side)) = side_phrases side
-phrases_of (AssignOf index place target side) = side_phrases side
-phrases_of (DoOf index place side) = side_phrases side
-phrases_of _ = NoPhrase
+abbrev pub expr_trees_of : Statement → ExprTrees
+expr_trees_of (ReturnOf index place value) = one_expr value
+expr_trees_of (PrintOf index place value) = one_expr value
+expr_trees_of (IfOf index place condition first second) = one_expr condition
+expr_trees_of (WhileOf index place condition body) = one_expr condition
+expr_trees_of (DeclareOf index place type variable_place variable NoSide) = NoExpr
+expr_trees_of (DeclareOf index place type variable_place variable (SomeSide side)) = side_expr_trees side
+expr_trees_of (AssignOf index place target side) = side_expr_trees side
+expr_trees_of (DoOf index place side) = side_expr_trees side
+expr_trees_of _ = NoExpr
 
 -- the effect of a statement; a block has no index, and none is asked for its effect
 abbrev pub effect_of : Statement → EffectTree
@@ -111,7 +111,7 @@ effect_of (DoOf index place side) = side_effect side None
 abbrev pub instruction_of : Point → InstructionTree
 instruction_of point = record {
   place = (statement_place point.statement).offset;
-  phrases = phrases_of point.statement;
+  expr_trees = expr_trees_of point.statement;
   effect = effect_of point.statement;
   goes = point.goes;
 }

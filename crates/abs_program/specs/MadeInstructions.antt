@@ -1,6 +1,6 @@
 -- What the maker of instructions counts and makes. It serves proofs only.
 --
---   `begins_with_this`             a row of expressions begins with `this`
+--   `begins_with_this`             a list of operands begins with `this`
 --   `loop_sizes`, `loop_sizes_of`, `member_loops`, `decl_loops`      how large the bodies of loops are
 --   `made_by`                      the instructions that were made, in order
 --   `Counts`                       what a count of statements gives
@@ -13,15 +13,15 @@ use Rattle.abs_program.specs.Control.{ByAnswer, Point, entry, entry_of, else_ent
 use Rattle.abs_program.specs.InstructionViews.{instruction_tree, goes_tree}
 use Rattle.abs_program.specs.Instructions.{InstructionTree, instruction_of}
 use Rattle.abs_program.specs.Slots.{is_this}
-use Rattle.abs_tree.specs.Syntax.{Name, Phrases, NoPhrase, NextPhrase, Statement, BlockOf, IfOf, WhileOf, MaybeStatements, NoElse, Else, Statements, NoStatement, NextStatement, MemberTree, FieldTree, MethodTree, DeclTree, ClassTree}
+use Rattle.abs_tree.specs.Syntax.{Name, ExprTrees, NoExpr, NextExpr, Statement, BlockOf, IfOf, WhileOf, MaybeStatements, NoElse, Else, Statements, NoStatement, NextStatement, MemberTree, FieldTree, MethodTree, DeclTree, ClassTree}
 use Rattle.abs_tree.specs.SyntaxSizes.{count_of, count_of_else, statement_count, member_statements, decl_statements}
 use Rattle.abs_program.specs.declared.tables.control.Successor.{Successor}
 use Rattle.abs_program.specs.declared.tables.instructions.Maker.{Maker}
 
--- whether a row of expressions begins with `this`
-abbrev pub begins_with_this : Phrases → Bool
-begins_with_this NoPhrase = false
-begins_with_this (NextPhrase first others) = is_this first
+-- whether a list of operands begins with `this`
+abbrev pub begins_with_this : ExprTrees → Bool
+begins_with_this NoExpr = false
+begins_with_this (NextExpr first others) = is_this first
 
 abbrev mutual
   -- how many statements the body of each loop has: for each loop, after those in it

@@ -5,7 +5,7 @@
 --   `IsConstructor`                so is data, which has a constructor of this name
 use Rattle.std.specs.Prelude.{◌≡◌, ℕ, List, length, slice_get, Some}
 use Rattle.abs_program.specs.NameSpaces.{count_types}
-use Rattle.abs_tree.specs.Syntax.{Name, TypeTree, Phrase, ParamTree, DeclaredTree, ConstructorTree, SignatureTree, MemberTree, DeclTree, DataTree, FunctionTree, InterfaceTree, ClassTree}
+use Rattle.abs_tree.specs.Syntax.{Name, TypeTree, ExprTree, ParamTree, DeclaredTree, ConstructorTree, SignatureTree, MemberTree, DeclTree, DataTree, FunctionTree, InterfaceTree, ClassTree}
 use Rattle.abs_program.specs.declared.name_spaces.ConstructorMeaning.{ConstructorMeaning}
 use Rattle.abs_program.specs.declared.name_spaces.Taking.{Taking}
 use Rattle.abs_tree.specs.declared.place.Place.{Place}
@@ -36,7 +36,7 @@ pub record IsFunction (declarations : List DeclTree) (name : Name) (taking : Tak
   pub declared : DeclaredTree
   pub type_params : List DeclaredTree
   pub params : List ParamTree
-  pub value : Phrase
+  pub value : ExprTree
   pub there : slice_get declarations taking.declaration
       ≡ Some (FunctionTree place result declared type_params params value)
   pub name_is : declared.name ≡ name

@@ -8,23 +8,23 @@
 --   `param_slots`, `body_slots`        those of parameters, and of a body
 use Rattle.std.specs.Prelude.{ℕ, Bool, true, false, List, [], ◌∷◌, ◌++◌, map, if◌then◌else◌}
 use Rattle.std.specs.List.{range_with_len}
-use Rattle.abs_tree.specs.Syntax.{Phrase, ThisOf, NoPhrase, NextPhrase, SideTree, NewOf, ValueOf, SendOf, GetOf, CallOf, MaybeSide, NoSide, SomeSide, Statement, BlockOf, SkipOf, SuspendOf, AwaitOf, ReturnOf, PrintOf, IfOf, WhileOf, DeclareOf, AssignOf, DoOf, MaybeStatements, NoElse, Else, Statements, NoStatement, NextStatement}
+use Rattle.abs_tree.specs.Syntax.{ExprTree, ThisOf, NoExpr, NextExpr, SideTree, NewOf, ValueOf, SendOf, GetOf, CallOf, MaybeSide, NoSide, SomeSide, Statement, BlockOf, SkipOf, SuspendOf, AwaitOf, ReturnOf, PrintOf, IfOf, WhileOf, DeclareOf, AssignOf, DoOf, MaybeStatements, NoElse, Else, Statements, NoStatement, NextStatement}
 use Rattle.abs_tree.specs.declared.syntax.slot.Slot.{Slot}
 use Rattle.abs_tree.specs.declared.syntax.slot.Slot.TheVariants.{Parameter, Local, Hidden}
 
 -- whether an expression is `this`, in parentheses or not
-abbrev pub is_this : Phrase → Bool
+abbrev pub is_this : ExprTree → Bool
 is_this (ThisOf place) = true
 is_this _ = false
 
 -- the slot of a call by "." on another object than `this`, which is part of the statement with this index
 abbrev pub side_slots : ℕ → SideTree → List Slot
-side_slots index (CallOf place method (NextPhrase receiver arguments) slot) =
+side_slots index (CallOf place method (NextExpr receiver arguments) slot) =
     if is_this receiver then [] else Hidden index ∷ []
-side_slots index (CallOf place method NoPhrase slot) = []
+side_slots index (CallOf place method NoExpr slot) = []
 side_slots index (NewOf place mode class_place class arguments) = []
 side_slots index (ValueOf place value) = []
-side_slots index (SendOf place method row) = []
+side_slots index (SendOf place method operands) = []
 side_slots index (GetOf place get_place future) = []
 
 abbrev pub maybe_side_slots : ℕ → MaybeSide → List Slot

@@ -4,7 +4,7 @@
 --
 --   `Inside`                                       what a part of a program can use
 --   `TypeIsThere`, `VariableIsThere`               types, variables that are used
---   `PatternIsThere`, `PhraseIsThere`, ..          patterns, expressions
+--   `PatternIsThere`, `ExprIsThere`, ..            patterns, expressions
 --   `SideIsThere`, `StatementIsThere`, ..          right sides, guards, targets, statements
 --   `MemberIsThere`, `DeclarationIsThere`          members of classes, declarations
 --   `IsWhole`                                      a program
@@ -13,8 +13,8 @@ use Rattle.abs_graph.specs.Graphs.{on_cycles}
 use Rattle.abs_program.specs.NameSpaces.{NameSpaces, spaces_of, count_types, data_arity, function_arity, means_interface}
 use Rattle.abs_program.specs.Slots.{body_slots}
 use Rattle.abs_program.specs.Supertypes.{supertypes}
-use Rattle.abs_tree.specs.Syntax.{VariableTree, Unresolved, AtSlot, AtBound, AtField, TypeTree, UnresolvedType, IntType, StringType, FutType, DataType, InterfaceType, ParameterType, BottomType, NullType, ClassType, TypeTrees, NoType, NextType, PatternTree, AnyValue, Binds, SameNumber, SameString, Built, PatternTrees, NoPattern, NextPattern, Phrase, LetIn, IfElse, OperatorsOf, Prefixed, NumberOf, StringOf, NullOf, DestinyOf, ThisOf, FieldOf, OwnCallOf, VariableOf, ApplyOf, BuildOf, CaseOf, Phrases, NoPhrase, NextPhrase, Operands, NoOperands, NextOperand, Branches, NoBranch, NextBranch, SideTree, NewOf, ValueOf, SendOf, GetOf, CallOf, Tests, NoTest, NextTest, TargetTree, ToVariable, ToField, MaybeSide, NoSide, SomeSide, Statement, BlockOf, SkipOf, SuspendOf, AwaitOf, ReturnOf, PrintOf, IfOf, WhileOf, DeclareOf, AssignOf, DoOf, MaybeStatements, NoElse, Else, Statements, NoStatement, NextStatement, MaybePhrase, NoValue, Value, ParamTree, DeclaredTree, ConstructorTree, SignatureTree, MemberTree, FieldTree, MethodTree, DeclTree, DataTree, FunctionTree, InterfaceTree, ClassTree, SourceTree}
-use Rattle.abs_tree.specs.SyntaxCounts.{count_patterns, count_phrases}
+use Rattle.abs_tree.specs.Syntax.{VariableTree, Unresolved, AtSlot, AtBound, AtField, TypeTree, UnresolvedType, IntType, StringType, FutType, DataType, InterfaceType, ParameterType, BottomType, NullType, ClassType, TypeTrees, NoType, NextType, PatternTree, AnyValue, Binds, SameNumber, SameString, Built, PatternTrees, NoPattern, NextPattern, ExprTree, LetIn, IfElse, OperatorsOf, Prefixed, NumberOf, StringOf, NullOf, DestinyOf, ThisOf, FieldOf, OwnCallOf, VariableOf, ApplyOf, BuildOf, CaseOf, ExprTrees, NoExpr, NextExpr, Operands, NoOperands, NextOperand, Branches, NoBranch, NextBranch, SideTree, NewOf, ValueOf, SendOf, GetOf, CallOf, Tests, NoTest, NextTest, TargetTree, ToVariable, ToField, MaybeSide, NoSide, SomeSide, Statement, BlockOf, SkipOf, SuspendOf, AwaitOf, ReturnOf, PrintOf, IfOf, WhileOf, DeclareOf, AssignOf, DoOf, MaybeStatements, NoElse, Else, Statements, NoStatement, NextStatement, MaybeExpr, NoValue, Value, ParamTree, DeclaredTree, ConstructorTree, SignatureTree, MemberTree, FieldTree, MethodTree, DeclTree, DataTree, FunctionTree, InterfaceTree, ClassTree, SourceTree}
+use Rattle.abs_tree.specs.SyntaxCounts.{count_patterns, count_exprs}
 use Rattle.abs_tree.specs.SyntaxSizes.{pattern_variables, fields_among}
 use Rattle.abs_program.specs.Tables.{meaning_of}
 use Rattle.abs_program.specs.declared.name_spaces.ConstructorMeaning.{ConstructorMeaning}
@@ -87,48 +87,48 @@ abbrev mutual
 
 -- an expression where so many variables are bound
 abbrev mutual
-  pub PhraseIsThere : Inside → ℕ → Phrase → Type 0
-  PhraseIsThere inside bound (LetIn place type variable_place variable value body) =
-      TypeIsThere inside type × PhraseIsThere inside bound value × (variable ≡ AtBound bound)
-      × PhraseIsThere inside (bound + 1) body
-  PhraseIsThere inside bound (IfElse place condition first second) =
-      PhraseIsThere inside bound condition × PhraseIsThere inside bound first × PhraseIsThere inside bound second
-  PhraseIsThere inside bound (OperatorsOf place first operands) =
-      PhraseIsThere inside bound first × OperandsAreThere inside bound operands
-  PhraseIsThere inside bound (Prefixed place prefix operand) = PhraseIsThere inside bound operand
-  PhraseIsThere inside bound (NumberOf place number) = ⊤
-  PhraseIsThere inside bound (StringOf place string) = ⊤
-  PhraseIsThere inside bound (NullOf place) = ⊤
-  PhraseIsThere inside bound (DestinyOf place) = inside.has_task ≡ true
-  PhraseIsThere inside bound (ThisOf place) = inside.has_this ≡ true
-  PhraseIsThere inside bound (FieldOf place name_place name) = ⊥
-  PhraseIsThere inside bound (OwnCallOf place method arguments) =
-      (inside.has_this ≡ true) × PhrasesAreThere inside bound arguments
-  PhraseIsThere inside bound (VariableOf place variable) = VariableIsThere inside bound variable
-  PhraseIsThere inside bound (ApplyOf place function arguments) =
-      (option_map function_arity (meaning_of inside.spaces.functions function) ≡ Some (count_phrases arguments))
-      × PhrasesAreThere inside bound arguments
-  PhraseIsThere inside bound (BuildOf place constructor arguments) =
+  pub ExprIsThere : Inside → ℕ → ExprTree → Type 0
+  ExprIsThere inside bound (LetIn place type variable_place variable value body) =
+      TypeIsThere inside type × ExprIsThere inside bound value × (variable ≡ AtBound bound)
+      × ExprIsThere inside (bound + 1) body
+  ExprIsThere inside bound (IfElse place condition first second) =
+      ExprIsThere inside bound condition × ExprIsThere inside bound first × ExprIsThere inside bound second
+  ExprIsThere inside bound (OperatorsOf place first operands) =
+      ExprIsThere inside bound first × OperandsAreThere inside bound operands
+  ExprIsThere inside bound (Prefixed place prefix operand) = ExprIsThere inside bound operand
+  ExprIsThere inside bound (NumberOf place number) = ⊤
+  ExprIsThere inside bound (StringOf place string) = ⊤
+  ExprIsThere inside bound (NullOf place) = ⊤
+  ExprIsThere inside bound (DestinyOf place) = inside.has_task ≡ true
+  ExprIsThere inside bound (ThisOf place) = inside.has_this ≡ true
+  ExprIsThere inside bound (FieldOf place name_place name) = ⊥
+  ExprIsThere inside bound (OwnCallOf place method arguments) =
+      (inside.has_this ≡ true) × ExprsAreThere inside bound arguments
+  ExprIsThere inside bound (VariableOf place variable) = VariableIsThere inside bound variable
+  ExprIsThere inside bound (ApplyOf place function arguments) =
+      (option_map function_arity (meaning_of inside.spaces.functions function) ≡ Some (count_exprs arguments))
+      × ExprsAreThere inside bound arguments
+  ExprIsThere inside bound (BuildOf place constructor arguments) =
       (option_map (λ (c : ConstructorMeaning). c.taking.arity) (meaning_of inside.spaces.constructors constructor)
-      ≡ Some (count_phrases arguments))
-      × PhrasesAreThere inside bound arguments
-  PhraseIsThere inside bound (CaseOf place subject branches) =
-      PhraseIsThere inside bound subject × BranchesAreThere inside bound branches
+      ≡ Some (count_exprs arguments))
+      × ExprsAreThere inside bound arguments
+  ExprIsThere inside bound (CaseOf place subject branches) =
+      ExprIsThere inside bound subject × BranchesAreThere inside bound branches
 
-  pub PhrasesAreThere : Inside → ℕ → Phrases → Type 0
-  PhrasesAreThere inside bound NoPhrase = ⊤
-  PhrasesAreThere inside bound (NextPhrase first others) =
-      PhraseIsThere inside bound first × PhrasesAreThere inside bound others
+  pub ExprsAreThere : Inside → ℕ → ExprTrees → Type 0
+  ExprsAreThere inside bound NoExpr = ⊤
+  ExprsAreThere inside bound (NextExpr first others) =
+      ExprIsThere inside bound first × ExprsAreThere inside bound others
 
   pub OperandsAreThere : Inside → ℕ → Operands → Type 0
   OperandsAreThere inside bound NoOperands = ⊤
   OperandsAreThere inside bound (NextOperand operator right others) =
-      PhraseIsThere inside bound right × OperandsAreThere inside bound others
+      ExprIsThere inside bound right × OperandsAreThere inside bound others
 
   pub BranchesAreThere : Inside → ℕ → Branches → Type 0
   BranchesAreThere inside bound NoBranch = ⊤
   BranchesAreThere inside bound (NextBranch pattern value others) =
-      PatternIsThere inside bound pattern × PhraseIsThere inside (bound + pattern_variables pattern) value
+      PatternIsThere inside bound pattern × ExprIsThere inside (bound + pattern_variables pattern) value
       × BranchesAreThere inside bound others
 
 -- the slot of the result of a call, if it has one
@@ -139,12 +139,12 @@ HiddenIsThere inside (Some slot) = slot < inside.slots
 -- a right side
 abbrev pub SideIsThere : Inside → SideTree → Type 0
 SideIsThere inside (NewOf place mode class_place class arguments) =
-    (option_map (λ (c : Taking). c.arity) (meaning_of inside.spaces.classes class) ≡ Some (count_phrases arguments))
-    × PhrasesAreThere inside 0 arguments
-SideIsThere inside (ValueOf place value) = PhraseIsThere inside 0 value
-SideIsThere inside (SendOf place method row) = PhrasesAreThere inside 0 row
-SideIsThere inside (GetOf place get_place future) = PhraseIsThere inside 0 future
-SideIsThere inside (CallOf place method row slot) = PhrasesAreThere inside 0 row × HiddenIsThere inside slot
+    (option_map (λ (c : Taking). c.arity) (meaning_of inside.spaces.classes class) ≡ Some (count_exprs arguments))
+    × ExprsAreThere inside 0 arguments
+SideIsThere inside (ValueOf place value) = ExprIsThere inside 0 value
+SideIsThere inside (SendOf place method operands) = ExprsAreThere inside 0 operands
+SideIsThere inside (GetOf place get_place future) = ExprIsThere inside 0 future
+SideIsThere inside (CallOf place method operands slot) = ExprsAreThere inside 0 operands × HiddenIsThere inside slot
 
 abbrev pub MaybeSideIsThere : Inside → MaybeSide → Type 0
 MaybeSideIsThere inside NoSide = ⊤
@@ -153,7 +153,7 @@ MaybeSideIsThere inside (SomeSide side) = SideIsThere inside side
 -- a guard
 abbrev pub TestsAreThere : Inside → Tests → Type 0
 TestsAreThere inside NoTest = ⊤
-TestsAreThere inside (NextTest place value asks others) = PhraseIsThere inside 0 value × TestsAreThere inside others
+TestsAreThere inside (NextTest place value asks others) = ExprIsThere inside 0 value × TestsAreThere inside others
 
 -- a target
 abbrev pub TargetIsThere : Inside → TargetTree → Type 0
@@ -167,12 +167,12 @@ abbrev mutual
   StatementIsThere inside (SkipOf index place) = ⊤
   StatementIsThere inside (SuspendOf index place) = ⊤
   StatementIsThere inside (AwaitOf index place guard) = TestsAreThere inside guard
-  StatementIsThere inside (ReturnOf index place value) = PhraseIsThere inside 0 value
-  StatementIsThere inside (PrintOf index place value) = PhraseIsThere inside 0 value
+  StatementIsThere inside (ReturnOf index place value) = ExprIsThere inside 0 value
+  StatementIsThere inside (PrintOf index place value) = ExprIsThere inside 0 value
   StatementIsThere inside (IfOf index place condition first second) =
-      PhraseIsThere inside 0 condition × StatementsAreThere inside first × ElseIsThere inside second
+      ExprIsThere inside 0 condition × StatementsAreThere inside first × ElseIsThere inside second
   StatementIsThere inside (WhileOf index place condition body) =
-      PhraseIsThere inside 0 condition × StatementsAreThere inside body
+      ExprIsThere inside 0 condition × StatementsAreThere inside body
   StatementIsThere inside (DeclareOf index place type variable_place variable initial) =
       TypeIsThere inside type × VariableIsThere inside 0 variable × MaybeSideIsThere inside initial
   StatementIsThere inside (AssignOf index place target side) = TargetIsThere inside target × SideIsThere inside side
@@ -204,9 +204,9 @@ NameInterfaces spaces names =
     All (λ (name : DeclaredTree). means_interface (meaning_of spaces.types name.name) ≡ true) names
 
 -- an initial value, if there is one
-abbrev pub InitialIsThere : Inside → MaybePhrase → Type 0
+abbrev pub InitialIsThere : Inside → MaybeExpr → Type 0
 InitialIsThere inside NoValue = ⊤
-InitialIsThere inside (Value value) = PhraseIsThere inside 0 value
+InitialIsThere inside (Value value) = ExprIsThere inside 0 value
 
 -- a member of a class with so many fields, of which `earlier` come before it: an initial value can use these as slots
 abbrev pub MemberIsThere : NameSpaces → ℕ → ℕ → MemberTree → Type 0
@@ -242,7 +242,7 @@ DeclarationIsThere spaces (DataTree place name type_params constructors) =
 DeclarationIsThere spaces (FunctionTree place result name type_params params value) =
     TypeIsThere (inside_types spaces (length type_params)) result
     × ParamsAreThere (inside_types spaces (length type_params)) AtSlot 0 params
-    × PhraseIsThere (record (inside_types spaces (length type_params)) { slots = length params }) 0 value
+    × ExprIsThere (record (inside_types spaces (length type_params)) { slots = length params }) 0 value
 DeclarationIsThere spaces (InterfaceTree place name extended signatures) =
     NameInterfaces spaces extended × All (SignatureIsThere spaces) signatures
 DeclarationIsThere spaces (ClassTree place name params implemented members) =

@@ -167,29 +167,38 @@ impl Printer<'_, '_> {
                 self.push(" ")?;
                 self.word_at(*get_place, "get")?;
             }
-            RightSide::Send { method, row, .. } => self.called("send(", *method, row)?,
+            RightSide::Send {
+                method,
+                operands,
+                ..
+            } => self.called("send(", *method, operands)?,
             RightSide::Call {
                 method,
-                row,
+                operands,
                 slot,
                 ..
             } => {
-                self.called("call(", *method, row)?;
+                self.called("call(", *method, operands)?;
                 self.into_slot(*slot)?;
             }
         }
         self.push(")")
     }
 
-    /// What names the form of a call, the receiver, with which its row begins, the method, and the arguments.
-    fn called(&mut self, form: &str, method: Symbol, row: &Vec<Expr>) -> Result<(), AllocError> {
+    /// What names the form of a call, the receiver, which is the first operand, the method, and the arguments.
+    fn called(
+        &mut self,
+        form: &str,
+        method: Symbol,
+        operands: &Vec<Expr>,
+    ) -> Result<(), AllocError> {
         self.push(form)?;
-        let mut row = row.iter();
-        if let Some(receiver) = row.next() {
+        let mut operands = operands.iter();
+        if let Some(receiver) = operands.next() {
             self.expr(receiver)?;
         }
         self.name_between(" ", method, "")?;
-        for argument in row {
+        for argument in operands {
             self.after_space(argument)?;
         }
         Ok(())

@@ -88,11 +88,11 @@ fn main(rt: HostRuntime) -> ExitCode {
     let Err(failure) = run(&rt) else {
         return ExitCode::SUCCESS;
     };
-    let told = match failure {
+    let reported = match failure {
         Failure::Refused(..) => println!(rt; "{failure}"),
         _ => eprintln!(rt; "abs_show: {failure}"),
     };
-    match told {
+    match reported {
         Ok(()) => ExitCode::from(failure.status()),
         Err(_) => ExitCode::from(Failure::Unwritable.status()),
     }

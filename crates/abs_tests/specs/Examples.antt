@@ -2,7 +2,8 @@
 -- of an expression is at the start of a source; statements and their right sides have places of their own.
 --
 --   `maybe`                    a data type: `data Maybe<A> = Nothing | Just(A);`
---   `worker`, `job_worker`     a class: `class Worker { Int work(Int days) { return days; } }`, also with `implements Job`
+--   `worker`, `job_worker`     a class: `class Worker { Int work(Int days) { return days; } }`, also with `implements
+--                              Job`
 --   `job`, `task`              interfaces with a method `work` of this result type: `Job`, and `Task` that extends it
 --   `function_frame`           what is around the value of a function without parameters
 --   `worker_frame`             what is around the body of `work`
@@ -12,7 +13,7 @@
 --   `work`, `program`          a signature, and a program with these declarations
 use Rattle.std.specs.Prelude.{ℕ, ◌+◌, pos, List, [], ◌∷◌, codes, Some, None}
 use Rattle.abs_tree.specs.Places.{start}
-use Rattle.abs_tree.specs.Syntax.{Name, AtSlot, AtBound, TypeTree, IntType, FutType, ParameterType, NoType, NextType, Binds, Built, NoPattern, NextPattern, Phrase, LetIn, IfElse, OperatorsOf, Prefixed, NumberOf, StringOf, NullOf, DestinyOf, ThisOf, VariableOf, ApplyOf, BuildOf, CaseOf, NoPhrase, NextPhrase, NoOperands, NextOperand, NoBranch, NextBranch, DeclaredTree, SendOf, NoSide, BlockOf, SkipOf, ReturnOf, DeclareOf, DoOf, Statements, NoStatement, NextStatement, SignatureTree, MemberTree, MethodTree, DeclTree, DataTree, InterfaceTree, ClassTree, SourceTree}
+use Rattle.abs_tree.specs.Syntax.{Name, AtSlot, AtBound, TypeTree, IntType, FutType, ParameterType, NoType, NextType, Binds, Built, NoPattern, NextPattern, ExprTree, LetIn, IfElse, OperatorsOf, Prefixed, NumberOf, StringOf, NullOf, DestinyOf, ThisOf, VariableOf, ApplyOf, BuildOf, CaseOf, NoExpr, NextExpr, NoOperands, NextOperand, NoBranch, NextBranch, DeclaredTree, SendOf, NoSide, BlockOf, SkipOf, ReturnOf, DeclareOf, DoOf, Statements, NoStatement, NextStatement, SignatureTree, MemberTree, MethodTree, DeclTree, DataTree, InterfaceTree, ClassTree, SourceTree}
 use Rattle.abs_tree.specs.declared.place.Place.{Place}
 use Rattle.abs_tree.specs.declared.syntax.expression.Operator.TheVariants as operator
 use Rattle.abs_tree.specs.declared.syntax.expression.Prefix.TheVariants as prefix
@@ -68,55 +69,55 @@ worker_frame = record {
   task = Some PlainInt;
 }
 
-abbrev one : Phrase
+abbrev one : ExprTree
 one = NumberOf start (pos 1)
 
 -- 1 + 1 * 1
-abbrev pub sum : Phrase
+abbrev pub sum : ExprTree
 sum = OperatorsOf start one
     (NextOperand operator.Plus (OperatorsOf start one (NextOperand operator.Times one NoOperands)) NoOperands)
 
 -- "a" == "b"
-abbrev pub comparison : Phrase
+abbrev pub comparison : ExprTree
 comparison = OperatorsOf start (StringOf start (codes "a"))
     (NextOperand operator.Equal (StringOf start (codes "b")) NoOperands)
 
 -- !(1 < 1)
-abbrev pub negation : Phrase
+abbrev pub negation : ExprTree
 negation = Prefixed start prefix.Not (OperatorsOf start one (NextOperand operator.Less one NoOperands))
 
 -- let (Int x) = 1 in x
-abbrev pub local_value : Phrase
+abbrev pub local_value : ExprTree
 local_value = LetIn start (IntType start) start (AtBound 0) one (VariableOf start (AtBound 0))
 
 -- if "a" == "b" then null else destiny
-abbrev pub choice : Phrase
+abbrev pub choice : ExprTree
 choice = IfElse start comparison (NullOf start) (DestinyOf start)
 
 -- Just(1)
-abbrev pub just : Phrase
-just = BuildOf start (codes "Just") (NextPhrase one NoPhrase)
+abbrev pub just : ExprTree
+just = BuildOf start (codes "Just") (NextExpr one NoExpr)
 
 -- Nothing
-abbrev pub nothing : Phrase
-nothing = BuildOf start (codes "Nothing") NoPhrase
+abbrev pub nothing : ExprTree
+nothing = BuildOf start (codes "Nothing") NoExpr
 
 -- case Just(1) { Just(y) => y; Nothing => 1; }
-abbrev pub match_just : Phrase
+abbrev pub match_just : ExprTree
 match_just = CaseOf start just
     (NextBranch (Built start (codes "Just") (NextPattern (Binds start (AtBound 0)) NoPattern))
     (VariableOf start (AtBound 0)) (NextBranch (Built start (codes "Nothing") NoPattern) one NoBranch))
 
 -- toString(this)
-abbrev pub own_text : Phrase
-own_text = ApplyOf start (codes "toString") (NextPhrase (ThisOf start) NoPhrase)
+abbrev pub own_text : ExprTree
+own_text = ApplyOf start (codes "toString") (NextExpr (ThisOf start) NoExpr)
 
 -- 1 + "a"
-abbrev pub wrong_sum : Phrase
+abbrev pub wrong_sum : ExprTree
 wrong_sum = OperatorsOf start one (NextOperand operator.Plus (StringOf start (codes "a")) NoOperands)
 
 -- case 1 { Just(y) => y; }
-abbrev pub wrong_pattern : Phrase
+abbrev pub wrong_pattern : ExprTree
 wrong_pattern = CaseOf start one
     (NextBranch (Built start (codes "Just") (NextPattern (Binds start (AtBound 0)) NoPattern))
     (VariableOf start (AtBound 0)) NoBranch)
@@ -146,9 +147,9 @@ without_values = NextStatement (DeclareOf 0 (at 0) (IntType (at 0)) (at 4) (AtSl
 -- this!rest(1); this!work("a");
 abbrev pub wrong_calls : Statements
 wrong_calls = NextStatement (DoOf 0 (at 0) (SendOf (at 0) (codes "rest")
-    (NextPhrase (ThisOf (at 0)) (NextPhrase (NumberOf (at 10) (pos 1)) NoPhrase))))
+    (NextExpr (ThisOf (at 0)) (NextExpr (NumberOf (at 10) (pos 1)) NoExpr))))
     (NextStatement (DoOf 1 (at 14) (SendOf (at 14) (codes "work")
-    (NextPhrase (ThisOf (at 14)) (NextPhrase (StringOf (at 24) (codes "a")) NoPhrase)))) NoStatement)
+    (NextExpr (ThisOf (at 14)) (NextExpr (StringOf (at 24) (codes "a")) NoExpr)))) NoStatement)
 
 -- these declarations with an empty main block
 abbrev pub program : List DeclTree → SourceTree

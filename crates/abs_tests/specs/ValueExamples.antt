@@ -7,7 +7,7 @@
 use Rattle.std.specs.Prelude.{ℕ, pos, negsuc, List, [], ◌∷◌, codes, Some}
 use Rattle.abs_tree.specs.Places.{start}
 use Rattle.abs_values.specs.Scopes.{Library, Scope}
-use Rattle.abs_tree.specs.Syntax.{Name, AtSlot, AtBound, IntType, AnyValue, Binds, SameNumber, Built, PatternTree, PatternTrees, NoPattern, NextPattern, Phrase, LetIn, IfElse, OperatorsOf, Prefixed, NumberOf, StringOf, ThisOf, VariableOf, ApplyOf, BuildOf, CaseOf, Phrases, NoPhrase, NextPhrase, Operands, NoOperands, NextOperand, NoBranch, NextBranch}
+use Rattle.abs_tree.specs.Syntax.{Name, AtSlot, AtBound, IntType, AnyValue, Binds, SameNumber, Built, PatternTree, PatternTrees, NoPattern, NextPattern, ExprTree, LetIn, IfElse, OperatorsOf, Prefixed, NumberOf, StringOf, ThisOf, VariableOf, ApplyOf, BuildOf, CaseOf, ExprTrees, NoExpr, NextExpr, Operands, NoOperands, NextOperand, NoBranch, NextBranch}
 use Rattle.abs_values.specs.ValueTrees.{ValueTree, IntValue, BuiltValue, ValueTrees, NoPart, NextPart}
 use Rattle.abs_tree.specs.declared.syntax.expression.Operator.{Operator}
 use Rattle.abs_tree.specs.declared.syntax.expression.Operator.TheVariants as operator
@@ -39,31 +39,31 @@ abbrev pub unit : ValueTree
 unit = BuiltValue 6 NoPart
 
 -- parts of expressions
-abbrev number : ℕ → Phrase
+abbrev number : ℕ → ExprTree
 number value = NumberOf start (pos value)
 
-abbrev slot : ℕ → Phrase
+abbrev slot : ℕ → ExprTree
 slot index = VariableOf start (AtSlot index)
 
-abbrev bound_at : ℕ → Phrase
+abbrev bound_at : ℕ → ExprTree
 bound_at depth = VariableOf start (AtBound depth)
 
-abbrev operators : Phrase → Operands → Phrase
+abbrev operators : ExprTree → Operands → ExprTree
 operators first operands = OperatorsOf start first operands
 
-abbrev one : Operator → Phrase → Operands
+abbrev one : Operator → ExprTree → Operands
 one operation right = NextOperand operation right NoOperands
 
-abbrev build : Name → Phrases → Phrase
+abbrev build : Name → ExprTrees → ExprTree
 build name arguments = BuildOf start name arguments
 
-abbrev phrase : Phrase → Phrases
-phrase argument = NextPhrase argument NoPhrase
+abbrev expr_tree : ExprTree → ExprTrees
+expr_tree argument = NextExpr argument NoExpr
 
-abbrev minus : Phrase → Phrase
+abbrev minus : ExprTree → ExprTree
 minus operand = Prefixed start prefix.Minus operand
 
-abbrev division : Phrase
+abbrev division : ExprTree
 division = operators (number 1) (one operator.Divide (number 0))
 
 -- def Int double(Int n) = n + n;
@@ -82,54 +82,54 @@ abbrev pub scope : Scope
 scope = record { this = Some 9; slots = IntValue (pos 5) ∷ []; fields = []; bound = [] }
 
 -- 1 + 2 * 3 - 4
-abbrev pub sum_of_products : Phrase
+abbrev pub sum_of_products : ExprTree
 sum_of_products = operators (number 1) (NextOperand operator.Plus (operators (number 2) (one operator.Times (number 3)))
     (one operator.Minus (number 4)))
 
 -- -17 / 5
-abbrev pub quotient : Phrase
+abbrev pub quotient : ExprTree
 quotient = operators (minus (number 17)) (one operator.Divide (number 5))
 
 -- the least number
-abbrev least : Phrase
+abbrev least : ExprTree
 least = operators (minus (number 170141183460469231731687303715884105727)) (one operator.Minus (number 1))
 
 -- the least number % -1, and the same / -1
-abbrev pub least_remainder : Phrase
+abbrev pub least_remainder : ExprTree
 least_remainder = operators least (one operator.Remainder (minus (number 1)))
 
-abbrev pub overflow : Phrase
+abbrev pub overflow : ExprTree
 overflow = operators least (one operator.Divide (minus (number 1)))
 
 -- 1 / 0
-abbrev pub zero_divisor : Phrase
+abbrev pub zero_divisor : ExprTree
 zero_divisor = division
 
 -- case 5 { 4 => 1; } + 1 / 0
-abbrev pub first_fault : Phrase
+abbrev pub first_fault : ExprTree
 first_fault = operators (CaseOf start (number 5) (NextBranch (SameNumber start (pos 4)) (number 1) NoBranch))
     (one operator.Plus division)
 
-abbrev truth : Phrase
-truth = build (codes "True") NoPhrase
+abbrev truth : ExprTree
+truth = build (codes "True") NoExpr
 
-abbrev falsehood : Phrase
-falsehood = build (codes "False") NoPhrase
+abbrev falsehood : ExprTree
+falsehood = build (codes "False") NoExpr
 
 -- True && False && 1 / 0
-abbrev pub decided : Phrase
+abbrev pub decided : ExprTree
 decided = operators truth (NextOperand operator.And falsehood (one operator.And division))
 
 -- False || 1 / 0
-abbrev pub undecided : Phrase
+abbrev pub undecided : ExprTree
 undecided = operators falsehood (one operator.Or division)
 
 -- if 1 then 2 else 3
-abbrev pub mistyped_condition : Phrase
+abbrev pub mistyped_condition : ExprTree
 mistyped_condition = IfElse start (number 1) (number 2) (number 3)
 
 -- let (Int x) = 4 in let (Int y) = x * x in y - x
-abbrev pub bound : Phrase
+abbrev pub bound : ExprTree
 bound = LetIn start (IntType start) start (AtBound 0) (number 4)
     (LetIn start (IntType start) start (AtBound 1) (operators (bound_at 0) (one operator.Times (bound_at 0)))
     (operators (bound_at 1) (one operator.Minus (bound_at 0))))
@@ -138,46 +138,46 @@ abbrev pattern : PatternTree → PatternTrees
 pattern argument = NextPattern argument NoPattern
 
 -- case Pair(3, Just(4)) { Pair(a, Just(b)) => a * b; _ => 0; }
-abbrev pub matched_pair : Phrase
-matched_pair = CaseOf start (build (codes "Pair") (NextPhrase (number 3) (phrase (build (codes "Just") (phrase (number 4))))))
+abbrev pub matched_pair : ExprTree
+matched_pair = CaseOf start (build (codes "Pair") (NextExpr (number 3) (expr_tree (build (codes "Just") (expr_tree (number 4))))))
     (NextBranch (Built start (codes "Pair") (NextPattern (Binds start (AtBound 0))
     (pattern (Built start (codes "Just") (pattern (Binds start (AtBound 1)))))))
     (operators (bound_at 0) (one operator.Times (bound_at 1)))
     (NextBranch (AnyValue start) (number 0) NoBranch))
 
 -- case Just(5) { Just(4) => 0; }
-abbrev pub no_branch : Phrase
-no_branch = CaseOf start (build (codes "Just") (phrase (number 5)))
+abbrev pub no_branch : ExprTree
+no_branch = CaseOf start (build (codes "Just") (expr_tree (number 5)))
     (NextBranch (Built start (codes "Just") (pattern (SameNumber start (pos 4)))) (number 0) NoBranch)
 
 -- double(double(x)), where x is the one slot
-abbrev pub twice_applied : Phrase
-twice_applied = ApplyOf start (codes "double") (phrase (ApplyOf start (codes "double") (phrase (slot 0))))
+abbrev pub twice_applied : ExprTree
+twice_applied = ApplyOf start (codes "double") (expr_tree (ApplyOf start (codes "double") (expr_tree (slot 0))))
 
 -- double()
-abbrev pub wrong_arity : Phrase
-wrong_arity = ApplyOf start (codes "double") NoPhrase
+abbrev pub wrong_arity : ExprTree
+wrong_arity = ApplyOf start (codes "double") NoExpr
 
 -- toString(Just("x"))
-abbrev pub string_of_data : Phrase
+abbrev pub string_of_data : ExprTree
 string_of_data =
-    ApplyOf start (codes "toString") (phrase (build (codes "Just") (phrase (StringOf start (codes "x")))))
+    ApplyOf start (codes "toString") (expr_tree (build (codes "Just") (expr_tree (StringOf start (codes "x")))))
 
 -- if 1 == 1 then 5 else 1 / 0
-abbrev pub chosen : Phrase
+abbrev pub chosen : ExprTree
 chosen = IfElse start (operators (number 1) (one operator.Equal (number 1))) (number 5) division
 
 -- Cons(1, Nil) == Cons(1, Nil)
-abbrev list : Phrase
-list = build (codes "Cons") (NextPhrase (number 1) (phrase (build (codes "Nil") NoPhrase)))
+abbrev list : ExprTree
+list = build (codes "Cons") (NextExpr (number 1) (expr_tree (build (codes "Nil") NoExpr)))
 
-abbrev pub equal_lists : Phrase
+abbrev pub equal_lists : ExprTree
 equal_lists = operators list (one operator.Equal list)
 
 -- Just(this)
-abbrev pub own_object : Phrase
-own_object = build (codes "Just") (phrase (ThisOf start))
+abbrev pub own_object : ExprTree
+own_object = build (codes "Just") (expr_tree (ThisOf start))
 
 -- a slot that is not there
-abbrev pub unknown_slot : Phrase
+abbrev pub unknown_slot : ExprTree
 unknown_slot = slot 1

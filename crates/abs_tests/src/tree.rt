@@ -160,26 +160,26 @@ fn large_values(rt: HostRuntime) -> Result<(), Fail> {
     Ok(())
 }
 
-/// A row keeps the order of its values, and replaces one at an index.
+/// Values keep their order, and one is replaced at its index.
 #[test]
-fn rows_own_their_values(rt: HostRuntime) -> Result<(), Fail> {
+fn values_are_owned(rt: HostRuntime) -> Result<(), Fail> {
     let alloc = rt.alloc();
-    let mut row = Values::nulls(alloc, 2)?;
-    assert_eq!(rt; row.len(), 2);
-    row.set(1, Value::Object(7));
-    row.push(Value::Future(8))?;
-    let copy = row.copied(alloc)?;
-    row.set(0, Value::Int(6));
-    assert!(rt; matches!(row.at(0), Value::Int(6)));
-    assert!(rt; matches!(row.at(1), Value::Object(7)));
-    assert!(rt; matches!(row.at(2), Value::Future(8)));
+    let mut values = Values::nulls(alloc, 2)?;
+    assert_eq!(rt; values.len(), 2);
+    values.set(1, Value::Object(7));
+    values.push(Value::Future(8))?;
+    let copy = values.copied(alloc)?;
+    values.set(0, Value::Int(6));
+    assert!(rt; matches!(values.at(0), Value::Int(6)));
+    assert!(rt; matches!(values.at(1), Value::Object(7)));
+    assert!(rt; matches!(values.at(2), Value::Future(8)));
     assert!(rt; matches!(copy.at(0), Value::Null));
     assert_eq!(rt; copy.len(), 3);
-    assert_eq!(rt; row.into_items().len(), 3);
+    assert_eq!(rt; values.into_items().len(), 3);
     Ok(())
 }
 
-/// The expressions of a statement can be shared: none, one, a row, and a row without its receiver.
+/// The expressions of a statement can be shared: none, one, operands, and operands without the receiver.
 #[test]
 fn expressions_are_shared(rt: HostRuntime) -> Result<(), Fail> {
     let alloc = rt.alloc();
@@ -191,12 +191,15 @@ fn expressions_are_shared(rt: HostRuntime) -> Result<(), Fail> {
     assert_eq!(rt; Exprs::None.share()?.as_slice().len(), 0);
     let one = Exprs::One(Arc::new(alloc, Expr::Null(place))?);
     assert_eq!(rt; one.share()?.as_slice().len(), 1);
-    let row = Arc::new(
+    let operands = Arc::new(
         alloc,
         vec![in alloc; Expr::This(place), Expr::Number(place, 7)]?,
     )?;
-    assert_eq!(rt; Exprs::Row(row.clone()?).share()?.as_slice().len(), 2);
-    let arguments = Exprs::Arguments(row).share()?;
+    assert_eq!(rt;
+        Exprs::Several(operands.clone()?).share()?.as_slice().len(),
+        2
+    );
+    let arguments = Exprs::Arguments(operands).share()?;
     assert_eq!(rt; arguments.as_slice().len(), 1);
     assert!(rt; matches!(arguments.as_slice(), [Expr::Number(_, 7)]));
     Ok(())

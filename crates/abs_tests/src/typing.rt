@@ -4,7 +4,7 @@ ghost use Rattle.abs_tree.specs.Places.{start};
 ghost use Rattle.abs_tree.specs.Syntax.{IntType, NoStatement, StringType};
 ghost use Rattle.abs_tree.specs.declared.refusal.Code.TheVariants.{T1, T2, T3, T4, T5};
 ghost use Rattle.abs_tests.specs.Examples.{at, choice, comparison, early_return, function_frame, inner_return, job, job_worker, just, local_value, match_just, maybe, maybe_of, negation, nothing, own_text, program, sum, task, without_values, work, worker, worker_frame, wrong_calls, wrong_pattern, wrong_sum};
-ghost use Rattle.abs_types.specs.ExpressionOffences.{phrase_offences};
+ghost use Rattle.abs_types.specs.ExpressionOffences.{expr_offences};
 ghost use Rattle.abs_types.specs.Methods.{call_type};
 ghost use Rattle.abs_types.specs.OperatorTypes.{bool_type};
 ghost use Rattle.abs_types.specs.PlainTypes.{PlainBottom, PlainClass, PlainFut, PlainInt, PlainString};
@@ -31,8 +31,8 @@ fn applications_have_types()
 
 fn wrong_types_offend()
     ensures untyped { type_in [] function_frame [] wrong_sum ≡ None }
-    ensures sum { phrase_offences [] function_frame [] wrong_sum ≡ record { place = start; code = T1 } ∷ [] }
-    ensures pattern { phrase_offences (maybe ∷ []) function_frame [] wrong_pattern
+    ensures sum { expr_offences [] function_frame [] wrong_sum ≡ record { place = start; code = T1 } ∷ [] }
+    ensures pattern { expr_offences (maybe ∷ []) function_frame [] wrong_pattern
         ≡ record { place = start; code = T1 } ∷ [] }
 {}
 

@@ -10,7 +10,7 @@ use Rattle.abs_tree.specs.declared.syntax.statement.Stmt.{Stmt, size-Stmt, roll-
 use Rattle.abs_tree.specs.declared.syntax.statement.Stmt.TheBlock.{shown-the_row-Stmt-0}
 use Rattle.abs_tree.specs.declared.syntax.statement.Stmt.TheViews.{outs-Block', outs-If', outs-While', rolls-Block, rolls-If, rolls-While}
 use Rattle.abs_tree.specs.Syntax.{Statement, BlockOf, IfOf, WhileOf, NextStatement, Else, NoElse}
-use Rattle.abs_tree.specs.SyntaxViews.{phrase, statement, statement_row, statements, maybe_statements}
+use Rattle.abs_tree.specs.SyntaxViews.{expr_tree, statement, statement_row, statements, maybe_statements}
 use denote.Param.Weighed.{most, most-append}
 use mathlib.Core.Former.{Count}
 
@@ -44,27 +44,27 @@ statement-block names place block =
 pub statement-while : (names : List (List ℕ)) (index : ℕ) (place : Place) (test : Arc Expr Global)
     (body : Vec Stmt Global)
     → statement names (code_stmt.While index place test body)
-    ≡ WhileOf index place (phrase names test.value) (statements names body.items)
+    ≡ WhileOf index place (expr_tree names test.value) (statements names body.items)
 statement-while names index place test body =
     let row = inside_of (code_stmt.While index place test body) in
-    ap (WhileOf index place (phrase names test.value))
+    ap (WhileOf index place (expr_tree names test.value))
     (statements_in_row names row.0 row.1 ∙ ap (statements names) (items_hidden-the_row-Stmt-0 body))
 
 -- and those of the branches of an `if`
 pub statement-if : (names : List (List ℕ)) (index : ℕ) (place : Place) (test : Arc Expr Global)
     (first : Vec Stmt Global) (other : Option (Vec Stmt Global))
     → statement names (code_stmt.If index place test first other)
-    ≡ IfOf index place (phrase names test.value) (statements names first.items) (maybe_statements names other)
+    ≡ IfOf index place (expr_tree names test.value) (statements names first.items) (maybe_statements names other)
 statement-if names index place test first None =
     let row = inside_of (code_stmt.If index place test first None) in
-    ap (λ trees. IfOf index place (phrase names test.value) trees NoElse)
+    ap (λ trees. IfOf index place (expr_tree names test.value) trees NoElse)
     (statements_in_row names row.0 row.1 ∙ ap (statements names) (items_hidden-the_row-Stmt-0 first))
 statement-if names index place test first (Some other) =
     let row = inside_of (code_stmt.If index place test first (Some other)) in
     let second = inside_of (code_stmt.Block place other) in
-    ap (λ trees. IfOf index place (phrase names test.value) trees (Else (statement_row names second.1)))
+    ap (λ trees. IfOf index place (expr_tree names test.value) trees (Else (statement_row names second.1)))
     (statements_in_row names row.0 row.1 ∙ ap (statements names) (items_hidden-the_row-Stmt-0 first))
-    ∙ ap (λ trees. IfOf index place (phrase names test.value) (statements names first.items) (Else trees))
+    ∙ ap (λ trees. IfOf index place (expr_tree names test.value) (statements names first.items) (Else trees))
     (statements_in_row names second.0 second.1 ∙ ap (statements names) (items_hidden-the_row-Stmt-0 other))
 
 -- the tree of a block, from the parts that a match finds in memory
@@ -79,11 +79,11 @@ block_tree names stmt place block items is items_are =
 -- the tree of a loop
 pub while_tree : (names : List (List ℕ)) (stmt : Stmt) (index : ℕ) (place : Place) (test : Arc Expr Global)
     (body : Vec Stmt Global) (items : List Stmt) → stmt ≡ code_stmt.While index place test body → items ≡ body.items
-    → statement names stmt ≡ WhileOf index place (phrase names test.value) (statements names items)
+    → statement names stmt ≡ WhileOf index place (expr_tree names test.value) (statements names items)
 while_tree names stmt index place test body items is items_are =
     ap (statement names) is
     ∙ (statement-while names index place test body
-    ∙ ap (λ (stmts : List Stmt). WhileOf index place (phrase names test.value) (statements names stmts))
+    ∙ ap (λ (stmts : List Stmt). WhileOf index place (expr_tree names test.value) (statements names stmts))
     (sym items_are))
 
 -- the tree of an `if`
@@ -91,12 +91,12 @@ pub if_tree : (names : List (List ℕ)) (stmt : Stmt) (index : ℕ) (place : Pla
     (first : Vec Stmt Global) (other : Option (Vec Stmt Global)) (items : List Stmt)
     → stmt ≡ code_stmt.If index place test first other → items ≡ first.items
     → statement names stmt
-    ≡ IfOf index place (phrase names test.value) (statements names items) (maybe_statements names other)
+    ≡ IfOf index place (expr_tree names test.value) (statements names items) (maybe_statements names other)
 if_tree names stmt index place test first other items is items_are =
     let second = maybe_statements names other in
     ap (statement names) is
     ∙ (statement-if names index place test first other
-    ∙ ap (λ (stmts : List Stmt). IfOf index place (phrase names test.value) (statements names stmts) second)
+    ∙ ap (λ (stmts : List Stmt). IfOf index place (expr_tree names test.value) (statements names stmts) second)
     (sym items_are))
 
 -- a statement holds no others: it is no block, no `if` and no loop

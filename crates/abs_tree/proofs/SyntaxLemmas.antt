@@ -14,8 +14,8 @@ use Rattle.abs_tree.specs.declared.syntax.expression.Expr.{Expr, Operators', Own
 use Rattle.abs_tree.specs.declared.syntax.expression.Operand.{Operand}
 use Rattle.abs_tree.specs.declared.syntax.expression.Branch.{Branch}
 use Rattle.std.specs.declared.boxed.Box.{Box}
-use Rattle.abs_tree.specs.Syntax.{UnresolvedType, DataType, NextType, Built, NextPattern, OperatorsOf, OwnCallOf, ApplyOf, BuildOf, CaseOf, NextPhrase, NextOperand, NextBranch}
-use Rattle.abs_tree.specs.SyntaxViews.{type_tree, type_row, type_trees, pattern_tree, pattern_row, pattern_trees, phrase, phrase_row, phrases, operand_row, operand_trees, branch_row, branches}
+use Rattle.abs_tree.specs.Syntax.{UnresolvedType, DataType, NextType, Built, NextPattern, OperatorsOf, OwnCallOf, ApplyOf, BuildOf, CaseOf, NextExpr, NextOperand, NextBranch}
+use Rattle.abs_tree.specs.SyntaxViews.{type_tree, type_row, type_trees, pattern_tree, pattern_row, pattern_trees, expr_tree, expr_row, expr_trees, operand_row, operand_trees, branch_row, branches}
 use Rattle.abs_tree.specs.Names.{name_of}
 use mathlib.Core.Former.{Count}
 
@@ -70,10 +70,10 @@ pattern_tree-built names place symbol parts =
     (patterns_in_row names row.0 row.1 ∙ ap (pattern_trees names) (items_hidden-the_row-Pattern-0 parts))
 
 -- the expressions in a row in memory
-phrases_in_row : (names : List (List ℕ)) (n : _) (row : Row_of-Expr n)
-    → phrase_row names row ≡ phrases names (items-the_row-Expr n row)
-phrases_in_row names n end_of-Expr = refl
-phrases_in_row names n (more_of-Expr expr others) = ap (NextPhrase (phrase names expr)) (phrases_in_row names _ others)
+exprs_in_row : (names : List (List ℕ)) (n : _) (row : Row_of-Expr n)
+    → expr_row names row ≡ expr_trees names (items-the_row-Expr n row)
+exprs_in_row names n end_of-Expr = refl
+exprs_in_row names n (more_of-Expr expr others) = ap (NextExpr (expr_tree names expr)) (exprs_in_row names _ others)
 
 -- how many arguments an expression has, and the row of them
 abbrev arguments_of : Expr → (n : Count) × Row_of-Expr n
@@ -83,37 +83,37 @@ arguments_of (Build' _ _ _ row) = (_, row)
 arguments_of _ = (_, end_of-Expr)
 
 -- the arguments of a call on `this`, of a function and of a constructor are those of their vector
-pub phrase-own_call : (names : List (List ℕ)) (place : Place) (symbol : Symbol)
+pub expr_tree-own_call : (names : List (List ℕ)) (place : Place) (symbol : Symbol)
     (arguments : Arc (Vec Expr Global) Global)
-    → phrase names (code_expr.OwnCall place symbol arguments)
-    ≡ OwnCallOf place (name_of names symbol) (phrases names arguments.value.items)
-phrase-own_call names place symbol arguments =
+    → expr_tree names (code_expr.OwnCall place symbol arguments)
+    ≡ OwnCallOf place (name_of names symbol) (expr_trees names arguments.value.items)
+expr_tree-own_call names place symbol arguments =
     let row = arguments_of (code_expr.OwnCall place symbol arguments) in
     ap (OwnCallOf place (name_of names symbol))
-    (phrases_in_row names row.0 row.1 ∙ ap (phrases names) (items_hidden-the_row-Expr-1 arguments.value))
+    (exprs_in_row names row.0 row.1 ∙ ap (expr_trees names) (items_hidden-the_row-Expr-1 arguments.value))
 
-pub phrase-apply : (names : List (List ℕ)) (place : Place) (symbol : Symbol) (arguments : Vec Expr Global)
-    → phrase names (code_expr.Apply place symbol arguments)
-    ≡ ApplyOf place (name_of names symbol) (phrases names arguments.items)
-phrase-apply names place symbol arguments =
+pub expr_tree-apply : (names : List (List ℕ)) (place : Place) (symbol : Symbol) (arguments : Vec Expr Global)
+    → expr_tree names (code_expr.Apply place symbol arguments)
+    ≡ ApplyOf place (name_of names symbol) (expr_trees names arguments.items)
+expr_tree-apply names place symbol arguments =
     let row = arguments_of (code_expr.Apply place symbol arguments) in
     ap (ApplyOf place (name_of names symbol))
-    (phrases_in_row names row.0 row.1 ∙ ap (phrases names) (items_hidden-the_row-Expr-1 arguments))
+    (exprs_in_row names row.0 row.1 ∙ ap (expr_trees names) (items_hidden-the_row-Expr-1 arguments))
 
-pub phrase-build : (names : List (List ℕ)) (place : Place) (symbol : Symbol) (arguments : Vec Expr Global)
-    → phrase names (code_expr.Build place symbol arguments)
-    ≡ BuildOf place (name_of names symbol) (phrases names arguments.items)
-phrase-build names place symbol arguments =
+pub expr_tree-build : (names : List (List ℕ)) (place : Place) (symbol : Symbol) (arguments : Vec Expr Global)
+    → expr_tree names (code_expr.Build place symbol arguments)
+    ≡ BuildOf place (name_of names symbol) (expr_trees names arguments.items)
+expr_tree-build names place symbol arguments =
     let row = arguments_of (code_expr.Build place symbol arguments) in
     ap (BuildOf place (name_of names symbol))
-    (phrases_in_row names row.0 row.1 ∙ ap (phrases names) (items_hidden-the_row-Expr-1 arguments))
+    (exprs_in_row names row.0 row.1 ∙ ap (expr_trees names) (items_hidden-the_row-Expr-1 arguments))
 
 -- the operators in a row in memory
 operands_in_row : (names : List (List ℕ)) (n : _) (row : Row_of-Operand n)
     → operand_row names row ≡ operand_trees names (items-the_row-Operand n row)
 operands_in_row names n end_of-Operand = refl
 operands_in_row names n (more_of-Operand operator right others) =
-    ap (NextOperand operator (phrase names right)) (operands_in_row names _ others)
+    ap (NextOperand operator (expr_tree names right)) (operands_in_row names _ others)
 
 -- how many operators an expression has, and the row of them
 abbrev operands_of : Expr → (n : Count) × Row_of-Operand n
@@ -121,12 +121,12 @@ operands_of (Operators' _ _ _ _ row) = (_, row)
 operands_of _ = (_, end_of-Operand)
 
 -- the operators of one precedence are those of their vector
-pub phrase-operators : (names : List (List ℕ)) (place : Place) (first : Box Expr Global) (operands : Vec Operand Global)
-    → phrase names (code_expr.Operators place first operands)
-    ≡ OperatorsOf place (phrase names first.value) (operand_trees names operands.items)
-phrase-operators names place first operands =
+pub expr_tree-operators : (names : List (List ℕ)) (place : Place) (first : Box Expr Global) (operands : Vec Operand Global)
+    → expr_tree names (code_expr.Operators place first operands)
+    ≡ OperatorsOf place (expr_tree names first.value) (operand_trees names operands.items)
+expr_tree-operators names place first operands =
     let row = operands_of (code_expr.Operators place first operands) in
-    ap (OperatorsOf place (phrase names first.value))
+    ap (OperatorsOf place (expr_tree names first.value))
     (operands_in_row names row.0 row.1 ∙ ap (operand_trees names) (items_hidden-the_row-Operand-0 operands))
 
 -- the branches in a row in memory
@@ -134,7 +134,7 @@ branches_in_row : (names : List (List ℕ)) (n : _) (row : Row_of-Branch n)
     → branch_row names row ≡ branches names (items-the_row-Branch n row)
 branches_in_row names n end_of-Branch = refl
 branches_in_row names n (more_of-Branch pattern value others) =
-    ap (NextBranch (pattern_tree names pattern) (phrase names value)) (branches_in_row names _ others)
+    ap (NextBranch (pattern_tree names pattern) (expr_tree names value)) (branches_in_row names _ others)
 
 -- how many branches an expression has, and the row of them
 abbrev branches_of : Expr → (n : Count) × Row_of-Branch n
@@ -142,10 +142,10 @@ branches_of (Case' _ _ _ _ row) = (_, row)
 branches_of _ = (_, end_of-Branch)
 
 -- the branches of a `case` are those of its vector
-pub phrase-case : (names : List (List ℕ)) (place : Place) (subject : Box Expr Global) (arms : Vec Branch Global)
-    → phrase names (code_expr.Case place subject arms)
-    ≡ CaseOf place (phrase names subject.value) (branches names arms.items)
-phrase-case names place subject arms =
+pub expr_tree-case : (names : List (List ℕ)) (place : Place) (subject : Box Expr Global) (arms : Vec Branch Global)
+    → expr_tree names (code_expr.Case place subject arms)
+    ≡ CaseOf place (expr_tree names subject.value) (branches names arms.items)
+expr_tree-case names place subject arms =
     let row = branches_of (code_expr.Case place subject arms) in
-    ap (CaseOf place (phrase names subject.value))
+    ap (CaseOf place (expr_tree names subject.value))
     (branches_in_row names row.0 row.1 ∙ ap (branches names) (items_hidden-the_row-Branch-2 arms))

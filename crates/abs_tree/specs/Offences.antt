@@ -4,7 +4,8 @@
 --   `place_cmp`, `offence_cmp`     the order of places, and of offences
 --   `earlier`, `first_offence`     the first one of two offences, and of a list
 --   `IsFirst`                      an offence is one of these, and none of them comes before it
-use Rattle.std.specs.Prelude.{◌≡◌, ℕ, false, List, fold, Option, Some, None, if◌then◌else◌, All, Contains}
+--   `offence_at`, `offence_if`     the list of one offence, and the same under a condition
+use Rattle.std.specs.Prelude.{◌≡◌, ℕ, Bool, false, List, [], ◌∷◌, fold, Option, Some, None, if◌then◌else◌, All, Contains}
 use Rattle.std.specs.Ordering.{is_lt, nat_cmp, on, then_cmp}
 use Rattle.std.specs.declared.cmp.Ordering.{Ordering}
 use Rattle.abs_tree.specs.declared.place.Place.{Place}
@@ -58,3 +59,11 @@ first_offence offences = fold earlier None offences
 pub record IsFirst (offences : List Offence) (offence : Offence) : Type 0 where
   pub among : Contains offences offence
   pub least : All (λ (other : Offence). is_lt (offence_cmp other offence) ≡ false) offences
+
+-- the offence with a code at a place, as a list
+abbrev pub offence_at : Code → Place → List Offence
+offence_at code place = record { place = place; code = code } ∷ []
+
+-- the same, if there is reason for it
+abbrev pub offence_if : Bool → Code → Place → List Offence
+offence_if offends code place = if offends then offence_at code place else []

@@ -5,7 +5,7 @@
 --   `all_variables`                                    those of a source
 use Rattle.std.specs.Prelude.{ℕ, ◌+◌, List, [], ◌∷◌, length}
 use Rattle.abs_tree.specs.Syntax.{SignatureTree, NoValue, Value, MemberTree, FieldTree, MethodTree, DeclTree, DataTree, FunctionTree, InterfaceTree, ClassTree, SourceTree}
-use Rattle.abs_tree.specs.SyntaxSizes.{phrase_variables, statements_variables}
+use Rattle.abs_tree.specs.SyntaxSizes.{expr_variables, statements_variables}
 
 -- the parameters of the methods of an interface
 abbrev pub signature_params : List SignatureTree → ℕ
@@ -16,7 +16,7 @@ signature_params (signature ∷ others) = length signature.params + signature_pa
 abbrev pub member_variables : List MemberTree → ℕ
 member_variables [] = 0
 member_variables (FieldTree _ _ NoValue ∷ others) = member_variables others
-member_variables (FieldTree _ _ (Value value) ∷ others) = phrase_variables value + member_variables others
+member_variables (FieldTree _ _ (Value value) ∷ others) = expr_variables value + member_variables others
 member_variables (MethodTree signature _ body ∷ others) =
     length signature.params + statements_variables body + member_variables others
 
@@ -25,7 +25,7 @@ abbrev pub decl_variables : List DeclTree → ℕ
 decl_variables [] = 0
 decl_variables (DataTree _ _ _ _ ∷ others) = decl_variables others
 decl_variables (FunctionTree _ _ _ _ params value ∷ others) =
-    length params + phrase_variables value + decl_variables others
+    length params + expr_variables value + decl_variables others
 decl_variables (InterfaceTree _ _ _ signatures ∷ others) = signature_params signatures + decl_variables others
 decl_variables (ClassTree _ _ params _ members ∷ others) =
     length params + member_variables members + decl_variables others

@@ -1,11 +1,12 @@
--- The tree of a source without its memory, for every kind of phrase: one constructor for each alternative of its rule.
--- A constructor has the place of the first token, and in order a field for each name, literal, operator and part. If a
--- later name or keyword can offend, the constructor has that place too. Names are written out. Operators of one
--- precedence make one node, so a long sum is not deeply nested. Parentheses, and a rule with one operand, make no node.
+-- The tree of a source without its memory, for every nonterminal of the grammar: one constructor for each alternative
+-- of its rule. A constructor has the place of the first token, and in order a field for each name, literal, operator
+-- and part. If a later name or keyword can offend, the constructor has that place too. Names are written out. Operators
+-- of one precedence make one node, so a long sum is not deeply nested. Parentheses, and a rule with one operand, make
+-- no node.
 --
 --   `VariableTree`                                     variables
 --   `TypeTree`, `PatternTree`                          types, patterns
---   `Phrase`, `Operands`, `Branches`                   expressions, operators of one precedence, branches of a `case`
+--   `ExprTree`, `Operands`, `Branches`                 expressions, operators of one precedence, branches of a `case`
 --   `SideTree`, `Tests`, `TargetTree`                  right sides, guards, where a value goes
 --   `Statement`                                        statements
 --   `MemberTree`, `DeclTree`, `SourceTree`             members, declarations, a source
@@ -66,52 +67,52 @@ mutual
 
 mutual
   -- an expression
-  pub data Phrase : Type 0 where
-    LetIn : (place : Place) (type : TypeTree) (variable_place : Place) (variable : VariableTree) (value body : Phrase)
-        → Phrase
-    IfElse : (place : Place) (condition first second : Phrase) → Phrase
-    OperatorsOf : (place : Place) (first : Phrase) (operands : Operands) → Phrase
-    Prefixed : (place : Place) (prefix : Prefix) (operand : Phrase) → Phrase
-    NumberOf : (place : Place) (number : ℤ) → Phrase
-    StringOf : (place : Place) (string : List ℕ) → Phrase
-    NullOf : (place : Place) → Phrase
-    DestinyOf : (place : Place) → Phrase
-    ThisOf : (place : Place) → Phrase
-    FieldOf : (place name_place : Place) (name : Name) → Phrase
-    OwnCallOf : (place : Place) (method : Name) (arguments : Phrases) → Phrase
-    VariableOf : (place : Place) (variable : VariableTree) → Phrase
-    ApplyOf : (place : Place) (function : Name) (arguments : Phrases) → Phrase
-    BuildOf : (place : Place) (constructor : Name) (arguments : Phrases) → Phrase
-    CaseOf : (place : Place) (subject : Phrase) (branches : Branches) → Phrase
+  pub data ExprTree : Type 0 where
+    LetIn : (place : Place) (type : TypeTree) (variable_place : Place) (variable : VariableTree) (value body : ExprTree)
+        → ExprTree
+    IfElse : (place : Place) (condition first second : ExprTree) → ExprTree
+    OperatorsOf : (place : Place) (first : ExprTree) (operands : Operands) → ExprTree
+    Prefixed : (place : Place) (prefix : Prefix) (operand : ExprTree) → ExprTree
+    NumberOf : (place : Place) (number : ℤ) → ExprTree
+    StringOf : (place : Place) (string : List ℕ) → ExprTree
+    NullOf : (place : Place) → ExprTree
+    DestinyOf : (place : Place) → ExprTree
+    ThisOf : (place : Place) → ExprTree
+    FieldOf : (place name_place : Place) (name : Name) → ExprTree
+    OwnCallOf : (place : Place) (method : Name) (arguments : ExprTrees) → ExprTree
+    VariableOf : (place : Place) (variable : VariableTree) → ExprTree
+    ApplyOf : (place : Place) (function : Name) (arguments : ExprTrees) → ExprTree
+    BuildOf : (place : Place) (constructor : Name) (arguments : ExprTrees) → ExprTree
+    CaseOf : (place : Place) (subject : ExprTree) (branches : Branches) → ExprTree
 
-  pub data Phrases : Type 0 where
-    NoPhrase : Phrases
-    NextPhrase : (first : Phrase) (others : Phrases) → Phrases
-    deriving IsSet as Phrases-set
+  pub data ExprTrees : Type 0 where
+    NoExpr : ExprTrees
+    NextExpr : (first : ExprTree) (others : ExprTrees) → ExprTrees
+    deriving IsSet as ExprTrees-set
 
   -- operators of one precedence, each with its right operand
   pub data Operands : Type 0 where
     NoOperands : Operands
-    NextOperand : (operator : Operator) (right : Phrase) (others : Operands) → Operands
+    NextOperand : (operator : Operator) (right : ExprTree) (others : Operands) → Operands
 
   pub data Branches : Type 0 where
     NoBranch : Branches
-    NextBranch : (pattern : PatternTree) (value : Phrase) (others : Branches) → Branches
+    NextBranch : (pattern : PatternTree) (value : ExprTree) (others : Branches) → Branches
 
 -- the right side of "=", which may also be a statement: a new object, an expression, a call by "!" or by ".", or the
--- value of a future. A call has one row: its receiver, followed by its arguments. Once names are resolved, a call by
--- "." has the hidden slot of its result.
+-- value of a future. The operands of a call are its receiver, followed by its arguments. Once names are resolved, a
+-- call by "." has the hidden slot of its result.
 pub data SideTree : Type 0 where
-  NewOf : (place : Place) (mode : Mode) (class_place : Place) (class : Name) (arguments : Phrases) → SideTree
-  ValueOf : (place : Place) (value : Phrase) → SideTree
-  SendOf : (place : Place) (method : Name) (row : Phrases) → SideTree
-  GetOf : (place get_place : Place) (future : Phrase) → SideTree
-  CallOf : (place : Place) (method : Name) (row : Phrases) (slot : Option ℕ) → SideTree
+  NewOf : (place : Place) (mode : Mode) (class_place : Place) (class : Name) (arguments : ExprTrees) → SideTree
+  ValueOf : (place : Place) (value : ExprTree) → SideTree
+  SendOf : (place : Place) (method : Name) (operands : ExprTrees) → SideTree
+  GetOf : (place get_place : Place) (future : ExprTree) → SideTree
+  CallOf : (place : Place) (method : Name) (operands : ExprTrees) (slot : Option ℕ) → SideTree
 
 -- a part of a guard, and whether a "?" follows it
 pub data Tests : Type 0 where
   NoTest : Tests
-  NextTest : (place : Place) (value : Phrase) (asks : Bool) (others : Tests) → Tests
+  NextTest : (place : Place) (value : ExprTree) (asks : Bool) (others : Tests) → Tests
 
 -- where a value goes: a variable, or a field of "this"
 pub data TargetTree : Type 0 where
@@ -129,10 +130,10 @@ mutual
     SkipOf : (index : ℕ) (place : Place) → Statement
     SuspendOf : (index : ℕ) (place : Place) → Statement
     AwaitOf : (index : ℕ) (place : Place) (guard : Tests) → Statement
-    ReturnOf : (index : ℕ) (place : Place) (value : Phrase) → Statement
-    PrintOf : (index : ℕ) (place : Place) (value : Phrase) → Statement
-    IfOf : (index : ℕ) (place : Place) (condition : Phrase) (first : Statements) (second : MaybeStatements) → Statement
-    WhileOf : (index : ℕ) (place : Place) (condition : Phrase) (body : Statements) → Statement
+    ReturnOf : (index : ℕ) (place : Place) (value : ExprTree) → Statement
+    PrintOf : (index : ℕ) (place : Place) (value : ExprTree) → Statement
+    IfOf : (index : ℕ) (place : Place) (condition : ExprTree) (first : Statements) (second : MaybeStatements) → Statement
+    WhileOf : (index : ℕ) (place : Place) (condition : ExprTree) (body : Statements) → Statement
     DeclareOf : (index : ℕ) (place : Place) (type : TypeTree) (variable_place : Place) (variable : VariableTree)
         (initial : MaybeSide) → Statement
     AssignOf : (index : ℕ) (place : Place) (target : TargetTree) (side : SideTree) → Statement
@@ -167,12 +168,12 @@ pub record SignatureTree : Type 0 where
   pub name : DeclaredTree
   pub params : List ParamTree
 
-pub data MaybePhrase : Type 0 where
-  NoValue : MaybePhrase
-  Value : Phrase → MaybePhrase
+pub data MaybeExpr : Type 0 where
+  NoValue : MaybeExpr
+  Value : ExprTree → MaybeExpr
 
 pub data MemberTree : Type 0 where
-  FieldTree : (type : TypeTree) (name : DeclaredTree) (initial : MaybePhrase) → MemberTree
+  FieldTree : (type : TypeTree) (name : DeclaredTree) (initial : MaybeExpr) → MemberTree
   MethodTree : (signature : SignatureTree) (end : Place) (body : Statements) → MemberTree
 
 -- a declaration
@@ -180,7 +181,7 @@ pub data DeclTree : Type 0 where
   DataTree : (place : Place) (name : DeclaredTree) (type_params : List DeclaredTree)
       (constructors : List ConstructorTree) → DeclTree
   FunctionTree : (place : Place) (result : TypeTree) (name : DeclaredTree) (type_params : List DeclaredTree)
-      (params : List ParamTree) (value : Phrase) → DeclTree
+      (params : List ParamTree) (value : ExprTree) → DeclTree
   InterfaceTree : (place : Place) (name : DeclaredTree) (extended : List DeclaredTree) (signatures : List SignatureTree)
       → DeclTree
   ClassTree : (place : Place) (name : DeclaredTree) (params : List ParamTree) (implemented : List DeclaredTree)

@@ -1,34 +1,34 @@
 -- Where the parts of a tree begin: the place that each of them has.
 --
---   `phrase_place`, `side_place`                       expressions, right sides
+--   `expr_place`, `side_place`                         expressions, right sides
 --   `statement_place`, `decl_place`                    statements, declarations
-use Rattle.abs_tree.specs.Syntax.{Phrase, LetIn, IfElse, OperatorsOf, Prefixed, NumberOf, StringOf, NullOf, DestinyOf, ThisOf, FieldOf, OwnCallOf, VariableOf, ApplyOf, BuildOf, CaseOf, SideTree, NewOf, ValueOf, SendOf, GetOf, CallOf, Statement, BlockOf, SkipOf, SuspendOf, AwaitOf, ReturnOf, PrintOf, IfOf, WhileOf, DeclareOf, AssignOf, DoOf, DeclTree, DataTree, FunctionTree, InterfaceTree, ClassTree}
+use Rattle.abs_tree.specs.Syntax.{ExprTree, LetIn, IfElse, OperatorsOf, Prefixed, NumberOf, StringOf, NullOf, DestinyOf, ThisOf, FieldOf, OwnCallOf, VariableOf, ApplyOf, BuildOf, CaseOf, SideTree, NewOf, ValueOf, SendOf, GetOf, CallOf, Statement, BlockOf, SkipOf, SuspendOf, AwaitOf, ReturnOf, PrintOf, IfOf, WhileOf, DeclareOf, AssignOf, DoOf, DeclTree, DataTree, FunctionTree, InterfaceTree, ClassTree}
 use Rattle.abs_tree.specs.declared.place.Place.{Place}
 
 -- the place of an expression; parentheses around it make no node, so they do not count
-abbrev pub phrase_place : Phrase → Place
-phrase_place (LetIn place type variable_place variable value body) = place
-phrase_place (IfElse place condition first second) = place
-phrase_place (OperatorsOf place first _) = place
-phrase_place (Prefixed place prefix operand) = place
-phrase_place (NumberOf place number) = place
-phrase_place (StringOf place text) = place
-phrase_place (NullOf place) = place
-phrase_place (DestinyOf place) = place
-phrase_place (ThisOf place) = place
-phrase_place (FieldOf place name_place name) = place
-phrase_place (OwnCallOf place method arguments) = place
-phrase_place (VariableOf place variable) = place
-phrase_place (ApplyOf place function arguments) = place
-phrase_place (BuildOf place constructor arguments) = place
-phrase_place (CaseOf place subject branches) = place
+abbrev pub expr_place : ExprTree → Place
+expr_place (LetIn place type variable_place variable value body) = place
+expr_place (IfElse place condition first second) = place
+expr_place (OperatorsOf place first _) = place
+expr_place (Prefixed place prefix operand) = place
+expr_place (NumberOf place number) = place
+expr_place (StringOf place text) = place
+expr_place (NullOf place) = place
+expr_place (DestinyOf place) = place
+expr_place (ThisOf place) = place
+expr_place (FieldOf place name_place name) = place
+expr_place (OwnCallOf place method arguments) = place
+expr_place (VariableOf place variable) = place
+expr_place (ApplyOf place function arguments) = place
+expr_place (BuildOf place constructor arguments) = place
+expr_place (CaseOf place subject branches) = place
 
 abbrev pub side_place : SideTree → Place
 side_place (NewOf place mode class_place class arguments) = place
 side_place (ValueOf place value) = place
-side_place (SendOf place method row) = place
+side_place (SendOf place method operands) = place
 side_place (GetOf place get_place future) = place
-side_place (CallOf place method row slot) = place
+side_place (CallOf place method operands slot) = place
 
 abbrev pub statement_place : Statement → Place
 statement_place (BlockOf place block) = place

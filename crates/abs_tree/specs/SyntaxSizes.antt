@@ -1,11 +1,11 @@
 -- The sizes of a source, counted in its tree.
 --
 --   `all_statements`                                   how many statements it has
---   `pattern_variables`, `phrase_variables`, ..        how many variables are declared in a part of it
+--   `pattern_variables`, `expr_variables`, ..          how many variables are declared in a part of it
 --   `body_sizes`                                       how many variables each of its bodies has, with its parameters
 --   `class_sizes`                                      how many fields each of its classes has, with its parameters
 use Rattle.std.specs.Prelude.{ℕ, ◌+◌, List, [], ◌∷◌, ◌++◌, length}
-use Rattle.abs_tree.specs.Syntax.{PatternTree, Binds, Built, PatternTrees, NoPattern, NextPattern, Phrase, LetIn, IfElse, OperatorsOf, Prefixed, OwnCallOf, ApplyOf, BuildOf, CaseOf, Phrases, NoPhrase, NextPhrase, Operands, NoOperands, NextOperand, Branches, NoBranch, NextBranch, SideTree, NewOf, ValueOf, SendOf, GetOf, CallOf, Tests, NoTest, NextTest, NoSide, SomeSide, Statement, BlockOf, AwaitOf, ReturnOf, PrintOf, IfOf, WhileOf, DeclareOf, AssignOf, DoOf, MaybeStatements, NoElse, Else, Statements, NoStatement, NextStatement, Value, MemberTree, FieldTree, MethodTree, DeclTree, FunctionTree, ClassTree, SourceTree}
+use Rattle.abs_tree.specs.Syntax.{PatternTree, Binds, Built, PatternTrees, NoPattern, NextPattern, ExprTree, LetIn, IfElse, OperatorsOf, Prefixed, OwnCallOf, ApplyOf, BuildOf, CaseOf, ExprTrees, NoExpr, NextExpr, Operands, NoOperands, NextOperand, Branches, NoBranch, NextBranch, SideTree, NewOf, ValueOf, SendOf, GetOf, CallOf, Tests, NoTest, NextTest, NoSide, SomeSide, Statement, BlockOf, AwaitOf, ReturnOf, PrintOf, IfOf, WhileOf, DeclareOf, AssignOf, DoOf, MaybeStatements, NoElse, Else, Statements, NoStatement, NextStatement, Value, MemberTree, FieldTree, MethodTree, DeclTree, FunctionTree, ClassTree, SourceTree}
 
 -- the number of statements; a block counts as the statements in it
 abbrev mutual
@@ -50,53 +50,53 @@ abbrev mutual
 
 -- those of `let` and of the patterns in an expression
 abbrev mutual
-  pub phrase_variables : Phrase → ℕ
-  phrase_variables (LetIn _ _ _ _ value body) = 1 + phrase_variables value + phrase_variables body
-  phrase_variables (IfElse _ condition first second) =
-      phrase_variables condition + phrase_variables first + phrase_variables second
-  phrase_variables (OperatorsOf _ first operands) = phrase_variables first + operand_variables operands
-  phrase_variables (Prefixed _ _ operand) = phrase_variables operand
-  phrase_variables (OwnCallOf _ _ arguments) = phrases_variables arguments
-  phrase_variables (ApplyOf _ _ arguments) = phrases_variables arguments
-  phrase_variables (BuildOf _ _ arguments) = phrases_variables arguments
-  phrase_variables (CaseOf _ subject branches) = phrase_variables subject + branch_variables branches
-  phrase_variables _ = 0
+  pub expr_variables : ExprTree → ℕ
+  expr_variables (LetIn _ _ _ _ value body) = 1 + expr_variables value + expr_variables body
+  expr_variables (IfElse _ condition first second) =
+      expr_variables condition + expr_variables first + expr_variables second
+  expr_variables (OperatorsOf _ first operands) = expr_variables first + operand_variables operands
+  expr_variables (Prefixed _ _ operand) = expr_variables operand
+  expr_variables (OwnCallOf _ _ arguments) = exprs_variables arguments
+  expr_variables (ApplyOf _ _ arguments) = exprs_variables arguments
+  expr_variables (BuildOf _ _ arguments) = exprs_variables arguments
+  expr_variables (CaseOf _ subject branches) = expr_variables subject + branch_variables branches
+  expr_variables _ = 0
 
-  pub phrases_variables : Phrases → ℕ
-  phrases_variables NoPhrase = 0
-  phrases_variables (NextPhrase first others) = phrase_variables first + phrases_variables others
+  pub exprs_variables : ExprTrees → ℕ
+  exprs_variables NoExpr = 0
+  exprs_variables (NextExpr first others) = expr_variables first + exprs_variables others
 
   pub operand_variables : Operands → ℕ
   operand_variables NoOperands = 0
-  operand_variables (NextOperand _ right others) = phrase_variables right + operand_variables others
+  operand_variables (NextOperand _ right others) = expr_variables right + operand_variables others
 
   pub branch_variables : Branches → ℕ
   branch_variables NoBranch = 0
   branch_variables (NextBranch pattern value others) =
-      pattern_variables pattern + phrase_variables value + branch_variables others
+      pattern_variables pattern + expr_variables value + branch_variables others
 
 abbrev pub side_variables : SideTree → ℕ
-side_variables (NewOf _ _ _ _ arguments) = phrases_variables arguments
-side_variables (ValueOf _ value) = phrase_variables value
-side_variables (SendOf _ _ row) = phrases_variables row
-side_variables (GetOf _ _ future) = phrase_variables future
-side_variables (CallOf _ _ row _) = phrases_variables row
+side_variables (NewOf _ _ _ _ arguments) = exprs_variables arguments
+side_variables (ValueOf _ value) = expr_variables value
+side_variables (SendOf _ _ operands) = exprs_variables operands
+side_variables (GetOf _ _ future) = expr_variables future
+side_variables (CallOf _ _ operands _) = exprs_variables operands
 
 abbrev pub test_variables : Tests → ℕ
 test_variables NoTest = 0
-test_variables (NextTest _ value _ others) = phrase_variables value + test_variables others
+test_variables (NextTest _ value _ others) = expr_variables value + test_variables others
 
 -- those of a statement, with the local that it declares
 abbrev mutual
   pub statement_variables : Statement → ℕ
   statement_variables (BlockOf _ block) = statements_variables block
   statement_variables (AwaitOf _ _ guard) = test_variables guard
-  statement_variables (ReturnOf _ _ value) = phrase_variables value
-  statement_variables (PrintOf _ _ value) = phrase_variables value
-  statement_variables (IfOf _ _ condition first NoElse) = phrase_variables condition + statements_variables first
+  statement_variables (ReturnOf _ _ value) = expr_variables value
+  statement_variables (PrintOf _ _ value) = expr_variables value
+  statement_variables (IfOf _ _ condition first NoElse) = expr_variables condition + statements_variables first
   statement_variables (IfOf _ _ condition first (Else second)) =
-      phrase_variables condition + statements_variables first + statements_variables second
-  statement_variables (WhileOf _ _ condition body) = phrase_variables condition + statements_variables body
+      expr_variables condition + statements_variables first + statements_variables second
+  statement_variables (WhileOf _ _ condition body) = expr_variables condition + statements_variables body
   statement_variables (DeclareOf _ _ _ _ _ NoSide) = 1
   statement_variables (DeclareOf _ _ _ _ _ (SomeSide side)) = 1 + side_variables side
   statement_variables (AssignOf _ _ _ side) = side_variables side
@@ -110,7 +110,7 @@ abbrev mutual
 -- those of the initial values of a class, which are evaluated together
 abbrev pub field_variables : List MemberTree → ℕ
 field_variables [] = 0
-field_variables (FieldTree _ _ (Value value) ∷ others) = phrase_variables value + field_variables others
+field_variables (FieldTree _ _ (Value value) ∷ others) = expr_variables value + field_variables others
 field_variables (_ ∷ others) = field_variables others
 
 -- the sizes of bodies: those of the methods of a class
@@ -123,7 +123,7 @@ method_sizes (FieldTree _ _ _ ∷ others) = method_sizes others
 -- those of functions, and of classes with their initial values
 abbrev pub decl_sizes : List DeclTree → List ℕ
 decl_sizes [] = []
-decl_sizes (FunctionTree _ _ _ _ params value ∷ others) = (length params + phrase_variables value) ∷ decl_sizes others
+decl_sizes (FunctionTree _ _ _ _ params value ∷ others) = (length params + expr_variables value) ∷ decl_sizes others
 decl_sizes (ClassTree _ _ _ _ members ∷ others) = field_variables members ∷ method_sizes members ++ decl_sizes others
 decl_sizes (_ ∷ others) = decl_sizes others
 

@@ -1,15 +1,15 @@
 -- The code's trees without their memory: the same trees with the name of each symbol written out.
 --
---   `type_tree`, `pattern_tree`, `phrase`              types, patterns, expressions
+--   `type_tree`, `pattern_tree`, `expr_tree`           types, patterns, expressions
 --   `side_tree`, `tests`, `statement`                  right sides, guards, statements
 --   `member_tree`, `decl_tree`, `tree_of_parts`        members, declarations, a source from its parts
 --   `.._row`                                           the children of a tree
---   `type_trees`, `phrases`, `operand_trees`, ..       a list of trees by itself
+--   `type_trees`, `expr_trees`, `operand_trees`, ..    a list of trees by itself
 use Rattle.std.specs.Prelude.{List, [], ◌∷◌, map, Option, Some, None}
 use Rattle.std.specs.declared.alloc.Global.{Global}
 use Rattle.std.specs.declared.sync.Arc.{Arc}
 use Rattle.std.specs.declared.vec.Vec.{Vec}
-use Rattle.abs_tree.specs.Syntax.{Name, VariableTree, Unresolved, AtSlot, AtBound, AtField, TypeTree, UnresolvedType, IntType, StringType, FutType, DataType, InterfaceType, ParameterType, BottomType, NullType, ClassType, TypeTrees, NoType, NextType, PatternTree, AnyValue, Binds, SameNumber, SameString, Built, PatternTrees, NoPattern, NextPattern, Phrase, LetIn, IfElse, OperatorsOf, Prefixed, NumberOf, StringOf, NullOf, DestinyOf, ThisOf, FieldOf, OwnCallOf, VariableOf, ApplyOf, BuildOf, CaseOf, Phrases, NoPhrase, NextPhrase, Operands, NoOperands, NextOperand, Branches, NoBranch, NextBranch, SideTree, NewOf, ValueOf, SendOf, GetOf, CallOf, Tests, NoTest, NextTest, TargetTree, ToVariable, ToField, MaybeSide, NoSide, SomeSide, Statement, BlockOf, SkipOf, SuspendOf, AwaitOf, ReturnOf, PrintOf, IfOf, WhileOf, DeclareOf, AssignOf, DoOf, MaybeStatements, NoElse, Else, Statements, NoStatement, NextStatement, ParamTree, DeclaredTree, ConstructorTree, SignatureTree, MaybePhrase, NoValue, Value, MemberTree, FieldTree, MethodTree, DeclTree, DataTree, FunctionTree, InterfaceTree, ClassTree, SourceTree}
+use Rattle.abs_tree.specs.Syntax.{Name, VariableTree, Unresolved, AtSlot, AtBound, AtField, TypeTree, UnresolvedType, IntType, StringType, FutType, DataType, InterfaceType, ParameterType, BottomType, NullType, ClassType, TypeTrees, NoType, NextType, PatternTree, AnyValue, Binds, SameNumber, SameString, Built, PatternTrees, NoPattern, NextPattern, ExprTree, LetIn, IfElse, OperatorsOf, Prefixed, NumberOf, StringOf, NullOf, DestinyOf, ThisOf, FieldOf, OwnCallOf, VariableOf, ApplyOf, BuildOf, CaseOf, ExprTrees, NoExpr, NextExpr, Operands, NoOperands, NextOperand, Branches, NoBranch, NextBranch, SideTree, NewOf, ValueOf, SendOf, GetOf, CallOf, Tests, NoTest, NextTest, TargetTree, ToVariable, ToField, MaybeSide, NoSide, SomeSide, Statement, BlockOf, SkipOf, SuspendOf, AwaitOf, ReturnOf, PrintOf, IfOf, WhileOf, DeclareOf, AssignOf, DoOf, MaybeStatements, NoElse, Else, Statements, NoStatement, NextStatement, ParamTree, DeclaredTree, ConstructorTree, SignatureTree, MaybeExpr, NoValue, Value, MemberTree, FieldTree, MethodTree, DeclTree, DataTree, FunctionTree, InterfaceTree, ClassTree, SourceTree}
 use Rattle.abs_tree.specs.Names.{name_of}
 use Rattle.abs_tree.specs.declared.syntax.variable.Variable.{Variable}
 use Rattle.abs_tree.specs.declared.syntax.variable.Variable.TheVariants as variable
@@ -88,70 +88,70 @@ pattern_trees names (pattern ∷ others) = NextPattern (pattern_tree names patte
 
 abbrev mutual
   -- the tree of an expression
-  pub phrase : List Name → code_expr.Expr → Phrase
-  phrase names (code_expr.Let' place type variable_place variable at_value value at_body body) =
-      LetIn place (type_tree names type.value) variable_place (variable_tree names variable) (phrase names value)
-      (phrase names body)
-  phrase names (code_expr.If' place at_condition condition at_first first at_second second) =
-      IfElse place (phrase names condition) (phrase names first) (phrase names second)
-  phrase names (code_expr.Operators' place at_first first shape operands) =
-      OperatorsOf place (phrase names first) (operand_row names operands)
-  phrase names (code_expr.Prefixed' place prefix at_operand operand) = Prefixed place prefix (phrase names operand)
-  phrase names (code_expr.Number place number) = NumberOf place number
-  phrase names (code_expr.Text place text) = StringOf place text
-  phrase names (code_expr.Null place) = NullOf place
-  phrase names (code_expr.Destiny place) = DestinyOf place
-  phrase names (code_expr.This place) = ThisOf place
-  phrase names (code_expr.Field place name_place symbol) = FieldOf place name_place (name_of names symbol)
-  phrase names (code_expr.OwnCall' place symbol shared shape arguments) =
-      OwnCallOf place (name_of names symbol) (phrase_row names arguments)
-  phrase names (code_expr.Variable place variable) = VariableOf place (variable_tree names variable)
-  phrase names (code_expr.Apply' place symbol shape arguments) =
-      ApplyOf place (name_of names symbol) (phrase_row names arguments)
-  phrase names (code_expr.Build' place symbol shape arguments) =
-      BuildOf place (name_of names symbol) (phrase_row names arguments)
-  phrase names (code_expr.Case' place at_subject subject shape branches) =
-      CaseOf place (phrase names subject) (branch_row names branches)
+  pub expr_tree : List Name → code_expr.Expr → ExprTree
+  expr_tree names (code_expr.Let' place type variable_place variable at_value value at_body body) =
+      LetIn place (type_tree names type.value) variable_place (variable_tree names variable) (expr_tree names value)
+      (expr_tree names body)
+  expr_tree names (code_expr.If' place at_condition condition at_first first at_second second) =
+      IfElse place (expr_tree names condition) (expr_tree names first) (expr_tree names second)
+  expr_tree names (code_expr.Operators' place at_first first shape operands) =
+      OperatorsOf place (expr_tree names first) (operand_row names operands)
+  expr_tree names (code_expr.Prefixed' place prefix at_operand operand) = Prefixed place prefix (expr_tree names operand)
+  expr_tree names (code_expr.Number place number) = NumberOf place number
+  expr_tree names (code_expr.Text place text) = StringOf place text
+  expr_tree names (code_expr.Null place) = NullOf place
+  expr_tree names (code_expr.Destiny place) = DestinyOf place
+  expr_tree names (code_expr.This place) = ThisOf place
+  expr_tree names (code_expr.Field place name_place symbol) = FieldOf place name_place (name_of names symbol)
+  expr_tree names (code_expr.OwnCall' place symbol shared shape arguments) =
+      OwnCallOf place (name_of names symbol) (expr_row names arguments)
+  expr_tree names (code_expr.Variable place variable) = VariableOf place (variable_tree names variable)
+  expr_tree names (code_expr.Apply' place symbol shape arguments) =
+      ApplyOf place (name_of names symbol) (expr_row names arguments)
+  expr_tree names (code_expr.Build' place symbol shape arguments) =
+      BuildOf place (name_of names symbol) (expr_row names arguments)
+  expr_tree names (code_expr.Case' place at_subject subject shape branches) =
+      CaseOf place (expr_tree names subject) (branch_row names branches)
 
-  pub phrase_row : {n : _} → List Name → code_expr.Row_of-Expr n → Phrases
-  phrase_row names code_expr.end_of-Expr = NoPhrase
-  phrase_row names (code_expr.more_of-Expr expr others) = NextPhrase (phrase names expr) (phrase_row names others)
+  pub expr_row : {n : _} → List Name → code_expr.Row_of-Expr n → ExprTrees
+  expr_row names code_expr.end_of-Expr = NoExpr
+  expr_row names (code_expr.more_of-Expr expr others) = NextExpr (expr_tree names expr) (expr_row names others)
 
   pub operand_row : {n : _} → List Name → code_expr.Row_of-Operand n → Operands
   operand_row names code_expr.end_of-Operand = NoOperands
   operand_row names (code_expr.more_of-Operand operator right others) =
-      NextOperand operator (phrase names right) (operand_row names others)
+      NextOperand operator (expr_tree names right) (operand_row names others)
 
   pub branch_row : {n : _} → List Name → code_expr.Row_of-Branch n → Branches
   branch_row names code_expr.end_of-Branch = NoBranch
   branch_row names (code_expr.more_of-Branch pattern value others) =
-      NextBranch (pattern_tree names pattern) (phrase names value) (branch_row names others)
+      NextBranch (pattern_tree names pattern) (expr_tree names value) (branch_row names others)
 
 -- the trees of a list of expressions
-abbrev pub phrases : List Name → List code_expr.Expr → Phrases
-phrases names [] = NoPhrase
-phrases names (expr ∷ others) = NextPhrase (phrase names expr) (phrases names others)
+abbrev pub expr_trees : List Name → List code_expr.Expr → ExprTrees
+expr_trees names [] = NoExpr
+expr_trees names (expr ∷ others) = NextExpr (expr_tree names expr) (expr_trees names others)
 
 -- the trees of a list of operators with their right operands, and of a list of branches
 abbrev pub operand_trees : List Name → List code_operand.Operand → Operands
 operand_trees names [] = NoOperands
 operand_trees names (operand ∷ others) =
-    NextOperand operand.operator (phrase names operand.right) (operand_trees names others)
+    NextOperand operand.operator (expr_tree names operand.right) (operand_trees names others)
 
 abbrev pub branches : List Name → List code_branch.Branch → Branches
 branches names [] = NoBranch
 branches names (branch ∷ others) =
-    NextBranch (pattern_tree names branch.pattern) (phrase names branch.value) (branches names others)
+    NextBranch (pattern_tree names branch.pattern) (expr_tree names branch.value) (branches names others)
 
 -- the tree of a right side
 abbrev pub side_tree : List Name → code_side.RightSide → SideTree
 side_tree names (side.New place mode class_place class arguments) =
-    NewOf place mode class_place (name_of names class) (phrases names arguments.value.items)
-side_tree names (side.Value place value) = ValueOf place (phrase names value.value)
-side_tree names (side.Send place method row) = SendOf place (name_of names method) (phrases names row.value.items)
-side_tree names (side.Get place get_place future) = GetOf place get_place (phrase names future.value)
-side_tree names (side.Call place method row slot) =
-    CallOf place (name_of names method) (phrases names row.value.items) slot
+    NewOf place mode class_place (name_of names class) (expr_trees names arguments.value.items)
+side_tree names (side.Value place value) = ValueOf place (expr_tree names value.value)
+side_tree names (side.Send place method operands) = SendOf place (name_of names method) (expr_trees names operands.value.items)
+side_tree names (side.Get place get_place future) = GetOf place get_place (expr_tree names future.value)
+side_tree names (side.Call place method operands slot) =
+    CallOf place (name_of names method) (expr_trees names operands.value.items) slot
 
 abbrev pub maybe_side : List Name → Option code_side.RightSide → MaybeSide
 maybe_side names None = NoSide
@@ -160,7 +160,7 @@ maybe_side names (Some rhs) = SomeSide (side_tree names rhs)
 -- the tree of a guard
 abbrev pub tests : List Name → List code_test.Test → Tests
 tests names [] = NoTest
-tests names (test ∷ others) = NextTest test.place (phrase names test.value.value) test.asks (tests names others)
+tests names (test ∷ others) = NextTest test.place (expr_tree names test.value.value) test.asks (tests names others)
 
 abbrev pub target_tree : List Name → code_target.Target → TargetTree
 target_tree names (target.Variable place variable) = ToVariable place (variable_tree names variable)
@@ -173,12 +173,12 @@ abbrev mutual
   statement names (code_stmt.Skip index place) = SkipOf index place
   statement names (code_stmt.Suspend index place) = SuspendOf index place
   statement names (code_stmt.Await index place guard) = AwaitOf index place (tests names guard.items)
-  statement names (code_stmt.Return index place value) = ReturnOf index place (phrase names value.value)
-  statement names (code_stmt.Print index place value) = PrintOf index place (phrase names value.value)
+  statement names (code_stmt.Return index place value) = ReturnOf index place (expr_tree names value.value)
+  statement names (code_stmt.Print index place value) = PrintOf index place (expr_tree names value.value)
   statement names (code_stmt.If' index place condition shape first second) =
-      IfOf index place (phrase names condition.value) (statement_row names first) (else_held names second)
+      IfOf index place (expr_tree names condition.value) (statement_row names first) (else_held names second)
   statement names (code_stmt.While' index place condition shape body) =
-      WhileOf index place (phrase names condition.value) (statement_row names body)
+      WhileOf index place (expr_tree names condition.value) (statement_row names body)
   statement names (code_stmt.Declare index place type variable_place variable initial) =
       DeclareOf index place (type_tree names type) variable_place (variable_tree names variable)
       (maybe_side names initial)
@@ -228,13 +228,13 @@ signature_tree names signature = record {
   params = map (param_tree names) signature.params.items;
 }
 
-abbrev pub maybe_phrase : List Name → Option (Arc code_expr.Expr Global) → MaybePhrase
-maybe_phrase names None = NoValue
-maybe_phrase names (Some value) = Value (phrase names value.value)
+abbrev pub maybe_expr : List Name → Option (Arc code_expr.Expr Global) → MaybeExpr
+maybe_expr names None = NoValue
+maybe_expr names (Some value) = Value (expr_tree names value.value)
 
 abbrev pub member_tree : List Name → code_member.Member → MemberTree
 member_tree names (member.Field type name initial) =
-    FieldTree (type_tree names type) (declared names name) (maybe_phrase names initial)
+    FieldTree (type_tree names type) (declared names name) (maybe_expr names initial)
 member_tree names (member.Method signature body) =
     MethodTree (signature_tree names signature) body.end (statements names body.statements.items)
 
@@ -244,7 +244,7 @@ decl_tree names (decl.Data place name parameters constructors) =
     (map (constructor_tree names) constructors.items)
 decl_tree names (decl.Function place result name parameters params value) =
     FunctionTree place (type_tree names result) (declared names name) (map (declared names) parameters.items)
-    (map (param_tree names) params.items) (phrase names value.value)
+    (map (param_tree names) params.items) (expr_tree names value.value)
 decl_tree names (decl.Interface place name extended signatures) =
     InterfaceTree place (declared names name) (map (declared names) extended.items)
     (map (signature_tree names) signatures.items)

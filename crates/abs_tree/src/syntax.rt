@@ -1,6 +1,6 @@
-//! The tree of a source: a type for each kind of phrase, with a variant for each alternative of its rule. A variant has
-//! the place of its first token and a field for each name, literal, operator and part, in order. Operators of one
-//! precedence make one node. Parentheses, and a rule with one operand, make none.
+//! The tree of a source: a type for each nonterminal of the grammar, with a variant for each alternative of its rule. A
+//! variant has the place of its first token and a field for each name, literal, operator and part, in order. Operators
+//! of one precedence make one node. Parentheses, and a rule with one operand, make none.
 pub mod declaration;
 pub mod expression;
 pub mod pattern;

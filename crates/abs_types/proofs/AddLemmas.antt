@@ -37,8 +37,8 @@ table_known table = record {
 
 -- there is no value where the test says so
 none_by_test : {X : Type 0} (found : Option X) → false ≡ is_some found → found ≡ None
-none_by_test None told = refl
-none_by_test (Some one) told = absurd (true≢false (sym told))
+none_by_test None reported = refl
+none_by_test (Some one) reported = absurd (true≢false (sym reported))
 
 -- a new shape is inserted behind the others
 pub inserted_last : {S : Type 0} (shapes : IndexMap Shape Bool S) (later : List (Shape × Bool)) (found : Shape)

@@ -59,7 +59,7 @@ pub next_met : {before now : TypeTable} {takes given start met : List TypeIndex}
     ≡ meet_all (declarations_of before) (types_at (types_in before) takes) (types_at (types_in before) given)
     (types_at (types_in before) start)
 next_met {before} {now} {takes} {given} {start} {met} {index} default after so takes_among given_among there other_there
-    told =
+    reported =
     let one = get_or takes index default in
     let other = get_or given index default in
     let types = types_in before in
@@ -67,7 +67,7 @@ next_met {before} {now} {takes} {given} {start} {met} {index} default after so t
     (takes_among index default there, given_among index default other_there) in
     ap (option_and_then (meet_all (declarations_of before) (types_at types (drop (index + 1) takes))
     (types_at types (drop (index + 1) given))))
-    (told ∙ pair_kept (types_at (types_in now) met) so.keeps pair_among)
+    (reported ∙ pair_kept (types_at (types_in now) met) so.keeps pair_among)
     ∙ (sym (ap₂ (λ (left right : List TypeIndex).
     meet_all (declarations_of before) (types_at types left) (types_at types right) (types_at (types_in now) met))
     (drop_more takes index default there) (drop_more given index default other_there))
@@ -83,11 +83,11 @@ pub AllMetSoFar-next : {before now later : TypeTable} {takes given start met aft
     (type_at (types_in now) (get_or given index default)) (types_at (types_in now) met)
     → AllMetSoFar before later takes given start after (index + 1)
 AllMetSoFar-next {before} {now} {later} {takes} {given} {start} {met} {after} {index} default so takes_among given_among
-    there other_there keeps among told = record {
+    there other_there keeps among reported = record {
       keeps = keeps_transitive so.keeps keeps;
       met_among = among;
       so_far = next_met default (Some (types_at (types_in later) after)) so takes_among given_among there
-          other_there told;
+          other_there reported;
     }
 
 -- before all arguments each type parameter has met no value
@@ -128,9 +128,9 @@ pub application_is : {before start : TypeTable} {bottom : TypeIndex} {first : Li
     (types_at (types_in before) given)
 unfolding applied_type
 application_is {before} {start} {bottom} {first} parameters takes given gives found keeps stands takes_among given_among
-    is told =
+    is reported =
     ap (option_map (λ (met : List PlainType). replaced met gives))
-    (told ∙ (ap (λ (items : List TypeIndex). meet_all (declarations_of start) (types_at (types_in start) takes)
+    (reported ∙ (ap (λ (items : List TypeIndex). meet_all (declarations_of start) (types_at (types_in start) takes)
     (types_at (types_in start) given) (types_at (types_in start) items)) is
     ∙ first_met parameters takes given keeps stands takes_among given_among))
 
@@ -151,8 +151,8 @@ pub application_found : {before start later after : TypeTable} {bottom gives : T
       gives = type_at (types_in before) gives;
     }) (types_at (types_in before) given)
 application_found {before} {start} {later} {after} {bottom} {gives} {first} parameters takes given met found keeps
-    stands takes_among given_among gives_among is keeps_too told found_is =
+    stands takes_among given_among gives_among is keeps_too reported found_is =
     ap Some (found_is.is ∙ ap (replaced (types_at (types_in later) met))
     (type_at_kept (keeps_transitive keeps keeps_too) gives_among))
     ∙ application_is parameters takes given (type_at (types_in before) gives) (Some (types_at (types_in later) met))
-    keeps stands takes_among given_among is told
+    keeps stands takes_among given_among is reported

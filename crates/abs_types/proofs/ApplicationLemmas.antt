@@ -34,9 +34,9 @@ fitting_met : (declarations : List DeclTree) (takes given : PlainType) (met late
     → has_parameter takes ≡ false → met_if_fits declarations takes given met ≡ Some later
     → Meets declarations takes given met later
 fitting_met declarations takes given met later none is =
-    let told = cond_some (fits declarations given takes) met later is in
-    subst (λ (after : List PlainType). Meets declarations takes given met after) told.1
-    (fitting takes given met none told.0)
+    let reported = cond_some (fits declarations given takes) met later is in
+    subst (λ (after : List PlainType). Meets declarations takes given met after) reported.1
+    (fitting takes given met none reported.0)
 
 -- a type parameter took a join
 parameter_met : (declarations : List DeclTree) (index : ℕ) (given : PlainType) (met later : List PlainType)
@@ -108,7 +108,7 @@ meets declarations (PlainClass name) given met later is = fitting_met declaratio
 -- there are as many types as before
 meets_length : {declarations : List DeclTree} {takes given : PlainType} {met later : List PlainType}
     → Meets declarations takes given met later → length later ≡ length met
-meets_length (fitting takes given met none told) = refl
+meets_length (fitting takes given met none reported) = refl
 meets_length (parameter index given joined met later found is) =
     ap (λ (types : List PlainType). length types) (sym is) ∙ length-set met index joined
 meets_length (no_value takes met) = refl
@@ -119,15 +119,15 @@ meets_length (applied head argument given_head given_argument met between later 
 -- a list fits itself with an entry replaced by one that this entry fits
 set_grows : (declarations : List DeclTree) (met : List PlainType) (index : ℕ) (joined : PlainType)
     → fits declarations (get_or met index PlainBottom) joined ≡ true → AllFit declarations met (set met index joined)
-set_grows declarations [] index joined told = tt
-set_grows declarations (one ∷ others) zero joined told = (told, AllFit-reflexive declarations others)
-set_grows declarations (one ∷ others) (suc index) joined told =
-    (fits_reflexive declarations one, set_grows declarations others index joined told)
+set_grows declarations [] index joined reported = tt
+set_grows declarations (one ∷ others) zero joined reported = (reported, AllFit-reflexive declarations others)
+set_grows declarations (one ∷ others) (suc index) joined reported =
+    (fits_reflexive declarations one, set_grows declarations others index joined reported)
 
 -- what type parameters have met only grows
 meets_grows : {declarations : List DeclTree} {takes given : PlainType} {met later : List PlainType}
     → Meets declarations takes given met later → AllFit declarations met later
-meets_grows {declarations} (fitting takes given met none told) = AllFit-reflexive declarations met
+meets_grows {declarations} (fitting takes given met none reported) = AllFit-reflexive declarations met
 meets_grows {declarations} (parameter index given joined met later found is) =
     subst (AllFit declarations met) is
     (set_grows declarations met index joined
@@ -142,8 +142,8 @@ meets_fits : {declarations : List DeclTree} {takes given : PlainType} {met later
     → Meets declarations takes given met later → ParametersBelow (length met) takes
     → fits declarations given (replaced later takes) ≡ true
 unfolding replaced fits
-meets_fits {declarations} (fitting takes given met none told) below =
-    ap (fits declarations given) (replaced_without met takes none) ∙ told
+meets_fits {declarations} (fitting takes given met none reported) below =
+    ap (fits declarations given) (replaced_without met takes none) ∙ reported
 meets_fits {declarations} (parameter index given joined met later found is) below =
     ap (λ (types : List PlainType). fits declarations given (get_or types index (PlainParameter index))) (sym is)
     ∙ (ap (fits declarations given) (get_or-set_same met index joined (PlainParameter index) below)
@@ -161,18 +161,18 @@ meets_fits {declarations} (applied head argument given_head given_argument met b
 set_fits : (declarations : List DeclTree) (met types : List PlainType) (index : ℕ) (joined other : PlainType)
     → AllFit declarations met types → fits declarations joined (get_or types index other) ≡ true
     → AllFit declarations (set met index joined) types
-set_fits declarations [] types index joined other all told = all
-set_fits declarations (one ∷ others) [] index joined other all told = absurd all
-set_fits declarations (one ∷ others) (next ∷ types) zero joined other all told = (told, all.1)
-set_fits declarations (one ∷ others) (next ∷ types) (suc index) joined other all told =
-    (all.0, set_fits declarations others types index joined other all.1 told)
+set_fits declarations [] types index joined other all reported = all
+set_fits declarations (one ∷ others) [] index joined other all reported = absurd all
+set_fits declarations (one ∷ others) (next ∷ types) zero joined other all reported = (reported, all.1)
+set_fits declarations (one ∷ others) (next ∷ types) (suc index) joined other all reported =
+    (all.0, set_fits declarations others types index joined other all.1 reported)
 
 -- what type parameters have met fits each replacement for which the argument fits, if what they had met before does
 meets_least : {declarations : List DeclTree} {takes given : PlainType} {met later : List PlainType}
     (types : List PlainType) → Meets declarations takes given met later → AllFit declarations met types
     → fits declarations given (replaced types takes) ≡ true → AllFit declarations later types
 unfolding replaced fits
-meets_least types (fitting takes given met none told) all fit = all
+meets_least types (fitting takes given met none reported) all fit = all
 meets_least {declarations} types (parameter index given joined met later found is) all fit =
     let least = join_of_least declarations (get_or met index PlainBottom) given joined found in
     let above = get_or types index (PlainParameter index) in

@@ -2,8 +2,8 @@
 --
 --   `types_counted`                there are as many types as expressions
 --   `TypedCall`, `typed_call`      a call by its receiver and its arguments has a type, if it does not offend
---   `called_told`, `call_told`     the function gives it
---   `silent_call`                  a call that has a type does not offend
+--   `called_reported`, `call_reported`  the function gives it
+--   `unoffending_call`             a call that has a type does not offend
 --   `OwnCall`, `own_found`         a call on `this` has a class and a type, if it does not offend
 --   `own_there`                    one that has them does not lack its method
 use Rattle.std.proofs.Common.{◌≡◌, ℕ, List, [], ◌∷◌, ◌++◌, length, Option, Some, None, option_map, refl, ap, subst, nat_eq, arith}
@@ -11,27 +11,28 @@ use Rattle.std.specs.Prelude.{true, not, ◌||◌, is_some}
 use Rattle.std.proofs.Math.Dec.{eqb-suc-zero}
 use Rattle.std.proofs.lemmas.Bool.{not-false, not_from_true}
 use Rattle.std.proofs.lemmas.Option.{none-some}
-use Rattle.abs_tree.specs.Syntax.{Name, DeclTree, Phrase, Phrases, NextPhrase}
-use Rattle.abs_tree.specs.SyntaxCounts.{count_phrases}
+use Rattle.abs_tree.specs.Syntax.{Name, DeclTree, ExprTree, ExprTrees, NextExpr}
+use Rattle.abs_tree.specs.SyntaxCounts.{count_exprs}
 use Rattle.abs_tree.specs.declared.place.Place.{Place}
 use Rattle.abs_tree.specs.declared.refusal.Code.TheVariants.{T2}
 use Rattle.abs_types.proofs.AgreementLemmas.{typed_whole, all_typed_whole}
-use Rattle.abs_types.proofs.AskedLemmas.{typed_phrase, silent_phrase, typed_phrases, silent_phrases}
-use Rattle.abs_types.proofs.OffenceLemmas.{both_silent, silent_after, offence_if_silent, silent_offence_if, untyped_silent, silent_if_typed}
-use Rattle.abs_types.specs.ExpressionOffences.{lacks_method, phrase_offences, phrases_offences}
+use Rattle.abs_types.proofs.AskedLemmas.{typed_expr, unoffending_expr, typed_exprs, unoffending_exprs}
+use Rattle.abs_types.proofs.OffenceLemmas.{both_unoffending, unoffending_after, offence_if_unoffending, unoffending_offence_if, untyped_unoffending, unoffending_if_typed}
+use Rattle.abs_types.specs.ExpressionOffences.{lacks_method, expr_offences, exprs_offences}
 use Rattle.abs_types.specs.HasType.{HasType, HaveTypes}
-use Rattle.abs_types.specs.HasType.HaveTypes.{no_phrase, next_phrase}
+use Rattle.abs_types.specs.HasType.HaveTypes.{no_expr, next_expr}
 use Rattle.abs_types.specs.Methods.{MethodType, methods_named, has_method, first_taking, call_type}
-use Rattle.abs_types.specs.Mistyped.{offence_if, untyped}
+use Rattle.abs_tree.specs.Offences.{offence_if}
+use Rattle.abs_types.specs.Mistyped.{untyped}
 use Rattle.abs_types.specs.PlainTypes.{PlainType, PlainClass}
-use Rattle.abs_types.specs.SideTypes.{called_type, row_type, can_be_called, row_offences}
+use Rattle.abs_types.specs.SideTypes.{called_type, type_by_operands, can_be_called, offences_by_operands}
 use Rattle.abs_types.specs.Typing.{Frame, type_in, types_in}
 
 -- there are as many types as expressions
-pub types_counted : {declarations : List DeclTree} {frame : Frame} {bound : List PlainType} {phrases : Phrases}
-    {types : List PlainType} → HaveTypes declarations frame bound phrases types → length types ≡ count_phrases phrases
-types_counted (no_phrase bound) = refl
-types_counted (next_phrase bound first others type types has_type have_types) =
+pub types_counted : {declarations : List DeclTree} {frame : Frame} {bound : List PlainType} {expr_trees : ExprTrees}
+    {types : List PlainType} → HaveTypes declarations frame bound expr_trees types → length types ≡ count_exprs expr_trees
+types_counted (no_expr bound) = refl
+types_counted (next_expr bound first others type types has_type have_types) =
     let counted = types_counted have_types in omega (arith, counted)
 
 -- one of several methods took the arguments, so there is one
@@ -49,11 +50,11 @@ method_there declarations object method given type =
     first_there declarations given (methods_named declarations object method (length given)) type
 
 -- a call whose receiver and arguments have types has the type of the method
-pub called_told : (declarations : List DeclTree) {receiver : Option PlainType} {arguments : Option (List PlainType)}
+pub called_reported : (declarations : List DeclTree) {receiver : Option PlainType} {arguments : Option (List PlainType)}
     (object : PlainType) (method : Name) (given : List PlainType) (type : PlainType)
     → receiver ≡ Some object → arguments ≡ Some given → call_type declarations object method given ≡ Some type
     → called_type declarations receiver method arguments ≡ Some type
-called_told declarations object method given type receiver_is arguments_are is = rw (receiver_is, arguments_are) is
+called_reported declarations object method given type receiver_is arguments_are is = rw (receiver_is, arguments_are) is
 
 -- there is a method, if a call does not offend by lacking it, and then the call has a type, if it does not offend
 call_found : (declarations : List DeclTree) {receiver : Option PlainType} {arguments : Option (List PlainType)}
@@ -63,11 +64,11 @@ call_found : (declarations : List DeclTree) {receiver : Option PlainType} {argum
     → untyped (can_be_called declarations receiver method count arguments)
     (called_type declarations receiver method arguments) place ≡ []
     → (type : PlainType) × (call_type declarations object method given ≡ Some type)
-call_found declarations object method count given place receiver_is arguments_are there silent =
+call_found declarations object method count given place receiver_is arguments_are there unoffending =
     let has = has_method declarations object method count in
-    let told = not-false has (offence_if_silent (not has) T2 place (rw receiver_is at there)) in
-    untyped_silent has (call_type declarations object method given) place told
-    (rw (receiver_is, arguments_are) at silent)
+    let reported = not-false has (offence_if_unoffending (not has) T2 place (rw receiver_is at there)) in
+    untyped_unoffending has (call_type declarations object method given) place reported
+    (rw (receiver_is, arguments_are) at unoffending)
 
 -- a call that has a type does not lack its method
 call_there : (declarations : List DeclTree) {receiver : Option PlainType} (object : PlainType) (method : Name)
@@ -78,70 +79,70 @@ call_there declarations object method count given type place receiver_is counted
     let has = has_method declarations object method count in
     let there : has ≡ true = subst (λ (n : ℕ). has_method declarations object method n ≡ true) counted
     (method_there declarations object method given type is) in
-    rw receiver_is (silent_offence_if (not has) T2 place (not_from_true has there))
+    rw receiver_is (unoffending_offence_if (not has) T2 place (not_from_true has there))
 
 -- A call by its receiver and its arguments has a type, by the relations and by the function.
-pub record TypedCall (declarations : List DeclTree) (frame : Frame) (method : Name) (receiver : Phrase)
-    (arguments : Phrases) : Type 0 where
+pub record TypedCall (declarations : List DeclTree) (frame : Frame) (method : Name) (receiver : ExprTree)
+    (arguments : ExprTrees) : Type 0 where
   pub object : PlainType
   pub given : List PlainType
   pub type : PlainType
   pub has_type : HasType declarations frame [] receiver object
   pub have_types : HaveTypes declarations frame [] arguments given
   pub call_is : call_type declarations object method given ≡ Some type
-  pub found : row_type declarations frame method (NextPhrase receiver arguments) ≡ Some type
+  pub found : type_by_operands declarations frame method (NextExpr receiver arguments) ≡ Some type
 
 -- it has one, if it does not offend
-pub typed_call : (declarations : List DeclTree) (frame : Frame) (place : Place) (method : Name) (receiver : Phrase)
-    (arguments : Phrases) → row_offences declarations frame place method (NextPhrase receiver arguments) ≡ []
+pub typed_call : (declarations : List DeclTree) (frame : Frame) (place : Place) (method : Name) (receiver : ExprTree)
+    (arguments : ExprTrees) → offences_by_operands declarations frame place method (NextExpr receiver arguments) ≡ []
     → TypedCall declarations frame method receiver arguments
 typed_call declarations frame place method receiver arguments none =
-    let count = count_phrases arguments in
-    let all = both_silent (phrase_offences declarations frame [] receiver
-    ++ phrases_offences declarations frame [] arguments) _ none in
-    let parts = both_silent (phrase_offences declarations frame [] receiver) _ all.0 in
-    let object = typed_phrase declarations frame receiver parts.0 in
-    let given = typed_phrases declarations frame arguments parts.1 in
-    let own = both_silent (offence_if (lacks_method declarations (type_in declarations frame [] receiver) method count)
+    let count = count_exprs arguments in
+    let all = both_unoffending (expr_offences declarations frame [] receiver
+    ++ exprs_offences declarations frame [] arguments) _ none in
+    let parts = both_unoffending (expr_offences declarations frame [] receiver) _ all.0 in
+    let object = typed_expr declarations frame receiver parts.0 in
+    let given = typed_exprs declarations frame arguments parts.1 in
+    let own = both_unoffending (offence_if (lacks_method declarations (type_in declarations frame [] receiver) method count)
     T2 place) _ all.1 in
-    let told = call_found declarations object.type method count given.types place object.found given.found own.0
+    let reported = call_found declarations object.type method count given.types place object.found given.found own.0
     own.1 in
     record {
       object = object.type;
       given = given.types;
-      type = told.0;
+      type = reported.0;
       has_type = object.has_type;
       have_types = given.have_types;
-      call_is = told.1;
-      found = called_told declarations object.type method given.types told.0 object.found given.found told.1;
+      call_is = reported.1;
+      found = called_reported declarations object.type method given.types reported.0 object.found given.found reported.1;
     }
 
 -- the function gives it
-pub call_told : {declarations : List DeclTree} {frame : Frame} {receiver : Phrase} {arguments : Phrases}
+pub call_reported : {declarations : List DeclTree} {frame : Frame} {receiver : ExprTree} {arguments : ExprTrees}
     {object : PlainType} {given : List PlainType} {type : PlainType} (method : Name)
     → HasType declarations frame [] receiver object → HaveTypes declarations frame [] arguments given
     → call_type declarations object method given ≡ Some type
-    → row_type declarations frame method (NextPhrase receiver arguments) ≡ Some type
-call_told {declarations} {object = object} {given} {type} method has_type have_types is =
-    called_told declarations object method given type (typed_whole has_type) (all_typed_whole have_types) is
+    → type_by_operands declarations frame method (NextExpr receiver arguments) ≡ Some type
+call_reported {declarations} {object = object} {given} {type} method has_type have_types is =
+    called_reported declarations object method given type (typed_whole has_type) (all_typed_whole have_types) is
 
 -- a call that has a type does not offend
-pub silent_call : {declarations : List DeclTree} {frame : Frame} {receiver : Phrase} {arguments : Phrases}
+pub unoffending_call : {declarations : List DeclTree} {frame : Frame} {receiver : ExprTree} {arguments : ExprTrees}
     {object : PlainType} {given : List PlainType} {type : PlainType} (place : Place) (method : Name)
     → HasType declarations frame [] receiver object → HaveTypes declarations frame [] arguments given
     → call_type declarations object method given ≡ Some type
-    → row_offences declarations frame place method (NextPhrase receiver arguments) ≡ []
-silent_call {declarations} {frame} {receiver} {arguments} {object} {given} {type} place method has_type have_types is =
-    let count = count_phrases arguments in
+    → offences_by_operands declarations frame place method (NextExpr receiver arguments) ≡ []
+unoffending_call {declarations} {frame} {receiver} {arguments} {object} {given} {type} place method has_type have_types is =
+    let count = count_exprs arguments in
     let receiver_type = type_in declarations frame [] receiver in
-    silent_after (phrase_offences declarations frame [] receiver ++ phrases_offences declarations frame [] arguments) _
-    (silent_after (phrase_offences declarations frame [] receiver) _ (silent_phrase has_type)
-    (silent_phrases have_types))
-    (silent_after (offence_if (lacks_method declarations receiver_type method count) T2 place) _
+    unoffending_after (expr_offences declarations frame [] receiver ++ exprs_offences declarations frame [] arguments) _
+    (unoffending_after (expr_offences declarations frame [] receiver) _ (unoffending_expr has_type)
+    (unoffending_exprs have_types))
+    (unoffending_after (offence_if (lacks_method declarations receiver_type method count) T2 place) _
     (call_there declarations object method count given type place (typed_whole has_type) (types_counted have_types) is)
-    (silent_if_typed (can_be_called declarations receiver_type method count (types_in declarations frame [] arguments))
-    (row_type declarations frame method (NextPhrase receiver arguments)) place type
-    (call_told method has_type have_types is)))
+    (unoffending_if_typed (can_be_called declarations receiver_type method count (types_in declarations frame [] arguments))
+    (type_by_operands declarations frame method (NextExpr receiver arguments)) place type
+    (call_reported method has_type have_types is)))
 
 -- A call on `this` has a class and a type.
 pub record OwnCall (declarations : List DeclTree) (this : Option Name) (method : Name) (given : List PlainType) : Type 0
@@ -159,10 +160,10 @@ pub own_found : (declarations : List DeclTree) (this : Option Name) (method : Na
     → untyped (can_be_called declarations (option_map PlainClass this) method count arguments)
     (called_type declarations (option_map PlainClass this) method arguments) place ≡ []
     → OwnCall declarations this method given
-own_found declarations None method count given place arguments_are there silent = cc
-own_found declarations (Some class) method count given place arguments_are there silent =
-    let told = call_found declarations (PlainClass class) method count given place refl arguments_are there silent in
-    record { class = class; type = told.0; this_is = refl; call_is = told.1 }
+own_found declarations None method count given place arguments_are there unoffending = cc
+own_found declarations (Some class) method count given place arguments_are there unoffending =
+    let reported = call_found declarations (PlainClass class) method count given place refl arguments_are there unoffending in
+    record { class = class; type = reported.0; this_is = refl; call_is = reported.1 }
 
 -- it does not lack its method, if it has them
 pub own_there : (declarations : List DeclTree) {this : Option Name} (class method : Name) (count : ℕ)

@@ -109,17 +109,17 @@ below_if_same : (declarations : List DeclTree) (scheme : Scheme) (owner : Name) 
     → parts_if_same scheme given subject ≡ Some parts
     → FindsFitting declarations
     (parts_if_same scheme given (Some (record { name = owner; arguments = arguments }))) parts
-below_if_same declarations scheme owner arguments other parts (Some given) (Some subject) told at is =
+below_if_same declarations scheme owner arguments other parts (Some given) (Some subject) reported at is =
     let kept = cond_some (bytes_eq given.name subject.name) (map (replaced subject.arguments) scheme.takes) parts is in
     let fit = data_fitting declarations owner subject.name arguments subject.arguments
-    (ap (fits declarations (applied_to (PlainData owner) arguments)) (data_is other subject at) ∙ told) in (
+    (ap (fits declarations (applied_to (PlainData owner) arguments)) (data_is other subject at) ∙ reported) in (
       map (replaced arguments) scheme.takes,
       parts_of_same scheme given (record { name = owner; arguments = arguments })
           (ap (bytes_eq given.name) fit.0 ∙ kept.0),
       subst (AllFit declarations (map (replaced arguments) scheme.takes)) kept.1
           (takes_fit declarations arguments subject.arguments scheme.takes fit.1),
     )
-below_if_same declarations scheme owner arguments other parts given subject told at is = absurd (none-some parts is)
+below_if_same declarations scheme owner arguments other parts given subject reported at is = absurd (none-some parts is)
 
 -- the same by the form of the type
 below_by_form : (declarations : List DeclTree) (scheme : Scheme) (owner : Name) (arguments : List PlainType)
@@ -127,10 +127,10 @@ below_by_form : (declarations : List DeclTree) (scheme : Scheme) (owner : Name) 
     → fits declarations (applied_to (PlainData owner) arguments) other ≡ true → parts_by other scheme ≡ Some parts
     → FindsFitting declarations
     (parts_if_same scheme (arguments_of scheme.gives) (Some (record { name = owner; arguments = arguments }))) parts
-below_by_form declarations scheme owner arguments PlainBottom parts told is =
-    absurd (true≢false (sym told ∙ sym (data_apart declarations owner arguments PlainBottom refl)))
-below_by_form declarations scheme owner arguments other parts told is =
-    below_if_same declarations scheme owner arguments other parts (arguments_of scheme.gives) (arguments_of other) told
+below_by_form declarations scheme owner arguments PlainBottom parts reported is =
+    absurd (true≢false (sym reported ∙ sym (data_apart declarations owner arguments PlainBottom refl)))
+below_by_form declarations scheme owner arguments other parts reported is =
+    below_if_same declarations scheme owner arguments other parts (arguments_of scheme.gives) (arguments_of other) reported
     refl is
 
 -- the same by the scheme that is found, if there is one
@@ -139,11 +139,11 @@ below_by_scheme : (declarations : List DeclTree) (owner : Name) (arguments : Lis
     → fits declarations (applied_to (PlainData owner) arguments) other ≡ true
     → option_and_then (parts_by other) found ≡ Some parts
     → FindsFitting declarations (option_and_then (parts_by (applied_to (PlainData owner) arguments)) found) parts
-below_by_scheme declarations owner arguments other parts None told is = absurd (none-some parts is)
-below_by_scheme declarations owner arguments other parts (Some scheme) told is =
+below_by_scheme declarations owner arguments other parts None reported is = absurd (none-some parts is)
+below_by_scheme declarations owner arguments other parts (Some scheme) reported is =
     subst (λ (found : Option (List PlainType)). FindsFitting declarations found parts)
     (sym (parts_of_data scheme owner arguments))
-    (below_by_form declarations scheme owner arguments other parts told is)
+    (below_by_form declarations scheme owner arguments other parts reported is)
 
 -- what is found in data fits what is found in a type that it fits
 pub parts_below : (declarations : List DeclTree) (name owner : Name) (arguments : List PlainType) (other : PlainType)
@@ -151,8 +151,8 @@ pub parts_below : (declarations : List DeclTree) (name owner : Name) (arguments 
     → constructor_parts declarations other name ≡ Some parts
     → FindsFitting declarations (constructor_parts declarations (applied_to (PlainData owner) arguments) name) parts
 unfolding constructor_parts
-parts_below declarations name owner arguments other parts told is =
-    below_by_scheme declarations owner arguments other parts (scheme_of_constructor declarations name) told is
+parts_below declarations name owner arguments other parts reported is =
+    below_by_scheme declarations owner arguments other parts (scheme_of_constructor declarations name) reported is
 
 -- types of no value fit what a constructor takes, with the type parameters replaced
 none_fit : (declarations : List DeclTree) (types takes : List PlainType)

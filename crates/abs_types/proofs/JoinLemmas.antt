@@ -85,14 +85,14 @@ least_of_fitted declarations one other back = record {
 least_by_parts : (declarations : List DeclTree) (one other joined : PlainType)
     → (join_of_parts declarations one other ≡ Some joined → IsLeastAbove declarations one other joined)
     → join_of declarations one other ≡ Some joined → IsLeastAbove declarations one other joined
-least_by_parts declarations one other joined by_parts told = by_fitting declarations one other
+least_by_parts declarations one other joined by_parts reported = by_fitting declarations one other
     (λ there. subst (IsLeastAbove declarations one other)
-    (some_is_same (sym (join_of_fitting declarations one other there) ∙ told))
+    (some_is_same (sym (join_of_fitting declarations one other there) ∙ reported))
     (least_of_fitting declarations one other there))
     (λ not_there back. subst (IsLeastAbove declarations one other)
-    (some_is_same (sym (join_of_greater declarations one other not_there back) ∙ told))
+    (some_is_same (sym (join_of_greater declarations one other not_there back) ∙ reported))
     (least_of_fitted declarations one other back))
-    (λ not_there not_back. by_parts (sym (join_of_apart declarations one other not_there not_back) ∙ told))
+    (λ not_there not_back. by_parts (sym (join_of_apart declarations one other not_there not_back) ∙ reported))
 
 -- `Fut` of the least type above two types fits each type above `Fut` of them
 least_above_futures : (declarations : List DeclTree) (one other least : PlainType)
@@ -109,10 +109,10 @@ futures_least : (declarations : List DeclTree) (one other joined : PlainType) (i
     → ((least : PlainType) → inner ≡ Some least → IsLeastAbove declarations one other least)
     → option_map PlainFut inner ≡ Some joined → IsLeastAbove declarations (PlainFut one) (PlainFut other) joined
 unfolding fits
-futures_least declarations one other joined None by_inner told = absurd (none-some joined told)
-futures_least declarations one other joined (Some least) by_inner told =
+futures_least declarations one other joined None by_inner reported = absurd (none-some joined reported)
+futures_least declarations one other joined (Some least) by_inner reported =
     let found = by_inner least refl in
-    subst (IsLeastAbove declarations (PlainFut one) (PlainFut other)) (some_is_same told)
+    subst (IsLeastAbove declarations (PlainFut one) (PlainFut other)) (some_is_same reported)
     (record {
       first = found.first;
       second = found.second;
@@ -147,11 +147,11 @@ applied_least : (declarations : List DeclTree) (head other_head argument other_a
     → IsLeastAbove declarations (PlainApplied head argument) (PlainApplied other_head other_argument) joined
 unfolding fits
 applied_least declarations head other_head argument other_argument joined (Some least_head) (Some least_argument)
-    by_heads by_arguments told =
+    by_heads by_arguments reported =
     let found = by_heads least_head refl in
     let found_too = by_arguments least_argument refl in
     subst (IsLeastAbove declarations (PlainApplied head argument) (PlainApplied other_head other_argument))
-    (some_is_same told)
+    (some_is_same reported)
     (record {
       first = and_from (fits declarations head least_head) (fits declarations argument least_argument)
           found.first found_too.first;
@@ -161,23 +161,23 @@ applied_least declarations head other_head argument other_argument joined (Some 
           found found_too;
     })
 applied_least declarations head other_head argument other_argument joined of_heads of_arguments by_heads by_arguments
-    told = absurd (none-some joined told)
+    reported = absurd (none-some joined reported)
 
 -- a join is the least type above
 pub join_of_least : (declarations : List DeclTree) (one other joined : PlainType)
     → join_of declarations one other ≡ Some joined → IsLeastAbove declarations one other joined
-join_of_least declarations (PlainFut one) (PlainFut other) joined told =
+join_of_least declarations (PlainFut one) (PlainFut other) joined reported =
     least_by_parts declarations (PlainFut one) (PlainFut other) joined
     (futures_least declarations one other joined (join_of declarations one other)
-    (join_of_least declarations one other)) told
-join_of_least declarations (PlainApplied head argument) (PlainApplied other_head other_argument) joined told =
+    (join_of_least declarations one other)) reported
+join_of_least declarations (PlainApplied head argument) (PlainApplied other_head other_argument) joined reported =
     least_by_parts declarations (PlainApplied head argument) (PlainApplied other_head other_argument) joined
     (applied_least declarations head other_head argument other_argument joined
     (join_of declarations head other_head) (join_of declarations argument other_argument)
     (join_of_least declarations head other_head) (join_of_least declarations argument other_argument))
-    told
-join_of_least declarations one other joined told =
-    least_by_parts declarations one other joined (λ parts. absurd (none-some joined parts)) told
+    reported
+join_of_least declarations one other joined reported =
+    least_by_parts declarations one other joined (λ parts. absurd (none-some joined parts)) reported
 
 -- the least type above the join of two types and above others is the least one above all of them
 all_least_after : (declarations : List DeclTree) (one other between least : PlainType) (others : List PlainType)
@@ -201,15 +201,15 @@ all_least_after declarations one other between least others of_two of_all =
 -- so the join of several types is the least type above all of them
 pub join_all_least : (declarations : List DeclTree) (one joined : PlainType) (others : List PlainType)
     → join_all declarations one others ≡ Some joined → IsLeastAboveAll declarations (one ∷ others) joined
-join_all_least declarations one joined [] told =
-    subst (IsLeastAboveAll declarations (one ∷ [])) (some_is_same told)
+join_all_least declarations one joined [] reported =
+    subst (IsLeastAboveAll declarations (one ∷ [])) (some_is_same reported)
     (record {
       above_all = All-cons (λ type. fits declarations type one ≡ true) one [] (fits_reflexive declarations one)
           (All-nil (λ type. fits declarations type one ≡ true));
       least_is = λ above all_fit. All-head (λ type. fits declarations type above ≡ true) one [] all_fit;
     })
-join_all_least declarations one joined (other ∷ others) told =
-    option_and_then_some (λ between. join_all declarations between others) (join_of declarations one other) joined told
+join_all_least declarations one joined (other ∷ others) reported =
+    option_and_then_some (λ between. join_all declarations between others) (join_of declarations one other) joined reported
     (λ between first more. all_least_after declarations one other between joined others
     (join_of_least declarations one other between first)
     (join_all_least declarations between joined others more))

@@ -15,9 +15,9 @@ pub mod NamedLemmas
 pub mod OffenceLemmas
 pub mod PatternLemmas
 pub mod OperatorLemmas
-pub mod RowLemmas
+pub mod RuleLemmas
 pub mod AgreementLemmas
-pub mod SilenceLemmas
+pub mod NoOffenceLemmas
 pub mod SchemeLemmas
 pub mod ConstructorLemmas
 pub mod AskedLemmas

@@ -86,8 +86,8 @@ closed_meet declarations takes given met none = refl
 pub closed_met : {could : Bool} (declarations : List DeclTree) (takes given : PlainType) (met : List PlainType)
     → has_parameter takes ≡ false → could ≡ fits declarations given takes
     → met_if could met ≡ meet declarations takes given met
-closed_met {could} declarations takes given met none told =
-    ap (λ (test : Bool). met_if test met) told ∙ closed_meet declarations takes given met none
+closed_met {could} declarations takes given met none reported =
+    ap (λ (test : Bool). met_if test met) reported ∙ closed_meet declarations takes given met none
 
 -- `Fut` with a type parameter in it is met by the type of no value
 pub future_bottom : (declarations : List DeclTree) {takes given : PlainType} (value : PlainType) (met : List PlainType)

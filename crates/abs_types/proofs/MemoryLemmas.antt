@@ -27,7 +27,7 @@ pair_eq = (pair_equality.eq-value).it
 
 -- the test tells equal pairs
 pair_eq_same : (one other : TypePair) → pair_eq one other ≡ true → one ≡ other
-pair_eq_same one other told = search rules
+pair_eq_same one other reported = search rules
 
 -- what is found among right joins is right
 found_right : (declarations : List DeclTree) (types : List PlainType) (entries : List (TypePair × Option TypeIndex))
@@ -65,10 +65,10 @@ remembered_among declarations types entries pair found is right =
 
 -- what is so of each entry and of a new one is so after it is put there, where the test of the key is the same on both
 put_first : (P : TypePair × Option TypeIndex → Type 0) (entry : TypePair × Option TypeIndex)
-    (others : List (TypePair × Option TypeIndex)) (pair : TypePair) (found : Option TypeIndex) (told : Bool)
-    → pair_eq pair entry.0 ≡ told → All P (entry ∷ others) → P (pair, found)
+    (others : List (TypePair × Option TypeIndex)) (pair : TypePair) (found : Option TypeIndex) (reported : Bool)
+    → pair_eq pair entry.0 ≡ reported → All P (entry ∷ others) → P (pair, found)
     → All P (insert_entry pair_eq others pair found)
-    → All P (if told then (entry.0, found) ∷ others else entry ∷ insert_entry pair_eq others pair found)
+    → All P (if reported then (entry.0, found) ∷ others else entry ∷ insert_entry pair_eq others pair found)
 put_first P entry others pair found true same all own more =
     All-cons P (entry.0, found) others
     (subst (λ (key : TypePair). P (key, found)) (pair_eq_same pair entry.0 same) own) (All-tail P entry others all)

@@ -47,9 +47,9 @@ pub heads_failed : {declarations : List DeclTree} {types : List PlainType} {pair
     {arguments : List TypePair} (met : List PlainType) → AreMetSpines declarations types pair heads arguments
     → None ≡ meet declarations (type_at types heads.one) (type_at types heads.other) met
     → None ≡ meet declarations (type_at types pair.one) (type_at types pair.other) met
-heads_failed {declarations} {types} {pair} {heads} {arguments} met spines told =
+heads_failed {declarations} {types} {pair} {heads} {arguments} met spines reported =
     sym (spines.meets met
-    ∙ (ap (λ (first : Option (List PlainType)). met_back declarations types first arguments) (sym told)
+    ∙ (ap (λ (first : Option (List PlainType)). met_back declarations types first arguments) (sym reported)
     ∙ none_back declarations types arguments))
 
 -- the declarations are the same later
@@ -77,10 +77,10 @@ pair_met : {before now : TypeTable} {pair : TypePair} {start met : List TypeInde
     → met_back (declarations_of before) (types_in before) after rest
     ≡ meet (declarations_of before) (type_at (types_in before) pair.one) (type_at (types_in before) pair.other)
     (types_at (types_in before) start)
-pair_met {before} {now} {pair} {start} {met} {arguments} last rest after so taken told =
+pair_met {before} {now} {pair} {start} {met} {arguments} last rest after so taken reported =
     let among = (All-pop (ArePairAmong (types_in before)) arguments rest (Some last) taken so.arguments_among).1 in
     ap (λ (first : Option (List PlainType)). met_back (declarations_of before) (types_in before) first rest)
-    (told ∙ pair_kept (types_at (types_in now) met) so.keeps among)
+    (reported ∙ pair_kept (types_at (types_in now) met) so.keeps among)
     ∙ (met_back-push (declarations_of before) (types_in before) (Some (types_at (types_in now) met)) last rest
     ∙ (ap (met_back (declarations_of before) (types_in before) (Some (types_at (types_in now) met))) (sym taken)
     ∙ so.so_far))
@@ -93,14 +93,14 @@ pub MetSoFar-next : {before now later : TypeTable} {pair : TypePair} {start met 
     ≡ meet (declarations_of now) (type_at (types_in now) last.one) (type_at (types_in now) last.other)
     (types_at (types_in now) met)
     → MetSoFar before later pair start after rest
-MetSoFar-next {before} {now} {later} {pair} {start} {met} {after} {arguments} {rest} last so taken keeps among told =
+MetSoFar-next {before} {now} {later} {pair} {start} {met} {after} {arguments} {rest} last so taken keeps among reported =
     record {
       keeps = keeps_transitive so.keeps keeps;
       met_among = among;
       arguments_among = (All-pop (ArePairAmong (types_in before)) arguments rest (Some last) taken so.arguments_among).0;
       arguments_below = (All-pop (λ (argument : TypePair). argument.one.0 < pair.one.0) arguments rest (Some last) taken
           so.arguments_below).0;
-      so_far = pair_met last rest (Some (types_at (types_in later) after)) so taken told;
+      so_far = pair_met last rest (Some (types_at (types_in later) after)) so taken reported;
     }
 
 -- where a pair cannot be met, nor can the whole types
@@ -111,8 +111,8 @@ pub argument_failed : {before now : TypeTable} {pair : TypePair} {start met : Li
     (types_at (types_in now) met)
     → None ≡ meet (declarations_of before) (type_at (types_in before) pair.one) (type_at (types_in before) pair.other)
     (types_at (types_in before) start)
-argument_failed {before} {now} {pair} {start} {met} {arguments} last rest so taken told =
-    sym (none_back (declarations_of before) (types_in before) rest) ∙ pair_met last rest None so taken told
+argument_failed {before} {now} {pair} {start} {met} {arguments} last rest so taken reported =
+    sym (none_back (declarations_of before) (types_in before) rest) ∙ pair_met last rest None so taken reported
 
 -- the last of the pairs is of types of the table
 pub next_among : {before now : TypeTable} {pair : TypePair} {start met : List TypeIndex} {arguments : List TypePair}

@@ -11,28 +11,28 @@ use Rattle.abs_tree.specs.declared.syntax.expression.Operator.TheVariants as ope
 use Rattle.abs_tree.specs.declared.syntax.expression.Prefix.{Prefix}
 use Rattle.abs_tree.specs.declared.syntax.expression.Prefix.TheVariants as prefix
 use Rattle.abs_types.specs.Joins.{join_of}
-use Rattle.abs_types.specs.OperatorRows.{is_arithmetic, is_comparison, is_equality, is_logical, OperatorGives, PrefixGives}
-use Rattle.abs_types.specs.OperatorRows.OperatorGives.{numbers, strings, bottom_number, bottom_string, number_bottom, string_bottom, bottoms, arithmetic, comparison, equality, logical}
-use Rattle.abs_types.specs.OperatorRows.PrefixGives.{negated, tilde, minus}
+use Rattle.abs_types.specs.OperatorRules.{is_arithmetic, is_comparison, is_equality, is_logical, OperatorGives, PrefixGives}
+use Rattle.abs_types.specs.OperatorRules.OperatorGives.{numbers, strings, bottom_number, bottom_string, number_bottom, string_bottom, bottoms, arithmetic, comparison, equality, logical}
+use Rattle.abs_types.specs.OperatorRules.PrefixGives.{negated, tilde, minus}
 use Rattle.abs_types.specs.OperatorTypes.{bool_type, type_if, plus_type, both_are, equality_type, operator_type, prefix_type}
 use Rattle.abs_types.specs.PlainTypes.{PlainType, PlainInt, PlainString, PlainBottom}
 use Rattle.abs_types.specs.Subtyping.{Fits, fits}
-use Rattle.abs_types.proofs.OffenceLemmas.{some_found, some_told, if_found, if_told}
+use Rattle.abs_types.proofs.OffenceLemmas.{some_found, some_reported, if_found, if_reported}
 use Rattle.abs_types.proofs.SubtypingLemmas.{fits_found, fits_whole}
 
 -- a type that there is reason for
 type_if_found : (reason : Bool) (given type : PlainType) → type_if reason given ≡ Some type
     → (reason ≡ true) × (given ≡ type)
-type_if_found reason given type told =
-    let both = if_found reason (Some given) type told in
+type_if_found reason given type reported =
+    let both = if_found reason (Some given) type reported in
     (both.0, same_Some given type both.1)
 
 -- where two operands of one type give another one, both fit it
 both_found : (declarations : List DeclTree) (wanted given left right type : PlainType)
     → both_are declarations wanted given left right ≡ Some type
     → Fits declarations left wanted × Fits declarations right wanted × (given ≡ type)
-both_found declarations wanted given left right type told =
-    let found = type_if_found (fits declarations left wanted && fits declarations right wanted) given type told in
+both_found declarations wanted given left right type reported =
+    let found = type_if_found (fits declarations left wanted && fits declarations right wanted) given type reported in
     let both = and_parts (fits declarations left wanted) (fits declarations right wanted) found.0 in
     (fits_found declarations left wanted both.0, fits_found declarations right wanted both.1, found.1)
 
@@ -40,53 +40,53 @@ both_found declarations wanted given left right type told =
 both_whole : (declarations : List DeclTree) (wanted given left right : PlainType) → Fits declarations left wanted
     → Fits declarations right wanted → both_are declarations wanted given left right ≡ Some given
 both_whole declarations wanted given left right one other =
-    if_told (fits declarations left wanted && fits declarations right wanted) (Some given) given
+    if_reported (fits declarations left wanted && fits declarations right wanted) (Some given) given
     (and_from (fits declarations left wanted) (fits declarations right wanted) (fits_whole one) (fits_whole other))
     refl
 
--- the type of `+` has a row
+-- the type of `+` has a rule
 plus_found : (declarations : List DeclTree) (left right type : PlainType) → plus_type left right ≡ Some type
     → OperatorGives declarations operator.Plus left right type
-plus_found declarations PlainInt PlainInt type told =
-    subst (OperatorGives declarations operator.Plus PlainInt PlainInt) (same_Some PlainInt type told) numbers
-plus_found declarations PlainString PlainString type told =
-    subst (OperatorGives declarations operator.Plus PlainString PlainString) (same_Some PlainString type told) strings
-plus_found declarations PlainBottom PlainInt type told =
-    subst (OperatorGives declarations operator.Plus PlainBottom PlainInt) (same_Some PlainInt type told) bottom_number
-plus_found declarations PlainBottom PlainString type told =
-    subst (OperatorGives declarations operator.Plus PlainBottom PlainString) (same_Some PlainString type told)
+plus_found declarations PlainInt PlainInt type reported =
+    subst (OperatorGives declarations operator.Plus PlainInt PlainInt) (same_Some PlainInt type reported) numbers
+plus_found declarations PlainString PlainString type reported =
+    subst (OperatorGives declarations operator.Plus PlainString PlainString) (same_Some PlainString type reported) strings
+plus_found declarations PlainBottom PlainInt type reported =
+    subst (OperatorGives declarations operator.Plus PlainBottom PlainInt) (same_Some PlainInt type reported) bottom_number
+plus_found declarations PlainBottom PlainString type reported =
+    subst (OperatorGives declarations operator.Plus PlainBottom PlainString) (same_Some PlainString type reported)
     bottom_string
-plus_found declarations PlainInt PlainBottom type told =
-    subst (OperatorGives declarations operator.Plus PlainInt PlainBottom) (same_Some PlainInt type told) number_bottom
-plus_found declarations PlainString PlainBottom type told =
-    subst (OperatorGives declarations operator.Plus PlainString PlainBottom) (same_Some PlainString type told)
+plus_found declarations PlainInt PlainBottom type reported =
+    subst (OperatorGives declarations operator.Plus PlainInt PlainBottom) (same_Some PlainInt type reported) number_bottom
+plus_found declarations PlainString PlainBottom type reported =
+    subst (OperatorGives declarations operator.Plus PlainString PlainBottom) (same_Some PlainString type reported)
     string_bottom
-plus_found declarations PlainBottom PlainBottom type told =
-    subst (OperatorGives declarations operator.Plus PlainBottom PlainBottom) (same_Some PlainBottom type told) bottoms
-plus_found declarations left right type told = absurd (none-some type told)
+plus_found declarations PlainBottom PlainBottom type reported =
+    subst (OperatorGives declarations operator.Plus PlainBottom PlainBottom) (same_Some PlainBottom type reported) bottoms
+plus_found declarations left right type reported = absurd (none-some type reported)
 
--- the type of an operator of numbers has a row
+-- the type of an operator of numbers has a rule
 arithmetic_found : (declarations : List DeclTree) (op : Operator) (left right type : PlainType)
     → is_arithmetic op ≡ true → both_are declarations PlainInt PlainInt left right ≡ Some type
     → OperatorGives declarations op left right type
-arithmetic_found declarations op left right type is told =
-    let found = both_found declarations PlainInt PlainInt left right type told in
+arithmetic_found declarations op left right type is reported =
+    let found = both_found declarations PlainInt PlainInt left right type reported in
     subst (OperatorGives declarations op left right) found.2 (arithmetic op left right is found.0 found.1)
 
 -- so has that of a comparison
 comparison_found : (declarations : List DeclTree) (op : Operator) (left right type : PlainType)
     → is_comparison op ≡ true → both_are declarations PlainInt bool_type left right ≡ Some type
     → OperatorGives declarations op left right type
-comparison_found declarations op left right type is told =
-    let found = both_found declarations PlainInt bool_type left right type told in
+comparison_found declarations op left right type is reported =
+    let found = both_found declarations PlainInt bool_type left right type reported in
     subst (OperatorGives declarations op left right) found.2 (comparison op left right is found.0 found.1)
 
 -- so has that of an equality
 equality_found : (declarations : List DeclTree) (op : Operator) (left right type : PlainType)
     → is_equality op ≡ true → equality_type declarations left right ≡ Some type
     → OperatorGives declarations op left right type
-equality_found declarations op left right type is told =
-    let found = type_if_found (is_some (join_of declarations left right)) bool_type type told in
+equality_found declarations op left right type is reported =
+    let found = type_if_found (is_some (join_of declarations left right)) bool_type type reported in
     let joined = some_found (join_of declarations left right) found.0 in
     subst (OperatorGives declarations op left right) found.1 (equality op left right joined.0 is joined.1)
 
@@ -94,77 +94,77 @@ equality_found declarations op left right type is told =
 logical_found : (declarations : List DeclTree) (op : Operator) (left right type : PlainType)
     → is_logical op ≡ true → both_are declarations bool_type bool_type left right ≡ Some type
     → OperatorGives declarations op left right type
-logical_found declarations op left right type is told =
-    let found = both_found declarations bool_type bool_type left right type told in
+logical_found declarations op left right type is reported =
+    let found = both_found declarations bool_type bool_type left right type reported in
     subst (OperatorGives declarations op left right) found.2 (logical op left right is found.0 found.1)
 
--- the type of an operator between two operands has a row
+-- the type of an operator between two operands has a rule
 pub operator_found : (declarations : List DeclTree) (op : Operator) (left right type : PlainType)
     → operator_type declarations op left right ≡ Some type → OperatorGives declarations op left right type
 unfolding operator_type
-operator_found declarations operator.Plus left right type told = plus_found declarations left right type told
-operator_found declarations operator.Minus left right type told =
-    arithmetic_found declarations operator.Minus left right type refl told
-operator_found declarations operator.Times left right type told =
-    arithmetic_found declarations operator.Times left right type refl told
-operator_found declarations operator.Divide left right type told =
-    arithmetic_found declarations operator.Divide left right type refl told
-operator_found declarations operator.Remainder left right type told =
-    arithmetic_found declarations operator.Remainder left right type refl told
-operator_found declarations operator.Less left right type told =
-    comparison_found declarations operator.Less left right type refl told
-operator_found declarations operator.LessEqual left right type told =
-    comparison_found declarations operator.LessEqual left right type refl told
-operator_found declarations operator.Greater left right type told =
-    comparison_found declarations operator.Greater left right type refl told
-operator_found declarations operator.GreaterEqual left right type told =
-    comparison_found declarations operator.GreaterEqual left right type refl told
-operator_found declarations operator.Equal left right type told =
-    equality_found declarations operator.Equal left right type refl told
-operator_found declarations operator.NotEqual left right type told =
-    equality_found declarations operator.NotEqual left right type refl told
-operator_found declarations operator.And left right type told =
-    logical_found declarations operator.And left right type refl told
-operator_found declarations operator.Or left right type told =
-    logical_found declarations operator.Or left right type refl told
+operator_found declarations operator.Plus left right type reported = plus_found declarations left right type reported
+operator_found declarations operator.Minus left right type reported =
+    arithmetic_found declarations operator.Minus left right type refl reported
+operator_found declarations operator.Times left right type reported =
+    arithmetic_found declarations operator.Times left right type refl reported
+operator_found declarations operator.Divide left right type reported =
+    arithmetic_found declarations operator.Divide left right type refl reported
+operator_found declarations operator.Remainder left right type reported =
+    arithmetic_found declarations operator.Remainder left right type refl reported
+operator_found declarations operator.Less left right type reported =
+    comparison_found declarations operator.Less left right type refl reported
+operator_found declarations operator.LessEqual left right type reported =
+    comparison_found declarations operator.LessEqual left right type refl reported
+operator_found declarations operator.Greater left right type reported =
+    comparison_found declarations operator.Greater left right type refl reported
+operator_found declarations operator.GreaterEqual left right type reported =
+    comparison_found declarations operator.GreaterEqual left right type refl reported
+operator_found declarations operator.Equal left right type reported =
+    equality_found declarations operator.Equal left right type refl reported
+operator_found declarations operator.NotEqual left right type reported =
+    equality_found declarations operator.NotEqual left right type refl reported
+operator_found declarations operator.And left right type reported =
+    logical_found declarations operator.And left right type refl reported
+operator_found declarations operator.Or left right type reported =
+    logical_found declarations operator.Or left right type refl reported
 
 -- operators of numbers have one rule
-arithmetic_row : (declarations : List DeclTree) (op : Operator) (left right : PlainType) → is_arithmetic op ≡ true
+arithmetic_rule : (declarations : List DeclTree) (op : Operator) (left right : PlainType) → is_arithmetic op ≡ true
     → operator_type declarations op left right ≡ both_are declarations PlainInt PlainInt left right
 unfolding operator_type
-arithmetic_row declarations operator.Minus left right is = refl
-arithmetic_row declarations operator.Times left right is = refl
-arithmetic_row declarations operator.Divide left right is = refl
-arithmetic_row declarations operator.Remainder left right is = refl
-arithmetic_row declarations _ left right is = absurd (true≢false (sym is))
+arithmetic_rule declarations operator.Minus left right is = refl
+arithmetic_rule declarations operator.Times left right is = refl
+arithmetic_rule declarations operator.Divide left right is = refl
+arithmetic_rule declarations operator.Remainder left right is = refl
+arithmetic_rule declarations _ left right is = absurd (true≢false (sym is))
 
 -- comparisons have one rule
-comparison_row : (declarations : List DeclTree) (op : Operator) (left right : PlainType) → is_comparison op ≡ true
+comparison_rule : (declarations : List DeclTree) (op : Operator) (left right : PlainType) → is_comparison op ≡ true
     → operator_type declarations op left right ≡ both_are declarations PlainInt bool_type left right
 unfolding operator_type
-comparison_row declarations operator.Less left right is = refl
-comparison_row declarations operator.LessEqual left right is = refl
-comparison_row declarations operator.Greater left right is = refl
-comparison_row declarations operator.GreaterEqual left right is = refl
-comparison_row declarations _ left right is = absurd (true≢false (sym is))
+comparison_rule declarations operator.Less left right is = refl
+comparison_rule declarations operator.LessEqual left right is = refl
+comparison_rule declarations operator.Greater left right is = refl
+comparison_rule declarations operator.GreaterEqual left right is = refl
+comparison_rule declarations _ left right is = absurd (true≢false (sym is))
 
 -- equalities have one rule
-equality_row : (declarations : List DeclTree) (op : Operator) (left right : PlainType) → is_equality op ≡ true
+equality_rule : (declarations : List DeclTree) (op : Operator) (left right : PlainType) → is_equality op ≡ true
     → operator_type declarations op left right ≡ equality_type declarations left right
 unfolding operator_type
-equality_row declarations operator.Equal left right is = refl
-equality_row declarations operator.NotEqual left right is = refl
-equality_row declarations _ left right is = absurd (true≢false (sym is))
+equality_rule declarations operator.Equal left right is = refl
+equality_rule declarations operator.NotEqual left right is = refl
+equality_rule declarations _ left right is = absurd (true≢false (sym is))
 
 -- logical operators have one rule
-logical_row : (declarations : List DeclTree) (op : Operator) (left right : PlainType) → is_logical op ≡ true
+logical_rule : (declarations : List DeclTree) (op : Operator) (left right : PlainType) → is_logical op ≡ true
     → operator_type declarations op left right ≡ both_are declarations bool_type bool_type left right
 unfolding operator_type
-logical_row declarations operator.And left right is = refl
-logical_row declarations operator.Or left right is = refl
-logical_row declarations _ left right is = absurd (true≢false (sym is))
+logical_rule declarations operator.And left right is = refl
+logical_rule declarations operator.Or left right is = refl
+logical_rule declarations _ left right is = absurd (true≢false (sym is))
 
--- each row of an operator between two operands gives the type
+-- each rule of an operator between two operands gives the type
 pub operator_whole : {declarations : List DeclTree} {op : Operator} {left right type : PlainType}
     → OperatorGives declarations op left right type → operator_type declarations op left right ≡ Some type
 unfolding operator_type
@@ -176,40 +176,40 @@ operator_whole number_bottom = refl
 operator_whole string_bottom = refl
 operator_whole bottoms = refl
 operator_whole {declarations} (arithmetic op left right is one other) =
-    arithmetic_row declarations op left right is ∙ both_whole declarations PlainInt PlainInt left right one other
+    arithmetic_rule declarations op left right is ∙ both_whole declarations PlainInt PlainInt left right one other
 operator_whole {declarations} (comparison op left right is one other) =
-    comparison_row declarations op left right is ∙ both_whole declarations PlainInt bool_type left right one other
-operator_whole {declarations} (equality op left right joined is told) =
-    equality_row declarations op left right is
-    ∙ if_told (is_some (join_of declarations left right)) (Some bool_type) bool_type
-    (some_told (join_of declarations left right) joined told) refl
+    comparison_rule declarations op left right is ∙ both_whole declarations PlainInt bool_type left right one other
+operator_whole {declarations} (equality op left right joined is reported) =
+    equality_rule declarations op left right is
+    ∙ if_reported (is_some (join_of declarations left right)) (Some bool_type) bool_type
+    (some_reported (join_of declarations left right) joined reported) refl
 operator_whole {declarations} (logical op left right is one other) =
-    logical_row declarations op left right is ∙ both_whole declarations bool_type bool_type left right one other
+    logical_rule declarations op left right is ∙ both_whole declarations bool_type bool_type left right one other
 
--- the type of an operator before an operand has a row
+-- the type of an operator before an operand has a rule
 pub prefix_found : (declarations : List DeclTree) (op : Prefix) (operand type : PlainType)
     → prefix_type declarations op operand ≡ Some type → PrefixGives declarations op operand type
 unfolding prefix_type
-prefix_found declarations prefix.Not operand type told =
-    let found = type_if_found (fits declarations operand bool_type) bool_type type told in
+prefix_found declarations prefix.Not operand type reported =
+    let found = type_if_found (fits declarations operand bool_type) bool_type type reported in
     subst (PrefixGives declarations prefix.Not operand) found.1
     (negated operand (fits_found declarations operand bool_type found.0))
-prefix_found declarations prefix.Tilde operand type told =
-    let found = type_if_found (fits declarations operand bool_type) bool_type type told in
+prefix_found declarations prefix.Tilde operand type reported =
+    let found = type_if_found (fits declarations operand bool_type) bool_type type reported in
     subst (PrefixGives declarations prefix.Tilde operand) found.1
     (tilde operand (fits_found declarations operand bool_type found.0))
-prefix_found declarations prefix.Minus operand type told =
-    let found = type_if_found (fits declarations operand PlainInt) PlainInt type told in
+prefix_found declarations prefix.Minus operand type reported =
+    let found = type_if_found (fits declarations operand PlainInt) PlainInt type reported in
     subst (PrefixGives declarations prefix.Minus operand) found.1
     (minus operand (fits_found declarations operand PlainInt found.0))
 
--- each row of an operator before an operand gives the type
+-- each rule of an operator before an operand gives the type
 pub prefix_whole : {declarations : List DeclTree} {op : Prefix} {operand type : PlainType}
     → PrefixGives declarations op operand type → prefix_type declarations op operand ≡ Some type
 unfolding prefix_type
 prefix_whole {declarations} (negated operand fit) =
-    if_told (fits declarations operand bool_type) (Some bool_type) bool_type (fits_whole fit) refl
+    if_reported (fits declarations operand bool_type) (Some bool_type) bool_type (fits_whole fit) refl
 prefix_whole {declarations} (tilde operand fit) =
-    if_told (fits declarations operand bool_type) (Some bool_type) bool_type (fits_whole fit) refl
+    if_reported (fits declarations operand bool_type) (Some bool_type) bool_type (fits_whole fit) refl
 prefix_whole {declarations} (minus operand fit) =
-    if_told (fits declarations operand PlainInt) (Some PlainInt) PlainInt (fits_whole fit) refl
+    if_reported (fits declarations operand PlainInt) (Some PlainInt) PlainInt (fits_whole fit) refl

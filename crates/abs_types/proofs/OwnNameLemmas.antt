@@ -24,5 +24,5 @@ number_is_own names symbol number is = ap (number_of_name names) (named_by_numbe
 -- a name that the test tells from a word is not this word
 pub not_word : (text name other word : List ℕ) → text ≡ name → other ≡ word → false ≡ bytes_eq text other
     → name ≡ word → ⊥
-not_word text name other word is other_is told same =
-    true≢false (sym ((bytes_eq-Decides text other).1 (is ∙ (same ∙ sym other_is))) ∙ sym told)
+not_word text name other word is other_is reported same =
+    true≢false (sym ((bytes_eq-Decides text other).1 (is ∙ (same ∙ sym other_is))) ∙ sym reported)

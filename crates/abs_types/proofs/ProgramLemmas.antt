@@ -5,16 +5,16 @@
 use Rattle.std.proofs.Common.{◌≡◌, ℕ, ◌+◌, Bool, true, false, List, [], ◌∷◌, ◌++◌, refl}
 use Rattle.std.specs.Prelude.{not}
 use Rattle.std.proofs.lemmas.Bool.{not-false, not_from_true}
-use Rattle.abs_tree.specs.Syntax.{Name, MaybePhrase, NoValue, Value, SignatureTree, MemberTree, FieldTree, MethodTree, DeclTree, FunctionTree, InterfaceTree, ClassTree, SourceTree, Statements}
-use Rattle.abs_tree.specs.SyntaxPlaces.{phrase_place}
+use Rattle.abs_tree.specs.Syntax.{Name, MaybeExpr, NoValue, Value, SignatureTree, MemberTree, FieldTree, MethodTree, DeclTree, FunctionTree, InterfaceTree, ClassTree, SourceTree, Statements}
+use Rattle.abs_tree.specs.SyntaxPlaces.{expr_place}
 use Rattle.abs_tree.specs.declared.place.Place.{Place}
 use Rattle.abs_tree.specs.declared.refusal.Code.{Code}
 use Rattle.abs_tree.specs.declared.refusal.Code.TheVariants.{T3, T4, T5}
 use Rattle.abs_types.proofs.AskedLemmas.{asked_found, asked_whole}
-use Rattle.abs_types.proofs.OffenceLemmas.{both_silent, silent_after, offence_if_silent, silent_offence_if}
+use Rattle.abs_types.proofs.OffenceLemmas.{both_unoffending, unoffending_after, offence_if_unoffending, unoffending_offence_if}
 use Rattle.abs_types.proofs.StatementLemmas.{statements_found, statements_whole}
 use Rattle.abs_types.specs.InterfacesMet.{agrees, meets_interfaces}
-use Rattle.abs_types.specs.Mistyped.{offence_if}
+use Rattle.abs_tree.specs.Offences.{offence_if}
 use Rattle.abs_types.specs.PlainTypes.{PlainType, plain}
 use Rattle.abs_types.specs.Schemes.{param_types}
 use Rattle.abs_types.specs.StatementOffences.{can_be_null, statements_offences}
@@ -23,24 +23,24 @@ use Rattle.abs_types.specs.TypeOffences.{value_frame, method_frame, main_frame, 
 
 -- what is asked for is so, where there is no offence
 asked_so : (is_so : Bool) (code : Code) (place : Place) → offence_if (not is_so) code place ≡ [] → is_so ≡ true
-asked_so is_so code place none = not-false is_so (offence_if_silent (not is_so) code place none)
+asked_so is_so code place none = not-false is_so (offence_if_unoffending (not is_so) code place none)
 
 -- where it is so, there is no offence
-silent_so : (is_so : Bool) (code : Code) (place : Place) → is_so ≡ true → offence_if (not is_so) code place ≡ []
-silent_so is_so code place told = silent_offence_if (not is_so) code place (not_from_true is_so told)
+unoffending_so : (is_so : Bool) (code : Code) (place : Place) → is_so ≡ true → offence_if (not is_so) code place ≡ []
+unoffending_so is_so code place reported = unoffending_offence_if (not is_so) code place (not_from_true is_so reported)
 
 -- a function without an offence is well typed
 function_found : (declarations : List DeclTree) (declaration : DeclTree)
     → function_offences_in declarations declaration ≡ [] → IsTypedFunction declarations declaration
 function_found declarations (FunctionTree place result name type_params params value) none =
-    asked_found declarations (value_frame (param_types params)) value (plain result) (phrase_place value) none
+    asked_found declarations (value_frame (param_types params)) value (plain result) (expr_place value) none
 function_found declarations other none = tt
 
 -- a well-typed function has no offence
 function_whole : (declarations : List DeclTree) (declaration : DeclTree) → IsTypedFunction declarations declaration
     → function_offences_in declarations declaration ≡ []
 function_whole declarations (FunctionTree place result name type_params params value) typed =
-    asked_whole (phrase_place value) typed.has_type typed.fits_it
+    asked_whole (expr_place value) typed.has_type typed.fits_it
 function_whole declarations other typed = refl
 
 -- the same of all functions
@@ -48,14 +48,14 @@ functions_found : (declarations some : List DeclTree) → functions_offences dec
     → AreTypedFunctions declarations some
 functions_found declarations [] none = tt
 functions_found declarations (first ∷ others) none =
-    let parts = both_silent (function_offences_in declarations first) _ none in
+    let parts = both_unoffending (function_offences_in declarations first) _ none in
     (function_found declarations first parts.0, functions_found declarations others parts.1)
 
 functions_whole : (declarations some : List DeclTree) → AreTypedFunctions declarations some
     → functions_offences declarations some ≡ []
 functions_whole declarations [] typed = refl
 functions_whole declarations (first ∷ others) typed =
-    silent_after (function_offences_in declarations first) _ (function_whole declarations first typed.0)
+    unoffending_after (function_offences_in declarations first) _ (function_whole declarations first typed.0)
     (functions_whole declarations others typed.1)
 
 -- methods of one name in an interface without an offence have the same types
@@ -69,7 +69,7 @@ interface_found declarations index other none = tt
 interface_whole : (declarations : List DeclTree) (index : ℕ) (declaration : DeclTree)
     → IsTypedInterface declarations index declaration → interface_offences_in declarations index declaration ≡ []
 interface_whole declarations index (InterfaceTree place name extended signatures) typed =
-    silent_so (agrees declarations index signatures) T4 name.place typed
+    unoffending_so (agrees declarations index signatures) T4 name.place typed
 interface_whole declarations index other typed = refl
 
 -- the same of all interfaces
@@ -77,31 +77,31 @@ interfaces_found : (declarations : List DeclTree) (index : ℕ) (some : List Dec
     → interfaces_offences declarations index some ≡ [] → AreTypedInterfaces declarations index some
 interfaces_found declarations index [] none = tt
 interfaces_found declarations index (first ∷ others) none =
-    let parts = both_silent (interface_offences_in declarations index first) _ none in
+    let parts = both_unoffending (interface_offences_in declarations index first) _ none in
     (interface_found declarations index first parts.0, interfaces_found declarations (1 + index) others parts.1)
 
 interfaces_whole : (declarations : List DeclTree) (index : ℕ) (some : List DeclTree)
     → AreTypedInterfaces declarations index some → interfaces_offences declarations index some ≡ []
 interfaces_whole declarations index [] typed = refl
 interfaces_whole declarations index (first ∷ others) typed =
-    silent_after (interface_offences_in declarations index first) _
+    unoffending_after (interface_offences_in declarations index first) _
     (interface_whole declarations index first typed.0) (interfaces_whole declarations (1 + index) others typed.1)
 
 -- the value of a field without an offence fits its type
 field_found : (declarations : List DeclTree) (types : List PlainType) (type : PlainType) (place : Place)
-    (initial : MaybePhrase) → field_offences declarations types type place initial ≡ []
+    (initial : MaybeExpr) → field_offences declarations types type place initial ≡ []
     → IsTypedField declarations types type initial
 field_found declarations types type place NoValue none = asked_so (can_be_null type) T3 place none
 field_found declarations types type place (Value value) none =
-    asked_found declarations (value_frame types) value type (phrase_place value) none
+    asked_found declarations (value_frame types) value type (expr_place value) none
 
 -- a field whose value fits has no offence
 field_whole : (declarations : List DeclTree) (types : List PlainType) (type : PlainType) (place : Place)
-    (initial : MaybePhrase) → IsTypedField declarations types type initial
+    (initial : MaybeExpr) → IsTypedField declarations types type initial
     → field_offences declarations types type place initial ≡ []
-field_whole declarations types type place NoValue typed = silent_so (can_be_null type) T3 place typed
+field_whole declarations types type place NoValue typed = unoffending_so (can_be_null type) T3 place typed
 field_whole declarations types type place (Value value) typed =
-    asked_whole (phrase_place value) typed.has_type typed.fits_it
+    asked_whole (expr_place value) typed.has_type typed.fits_it
 
 -- a method without an offence is well typed
 method_found : (declarations : List DeclTree) (class : Name) (fields : List PlainType) (signature : SignatureTree)
@@ -109,7 +109,7 @@ method_found : (declarations : List DeclTree) (class : Name) (fields : List Plai
     → IsTypedMethod declarations class fields signature body
 method_found declarations class fields signature end body none =
     let frame = method_frame class fields signature body in
-    let parts = both_silent (statements_offences declarations frame true body) _ none in
+    let parts = both_unoffending (statements_offences declarations frame true body) _ none in
     record {
       body_is = statements_found declarations frame true body parts.0;
       ends = asked_so (ends_well (plain signature.result) body) T5 end parts.1;
@@ -120,8 +120,8 @@ method_whole : (declarations : List DeclTree) (class : Name) (fields : List Plai
     (end : Place) (body : Statements) → IsTypedMethod declarations class fields signature body
     → method_offences declarations class fields signature end body ≡ []
 method_whole declarations class fields signature end body typed =
-    silent_after (statements_offences declarations (method_frame class fields signature body) true body) _
-    (statements_whole typed.body_is) (silent_so (ends_well (plain signature.result) body) T5 end typed.ends)
+    unoffending_after (statements_offences declarations (method_frame class fields signature body) true body) _
+    (statements_whole typed.body_is) (unoffending_so (ends_well (plain signature.result) body) T5 end typed.ends)
 
 -- members without an offence are well typed
 members_found : (declarations : List DeclTree) (class : Name) (fields known : List PlainType)
@@ -129,12 +129,12 @@ members_found : (declarations : List DeclTree) (class : Name) (fields known : Li
     → AreTypedMembers declarations class fields known members
 members_found declarations class fields known [] none = tt
 members_found declarations class fields known (FieldTree type name initial ∷ others) none =
-    let parts = both_silent (field_offences declarations known (plain type) name.place initial) _ none in (
+    let parts = both_unoffending (field_offences declarations known (plain type) name.place initial) _ none in (
       field_found declarations known (plain type) name.place initial parts.0,
       members_found declarations class fields (known ++ plain type ∷ []) others parts.1,
     )
 members_found declarations class fields known (MethodTree signature end body ∷ others) none =
-    let parts = both_silent (method_offences declarations class fields signature end body) _ none in (
+    let parts = both_unoffending (method_offences declarations class fields signature end body) _ none in (
       method_found declarations class fields signature end body parts.0,
       members_found declarations class fields known others parts.1,
     )
@@ -145,11 +145,11 @@ members_whole : (declarations : List DeclTree) (class : Name) (fields known : Li
     → members_offences declarations class fields known members ≡ []
 members_whole declarations class fields known [] typed = refl
 members_whole declarations class fields known (FieldTree type name initial ∷ others) typed =
-    silent_after (field_offences declarations known (plain type) name.place initial) _
+    unoffending_after (field_offences declarations known (plain type) name.place initial) _
     (field_whole declarations known (plain type) name.place initial typed.0)
     (members_whole declarations class fields (known ++ plain type ∷ []) others typed.1)
 members_whole declarations class fields known (MethodTree signature end body ∷ others) typed =
-    silent_after (method_offences declarations class fields signature end body) _
+    unoffending_after (method_offences declarations class fields signature end body) _
     (method_whole declarations class fields signature end body typed.0)
     (members_whole declarations class fields known others typed.1)
 
@@ -158,7 +158,7 @@ class_found : (declarations : List DeclTree) (index : ℕ) (declaration : DeclTr
     → class_offences_in declarations index declaration ≡ [] → IsTypedClass declarations index declaration
 class_found declarations index (ClassTree place name params implemented members) none =
     let meets = meets_interfaces declarations index members in
-    let parts = both_silent (offence_if (not meets) T4 name.place) _ none in (
+    let parts = both_unoffending (offence_if (not meets) T4 name.place) _ none in (
       asked_so meets T4 name.place parts.0,
       members_found declarations name.name (param_types params ++ field_types members) (param_types params) members
           parts.1,
@@ -170,7 +170,7 @@ class_whole : (declarations : List DeclTree) (index : ℕ) (declaration : DeclTr
     → IsTypedClass declarations index declaration → class_offences_in declarations index declaration ≡ []
 class_whole declarations index (ClassTree place name params implemented members) typed =
     let meets = meets_interfaces declarations index members in
-    silent_after (offence_if (not meets) T4 name.place) _ (silent_so meets T4 name.place typed.0)
+    unoffending_after (offence_if (not meets) T4 name.place) _ (unoffending_so meets T4 name.place typed.0)
     (members_whole declarations name.name (param_types params ++ field_types members) (param_types params) members
     typed.1)
 class_whole declarations index other typed = refl
@@ -180,14 +180,14 @@ classes_found : (declarations : List DeclTree) (index : ℕ) (some : List DeclTr
     → classes_offences declarations index some ≡ [] → AreTypedClasses declarations index some
 classes_found declarations index [] none = tt
 classes_found declarations index (first ∷ others) none =
-    let parts = both_silent (class_offences_in declarations index first) _ none in
+    let parts = both_unoffending (class_offences_in declarations index first) _ none in
     (class_found declarations index first parts.0, classes_found declarations (1 + index) others parts.1)
 
 classes_whole : (declarations : List DeclTree) (index : ℕ) (some : List DeclTree)
     → AreTypedClasses declarations index some → classes_offences declarations index some ≡ []
 classes_whole declarations index [] typed = refl
 classes_whole declarations index (first ∷ others) typed =
-    silent_after (class_offences_in declarations index first) _ (class_whole declarations index first typed.0)
+    unoffending_after (class_offences_in declarations index first) _ (class_whole declarations index first typed.0)
     (classes_whole declarations (1 + index) others typed.1)
 
 -- a program without an offence is well typed
@@ -196,9 +196,9 @@ unfolding function_offences interface_offences class_offences main_offences type
 program_found source none =
     let functions = function_offences source.declarations in
     let interfaces = interface_offences source.declarations in
-    let most = both_silent (functions ++ interfaces ++ class_offences source.declarations) _ none in
-    let more = both_silent (functions ++ interfaces) _ most.0 in
-    let parts = both_silent functions _ more.0 in
+    let most = both_unoffending (functions ++ interfaces ++ class_offences source.declarations) _ none in
+    let more = both_unoffending (functions ++ interfaces) _ most.0 in
+    let parts = both_unoffending functions _ more.0 in
     record {
       functions = functions_found source.declarations source.declarations parts.0;
       interfaces = interfaces_found source.declarations 0 source.declarations parts.1;
@@ -212,9 +212,9 @@ unfolding function_offences interface_offences class_offences main_offences type
 program_whole source typed =
     let functions = function_offences source.declarations in
     let interfaces = interface_offences source.declarations in
-    silent_after (functions ++ interfaces ++ class_offences source.declarations) _
-    (silent_after (functions ++ interfaces) _
-    (silent_after functions _ (functions_whole source.declarations source.declarations typed.functions)
+    unoffending_after (functions ++ interfaces ++ class_offences source.declarations) _
+    (unoffending_after (functions ++ interfaces) _
+    (unoffending_after functions _ (functions_whole source.declarations source.declarations typed.functions)
     (interfaces_whole source.declarations 0 source.declarations typed.interfaces))
     (classes_whole source.declarations 0 source.declarations typed.classes))
     (statements_whole typed.main_is)

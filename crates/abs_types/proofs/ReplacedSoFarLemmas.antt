@@ -50,13 +50,13 @@ pub ReplacedSoFar-start : {before now : TypeTable} {index head found : TypeIndex
     (types : List TypeIndex) → IsSpine (types_in before) index head arguments → Keeps before now
     → StandsFor now found (replaced (types_at (types_in before) types) (type_at (types_in before) head))
     → ReplacedSoFar before now types index found arguments
-ReplacedSoFar-start {before} {now} {index} {head} {found} {arguments} types spine keeps told = record {
+ReplacedSoFar-start {before} {now} {index} {head} {found} {arguments} types spine keeps reported = record {
   keeps = keeps;
-  found_among = told.among;
+  found_among = reported.among;
   arguments_below = spine.arguments_below;
   so_far =
       let all = types_at (types_in before) types in
-      ap (λ (one : PlainType). applied_back one (map (replaced all) (types_at (types_in before) arguments))) told.is
+      ap (λ (one : PlainType). applied_back one (map (replaced all) (types_at (types_in before) arguments))) reported.is
       ∙ (sym (replaced_back all (type_at (types_in before) head) (types_at (types_in before) arguments))
       ∙ ap (replaced all) (sym spine.is));
 }

@@ -17,8 +17,8 @@ Fits-replaced types (equal one) = equal (replaced types one)
 Fits-replaced types (bottom other) = bottom (replaced types other)
 Fits-replaced types (null_interface name) = null_interface name
 Fits-replaced types (null_future value) = null_future (replaced types value)
-Fits-replaced types (implements class interface told) = implements class interface told
-Fits-replaced types (extends one other told) = extends one other told
+Fits-replaced types (implements class interface reported) = implements class interface reported
+Fits-replaced types (extends one other reported) = extends one other reported
 Fits-replaced types (futures one other parts) =
     futures (replaced types one) (replaced types other) (Fits-replaced types parts)
 Fits-replaced types (applied head other_head argument other_argument heads arguments) =
@@ -28,19 +28,19 @@ Fits-replaced types (applied head other_head argument other_argument heads argum
 -- a type that fits another one still fits it when both have their type parameters replaced
 pub fits-replaced : (declarations : List DeclTree) (types : List PlainType) (one other : PlainType)
     → fits declarations one other ≡ true → fits declarations (replaced types one) (replaced types other) ≡ true
-fits-replaced declarations types one other told =
-    fits_whole (Fits-replaced types (fits_found declarations one other told))
+fits-replaced declarations types one other reported =
+    fits_whole (Fits-replaced types (fits_found declarations one other reported))
 
 -- of types that fit others, each fits that of its index
 pub entry_fits : (declarations : List DeclTree) (types others : List PlainType) (index : ℕ) (one other : PlainType)
     → AllFit declarations types others → fits declarations one other ≡ true
     → fits declarations (get_or types index one) (get_or others index other) ≡ true
-entry_fits declarations [] [] index one other all told = told
-entry_fits declarations [] (next ∷ more) index one other all told = absurd all
-entry_fits declarations (first ∷ types) [] index one other all told = absurd all
-entry_fits declarations (first ∷ types) (next ∷ more) zero one other all told = all.0
-entry_fits declarations (first ∷ types) (next ∷ more) (suc index) one other all told =
-    entry_fits declarations types more index one other all.1 told
+entry_fits declarations [] [] index one other all reported = reported
+entry_fits declarations [] (next ∷ more) index one other all reported = absurd all
+entry_fits declarations (first ∷ types) [] index one other all reported = absurd all
+entry_fits declarations (first ∷ types) (next ∷ more) zero one other all reported = all.0
+entry_fits declarations (first ∷ types) (next ∷ more) (suc index) one other all reported =
+    entry_fits declarations types more index one other all.1 reported
 
 -- a type whose type parameters are replaced by types fits that in which they are replaced by what these fit
 pub replacements_fit : (declarations : List DeclTree) (types others : List PlainType) (one : PlainType)
@@ -100,6 +100,6 @@ AllFit-transitive declarations (one ∷ types) (next ∷ between) (other ∷ oth
 pub fits_replacement : (declarations : List DeclTree) (types others : List PlainType) (given takes : PlainType)
     → AllFit declarations types others → fits declarations given (replaced types takes) ≡ true
     → fits declarations given (replaced others takes) ≡ true
-fits_replacement declarations types others given takes all told =
-    fits_transitive declarations given (replaced types takes) (replaced others takes) told
+fits_replacement declarations types others given takes all reported =
+    fits_transitive declarations given (replaced types takes) (replaced others takes) reported
     (replacements_fit declarations types others takes all)

@@ -99,9 +99,9 @@ function_closed source (Some function.ToString) scheme whole is =
     })
 function_closed source (Some (function.Defined taking)) scheme whole is =
     option_and_then_some declared_scheme (slice_get source.declarations taking.declaration) scheme is
-    (λ declaration at told. declared_closed (spaces_of source.declarations) declaration scheme
+    (λ declaration at reported. declared_closed (spaces_of source.declarations) declaration scheme
     (found_holds (DeclarationIsThere (spaces_of source.declarations)) source.declarations taking.declaration declaration
-    whole.declarations_are at) told)
+    whole.declarations_are at) reported)
 function_closed source None scheme whole is = absurd (none-some scheme is)
 
 -- so has that of the function with a name
@@ -131,7 +131,7 @@ data_constructs : (declarations : List DeclTree) (at index : ℕ) (declaration :
 data_constructs declarations at index (DataTree place name type_params constructors) scheme declared is =
     option_and_then_some (λ constructor. Some (built_scheme name.name (length type_params) constructor))
     (slice_get constructors index) scheme is
-    (λ constructor among told. record {
+    (λ constructor among reported. record {
       place = place;
       owner = name;
       type_params = type_params;
@@ -141,7 +141,7 @@ data_constructs declarations at index (DataTree place name type_params construct
       constructor = constructor;
       declared = declared;
       among = among;
-      is = same_Some (built_scheme name.name (length type_params) constructor) scheme told;
+      is = same_Some (built_scheme name.name (length type_params) constructor) scheme reported;
     })
 data_constructs declarations at index declaration scheme declared is = absurd (none-some scheme is)
 
@@ -150,8 +150,8 @@ meaning_constructs : (declarations : List DeclTree) (meaning : Option Constructo
     → constructor_scheme declarations meaning ≡ Some scheme → Constructs declarations scheme
 meaning_constructs declarations (Some meaning) scheme is =
     option_and_then_some (data_scheme meaning.index) (slice_get declarations meaning.taking.declaration) scheme is
-    (λ declaration at told.
-    data_constructs declarations meaning.taking.declaration meaning.index declaration scheme at told)
+    (λ declaration at reported.
+    data_constructs declarations meaning.taking.declaration meaning.index declaration scheme at reported)
 meaning_constructs declarations None scheme is = absurd (none-some scheme is)
 
 -- so is that of the constructor with a name

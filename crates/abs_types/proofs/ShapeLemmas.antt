@@ -29,7 +29,7 @@ shape_eq_reflexive one = search rules
 
 -- the test tells equal shapes
 pub shape_eq_same : (one other : Shape) → shape_eq one other ≡ true → one ≡ other
-shape_eq_same one other told = search rules
+shape_eq_same one other reported = search rules
 
 -- two numbers of their own with one name are equal
 same_number : (names : List Name) (one other : ℕ) → IsOwnNumber names one → IsOwnNumber names other

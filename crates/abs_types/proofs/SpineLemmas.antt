@@ -113,11 +113,11 @@ data_fits_data declarations name other_name ones others =
 -- types that pass the test fit one by one
 pub all_fit_found : (declarations : List DeclTree) (ones others : List PlainType) → all_fit declarations ones others ≡ true
     → AllFit declarations ones others
-all_fit_found declarations [] [] told = tt
-all_fit_found declarations (one ∷ ones) (other ∷ others) told =
-    let both = and_parts (fits declarations one other) (all_fit declarations ones others) told in
+all_fit_found declarations [] [] reported = tt
+all_fit_found declarations (one ∷ ones) (other ∷ others) reported =
+    let both = and_parts (fits declarations one other) (all_fit declarations ones others) reported in
     (both.0, all_fit_found declarations ones others both.1)
-all_fit_found declarations ones others told = absurd (true≢false (sym told))
+all_fit_found declarations ones others reported = absurd (true≢false (sym reported))
 
 -- types that fit one by one pass it
 pub all_fit_whole : (declarations : List DeclTree) (ones others : List PlainType) → AllFit declarations ones others
@@ -133,7 +133,7 @@ all_fit_whole declarations (one ∷ ones) (other ∷ others) fit =
 pub data_fitting : (declarations : List DeclTree) (name other_name : Name) (arguments others : List PlainType)
     → fits declarations (applied_to (PlainData name) arguments) (applied_to (PlainData other_name) others) ≡ true
     → (name ≡ other_name) × AllFit declarations arguments others
-data_fitting declarations name other_name arguments others told =
+data_fitting declarations name other_name arguments others reported =
     let both = and_parts (bytes_eq name other_name) (all_fit declarations arguments others)
-    (sym (data_fits_data declarations name other_name arguments others) ∙ told) in
+    (sym (data_fits_data declarations name other_name arguments others) ∙ reported) in
     ((bytes_eq-Decides name other_name).0 both.0, all_fit_found declarations arguments others both.1)

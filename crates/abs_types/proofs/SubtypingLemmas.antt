@@ -43,12 +43,12 @@ reaches_below {graph} (in_more node next led later) = leads_below graph node nex
 -- where no node is on a cycle, none reaches itself
 none_on_cycle : (graph : Graph) (node : ℕ) → All (λ (b : Bool). b ≡ false) (on_cycles graph)
     → reaches graph node node ≡ true → ⊥
-none_on_cycle graph node none told =
-    let below = reaches_below (reaches_found graph node node told) in
+none_on_cycle graph node none reported =
+    let below = reaches_below (reaches_found graph node node reported) in
     let within : node < length (on_cycles graph) =
     subst (λ (n : ℕ). node < n)
     (sym (length-map-range_with_len (λ other. reaches graph other other) 0 (length graph))) below in
-    true≢false (sym told
+    true≢false (sym reported
     ∙ sym (get_or-map-range_with_len (λ other. reaches graph other other) 0 (length graph) node node true below
     (omega arith))
     ∙ All-get_or (λ (b : Bool). b ≡ false) (on_cycles graph) node true within none)
@@ -66,7 +66,7 @@ below_transitive declarations one between other first second =
 below_irreflexive : (declarations : List DeclTree) (one : ℕ) → NoneExtendsItself declarations
     → is_below declarations one one ≡ true → ⊥
 unfolding is_below
-below_irreflexive declarations one none told = none_on_cycle (supertypes declarations) one none told
+below_irreflexive declarations one none reported = none_on_cycle (supertypes declarations) one none reported
 
 -- the same of what names stand for
 interface_below_transitive : (declarations : List DeclTree) (one between other : Option TypeMeaning)
@@ -91,9 +91,9 @@ class_below_transitive declarations class between other first second = absurd (t
 
 interface_below_irreflexive : (declarations : List DeclTree) (one : Option TypeMeaning) → NoneExtendsItself declarations
     → interface_below declarations one one ≡ true → ⊥
-interface_below_irreflexive declarations (Some (type.Interface one)) none told =
-    below_irreflexive declarations one none told
-interface_below_irreflexive declarations one none told = true≢false (sym told)
+interface_below_irreflexive declarations (Some (type.Interface one)) none reported =
+    below_irreflexive declarations one none reported
+interface_below_irreflexive declarations one none reported = true≢false (sym reported)
 
 -- the same by names
 extends_transitive : (declarations : List DeclTree) (one between other : Name)
@@ -143,44 +143,44 @@ fits_reflexive declarations (PlainParameter index) = eq-eqb index index refl
 pub null_fitting : (declarations : List DeclTree) (other : PlainType) → fits declarations PlainNull other ≡ true
     → (other ≡ PlainNull) ⊎ ((name : Name) × other ≡ PlainInterface name) ⊎ ((value : PlainType) × other ≡ PlainFut value)
 unfolding fits
-null_fitting declarations PlainNull told = inl refl
-null_fitting declarations (PlainInterface name) told = inr (inl (name, refl))
-null_fitting declarations (PlainFut value) told = inr (inr (value, refl))
-null_fitting declarations other told = absurd (true≢false (sym told))
+null_fitting declarations PlainNull reported = inl refl
+null_fitting declarations (PlainInterface name) reported = inr (inl (name, refl))
+null_fitting declarations (PlainFut value) reported = inr (inr (value, refl))
+null_fitting declarations other reported = absurd (true≢false (sym reported))
 
 -- the test finds a reason to fit
 pub fits_found : (declarations : List DeclTree) (one other : PlainType) → fits declarations one other ≡ true
     → Fits declarations one other
 unfolding fits
-fits_found declarations PlainBottom other told = bottom other
-fits_found declarations PlainNull PlainNull told = equal PlainNull
-fits_found declarations PlainNull (PlainInterface name) told = null_interface name
-fits_found declarations PlainNull (PlainFut value) told = null_future value
-fits_found declarations PlainInt PlainInt told = equal PlainInt
-fits_found declarations PlainString PlainString told = equal PlainString
-fits_found declarations (PlainFut one) (PlainFut other) told =
-    futures one other (fits_found declarations one other told)
-fits_found declarations (PlainData one) (PlainData other) told =
+fits_found declarations PlainBottom other reported = bottom other
+fits_found declarations PlainNull PlainNull reported = equal PlainNull
+fits_found declarations PlainNull (PlainInterface name) reported = null_interface name
+fits_found declarations PlainNull (PlainFut value) reported = null_future value
+fits_found declarations PlainInt PlainInt reported = equal PlainInt
+fits_found declarations PlainString PlainString reported = equal PlainString
+fits_found declarations (PlainFut one) (PlainFut other) reported =
+    futures one other (fits_found declarations one other reported)
+fits_found declarations (PlainData one) (PlainData other) reported =
     subst (λ (name : Name). Fits declarations (PlainData one) (PlainData name))
-    ((bytes_eq-Decides one other).0 told) (equal (PlainData one))
-fits_found declarations (PlainApplied head argument) (PlainApplied other_head other_argument) told =
-    let both = and_parts (fits declarations head other_head) (fits declarations argument other_argument) told in
+    ((bytes_eq-Decides one other).0 reported) (equal (PlainData one))
+fits_found declarations (PlainApplied head argument) (PlainApplied other_head other_argument) reported =
+    let both = and_parts (fits declarations head other_head) (fits declarations argument other_argument) reported in
     applied head other_head argument other_argument
     (fits_found declarations head other_head both.0)
     (fits_found declarations argument other_argument both.1)
-fits_found declarations (PlainInterface one) (PlainInterface other) told = ⊎_elim
+fits_found declarations (PlainInterface one) (PlainInterface other) reported = ⊎_elim
     (λ same. subst (λ (name : Name). Fits declarations (PlainInterface one) (PlainInterface name))
     ((bytes_eq-Decides one other).0 same) (equal (PlainInterface one)))
     (extends one other)
-    (or_cases (bytes_eq one other) (extends_name declarations one other) told)
-fits_found declarations (PlainClass one) (PlainClass other) told =
+    (or_cases (bytes_eq one other) (extends_name declarations one other) reported)
+fits_found declarations (PlainClass one) (PlainClass other) reported =
     subst (λ (name : Name). Fits declarations (PlainClass one) (PlainClass name))
-    ((bytes_eq-Decides one other).0 told) (equal (PlainClass one))
-fits_found declarations (PlainClass class) (PlainInterface interface) told = implements class interface told
-fits_found declarations (PlainParameter one) (PlainParameter other) told =
+    ((bytes_eq-Decides one other).0 reported) (equal (PlainClass one))
+fits_found declarations (PlainClass class) (PlainInterface interface) reported = implements class interface reported
+fits_found declarations (PlainParameter one) (PlainParameter other) reported =
     subst (λ (index : ℕ). Fits declarations (PlainParameter one) (PlainParameter index))
-    (eqb-true one other told) (equal (PlainParameter one))
-fits_found declarations one other told = absurd (true≢false (sym told))
+    (eqb-true one other reported) (equal (PlainParameter one))
+fits_found declarations one other reported = absurd (true≢false (sym reported))
 
 -- each reason to fit passes the test
 pub fits_whole : {declarations : List DeclTree} {one other : PlainType} → Fits declarations one other
@@ -190,9 +190,9 @@ fits_whole {declarations} (equal one) = fits_reflexive declarations one
 fits_whole (bottom other) = refl
 fits_whole (null_interface name) = refl
 fits_whole (null_future value) = refl
-fits_whole (implements class interface told) = told
-fits_whole {declarations} (extends one other told) =
-    or_right (bytes_eq one other) (extends_name declarations one other) told
+fits_whole (implements class interface reported) = reported
+fits_whole {declarations} (extends one other reported) =
+    or_right (bytes_eq one other) (extends_name declarations one other) reported
 fits_whole (futures one other parts) = fits_whole parts
 fits_whole {declarations} (applied head other_head argument other_argument heads arguments) =
     and_from (fits declarations head other_head) (fits declarations argument other_argument)
@@ -204,15 +204,15 @@ fits_after : {declarations : List DeclTree} {one between other : PlainType} → 
 fits_after (equal one) second = second
 fits_after {declarations} {other = other} (bottom between) second = bottom other
 fits_after (null_interface name) (equal _) = null_interface name
-fits_after (null_interface name) (extends _ other told) = null_interface other
+fits_after (null_interface name) (extends _ other reported) = null_interface other
 fits_after (null_future value) (equal _) = null_future value
 fits_after (null_future value) (futures _ other parts) = null_future other
-fits_after (implements class interface told) (equal _) = implements class interface told
-fits_after {declarations} (implements class interface told) (extends _ other more) =
-    implements class other (implements_extended declarations class interface other told more)
-fits_after (extends one between told) (equal _) = extends one between told
-fits_after {declarations} (extends one between told) (extends _ other more) =
-    extends one other (extends_transitive declarations one between other told more)
+fits_after (implements class interface reported) (equal _) = implements class interface reported
+fits_after {declarations} (implements class interface reported) (extends _ other more) =
+    implements class other (implements_extended declarations class interface other reported more)
+fits_after (extends one between reported) (equal _) = extends one between reported
+fits_after {declarations} (extends one between reported) (extends _ other more) =
+    extends one other (extends_transitive declarations one between other reported more)
 fits_after (futures one between parts) (equal _) = futures one between parts
 fits_after (futures one between parts) (futures _ other more) = futures one other (fits_after parts more)
 fits_after (applied head between_head argument between_argument heads arguments) (equal _) =
@@ -237,9 +237,9 @@ same_by_fitting none (bottom _) (bottom _) = refl
 same_by_fitting none (null_interface _) back = elim back [ ]
 same_by_fitting none (null_future _) back = elim back [ ]
 same_by_fitting none (implements _ _ _) back = elim back [ ]
-same_by_fitting none (extends one _ told) (equal _) = refl
-same_by_fitting {declarations} none (extends one other told) (extends _ _ back) =
-    absurd (extends_irreflexive declarations one none (extends_transitive declarations one other one told back))
+same_by_fitting none (extends one _ reported) (equal _) = refl
+same_by_fitting {declarations} none (extends one other reported) (extends _ _ back) =
+    absurd (extends_irreflexive declarations one none (extends_transitive declarations one other one reported back))
 same_by_fitting none (futures one _ parts) (equal _) = refl
 same_by_fitting none (futures one other parts) (futures _ _ back) = ap PlainFut (same_by_fitting none parts back)
 same_by_fitting none (applied head _ argument _ heads arguments) (equal _) = refl

@@ -92,11 +92,11 @@ entry_parameter table index entry is =
     ∙ ap (option_map (λ (entry : Shape × Bool). entry.1)) (sym is) in
     let below : index.0 < length types =
     omega (arith, length-types_in table, slice_get_within table.shapes.entries index.0 entry (sym is)) in
-    let told : Some (has_parameter (type_at types index)) ≡ Some entry.1 =
+    let reported : Some (has_parameter (type_at types index)) ≡ Some entry.1 =
     ap (option_map has_parameter) (sym (slice_get-get_or types index.0 PlainBottom below))
     ∙ (sym (slice_get-map has_parameter types index.0)
     ∙ (ap (λ (flags : List Bool). slice_get flags index.0) (sym table.parameters_are) ∙ flag)) in
-    sym (same_Some (has_parameter (type_at types index)) entry.1 told)
+    sym (same_Some (has_parameter (type_at types index)) entry.1 reported)
 
 -- a table without entries has no types
 pub types_empty : (table : TypeTable) → table.shapes.entries ≡ [] → types_in table ≡ []

@@ -1,18 +1,19 @@
--- The offences of expressions by their types. An expression offends where all its parts have types and its row gives
+-- The offences of expressions by their types. An expression offends where all its parts have types and its rule gives
 -- none (T1), at its first token. A part without a type silences the expressions around it. A pattern that does not fit
--- offends by itself, and so does a call on `this` inside an expression, which has no row.
+-- offends by itself, and so does a call on `this` inside an expression, which has no rule.
 --
 --   `is_visible`                   whether a variable is there
 --   `own_call_offences`            the offences of a call on `this` inside an expression
---   `phrase_offences`, ..          those of an expression, and of several
+--   `expr_offences`, ..            those of an expression, and of several
 use Rattle.std.specs.Prelude.{ℕ, Bool, true, false, not, ◌&&◌, ◌||◌, List, [], ◌∷◌, ◌++◌, slice_get, Option, Some, None, is_some, option_map}
-use Rattle.abs_tree.specs.Syntax.{Name, VariableTree, Unresolved, AtSlot, AtBound, AtField, DeclTree, Phrase, LetIn, IfElse, OperatorsOf, Prefixed, NumberOf, StringOf, NullOf, DestinyOf, ThisOf, FieldOf, OwnCallOf, VariableOf, ApplyOf, BuildOf, CaseOf, Phrases, NoPhrase, NextPhrase, Operands, NoOperands, NextOperand, Branches, NoBranch, NextBranch}
-use Rattle.abs_tree.specs.SyntaxCounts.{count_phrases}
+use Rattle.abs_tree.specs.Syntax.{Name, VariableTree, Unresolved, AtSlot, AtBound, AtField, DeclTree, ExprTree, LetIn, IfElse, OperatorsOf, Prefixed, NumberOf, StringOf, NullOf, DestinyOf, ThisOf, FieldOf, OwnCallOf, VariableOf, ApplyOf, BuildOf, CaseOf, ExprTrees, NoExpr, NextExpr, Operands, NoOperands, NextOperand, Branches, NoBranch, NextBranch}
+use Rattle.abs_tree.specs.SyntaxCounts.{count_exprs}
 use Rattle.abs_tree.specs.declared.place.Place.{Place}
 use Rattle.abs_tree.specs.declared.refusal.Code.TheVariants.{T2}
 use Rattle.abs_tree.specs.declared.refusal.Offence.{Offence}
 use Rattle.abs_types.specs.Methods.{has_method}
-use Rattle.abs_types.specs.Mistyped.{offence_if, mistyped_if, untyped}
+use Rattle.abs_tree.specs.Offences.{offence_if}
+use Rattle.abs_types.specs.Mistyped.{mistyped_if, untyped}
 use Rattle.abs_types.specs.PatternTypes.{pattern_offences, pattern_types}
 use Rattle.abs_types.specs.PlainTypes.{PlainType, PlainClass, plain}
 use Rattle.abs_types.specs.Typing.{Frame, branches_in, operands_in, type_in, types_in, variable_type}
@@ -41,67 +42,67 @@ own_call_offences declarations frame given place method count =
 
 abbrev mutual
   -- the offences of an expression, where variables with these types are bound
-  pub phrase_offences : List DeclTree → Frame → List (Option PlainType) → Phrase → List Offence
-  phrase_offences declarations frame bound (LetIn place type variable_place variable value body) =
-      phrase_offences declarations frame bound value
-      ++ phrase_offences declarations frame (bound ++ Some (plain type) ∷ []) body
+  pub expr_offences : List DeclTree → Frame → List (Option PlainType) → ExprTree → List Offence
+  expr_offences declarations frame bound (LetIn place type variable_place variable value body) =
+      expr_offences declarations frame bound value
+      ++ expr_offences declarations frame (bound ++ Some (plain type) ∷ []) body
       ++ untyped (is_some (type_in declarations frame bound value)
       && is_some (type_in declarations frame (bound ++ Some (plain type) ∷ []) body))
       (type_in declarations frame bound (LetIn place type variable_place variable value body)) place
-  phrase_offences declarations frame bound (IfElse place condition first second) =
-      phrase_offences declarations frame bound condition ++ phrase_offences declarations frame bound first
-      ++ phrase_offences declarations frame bound second
+  expr_offences declarations frame bound (IfElse place condition first second) =
+      expr_offences declarations frame bound condition ++ expr_offences declarations frame bound first
+      ++ expr_offences declarations frame bound second
       ++ untyped (is_some (type_in declarations frame bound condition)
       && is_some (type_in declarations frame bound first) && is_some (type_in declarations frame bound second))
       (type_in declarations frame bound (IfElse place condition first second)) place
-  phrase_offences declarations frame bound (OperatorsOf place first operands) =
-      phrase_offences declarations frame bound first ++ operands_offences declarations frame bound operands
+  expr_offences declarations frame bound (OperatorsOf place first operands) =
+      expr_offences declarations frame bound first ++ operands_offences declarations frame bound operands
       ++ untyped (is_some (type_in declarations frame bound first)
       && is_some (operands_in declarations frame bound operands))
       (type_in declarations frame bound (OperatorsOf place first operands)) place
-  phrase_offences declarations frame bound (Prefixed place prefix operand) =
-      phrase_offences declarations frame bound operand
+  expr_offences declarations frame bound (Prefixed place prefix operand) =
+      expr_offences declarations frame bound operand
       ++ untyped (is_some (type_in declarations frame bound operand))
       (type_in declarations frame bound (Prefixed place prefix operand)) place
-  phrase_offences declarations frame bound (NumberOf place number) = []
-  phrase_offences declarations frame bound (StringOf place string) = []
-  phrase_offences declarations frame bound (NullOf place) = []
-  phrase_offences declarations frame bound (DestinyOf place) =
+  expr_offences declarations frame bound (NumberOf place number) = []
+  expr_offences declarations frame bound (StringOf place string) = []
+  expr_offences declarations frame bound (NullOf place) = []
+  expr_offences declarations frame bound (DestinyOf place) =
       untyped true (type_in declarations frame bound (DestinyOf place)) place
-  phrase_offences declarations frame bound (ThisOf place) =
+  expr_offences declarations frame bound (ThisOf place) =
       untyped true (type_in declarations frame bound (ThisOf place)) place
-  phrase_offences declarations frame bound (VariableOf place variable) =
+  expr_offences declarations frame bound (VariableOf place variable) =
       mistyped_if (not (is_visible frame bound variable)) place
-  phrase_offences declarations frame bound (ApplyOf place function arguments) =
-      phrases_offences declarations frame bound arguments
+  expr_offences declarations frame bound (ApplyOf place function arguments) =
+      exprs_offences declarations frame bound arguments
       ++ untyped (is_some (types_in declarations frame bound arguments))
       (type_in declarations frame bound (ApplyOf place function arguments)) place
-  phrase_offences declarations frame bound (BuildOf place constructor arguments) =
-      phrases_offences declarations frame bound arguments
+  expr_offences declarations frame bound (BuildOf place constructor arguments) =
+      exprs_offences declarations frame bound arguments
       ++ untyped (is_some (types_in declarations frame bound arguments))
       (type_in declarations frame bound (BuildOf place constructor arguments)) place
-  phrase_offences declarations frame bound (CaseOf place subject branches) =
-      phrase_offences declarations frame bound subject
+  expr_offences declarations frame bound (CaseOf place subject branches) =
+      expr_offences declarations frame bound subject
       ++ branches_offences declarations frame bound (type_in declarations frame bound subject) branches
       ++ untyped (is_some (type_in declarations frame bound subject) && is_some (branches_in declarations frame bound
       (type_in declarations frame bound subject) branches))
       (type_in declarations frame bound (CaseOf place subject branches)) place
-  phrase_offences declarations frame bound (OwnCallOf place method arguments) =
-      phrases_offences declarations frame bound arguments
+  expr_offences declarations frame bound (OwnCallOf place method arguments) =
+      exprs_offences declarations frame bound arguments
       ++ own_call_offences declarations frame (types_in declarations frame bound arguments) place method
-      (count_phrases arguments)
+      (count_exprs arguments)
   -- once names are resolved, a field of `this` is a variable
-  phrase_offences declarations frame bound (FieldOf place name_place name) = mistyped_if true place
+  expr_offences declarations frame bound (FieldOf place name_place name) = mistyped_if true place
 
-  pub phrases_offences : List DeclTree → Frame → List (Option PlainType) → Phrases → List Offence
-  phrases_offences declarations frame bound NoPhrase = []
-  phrases_offences declarations frame bound (NextPhrase first others) =
-      phrase_offences declarations frame bound first ++ phrases_offences declarations frame bound others
+  pub exprs_offences : List DeclTree → Frame → List (Option PlainType) → ExprTrees → List Offence
+  exprs_offences declarations frame bound NoExpr = []
+  exprs_offences declarations frame bound (NextExpr first others) =
+      expr_offences declarations frame bound first ++ exprs_offences declarations frame bound others
 
   pub operands_offences : List DeclTree → Frame → List (Option PlainType) → Operands → List Offence
   operands_offences declarations frame bound NoOperands = []
   operands_offences declarations frame bound (NextOperand operator right others) =
-      phrase_offences declarations frame bound right ++ operands_offences declarations frame bound others
+      expr_offences declarations frame bound right ++ operands_offences declarations frame bound others
 
   -- those of branches and of their patterns; a pattern whose subject has no type does not offend
   pub branches_offences : List DeclTree → Frame → List (Option PlainType) → Option PlainType → Branches
@@ -109,5 +110,5 @@ abbrev mutual
   branches_offences declarations frame bound subject NoBranch = []
   branches_offences declarations frame bound subject (NextBranch pattern value others) =
       pattern_offences declarations subject pattern
-      ++ phrase_offences declarations frame (bound ++ pattern_types declarations subject pattern) value
+      ++ expr_offences declarations frame (bound ++ pattern_types declarations subject pattern) value
       ++ branches_offences declarations frame bound subject others

@@ -4,7 +4,7 @@
 --   `AreTests`                     a guard is well typed
 --   `IsTyped`, `AreTyped`          a statement, and several: whether they are the last of a method's body
 use Rattle.std.specs.Prelude.{◌≡◌, ℕ, Bool, true, false, ◌&&◌, List, [], slice_get, Option, Some}
-use Rattle.abs_tree.specs.Syntax.{Name, TypeTree, VariableTree, AtSlot, DeclTree, Phrase, OwnCallOf, VariableOf, Phrases, NextPhrase, SideTree, NewOf, ValueOf, SendOf, GetOf, CallOf, Tests, NoTest, NextTest, TargetTree, NoSide, SomeSide, Statement, BlockOf, SkipOf, SuspendOf, AwaitOf, ReturnOf, PrintOf, IfOf, WhileOf, DeclareOf, AssignOf, DoOf, MaybeStatements, NoElse, Else, Statements, NoStatement, NextStatement}
+use Rattle.abs_tree.specs.Syntax.{Name, TypeTree, VariableTree, AtSlot, DeclTree, ExprTree, OwnCallOf, VariableOf, ExprTrees, NextExpr, SideTree, NewOf, ValueOf, SendOf, GetOf, CallOf, Tests, NoTest, NextTest, TargetTree, NoSide, SomeSide, Statement, BlockOf, SkipOf, SuspendOf, AwaitOf, ReturnOf, PrintOf, IfOf, WhileOf, DeclareOf, AssignOf, DoOf, MaybeStatements, NoElse, Else, Statements, NoStatement, NextStatement}
 use Rattle.abs_tree.specs.declared.place.Place.{Place}
 use Rattle.abs_tree.specs.declared.syntax.statement.Mode.{Mode}
 use Rattle.abs_types.specs.Applications.{AllFit}
@@ -20,24 +20,24 @@ use Rattle.abs_types.specs.Typing.{Frame}
 
 -- A right side has a type. A call on `this` has one here, as a whole right side.
 pub data SideHasType (declarations : List DeclTree) (frame : Frame) : SideTree → PlainType → Type 0 where
-  new_object : (place class_place : Place) (mode : Mode) (class : Name) (arguments : Phrases)
+  new_object : (place class_place : Place) (mode : Mode) (class : Name) (arguments : ExprTrees)
       (given takes : List PlainType) → HaveTypes declarations frame [] arguments given
       → class_takes declarations class ≡ Some takes → AllFit declarations given takes
       → SideHasType declarations frame (NewOf place mode class_place class arguments) (PlainClass class)
-  value : (place : Place) (phrase : Phrase) (type : PlainType) → HasType declarations frame [] phrase type
-      → SideHasType declarations frame (ValueOf place phrase) type
-  own_call : (place call_place : Place) (method class : Name) (arguments : Phrases) (given : List PlainType)
+  value : (place : Place) (expr_tree : ExprTree) (type : PlainType) → HasType declarations frame [] expr_tree type
+      → SideHasType declarations frame (ValueOf place expr_tree) type
+  own_call : (place call_place : Place) (method class : Name) (arguments : ExprTrees) (given : List PlainType)
       (type : PlainType) → frame.this ≡ Some class → HaveTypes declarations frame [] arguments given
       → call_type declarations (PlainClass class) method given ≡ Some type
       → SideHasType declarations frame (ValueOf place (OwnCallOf call_place method arguments)) type
-  sent : (place : Place) (method : Name) (receiver : Phrase) (arguments : Phrases) (object : PlainType)
+  sent : (place : Place) (method : Name) (receiver : ExprTree) (arguments : ExprTrees) (object : PlainType)
       (given : List PlainType) (type : PlainType) → HasType declarations frame [] receiver object
       → HaveTypes declarations frame [] arguments given → call_type declarations object method given ≡ Some type
-      → SideHasType declarations frame (SendOf place method (NextPhrase receiver arguments)) (PlainFut type)
-  called : (place : Place) (method : Name) (receiver : Phrase) (arguments : Phrases) (hidden : Option ℕ)
+      → SideHasType declarations frame (SendOf place method (NextExpr receiver arguments)) (PlainFut type)
+  called : (place : Place) (method : Name) (receiver : ExprTree) (arguments : ExprTrees) (hidden : Option ℕ)
       (object : PlainType) (given : List PlainType) (type : PlainType) → HasType declarations frame [] receiver object
       → HaveTypes declarations frame [] arguments given → call_type declarations object method given ≡ Some type
-      → SideHasType declarations frame (CallOf place method (NextPhrase receiver arguments) hidden) type
+      → SideHasType declarations frame (CallOf place method (NextExpr receiver arguments) hidden) type
   got : (place get_place variable_place : Place) (slot : ℕ) (type : PlainType)
       → slice_get frame.slots slot ≡ Some (Some (PlainFut type))
       → SideHasType declarations frame (GetOf place get_place (VariableOf variable_place (AtSlot slot))) type
@@ -48,7 +48,7 @@ pub data AreTests (declarations : List DeclTree) (frame : Frame) : Tests → Typ
   asked : (place variable_place : Place) (slot : ℕ) (type : PlainType) (others : Tests)
       → slice_get frame.slots slot ≡ Some (Some (PlainFut type)) → AreTests declarations frame others
       → AreTests declarations frame (NextTest place (VariableOf variable_place (AtSlot slot)) true others)
-  held : (place : Place) (condition : Phrase) (given : PlainType) (others : Tests)
+  held : (place : Place) (condition : ExprTree) (given : PlainType) (others : Tests)
       → HasType declarations frame [] condition given → Fits declarations given bool_type
       → AreTests declarations frame others → AreTests declarations frame (NextTest place condition false others)
 
@@ -64,18 +64,18 @@ mutual
         → IsTyped declarations frame is_last (SuspendOf index place)
     await : (frame : Frame) (is_last : Bool) (index : ℕ) (place : Place) (guard : Tests)
         → AreTests declarations frame guard → IsTyped declarations frame is_last (AwaitOf index place guard)
-    return : (frame : Frame) (index : ℕ) (place : Place) (value : Phrase) (given result : PlainType)
+    return : (frame : Frame) (index : ℕ) (place : Place) (value : ExprTree) (given result : PlainType)
         → frame.task ≡ Some result → HasType declarations frame [] value given → Fits declarations given result
         → IsTyped declarations frame true (ReturnOf index place value)
-    print : (frame : Frame) (is_last : Bool) (index : ℕ) (place : Place) (value : Phrase) (given : PlainType)
+    print : (frame : Frame) (is_last : Bool) (index : ℕ) (place : Place) (value : ExprTree) (given : PlainType)
         → HasType declarations frame [] value given → Fits declarations given PlainString
         → IsTyped declarations frame is_last (PrintOf index place value)
-    if_else : (frame : Frame) (is_last : Bool) (index : ℕ) (place : Place) (condition : Phrase) (first : Statements)
+    if_else : (frame : Frame) (is_last : Bool) (index : ℕ) (place : Place) (condition : ExprTree) (first : Statements)
         (second : MaybeStatements) (given : PlainType) → HasType declarations frame [] condition given
         → Fits declarations given bool_type → AreTyped declarations frame false first
         → IsElseTyped declarations frame second
         → IsTyped declarations frame is_last (IfOf index place condition first second)
-    while : (frame : Frame) (is_last : Bool) (index : ℕ) (place : Place) (condition : Phrase) (body : Statements)
+    while : (frame : Frame) (is_last : Bool) (index : ℕ) (place : Place) (condition : ExprTree) (body : Statements)
         (given : PlainType) → HasType declarations frame [] condition given → Fits declarations given bool_type
         → AreTyped declarations frame false body
         → IsTyped declarations frame is_last (WhileOf index place condition body)

@@ -12,7 +12,7 @@ pub mod Typing
 pub mod TypeShapes
 pub mod TypeTables
 pub mod Matching
-pub mod OperatorRows
+pub mod OperatorRules
 pub mod HasType
 pub mod Methods
 pub mod ExpressionOffences

@@ -1,36 +1,31 @@
--- The offence of one phrase by its type. A phrase offends where all its parts have types, and it has none, or one that
--- does not fit.
+-- The offence of one expression or right side by its type. It offends where all its parts have types, and it has none,
+-- or one that does not fit.
 --
---   `offence_if`           an offence at a place, if there is reason for it
 --   `mistyped_if`          that of a wrong type (T1)
---   `untyped`              that of a phrase all of whose parts have types and which has none
---   `unfit`                that of a phrase whose type does not fit the type that is asked for
-use Rattle.std.specs.Prelude.{Bool, false, not, ◌&&◌, List, [], ◌∷◌, Option, Some, None, is_none, if◌then◌else◌}
+--   `untyped`              that of a part all of whose parts have types and which has none
+--   `unfit`                that of a part whose type does not fit the type that is asked for
+use Rattle.std.specs.Prelude.{Bool, false, not, ◌&&◌, List, Option, Some, None, is_none}
+use Rattle.abs_tree.specs.Offences.{offence_if}
 use Rattle.abs_tree.specs.Syntax.{DeclTree}
 use Rattle.abs_tree.specs.declared.place.Place.{Place}
-use Rattle.abs_tree.specs.declared.refusal.Code.{Code}
 use Rattle.abs_tree.specs.declared.refusal.Code.TheVariants.{T1}
 use Rattle.abs_tree.specs.declared.refusal.Offence.{Offence}
 use Rattle.abs_types.specs.PlainTypes.{PlainType}
 use Rattle.abs_types.specs.Subtyping.{fits}
 
--- an offence at a place, if there is reason for it
-abbrev pub offence_if : Bool → Code → Place → List Offence
-offence_if offends code place = if offends then record { place = place; code = code } ∷ [] else []
-
 -- that of a wrong type
 abbrev pub mistyped_if : Bool → Place → List Offence
 mistyped_if offends place = offence_if offends T1 place
 
--- that of a phrase at this place, if all its parts have types and it has none
+-- that of a part at this place, if all its parts have types and it has none
 abbrev pub untyped : Bool → Option PlainType → Place → List Offence
 untyped parts_typed type_of place = mistyped_if (parts_typed && is_none type_of) place
 
--- whether a type does not fit the type that is asked for; a phrase without a type does not offend by that
+-- whether a type does not fit the type that is asked for; a part without a type does not offend by that
 abbrev pub does_not_fit : List DeclTree → Option PlainType → PlainType → Bool
 does_not_fit declarations (Some given) asked = not (fits declarations given asked)
 does_not_fit declarations None asked = false
 
--- that of a phrase at this place whose type does not fit the type that is asked for
+-- that of a part at this place whose type does not fit the type that is asked for
 abbrev pub unfit : List DeclTree → Option PlainType → PlainType → Place → List Offence
 unfit declarations given asked place = mistyped_if (does_not_fit declarations given asked) place

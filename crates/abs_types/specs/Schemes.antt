@@ -1,6 +1,7 @@
 -- What functions and constructors take and give.
 --
---   `Scheme`                       how many type parameters there are, the types that are taken, and that which is given
+--   `Scheme`                       how many type parameters there are, the types that are taken, and that which is
+--                                  given
 --   `scheme_of_function`           that of the function with a name
 --   `scheme_of_constructor`        that of the constructor with a name
 --   `has_parameter`                a type has a type parameter in it

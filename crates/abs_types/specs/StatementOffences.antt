@@ -7,14 +7,15 @@
 --   `test_offences`                the offences of a guard
 --   `statement_offences`, ..       those of a statement, and of several; whether they are the last of a method's body
 use Rattle.std.specs.Prelude.{Bool, true, false, not, ◌&&◌, List, [], ◌++◌, set, Option, Some, None, is_none, if◌then◌else◌}
-use Rattle.abs_tree.specs.Syntax.{VariableTree, AtSlot, DeclTree, Phrase, SideTree, NewOf, ValueOf, SendOf, GetOf, CallOf, Tests, NoTest, NextTest, TargetTree, ToVariable, ToField, MaybeSide, NoSide, SomeSide, Statement, BlockOf, SkipOf, SuspendOf, AwaitOf, ReturnOf, PrintOf, IfOf, WhileOf, DeclareOf, AssignOf, DoOf, MaybeStatements, NoElse, Else, Statements, NoStatement, NextStatement}
-use Rattle.abs_tree.specs.SyntaxPlaces.{phrase_place}
+use Rattle.abs_tree.specs.Syntax.{VariableTree, AtSlot, DeclTree, ExprTree, SideTree, NewOf, ValueOf, SendOf, GetOf, CallOf, Tests, NoTest, NextTest, TargetTree, ToVariable, ToField, MaybeSide, NoSide, SomeSide, Statement, BlockOf, SkipOf, SuspendOf, AwaitOf, ReturnOf, PrintOf, IfOf, WhileOf, DeclareOf, AssignOf, DoOf, MaybeStatements, NoElse, Else, Statements, NoStatement, NextStatement}
+use Rattle.abs_tree.specs.SyntaxPlaces.{expr_place}
 use Rattle.abs_tree.specs.declared.place.Place.{Place}
 use Rattle.abs_tree.specs.declared.refusal.Code.TheVariants.{T3, T5}
 use Rattle.abs_tree.specs.declared.refusal.Offence.{Offence}
 use Rattle.abs_types.specs.Endings.{are_empty}
-use Rattle.abs_types.specs.ExpressionOffences.{phrase_offences}
-use Rattle.abs_types.specs.Mistyped.{offence_if, mistyped_if, unfit}
+use Rattle.abs_types.specs.ExpressionOffences.{expr_offences}
+use Rattle.abs_tree.specs.Offences.{offence_if}
+use Rattle.abs_types.specs.Mistyped.{mistyped_if, unfit}
 use Rattle.abs_types.specs.OperatorTypes.{bool_type}
 use Rattle.abs_types.specs.PlainTypes.{PlainType, PlainString, PlainFut, PlainInterface, plain}
 use Rattle.abs_types.specs.SideTypes.{future_type, side_offences, side_type}
@@ -48,11 +49,11 @@ target_place (ToField place name_place name) = place
 
 -- where a right side offends that does not fit: an expression at its own place, so parentheses around it do not count
 abbrev pub unfit_place : SideTree → Place
-unfit_place (ValueOf place value) = phrase_place value
+unfit_place (ValueOf place value) = expr_place value
 unfit_place (NewOf place mode class_place class arguments) = place
-unfit_place (SendOf place method row) = place
+unfit_place (SendOf place method operands) = place
 unfit_place (GetOf place get_place future) = place
-unfit_place (CallOf place method row slot) = place
+unfit_place (CallOf place method operands slot) = place
 
 -- a right side that does not fit
 abbrev pub unfit_side : List DeclTree → Frame → SideTree → Option PlainType → List Offence
@@ -61,14 +62,14 @@ unfit_side declarations frame side (Some asked) =
 unfit_side declarations frame side None = []
 
 -- the offences of an expression, and of a type of it that does not fit what is asked for
-abbrev pub asked_offences : List DeclTree → Frame → Phrase → PlainType → Place → List Offence
+abbrev pub asked_offences : List DeclTree → Frame → ExprTree → PlainType → Place → List Offence
 asked_offences declarations frame value asked place =
-    phrase_offences declarations frame [] value ++ unfit declarations (type_in declarations frame [] value) asked place
+    expr_offences declarations frame [] value ++ unfit declarations (type_in declarations frame [] value) asked place
 
 -- those of a part of a guard: with "?" it is a parameter or a local of a `Fut` type, without it a Bool
-abbrev pub part_offences : List DeclTree → Frame → Place → Phrase → Bool → List Offence
+abbrev pub part_offences : List DeclTree → Frame → Place → ExprTree → Bool → List Offence
 part_offences declarations frame place value asks =
-    if asks then phrase_offences declarations frame [] value ++ mistyped_if (is_none (future_type frame value)) place
+    if asks then expr_offences declarations frame [] value ++ mistyped_if (is_none (future_type frame value)) place
     else asked_offences declarations frame value bool_type place
 
 -- those of a guard
@@ -84,10 +85,10 @@ initial_offences declarations frame type place (SomeSide side) =
     side_offences declarations frame side ++ unfit_side declarations frame side (Some type)
 
 -- those of the value of a `return`; a body without a result type has none
-abbrev pub result_offences : List DeclTree → Frame → Phrase → Option PlainType → List Offence
+abbrev pub result_offences : List DeclTree → Frame → ExprTree → Option PlainType → List Offence
 result_offences declarations frame value (Some result) =
-    asked_offences declarations frame value result (phrase_place value)
-result_offences declarations frame value None = mistyped_if true (phrase_place value)
+    asked_offences declarations frame value result (expr_place value)
+result_offences declarations frame value None = mistyped_if true (expr_place value)
 
 abbrev mutual
   -- the offences of a statement; whether it is the last one of a method's body
@@ -102,10 +103,10 @@ abbrev mutual
   statement_offences declarations frame is_last (PrintOf index place value) =
       asked_offences declarations frame value PlainString place
   statement_offences declarations frame is_last (IfOf index place condition first second) =
-      asked_offences declarations frame condition bool_type (phrase_place condition)
+      asked_offences declarations frame condition bool_type (expr_place condition)
       ++ statements_offences declarations frame false first ++ else_offences declarations frame second
   statement_offences declarations frame is_last (WhileOf index place condition body) =
-      asked_offences declarations frame condition bool_type (phrase_place condition)
+      asked_offences declarations frame condition bool_type (expr_place condition)
       ++ statements_offences declarations frame false body
   statement_offences declarations frame is_last (DeclareOf index place type variable_place variable initial) =
       initial_offences declarations frame (plain type) variable_place initial

@@ -7,14 +7,14 @@
 --   `type_offences`                all of them
 use Rattle.std.specs.Prelude.{ℕ, ◌+◌, Bool, true, false, not, ◌||◌, List, [], ◌∷◌, ◌++◌, map, length, replicate, Some, None}
 use Rattle.abs_program.specs.Slots.{body_slots, statements_slots}
-use Rattle.abs_tree.specs.Syntax.{Name, MaybePhrase, NoValue, Value, SignatureTree, MemberTree, FieldTree, MethodTree, DeclTree, DataTree, FunctionTree, InterfaceTree, ClassTree, SourceTree, Statements}
-use Rattle.abs_tree.specs.SyntaxPlaces.{phrase_place}
+use Rattle.abs_tree.specs.Syntax.{Name, MaybeExpr, NoValue, Value, SignatureTree, MemberTree, FieldTree, MethodTree, DeclTree, DataTree, FunctionTree, InterfaceTree, ClassTree, SourceTree, Statements}
+use Rattle.abs_tree.specs.SyntaxPlaces.{expr_place}
 use Rattle.abs_tree.specs.declared.place.Place.{Place}
 use Rattle.abs_tree.specs.declared.refusal.Code.TheVariants.{T3, T4, T5}
 use Rattle.abs_tree.specs.declared.refusal.Offence.{Offence}
 use Rattle.abs_types.specs.Endings.{ends_with_return}
 use Rattle.abs_types.specs.InterfacesMet.{agrees, meets_interfaces, same_type}
-use Rattle.abs_types.specs.Mistyped.{offence_if}
+use Rattle.abs_tree.specs.Offences.{offence_if}
 use Rattle.abs_types.specs.OperatorTypes.{unit_type}
 use Rattle.abs_types.specs.PlainTypes.{PlainType, plain}
 use Rattle.abs_types.specs.Schemes.{param_types}
@@ -47,7 +47,7 @@ main_frame body = record {
 -- the offences of a function: its value fits its result type
 abbrev pub function_offences_in : List DeclTree → DeclTree → List Offence
 function_offences_in declarations (FunctionTree place result name type_params params value) =
-    asked_offences declarations (value_frame (param_types params)) value (plain result) (phrase_place value)
+    asked_offences declarations (value_frame (param_types params)) value (plain result) (expr_place value)
 function_offences_in declarations (DataTree place name type_params constructors) = []
 function_offences_in declarations (InterfaceTree place name extended signatures) = []
 function_offences_in declarations (ClassTree place name params implemented members) = []
@@ -71,10 +71,10 @@ interfaces_offences declarations index (first ∷ others) =
     interface_offences_in declarations index first ++ interfaces_offences declarations (1 + index) others
 
 -- those of a field, where variables with these types are visible: its value fits its type, or the type has `null`
-abbrev pub field_offences : List DeclTree → List PlainType → PlainType → Place → MaybePhrase → List Offence
+abbrev pub field_offences : List DeclTree → List PlainType → PlainType → Place → MaybeExpr → List Offence
 field_offences declarations types type place NoValue = offence_if (not (can_be_null type)) T3 place
 field_offences declarations types type place (Value value) =
-    asked_offences declarations (value_frame types) value type (phrase_place value)
+    asked_offences declarations (value_frame types) value type (expr_place value)
 
 -- whether the body of a method with a result type ends as it is to: with `return`, unless the type is Unit
 abbrev pub ends_well : PlainType → Statements → Bool

@@ -3,7 +3,7 @@
 --   `IsTypedFunction`, `IsTypedInterface`, `IsTypedClass`      declarations
 --   `IsTypedProgram`                                           a program
 use Rattle.std.specs.Prelude.{◌≡◌, ⊤, ℕ, ◌+◌, true, false, List, [], ◌∷◌, ◌++◌}
-use Rattle.abs_tree.specs.Syntax.{Name, MaybePhrase, NoValue, Value, Phrase, SignatureTree, MemberTree, FieldTree, MethodTree, DeclTree, FunctionTree, InterfaceTree, ClassTree, SourceTree, Statements}
+use Rattle.abs_tree.specs.Syntax.{Name, MaybeExpr, NoValue, Value, ExprTree, SignatureTree, MemberTree, FieldTree, MethodTree, DeclTree, FunctionTree, InterfaceTree, ClassTree, SourceTree, Statements}
 use Rattle.abs_types.specs.HasType.{HasType}
 use Rattle.abs_types.specs.InterfacesMet.{agrees, meets_interfaces}
 use Rattle.abs_types.specs.IsTyped.{AreTyped}
@@ -15,7 +15,7 @@ use Rattle.abs_types.specs.TypeOffences.{ends_well, field_types, main_frame, met
 use Rattle.abs_types.specs.Typing.{Frame}
 
 -- An expression has a type that fits the type that is asked for.
-pub record FitsType (declarations : List DeclTree) (frame : Frame) (value : Phrase) (asked : PlainType) : Type 0 where
+pub record FitsType (declarations : List DeclTree) (frame : Frame) (value : ExprTree) (asked : PlainType) : Type 0 where
   pub given : PlainType
   pub has_type : HasType declarations frame [] value given
   pub fits_it : Fits declarations given asked
@@ -33,7 +33,7 @@ IsTypedInterface declarations index (InterfaceTree place name extended signature
 IsTypedInterface declarations index _ = ⊤
 
 -- the value of a field fits its type; without one the type has `null`
-abbrev pub IsTypedField : List DeclTree → List PlainType → PlainType → MaybePhrase → Type 0
+abbrev pub IsTypedField : List DeclTree → List PlainType → PlainType → MaybeExpr → Type 0
 IsTypedField declarations types type NoValue = can_be_null type ≡ true
 IsTypedField declarations types type (Value value) = FitsType declarations (value_frame types) value type
 

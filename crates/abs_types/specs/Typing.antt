@@ -1,12 +1,12 @@
--- The type of an expression, from the types of its parts: a row of the table of phrases for each form. An expression
--- has no type where a part of it has none, or where its row gives none.
+-- The type of an expression, from the types of its parts: a typing rule for each form. An expression
+-- has no type where a part of it has none, or where its rule gives none.
 --
 --   `Frame`                            what is around an expression
 --   `variable_type`                    the type of a variable
---   `let_type`, `if_type`, ..          the rows, by the types of the parts
+--   `let_type`, `if_type`, ..          the rules, by the types of the parts
 --   `type_in`, `types_in`              the type of an expression, and those of several
 use Rattle.std.specs.Prelude.{ℕ, List, [], ◌∷◌, ◌++◌, slice_get, Option, Some, None, option_map, option_and_then, if◌then◌else◌}
-use Rattle.abs_tree.specs.Syntax.{Name, VariableTree, Unresolved, AtSlot, AtBound, AtField, DeclTree, Phrase, LetIn, IfElse, OperatorsOf, Prefixed, NumberOf, StringOf, NullOf, DestinyOf, ThisOf, FieldOf, OwnCallOf, VariableOf, ApplyOf, BuildOf, CaseOf, Phrases, NoPhrase, NextPhrase, Operands, NoOperands, NextOperand, Branches, NoBranch, NextBranch}
+use Rattle.abs_tree.specs.Syntax.{Name, VariableTree, Unresolved, AtSlot, AtBound, AtField, DeclTree, ExprTree, LetIn, IfElse, OperatorsOf, Prefixed, NumberOf, StringOf, NullOf, DestinyOf, ThisOf, FieldOf, OwnCallOf, VariableOf, ApplyOf, BuildOf, CaseOf, ExprTrees, NoExpr, NextExpr, Operands, NoOperands, NextOperand, Branches, NoBranch, NextBranch}
 use Rattle.abs_tree.specs.declared.syntax.expression.Operator.{Operator}
 use Rattle.abs_types.specs.Applications.{applied_type}
 use Rattle.abs_types.specs.Joins.{join_of, join_all}
@@ -75,7 +75,7 @@ operators_type declarations _ _ = None
 
 abbrev mutual
   -- the type of an expression, where variables with these types are bound
-  pub type_in : List DeclTree → Frame → List (Option PlainType) → Phrase → Option PlainType
+  pub type_in : List DeclTree → Frame → List (Option PlainType) → ExprTree → Option PlainType
   type_in declarations frame bound (LetIn place type variable_place variable value body) =
       let_type declarations (plain type) (type_in declarations frame bound value)
       (type_in declarations frame (bound ++ Some (plain type) ∷ []) body)
@@ -106,9 +106,9 @@ abbrev mutual
   type_in declarations frame bound (OwnCallOf place method arguments) = None
   type_in declarations frame bound (FieldOf place name_place name) = None
 
-  pub types_in : List DeclTree → Frame → List (Option PlainType) → Phrases → Option (List PlainType)
-  types_in declarations frame bound NoPhrase = Some []
-  types_in declarations frame bound (NextPhrase first others) =
+  pub types_in : List DeclTree → Frame → List (Option PlainType) → ExprTrees → Option (List PlainType)
+  types_in declarations frame bound NoExpr = Some []
+  types_in declarations frame bound (NextExpr first others) =
       both_types (type_in declarations frame bound first) (types_in declarations frame bound others)
 
   pub operands_in : List DeclTree → Frame → List (Option PlainType) → Operands

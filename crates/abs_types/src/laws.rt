@@ -1,18 +1,25 @@
 //! Laws of the definitions, which hold whatever the code does.
-ghost use Rattle.std.specs.Prelude.{◌≡◌, ◌↔◌, ◌⊎◌, true, List, ◌∷◌, map, length, Option, Some, option_map};
-ghost use Rattle.abs_tree.specs.Syntax.{DeclTree, Name, SourceTree};
+ghost use Rattle.std.specs.Prelude.{◌≡◌, ◌↔◌, ◌⊎◌, true, List, ◌∷◌, map, length, Option, Some, option_map, Bool, []};
+ghost use Rattle.abs_tree.specs.Syntax.{DeclTree, Name, SourceTree, ExprTree, Statements};
 ghost use Rattle.abs_program.specs.Whole.{IsWhole};
 ghost use Rattle.abs_types.specs.Applications.{applied_type, met_by, replaced, AllFit};
+ghost use Rattle.abs_types.specs.ExpressionOffences.{expr_offences};
+ghost use Rattle.abs_types.specs.HasType.{HasType};
+ghost use Rattle.abs_types.specs.IsTyped.{AreTyped};
 ghost use Rattle.abs_types.specs.Joins.{both_applied, join_all, join_of, IsLeastAbove, IsLeastAboveAll};
 ghost use Rattle.abs_types.specs.PatternTypes.{constructor_parts};
 ghost use Rattle.abs_types.specs.PlainTypes.{applied_to, PlainApplied, PlainBottom, PlainData, PlainFut, PlainInterface, PlainNull, PlainType};
 ghost use Rattle.abs_types.specs.Schemes.{scheme_of_constructor, scheme_of_function, IsClosed, Scheme};
+ghost use Rattle.abs_types.specs.StatementOffences.{statements_offences};
 ghost use Rattle.abs_types.specs.Subtyping.{fits, Fits, NoneExtendsItself};
+ghost use Rattle.abs_types.specs.TypeOffences.{type_offences};
+ghost use Rattle.abs_types.specs.TypedProgram.{IsTypedProgram};
+ghost use Rattle.abs_types.specs.Typing.{Frame, type_in};
 
 /// The test and the relation of fitting agree. A type fits itself; what fits a type that fits a third one fits that one
 /// too; and in a program whose interfaces do not extend themselves two types that fit each other are the same.
 pub fn subtyping_is_an_order()
-    ensures told { (declarations : List DeclTree) (one other : PlainType)
+    ensures reported { (declarations : List DeclTree) (one other : PlainType)
         → (fits declarations one other ≡ true) ↔ Fits declarations one other }
     ensures reflexive { (declarations : List DeclTree) (one : PlainType) → fits declarations one one ≡ true }
     ensures transitive { (declarations : List DeclTree) (one between other : PlainType)
@@ -93,4 +100,27 @@ pub fn constructors_match()
         → constructor_parts declarations other name ≡ Some parts
         → (others : List PlainType) × (constructor_parts declarations PlainBottom name ≡ Some others)
         × AllFit declarations others parts }
+{}
+
+/// The relation and the function give the same types, so an expression has at most one; and an expression has a type
+/// exactly where it has no offence.
+pub fn expressions_are_typed()
+    ensures agree { (declarations : List DeclTree) (frame : Frame) (bound : List PlainType) (expr_tree : ExprTree)
+        (type : PlainType) → HasType declarations frame bound expr_tree type
+        ↔ (type_in declarations frame (map Some bound) expr_tree ≡ Some type) }
+    ensures no_offence { (declarations : List DeclTree) (frame : Frame) (bound : List PlainType) (expr_tree : ExprTree)
+        → (expr_offences declarations frame (map Some bound) expr_tree ≡ [])
+        ↔ ((type : PlainType) × HasType declarations frame bound expr_tree type) }
+{}
+
+/// Statements are well typed exactly where they have no offence.
+pub fn statements_are_typed()
+    ensures { (declarations : List DeclTree) (frame : Frame) (is_last : Bool) (statements : Statements)
+        → (statements_offences declarations frame is_last statements ≡ [])
+        ↔ AreTyped declarations frame is_last statements }
+{}
+
+/// A program is well typed exactly where its types have no offence.
+pub fn programs_are_typed()
+    ensures { (source : SourceTree) → (type_offences source ≡ []) ↔ IsTypedProgram source }
 {}

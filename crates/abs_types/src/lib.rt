@@ -9,16 +9,15 @@ mod laws;
 mod sharing;
 mod subtyping;
 mod table;
-mod typing_laws;
 
 pub use checked::Checked;
 pub use holds::{holds_futures, holds_objects};
 pub use joins::join;
 pub use laws::{
-    applications_are_least, constructors_match, joins_are_least, schemes_are_closed,
-    subtyping_is_an_order, types_fit_by_form,
+    applications_are_least, constructors_match, expressions_are_typed, joins_are_least,
+    programs_are_typed, schemes_are_closed, statements_are_typed, subtyping_is_an_order,
+    types_fit_by_form,
 };
 pub use sharing::programs_are_shared;
 pub use subtyping::subtype;
 pub use table::{Shape, TypeIndex, TypeTable};
-pub use typing_laws::{expressions_are_typed, programs_are_typed, statements_are_typed};

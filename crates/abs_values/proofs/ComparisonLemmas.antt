@@ -12,7 +12,7 @@ use Rattle.abs_values.specs.declared.value.Value.{Value}
 pub other_nodes : (parts others : ValueTrees) → parts_nodes parts ≢ parts_nodes others → same_parts parts others ≡ false
 other_nodes parts others different =
     false_from_ne_true (same_parts parts others)
-    (λ told. different (ap parts_nodes (same_parts-true parts others told)))
+    (λ reported. different (ap parts_nodes (same_parts-true parts others reported)))
 
 -- the values of lists of other lengths are not the same parts
 pub other_length : (left right : List Value) → length left ≢ length right

@@ -14,7 +14,7 @@ use Rattle.abs_values.specs.Numbers.{is_128_bit, number_result, arithmetic_resul
 use Rattle.abs_values.specs.Operations.{truth_value, truth_of, answer_result, opposite, negation_result, prefix_result, arithmetic_or_comparison, numbers_result, sum_result, operation_result}
 use Rattle.abs_values.specs.References.{IsIn, IsInAny}
 use Rattle.abs_values.specs.Results.{Result, Gives, Fails, string_result}
-use Rattle.abs_tree.specs.Syntax.{Name, Phrase, Operands, NoOperands, NextOperand}
+use Rattle.abs_tree.specs.Syntax.{Name, ExprTree, Operands, NoOperands, NextOperand}
 use Rattle.abs_values.specs.ValueTrees.{ValueTree, IntValue, StringValue, same_value}
 use Rattle.abs_values.specs.declared.evaluated.Fault.TheVariants as fault
 use Rattle.abs_tree.specs.declared.syntax.expression.Operator.{Operator}
@@ -103,7 +103,7 @@ prefix_result-none names prefix.Not value = answer_result-none names (opposite (
 prefix_result-none names prefix.Tilde value = answer_result-none names (opposite (truth_of names value))
 
 -- the outcome of `&&` or `||`, after the answer of its left operand
-logical_outcome-none : (names : List Name) (give : Phrase → ℕ → Outcome) (decides : Bool) (right : Phrase)
+logical_outcome-none : (names : List Name) (give : ExprTree → ℕ → Outcome) (decides : Bool) (right : ExprTree)
     (answer : Option Bool) (made : ℕ) → IfGives (logical_outcome names give decides right answer made).result HoldsNone
 logical_outcome-none names give true right (Some true) made = truth_value-none names true
 logical_outcome-none names give false right (Some false) made = truth_value-none names false
@@ -114,7 +114,7 @@ logical_outcome-none names give false right (Some true) made =
 logical_outcome-none names give decides right None made = tt
 
 -- the outcome of one operator, after the value of its left side
-pub operand_outcome-none : (names : List Name) (give : Phrase → ℕ → Outcome) (operation : Operator) (right : Phrase)
+pub operand_outcome-none : (names : List Name) (give : ExprTree → ℕ → Outcome) (operation : Operator) (right : ExprTree)
     (left : ValueTree) (made : ℕ) → IfGives (operand_outcome names give operation right left made).result HoldsNone
 operand_outcome-none names give operator.And right left made =
     logical_outcome-none names give false right (truth_of names left) made
@@ -125,7 +125,7 @@ operand_outcome-none names give operation right left made =
     (λ value gives. operation_result-none names operation left value)
 
 -- a list of operators gives its first value, or one without references
-pub operators_outcome-gives : (names : List Name) (give : Phrase → ℕ → Outcome) (left : Outcome) (operands : Operands)
+pub operators_outcome-gives : (names : List Name) (give : ExprTree → ℕ → Outcome) (left : Outcome) (operands : Operands)
     (Holds : ValueTree → Type 0) → ((value : ValueTree) → HoldsNone value → Holds value) → IfGives left.result Holds
     → IfGives (operators_outcome names give left operands).result Holds
 operators_outcome-gives names give left NoOperands Holds none first = first

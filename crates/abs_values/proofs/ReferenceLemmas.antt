@@ -19,19 +19,19 @@ use Rattle.abs_tree.specs.Limits.{application_limit}
 use Rattle.abs_tree.specs.Names.{number_of_name}
 use Rattle.abs_values.specs.Operations.{truth_of, matched}
 use Rattle.abs_values.specs.Printed.{printed_form}
-use Rattle.abs_values.specs.References.{Reference, IsIn, IsInAny, Reads, ReadsInAny, ReadsInBranch, ComesFrom, phrase_at}
+use Rattle.abs_values.specs.References.{Reference, IsIn, IsInAny, Reads, ReadsInAny, ReadsInBranch, ComesFrom, expr_tree_at}
 use Rattle.abs_values.specs.Results.{Gives, Fails, AllGive}
 use Rattle.abs_values.specs.Scopes.{FunctionBody, function_named, Library, Scope, own_scope, with_bound, Location, InSlot, InField, InBound, InThis, location_of, value_at}
-use Rattle.abs_tree.specs.Syntax.{Name, Phrase, LetIn, IfElse, OperatorsOf, Prefixed, NumberOf, StringOf, NullOf, DestinyOf, ThisOf, FieldOf, OwnCallOf, VariableOf, ApplyOf, BuildOf, CaseOf, Phrases, NoPhrase, NextPhrase, Branches, NoBranch, NextBranch}
+use Rattle.abs_tree.specs.Syntax.{Name, ExprTree, LetIn, IfElse, OperatorsOf, Prefixed, NumberOf, StringOf, NullOf, DestinyOf, ThisOf, FieldOf, OwnCallOf, VariableOf, ApplyOf, BuildOf, CaseOf, ExprTrees, NoExpr, NextExpr, Branches, NoBranch, NextBranch}
 use Rattle.abs_values.specs.ValueTrees.{ValueTree, StringValue, parts_of_list}
 use Rattle.abs_values.specs.declared.evaluated.Fault.TheVariants as fault
 
 -- each reference inside the value comes from the expression
-abbrev pub AllComeFrom : Scope → Phrase → ValueTree → Type 0
-AllComeFrom scope phrase value = (reference : Reference) → IsIn reference value → ComesFrom scope phrase reference
+abbrev pub AllComeFrom : Scope → ExprTree → ValueTree → Type 0
+AllComeFrom scope expr_tree value = (reference : Reference) → IsIn reference value → ComesFrom scope expr_tree reference
 
 -- what comes from a part of an expression comes from the whole
-pub comes_wider : (scope : Scope) (part whole : Phrase) (reference : Reference)
+pub comes_wider : (scope : Scope) (part whole : ExprTree) (reference : Reference)
     → ((location : Location) → Reads location part → Reads location whole) → ComesFrom scope part reference
     → ComesFrom scope whole reference
 comes_wider scope part whole reference wider comes =
@@ -44,30 +44,30 @@ comes_wider scope part whole reference wider comes =
     }
 
 -- what is inside a value at a location that is read comes from the expression
-comes_at : (scope : Scope) (phrase : Phrase) (location : Location) → Reads location phrase → (value : ValueTree)
-    → value_at scope location ≡ Some value → AllComeFrom scope phrase value
-comes_at scope phrase location reads value there reference inside =
+comes_at : (scope : Scope) (expr_tree : ExprTree) (location : Location) → Reads location expr_tree → (value : ValueTree)
+    → value_at scope location ≡ Some value → AllComeFrom scope expr_tree value
+comes_at scope expr_tree location reads value there reference inside =
     record { location = location; is_read = reads; value = value; there = there; inside = inside }
 
 -- what is inside a value at a location of a scope with more bound variables is inside one of their values, or comes
 -- from the scope without them
-location_bound : (scope : Scope) (values : List ValueTree) (phrase : Phrase) (location : Location)
-    → Reads location phrase → (value : ValueTree) → value_at (with_bound scope values) location ≡ Some value
+location_bound : (scope : Scope) (values : List ValueTree) (expr_tree : ExprTree) (location : Location)
+    → Reads location expr_tree → (value : ValueTree) → value_at (with_bound scope values) location ≡ Some value
     → (reference : Reference) → IsIn reference value
-    → ComesFrom scope phrase reference ⊎ IsInAny reference (parts_of_list values)
-location_bound scope values phrase (InBound depth) reads value there reference inside =
-    ⊎_elim (λ before. inl (comes_at scope phrase (InBound depth) reads value before reference inside))
+    → ComesFrom scope expr_tree reference ⊎ IsInAny reference (parts_of_list values)
+location_bound scope values expr_tree (InBound depth) reads value there reference inside =
+    ⊎_elim (λ before. inl (comes_at scope expr_tree (InBound depth) reads value before reference inside))
     (λ new. inr (inside-at values new.0 value reference new.1 inside))
     (slice_get-append scope.bound values depth value there)
-location_bound scope values phrase location reads value there reference inside =
-    inl (comes_at scope phrase location reads value there reference inside)
+location_bound scope values expr_tree location reads value there reference inside =
+    inl (comes_at scope expr_tree location reads value there reference inside)
 
 -- what comes from an expression that sees more bound variables
-pub comes_bound : (scope : Scope) (values : List ValueTree) (phrase : Phrase) (reference : Reference)
-    → ComesFrom (with_bound scope values) phrase reference
-    → ComesFrom scope phrase reference ⊎ IsInAny reference (parts_of_list values)
-comes_bound scope values phrase reference comes =
-    location_bound scope values phrase comes.location comes.is_read comes.value comes.there reference comes.inside
+pub comes_bound : (scope : Scope) (values : List ValueTree) (expr_tree : ExprTree) (reference : Reference)
+    → ComesFrom (with_bound scope values) expr_tree reference
+    → ComesFrom scope expr_tree reference ⊎ IsInAny reference (parts_of_list values)
+comes_bound scope values expr_tree reference comes =
+    location_bound scope values expr_tree comes.location comes.is_read comes.value comes.there reference comes.inside
 
 -- in a scope of arguments alone there are values at slots only
 pub own_slot : (values : List ValueTree) (location : Location) (value : ValueTree)
@@ -79,43 +79,43 @@ own_slot values (InBound depth) value there = absurd (none-some value there)
 own_slot values InThis value there = absurd (none-some value there)
 
 -- what comes from the body of a function is inside one of the arguments
-pub comes_own : (values : List ValueTree) (phrase : Phrase) (reference : Reference)
-    → ComesFrom (own_scope values) phrase reference → IsInAny reference (parts_of_list values)
-comes_own values phrase reference comes =
+pub comes_own : (values : List ValueTree) (expr_tree : ExprTree) (reference : Reference)
+    → ComesFrom (own_scope values) expr_tree reference → IsInAny reference (parts_of_list values)
+comes_own values expr_tree reference comes =
     let own = own_slot values comes.location comes.value comes.there in
     inside-at values own.0 comes.value reference own.2 comes.inside
 
 -- what the expression at an index reads is read by one of the expressions
-reads_at : (location : Location) (phrases : Phrases) (index : ℕ) (phrase : Phrase)
-    → phrase_at phrases index ≡ Some phrase → Reads location phrase → ReadsInAny location phrases
+reads_at : (location : Location) (expr_trees : ExprTrees) (index : ℕ) (expr_tree : ExprTree)
+    → expr_tree_at expr_trees index ≡ Some expr_tree → Reads location expr_tree → ReadsInAny location expr_trees
 unfolding ReadsInAny
-reads_at location NoPhrase index phrase is reads = absurd (none-some phrase is)
-reads_at location (NextPhrase first others) zero phrase is reads =
-    inl (subst (Reads location) (sym (same_Some first phrase is)) reads)
-reads_at location (NextPhrase first others) (suc index) phrase is reads =
-    inr (reads_at location others index phrase is reads)
+reads_at location NoExpr index expr_tree is reads = absurd (none-some expr_tree is)
+reads_at location (NextExpr first others) zero expr_tree is reads =
+    inl (subst (Reads location) (sym (same_Some first expr_tree is)) reads)
+reads_at location (NextExpr first others) (suc index) expr_tree is reads =
+    inr (reads_at location others index expr_tree is reads)
 
 -- what is inside the value that a scope gives at a maybe location
-read_result-reads : (scope : Scope) (phrase : Phrase) (location : Option Location)
-    → ((found : Location) → location ≡ Some found → Reads found phrase)
-    → IfGives (read_result scope location) (AllComeFrom scope phrase)
-read_result-reads scope phrase None reads = tt
-read_result-reads scope phrase (Some location) reads =
-    read_result-gives scope location (AllComeFrom scope phrase) (comes_at scope phrase location (reads location refl))
+read_result-reads : (scope : Scope) (expr_tree : ExprTree) (location : Option Location)
+    → ((found : Location) → location ≡ Some found → Reads found expr_tree)
+    → IfGives (read_result scope location) (AllComeFrom scope expr_tree)
+read_result-reads scope expr_tree None reads = tt
+read_result-reads scope expr_tree (Some location) reads =
+    read_result-gives scope location (AllComeFrom scope expr_tree) (comes_at scope expr_tree location (reads location refl))
 
 -- the outcome of branches is that of a branch, with values that are inside the one that is matched
-branches_outcome-gives : (names : List Name) (give : List ValueTree → Phrase → ℕ → Outcome) (branches : Branches)
+branches_outcome-gives : (names : List Name) (give : List ValueTree → ExprTree → ℕ → Outcome) (branches : Branches)
     (value : ValueTree) (made : ℕ) (Holds : ValueTree → Type 0)
-    → ((values : List ValueTree) (phrase : Phrase)
-    → ((location : Location) → Reads location phrase → ReadsInBranch location branches)
-    → TakesFrom (λ reference. IsIn reference value) values → IfGives (give values phrase made).result Holds)
+    → ((values : List ValueTree) (expr_tree : ExprTree)
+    → ((location : Location) → Reads location expr_tree → ReadsInBranch location branches)
+    → TakesFrom (λ reference. IsIn reference value) values → IfGives (give values expr_tree made).result Holds)
     → IfGives (branches_outcome names give branches value made).result Holds
 unfolding ReadsInBranch
 branches_outcome-gives names give NoBranch value made Holds each = tt
 branches_outcome-gives names give (NextBranch pattern first others) value made Holds each =
     by_taken (matched names pattern value) refl (matched-inside names pattern value)
     (branches_outcome-gives names give others value made Holds
-    (λ values phrase reads takes. each values phrase (λ location read. inr (reads location read)) takes))
+    (λ values expr_tree reads takes. each values expr_tree (λ location read. inr (reads location read)) takes))
   where
     by_taken : (taken : Option (List ValueTree)) → matched names pattern value ≡ taken
         → IfSome taken (TakesFrom (λ reference. IsIn reference value))
@@ -133,9 +133,9 @@ string_of_result-gives names (value ∷ []) Holds string =
 string_of_result-gives names (value ∷ other ∷ others) Holds string = tt
 
 -- a declared function gives what its body gives for the arguments
-body_outcome-gives : (give : List ValueTree → Phrase → ℕ → Outcome) (values : List ValueTree)
+body_outcome-gives : (give : List ValueTree → ExprTree → ℕ → Outcome) (values : List ValueTree)
     (function : Option FunctionBody) (made : ℕ) (Holds : ValueTree → Type 0)
-    → ((phrase : Phrase) → IfGives (give values phrase made).result Holds)
+    → ((expr_tree : ExprTree) → IfGives (give values expr_tree made).result Holds)
     → IfGives (body_outcome give values function made).result Holds
 body_outcome-gives give values None made Holds body = tt
 body_outcome-gives give values (Some function) made Holds body =
@@ -144,9 +144,9 @@ body_outcome-gives give values (Some function) made Holds body =
     (λ _. tt)
 
 -- an application gives a string, or what some body gives for the arguments
-application_outcome-gives : (library : Library) (give : List ValueTree → Phrase → ℕ → Outcome) (name : Name)
+application_outcome-gives : (library : Library) (give : List ValueTree → ExprTree → ℕ → Outcome) (name : Name)
     (values : List ValueTree) (made : ℕ) (Holds : ValueTree → Type 0) → ((bytes : List ℕ) → Holds (StringValue bytes))
-    → ((phrase : Phrase) → IfGives (give values phrase (made + 1)).result Holds)
+    → ((expr_tree : ExprTree) → IfGives (give values expr_tree (made + 1)).result Holds)
     → IfGives (application_outcome library give name values made).result Holds
 application_outcome-gives library give name values made Holds string body =
     cond_both (nat_lt made application_limit) (function_outcome library give name values (made + 1))
@@ -161,11 +161,11 @@ application_outcome-gives library give name values made Holds string body =
 module _ (library : Library) where
   -- with so many levels left each reference comes from the expression
   abbrev AllReads : ℕ → Type 0
-  AllReads left = (scope : Scope) (phrase : Phrase) (made : ℕ)
-      → IfGives (evaluate library scope left phrase made).result (AllComeFrom scope phrase)
+  AllReads left = (scope : Scope) (expr_tree : ExprTree) (made : ℕ)
+      → IfGives (evaluate library scope left expr_tree made).result (AllComeFrom scope expr_tree)
 
   -- what a part gives, in the whole
-  part_reads : (left : ℕ) → AllReads left → (scope : Scope) (part whole : Phrase) (made : ℕ)
+  part_reads : (left : ℕ) → AllReads left → (scope : Scope) (part whole : ExprTree) (made : ℕ)
       → ((location : Location) → Reads location part → Reads location whole)
       → IfGives (evaluate library scope left part made).result (AllComeFrom scope whole)
   part_reads left reads scope part whole made wider =
@@ -174,7 +174,7 @@ module _ (library : Library) where
       (reads scope part made)
 
   -- what a part gives that sees more bound variables, whose values come from the whole
-  bound_reads : (left : ℕ) → AllReads left → (scope : Scope) (values : List ValueTree) (part whole : Phrase) (made : ℕ)
+  bound_reads : (left : ℕ) → AllReads left → (scope : Scope) (values : List ValueTree) (part whole : ExprTree) (made : ℕ)
       → ((location : Location) → Reads location part → Reads location whole)
       → TakesFrom (ComesFrom scope whole) values
       → IfGives (evaluate library (with_bound scope values) left part made).result (AllComeFrom scope whole)
@@ -186,7 +186,7 @@ module _ (library : Library) where
       (reads (with_bound scope values) part made)
 
   -- a part gives the value, and what is inside it comes from the whole
-  value_reads : (left : ℕ) → AllReads left → (scope : Scope) (part whole : Phrase) (made : ℕ) (value : ValueTree)
+  value_reads : (left : ℕ) → AllReads left → (scope : Scope) (part whole : ExprTree) (made : ℕ) (value : ValueTree)
       → ((location : Location) → Reads location part → Reads location whole)
       → (evaluate library scope left part made).result ≡ Gives value → AllComeFrom scope whole value
   value_reads left reads scope part whole made value wider gives =
@@ -194,7 +194,7 @@ module _ (library : Library) where
       (part_reads left reads scope part whole made wider)
 
   -- several parts give the values, and what is inside these comes from the whole
-  values_read : (left : ℕ) → AllReads left → (scope : Scope) (parts : Phrases) (whole : Phrase) (made : ℕ)
+  values_read : (left : ℕ) → AllReads left → (scope : Scope) (parts : ExprTrees) (whole : ExprTree) (made : ℕ)
       (values : List ValueTree) → ((location : Location) → ReadsInAny location parts → Reads location whole)
       → (outcomes_of (evaluate library scope left) parts made).results ≡ AllGive values
       → TakesFrom (ComesFrom scope whole) values
@@ -203,8 +203,8 @@ module _ (library : Library) where
       let given = IfAllGive-at (outcomes_of (evaluate library scope left) parts made).results
       (AreGiven (evaluate library scope left) parts) values gives
       (outcomes_of-each (evaluate library scope left) parts made) at.index at.value at.there in
-      value_reads left reads scope given.phrase whole given.applications at.value
-      (λ location read. wider location (reads_at location parts at.index given.phrase given.there read)) given.gives
+      value_reads left reads scope given.expr_tree whole given.applications at.value
+      (λ location read. wider location (reads_at location parts at.index given.expr_tree given.there read)) given.gives
       reference at.inside
 
   -- one level more
@@ -242,7 +242,7 @@ module _ (library : Library) where
       outcome_after-gives (evaluate library scope left subject made) _ (AllComeFrom scope whole)
       (λ found gives. branches_outcome-gives library.names (λ values. evaluate library (with_bound scope values) left)
       branches found now (AllComeFrom scope whole)
-      (λ values phrase read_there takes. bound_reads left reads scope values phrase whole now
+      (λ values expr_tree read_there takes. bound_reads left reads scope values expr_tree whole now
       (λ location read. inr (read_there location read))
       (λ reference inside. value_reads left reads scope subject whole made found (λ location read. inl read) gives
       reference (takes reference inside))))
@@ -268,14 +268,14 @@ module _ (library : Library) where
       outcome_after_all-gives (outcomes_of (evaluate library scope left) arguments made) _ (AllComeFrom scope whole)
       (λ values gives. application_outcome-gives library (λ inner. evaluate library (own_scope inner) left) function
       values now (AllComeFrom scope whole) (λ bytes reference inside. absurd inside)
-      (λ phrase. IfGives-then (evaluate library (own_scope values) left phrase (now + 1)).result
-      (AllComeFrom (own_scope values) phrase) (AllComeFrom scope whole)
+      (λ expr_tree. IfGives-then (evaluate library (own_scope values) left expr_tree (now + 1)).result
+      (AllComeFrom (own_scope values) expr_tree) (AllComeFrom scope whole)
       (λ value comes reference inside. values_read left reads scope arguments whole made values
-      (λ location read. read) gives reference (comes_own values phrase reference (comes reference inside)))
-      (reads (own_scope values) phrase (now + 1))))
+      (λ location read. read) gives reference (comes_own values expr_tree reference (comes reference inside)))
+      (reads (own_scope values) expr_tree (now + 1))))
 
   -- with any levels left
   pub evaluate-reads : (left : ℕ) → AllReads left
   unfolding evaluate
-  evaluate-reads zero scope phrase made = tt
-  evaluate-reads (suc left) scope phrase made = next_reads left (evaluate-reads left) scope phrase made
+  evaluate-reads zero scope expr_tree made = tt
+  evaluate-reads (suc left) scope expr_tree made = next_reads left (evaluate-reads left) scope expr_tree made

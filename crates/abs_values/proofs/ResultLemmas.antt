@@ -13,7 +13,7 @@ use Rattle.abs_values.specs.Evaluation.{Outcome, Outcomes, ends_with, all_end_wi
 use Rattle.abs_tree.specs.Limits.{string_limit}
 use Rattle.abs_values.specs.Results.{Result, Gives, Fails, Results, AllGive, OneFails, string_result, built_result}
 use Rattle.abs_values.specs.Scopes.{Scope, Location, value_at}
-use Rattle.abs_tree.specs.Syntax.{Phrase}
+use Rattle.abs_tree.specs.Syntax.{ExprTree}
 use Rattle.abs_values.specs.ValueTrees.{ValueTree, StringValue, BuiltValue, ValueTrees, fits}
 use Rattle.abs_values.specs.declared.evaluated.Fault.TheVariants as fault
 
@@ -127,7 +127,7 @@ read_result-gives scope location Holds each = by_value (value_at scope location)
     by_value None is = rw is tt
 
 -- one of two branches
-pub chosen_outcome-gives : (give : Phrase → ℕ → Outcome) (first second : Phrase) (answer : Option Bool) (made : ℕ)
+pub chosen_outcome-gives : (give : ExprTree → ℕ → Outcome) (first second : ExprTree) (answer : Option Bool) (made : ℕ)
     (Holds : ValueTree → Type 0) → IfGives (give first made).result Holds → IfGives (give second made).result Holds
     → IfGives (chosen_outcome give first second answer made).result Holds
 chosen_outcome-gives give first second (Some true) made Holds one other = one

@@ -14,23 +14,23 @@ mutual
 
   -- values of which the test is true are the same
   pub same_value-true : (one other : ValueTree) → same_value one other ≡ true → one ≡ other
-  same_value-true (IntValue one) (IntValue other) told = ap IntValue ((Decides-int_eq one other).0 told)
-  same_value-true (StringValue one) (StringValue other) told = ap StringValue ((bytes_eq-Decides one other).0 told)
-  same_value-true (BuiltValue one parts) (BuiltValue other others) told =
-      let both = and_parts (nat_eq one other) (same_parts parts others) told in
+  same_value-true (IntValue one) (IntValue other) reported = ap IntValue ((Decides-int_eq one other).0 reported)
+  same_value-true (StringValue one) (StringValue other) reported = ap StringValue ((bytes_eq-Decides one other).0 reported)
+  same_value-true (BuiltValue one parts) (BuiltValue other others) reported =
+      let both = and_parts (nat_eq one other) (same_parts parts others) reported in
       ap₂ BuiltValue ((Decides-eqb one other).0 both.0) (same_parts-true parts others both.1)
-  same_value-true (ObjectValue one) (ObjectValue other) told = ap ObjectValue ((Decides-eqb one other).0 told)
-  same_value-true (FutureValue one) (FutureValue other) told = ap FutureValue ((Decides-eqb one other).0 told)
-  same_value-true NullValue NullValue told = refl
-  same_value-true one other told = absurd (cc)
+  same_value-true (ObjectValue one) (ObjectValue other) reported = ap ObjectValue ((Decides-eqb one other).0 reported)
+  same_value-true (FutureValue one) (FutureValue other) reported = ap FutureValue ((Decides-eqb one other).0 reported)
+  same_value-true NullValue NullValue reported = refl
+  same_value-true one other reported = absurd (cc)
 
   -- parts of which the test is true are the same
   pub same_parts-true : (parts others : ValueTrees) → same_parts parts others ≡ true → parts ≡ others
-  same_parts-true NoPart NoPart told = refl
-  same_parts-true (NextPart first others) (NextPart second more) told =
-      let both = and_parts (same_value first second) (same_parts others more) told in
+  same_parts-true NoPart NoPart reported = refl
+  same_parts-true (NextPart first others) (NextPart second more) reported =
+      let both = and_parts (same_value first second) (same_parts others more) reported in
       ap₂ NextPart (same_value-true first second both.0) (same_parts-true others more both.1)
-  same_parts-true parts others told = absurd (cc)
+  same_parts-true parts others reported = absurd (cc)
 
 mutual
   unfolding same_value same_parts

@@ -19,7 +19,7 @@ use Rattle.abs_values.specs.Operations.{truth_value, truth_of, answer_result, pr
 use Rattle.abs_values.specs.Printed.{printed_form}
 use Rattle.abs_values.specs.Results.{Result, Gives, Fails, Results, AllGive, OneFails, string_result, built_result}
 use Rattle.abs_values.specs.Scopes.{FunctionBody, function_named, Library, Scope, own_scope, with_bound, Location, InThis, location_of, value_at}
-use Rattle.abs_tree.specs.Syntax.{Name, Phrase, LetIn, IfElse, OperatorsOf, Prefixed, NumberOf, StringOf, NullOf, DestinyOf, ThisOf, FieldOf, OwnCallOf, VariableOf, ApplyOf, BuildOf, CaseOf, Phrases, NoPhrase, NextPhrase, Operands, NoOperands, NextOperand, Branches, NoBranch, NextBranch}
+use Rattle.abs_tree.specs.Syntax.{Name, ExprTree, LetIn, IfElse, OperatorsOf, Prefixed, NumberOf, StringOf, NullOf, DestinyOf, ThisOf, FieldOf, OwnCallOf, VariableOf, ApplyOf, BuildOf, CaseOf, ExprTrees, NoExpr, NextExpr, Operands, NoOperands, NextOperand, Branches, NoBranch, NextBranch}
 use Rattle.abs_values.specs.ValueTrees.{ValueTree, IntValue, NullValue, parts_of_list}
 use Rattle.abs_values.specs.declared.evaluated.Fault.TheVariants as fault
 use Rattle.abs_tree.specs.declared.syntax.expression.Operator.{Operator}
@@ -75,9 +75,9 @@ outcomes_after found next = after found.result found.applications next
     after (Fails cause) made next = all_end_with (OneFails cause) made
 
 -- the outcomes of expressions from the left, each after the applications of those before it
-abbrev pub outcomes_of : (Phrase → ℕ → Outcome) → Phrases → ℕ → Outcomes
-outcomes_of give NoPhrase made = all_end_with (AllGive []) made
-outcomes_of give (NextPhrase first others) made = outcomes_after (give first made) (λ value now.
+abbrev pub outcomes_of : (ExprTree → ℕ → Outcome) → ExprTrees → ℕ → Outcomes
+outcomes_of give NoExpr made = all_end_with (AllGive []) made
+outcomes_of give (NextExpr first others) made = outcomes_after (give first made) (λ value now.
     all_end_with (results_with value (outcomes_of give others now).results) (outcomes_of give others now).applications)
 
 -- the result of reading a location; where there is none, or no value, it is the fault Mistyped
@@ -90,13 +90,13 @@ read_result scope (Some location) = found_result (value_at scope location)
     found_result None = Fails fault.Mistyped
 
 -- the outcome of one of two branches, by an answer
-abbrev pub chosen_outcome : (Phrase → ℕ → Outcome) → Phrase → Phrase → Option Bool → ℕ → Outcome
+abbrev pub chosen_outcome : (ExprTree → ℕ → Outcome) → ExprTree → ExprTree → Option Bool → ℕ → Outcome
 chosen_outcome give first second (Some true) made = give first made
 chosen_outcome give first second (Some false) made = give second made
 chosen_outcome give first second None made = ends_with (Fails fault.Mistyped) made
 
 -- the outcome of the first branch whose pattern matches, with what its variables take
-abbrev pub branches_outcome : List Name → (List ValueTree → Phrase → ℕ → Outcome) → Branches → ValueTree → ℕ → Outcome
+abbrev pub branches_outcome : List Name → (List ValueTree → ExprTree → ℕ → Outcome) → Branches → ValueTree → ℕ → Outcome
 branches_outcome names give NoBranch value made = ends_with (Fails fault.Match) made
 branches_outcome names give (NextBranch pattern first others) value made =
     taken (matched names pattern value) (λ values. give values first made) (branches_outcome names give others value made)
@@ -107,7 +107,7 @@ branches_outcome names give (NextBranch pattern first others) value made =
 
 -- the outcome of `&&` or `||` after the answer of its left operand: the answer that decides is the result, and
 -- otherwise the right operand must be a Bool
-abbrev pub logical_outcome : List Name → (Phrase → ℕ → Outcome) → Bool → Phrase → Option Bool → ℕ → Outcome
+abbrev pub logical_outcome : List Name → (ExprTree → ℕ → Outcome) → Bool → ExprTree → Option Bool → ℕ → Outcome
 logical_outcome names give true right (Some true) made = ends_with (Gives (truth_value names true)) made
 logical_outcome names give false right (Some false) made = ends_with (Gives (truth_value names false)) made
 logical_outcome names give true right (Some false) made =
@@ -117,7 +117,7 @@ logical_outcome names give false right (Some true) made =
 logical_outcome names give decides right None made = ends_with (Fails fault.Mistyped) made
 
 -- the outcome of one operator after the value of its left side
-abbrev pub operand_outcome : List Name → (Phrase → ℕ → Outcome) → Operator → Phrase → ValueTree → ℕ → Outcome
+abbrev pub operand_outcome : List Name → (ExprTree → ℕ → Outcome) → Operator → ExprTree → ValueTree → ℕ → Outcome
 operand_outcome names give operator.And right left made =
     logical_outcome names give false right (truth_of names left) made
 operand_outcome names give operator.Or right left made =
@@ -126,7 +126,7 @@ operand_outcome names give operation right left made =
     result_after (give right made) (operation_result names operation left)
 
 -- the outcome of an operator list, applied from the left
-abbrev pub operators_outcome : List Name → (Phrase → ℕ → Outcome) → Outcome → Operands → Outcome
+abbrev pub operators_outcome : List Name → (ExprTree → ℕ → Outcome) → Outcome → Operands → Outcome
 operators_outcome names give left NoOperands = left
 operators_outcome names give left (NextOperand operation right others) =
     operators_outcome names give (outcome_after left (operand_outcome names give operation right)) others
@@ -138,27 +138,27 @@ string_of_result names (value ∷ []) = string_result (printed_form names value)
 string_of_result names (value ∷ other ∷ others) = Fails fault.Mistyped
 
 -- the outcome of a function that is declared: that of its body, if it has as many parameters
-abbrev pub body_outcome : (List ValueTree → Phrase → ℕ → Outcome) → List ValueTree → Option FunctionBody → ℕ → Outcome
+abbrev pub body_outcome : (List ValueTree → ExprTree → ℕ → Outcome) → List ValueTree → Option FunctionBody → ℕ → Outcome
 body_outcome give values None made = ends_with (Fails fault.Mistyped) made
 body_outcome give values (Some function) made =
     if nat_eq (length values) function.arity then give values function.value made
     else ends_with (Fails fault.Mistyped) made
 
 -- the outcome of a function for its arguments
-abbrev pub function_outcome : Library → (List ValueTree → Phrase → ℕ → Outcome) → Name → List ValueTree → ℕ → Outcome
+abbrev pub function_outcome : Library → (List ValueTree → ExprTree → ℕ → Outcome) → Name → List ValueTree → ℕ → Outcome
 function_outcome library give name values made =
     if bytes_eq name (codes "toString") then ends_with (string_of_result library.names values) made
     else body_outcome give values (function_named library.functions name) made
 
 -- the outcome of an application after its arguments: it is counted, and the first one past the limit is a fault
-abbrev pub application_outcome : Library → (List ValueTree → Phrase → ℕ → Outcome) → Name → List ValueTree → ℕ → Outcome
+abbrev pub application_outcome : Library → (List ValueTree → ExprTree → ℕ → Outcome) → Name → List ValueTree → ℕ → Outcome
 application_outcome library give name values made =
     if nat_lt made application_limit then function_outcome library give name values (made + 1)
     else ends_with (Fails fault.Calls) made
 
 -- the outcome of an expression with this many levels left, after this many applications
-unfoldable pub evaluate : Library → Scope → ℕ → Phrase → ℕ → Outcome
-evaluate library scope zero phrase made = ends_with (Fails fault.Levels) made
+unfoldable pub evaluate : Library → Scope → ℕ → ExprTree → ℕ → Outcome
+evaluate library scope zero expr_tree made = ends_with (Fails fault.Levels) made
 evaluate library scope (suc left) (NumberOf place number) made = ends_with (Gives (IntValue number)) made
 evaluate library scope (suc left) (StringOf place string) made = ends_with (string_result string) made
 evaluate library scope (suc left) (NullOf place) made = ends_with (Gives NullValue) made
@@ -189,21 +189,21 @@ evaluate library scope (suc left) (FieldOf place name_place name) made = ends_wi
 evaluate library scope (suc left) (OwnCallOf place method arguments) made = ends_with (Fails fault.Mistyped) made
 
 -- the result of a statement's own expression
-abbrev pub result_of : Library → Scope → Phrase → Result
-result_of library scope phrase = (evaluate library scope level_limit phrase 0).result
+abbrev pub result_of : Library → Scope → ExprTree → Result
+result_of library scope expr_tree = (evaluate library scope level_limit expr_tree 0).result
 
 -- the outcomes of initial values after the values of the fields before them. Each is evaluated with all levels, in a
 -- scope whose slots are the values so far; the applications are counted on
-unfoldable pub initial_outcomes : Library → Phrases → List ValueTree → ℕ → Outcomes
-initial_outcomes library NoPhrase values made = all_end_with (AllGive values) made
-initial_outcomes library (NextPhrase first others) values made =
+unfoldable pub initial_outcomes : Library → ExprTrees → List ValueTree → ℕ → Outcomes
+initial_outcomes library NoExpr values made = all_end_with (AllGive values) made
+initial_outcomes library (NextExpr first others) values made =
     outcomes_after (evaluate library (own_scope values) level_limit first made)
     (λ value. initial_outcomes library others (values ++ value ∷ []))
 
 -- the outcomes of all expressions of a statement: first its own ones, from the left, and then, for a new object, the
 -- initial values of its fields, whose first fields have the values of the arguments
-abbrev pub all_outcomes : Library → Scope → Phrases → Phrases → Outcomes
-all_outcomes library scope phrases initials = after (outcomes_of (evaluate library scope level_limit) phrases 0)
+abbrev pub all_outcomes : Library → Scope → ExprTrees → ExprTrees → Outcomes
+all_outcomes library scope expr_trees initials = after (outcomes_of (evaluate library scope level_limit) expr_trees 0)
   where
     next : Results → ℕ → Outcomes
     next (AllGive values) made = initial_outcomes library initials values made
@@ -213,5 +213,5 @@ all_outcomes library scope phrases initials = after (outcomes_of (evaluate libra
     after found = next found.results found.applications
 
 -- their results
-abbrev pub results_of : Library → Scope → Phrases → Phrases → Results
-results_of library scope phrases initials = (all_outcomes library scope phrases initials).results
+abbrev pub results_of : Library → Scope → ExprTrees → ExprTrees → Results
+results_of library scope expr_trees initials = (all_outcomes library scope expr_trees initials).results

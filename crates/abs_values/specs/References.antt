@@ -4,14 +4,14 @@
 --   `Reads`                            an expression reads a location, by its letters
 --   `ReadsInAny`, `ReadsInOperand`, `ReadsInBranch`    one of several expressions, operands or branches does
 --   `ComesFrom`                        a reference is inside a value that an expression reads
---   `ComesFromEarlier`                 it is inside a value of a row that comes before some index
---   `IsGiven`                          a value of a row is what the expression at its index gives
---   `phrase_at`                        the expression at an index
+--   `ComesFromEarlier`                 it is inside a value of a list that comes before some index
+--   `IsGiven`                          a value of a list is what the expression at its index gives
+--   `expr_tree_at`                     the expression at an index
 use Rattle.std.specs.Prelude.{◌≡◌, ◌⊎◌, ◌<◌, ℕ, zero, suc, List, slice_get, Option, Some, None}
 use Rattle.abs_values.specs.Evaluation.{Outcome}
 use Rattle.abs_values.specs.Results.{Gives}
 use Rattle.abs_values.specs.Scopes.{Scope, Location, InSlot, InThis, location_of, value_at}
-use Rattle.abs_tree.specs.Syntax.{Phrase, LetIn, IfElse, OperatorsOf, Prefixed, NumberOf, StringOf, NullOf, DestinyOf, ThisOf, FieldOf, OwnCallOf, VariableOf, ApplyOf, BuildOf, CaseOf, Phrases, NoPhrase, NextPhrase, Operands, NoOperands, NextOperand, Branches, NoBranch, NextBranch}
+use Rattle.abs_tree.specs.Syntax.{ExprTree, LetIn, IfElse, OperatorsOf, Prefixed, NumberOf, StringOf, NullOf, DestinyOf, ThisOf, FieldOf, OwnCallOf, VariableOf, ApplyOf, BuildOf, CaseOf, ExprTrees, NoExpr, NextExpr, Operands, NoOperands, NextOperand, Branches, NoBranch, NextBranch}
 use Rattle.abs_values.specs.ValueTrees.{ValueTree, IntValue, StringValue, BuiltValue, ObjectValue, FutureValue, NullValue, ValueTrees, NoPart, NextPart}
 
 -- an object, or a future by the number of its task
@@ -36,7 +36,7 @@ unfoldable mutual
 -- The expression reads the location somewhere in it, in a branch that is not taken too. The receiver of a call on
 -- `this` is not read, but its arguments are.
 unfoldable mutual
-  pub Reads : Location → Phrase → Type 0
+  pub Reads : Location → ExprTree → Type 0
   Reads location (LetIn place type variable_place variable value body) = Reads location value ⊎ Reads location body
   Reads location (IfElse place condition first second) =
       Reads location condition ⊎ Reads location first ⊎ Reads location second
@@ -54,9 +54,9 @@ unfoldable mutual
   Reads location (BuildOf place constructor arguments) = ReadsInAny location arguments
   Reads location (CaseOf place subject branches) = Reads location subject ⊎ ReadsInBranch location branches
 
-  pub ReadsInAny : Location → Phrases → Type 0
-  ReadsInAny location NoPhrase = ⊥
-  ReadsInAny location (NextPhrase first others) = Reads location first ⊎ ReadsInAny location others
+  pub ReadsInAny : Location → ExprTrees → Type 0
+  ReadsInAny location NoExpr = ⊥
+  ReadsInAny location (NextExpr first others) = Reads location first ⊎ ReadsInAny location others
 
   pub ReadsInOperand : Location → Operands → Type 0
   ReadsInOperand location NoOperands = ⊥
@@ -67,32 +67,32 @@ unfoldable mutual
   ReadsInBranch location (NextBranch pattern value others) = Reads location value ⊎ ReadsInBranch location others
 
 -- The reference is inside the value at a location that the expression reads.
-pub record ComesFrom (scope : Scope) (phrase : Phrase) (reference : Reference) : Type 0 where
+pub record ComesFrom (scope : Scope) (expr_tree : ExprTree) (reference : Reference) : Type 0 where
   pub location : Location
-  pub is_read : Reads location phrase
+  pub is_read : Reads location expr_tree
   pub value : ValueTree
   pub there : value_at scope location ≡ Some value
   pub inside : IsIn reference value
 
--- The reference is inside a value of a row that comes before this index, at a slot that the expression reads.
-pub record ComesFromEarlier (values : List ValueTree) (index : ℕ) (phrase : Phrase) (reference : Reference) : Type 0
+-- The reference is inside a value of a list that comes before this index, at a slot that the expression reads.
+pub record ComesFromEarlier (values : List ValueTree) (index : ℕ) (expr_tree : ExprTree) (reference : Reference) : Type 0
   where
     pub slot : ℕ
     pub earlier : slot < index
-    pub is_read : Reads (InSlot slot) phrase
+    pub is_read : Reads (InSlot slot) expr_tree
     pub value : ValueTree
     pub there : slice_get values slot ≡ Some value
     pub inside : IsIn reference value
 
 -- the expression at an index
-abbrev pub phrase_at : Phrases → ℕ → Option Phrase
-phrase_at NoPhrase index = None
-phrase_at (NextPhrase first others) zero = Some first
-phrase_at (NextPhrase first others) (suc index) = phrase_at others index
+abbrev pub expr_tree_at : ExprTrees → ℕ → Option ExprTree
+expr_tree_at NoExpr index = None
+expr_tree_at (NextExpr first others) zero = Some first
+expr_tree_at (NextExpr first others) (suc index) = expr_tree_at others index
 
 -- The expression at this index gives the value, after some applications.
-pub record IsGiven (give : Phrase → ℕ → Outcome) (phrases : Phrases) (index : ℕ) (value : ValueTree) : Type 0 where
-  pub phrase : Phrase
-  pub there : phrase_at phrases index ≡ Some phrase
+pub record IsGiven (give : ExprTree → ℕ → Outcome) (expr_trees : ExprTrees) (index : ℕ) (value : ValueTree) : Type 0 where
+  pub expr_tree : ExprTree
+  pub there : expr_tree_at expr_trees index ≡ Some expr_tree
   pub applications : ℕ
-  pub gives : (give phrase applications).result ≡ Gives value
+  pub gives : (give expr_tree applications).result ≡ Gives value

@@ -10,14 +10,14 @@
 use Rattle.std.specs.Prelude.{ℕ, List, [], ◌∷◌, ◌++◌, length, slice_get, Option, Some, None, if◌then◌else◌}
 use Rattle.std.specs.Option.{option_map}
 use Rattle.std.specs.Str.{bytes_eq}
-use Rattle.abs_tree.specs.Syntax.{Name, VariableTree, Unresolved, AtSlot, AtBound, AtField, Phrase, DeclTree, DataTree, FunctionTree, InterfaceTree, ClassTree, ProgramTree}
+use Rattle.abs_tree.specs.Syntax.{Name, VariableTree, Unresolved, AtSlot, AtBound, AtField, ExprTree, DeclTree, DataTree, FunctionTree, InterfaceTree, ClassTree, ProgramTree}
 use Rattle.abs_values.specs.ValueTrees.{ValueTree, ObjectValue}
 
 -- a function: its name, how many parameters it has, and its value
 pub record FunctionBody : Type 0 where
   pub name : Name
   pub arity : ℕ
-  pub value : Phrase
+  pub value : ExprTree
 
 -- the functions among declarations, in their order
 abbrev pub functions_of : List DeclTree → List FunctionBody

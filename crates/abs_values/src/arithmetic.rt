@@ -8,8 +8,8 @@ ghost use Rattle.abs_values.specs.Results.{result_tree};
 use crate::{Evaluated, Fault, Value};
 use abs_tree::syntax::Operator;
 
-/// The result of an operator of arithmetic for two numbers. One that does not fit in 128 bits is the fault Overflow, and
-/// a divisor 0 is the fault Zero. Another operator has none.
+/// The result of an operator of arithmetic for two numbers. One that does not fit in 128 bits is the fault Overflow,
+/// and a divisor 0 is the fault Zero. Another operator has none.
 pub fn arithmetic_of(operator: Operator, left: i128, right: i128) -> Option<Evaluated>
     ensures { option_map result_tree result ≡ arithmetic_result operator left right }
 {

@@ -1,6 +1,7 @@
 -- What is around an expression: a checker enters a body, binds variables and leaves them.
 --
---   `options_pushed`, `options_taken`      indices that may be there are among the types after one more, and the first ones
+--   `options_pushed`, `options_taken`      indices that may be there are among the types after one more, and the first
+--                                          ones
 --   `knows_outside`                        a new checker is outside of all bodies
 --   `knows_in_body`                        a checker that has these around is in such a body
 --   `knows_bound`, `knows_left`            one more variable is bound, and variables are left

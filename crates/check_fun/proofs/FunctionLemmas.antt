@@ -50,11 +50,11 @@ pub one_checked : {before between now : Checker} (all : List Decl) (index : ℕ)
 unfolding context_in
 one_checked {before} {between} {now} all index one so below at noted keeps =
     let names = before.table.program.now.symbols in
-    let told : Noted between.first (function_offences_in (declarations_of between.table)
+    let reported : Noted between.first (function_offences_in (declarations_of between.table)
     (decl_tree between.table.program.now.symbols one)) now.first =
     noted (context_in between) (record { is = refl }) in
     let more : Noted between.first (function_offences_in (declarations_of before.table) (decl_tree names one))
-    now.first = rw so.keeps.program_is at told in
+    now.first = rw so.keeps.program_is at reported in
     record {
       keeps = keeps_transitive so.keeps keeps;
       noted = rw (take_more all index one below, ← at, map-append, offences_pushed)

@@ -17,7 +17,7 @@ use Rattle.abs_types.specs.TypeTables.{declarations_of, types_in}
 use Rattle.abs_types.specs.Typing.{join_branches}
 use Rattle.abs_types.specs.declared.table.shape.TypeIndex.{TypeIndex}
 use Rattle.check_fun.proofs.ContextLemmas.{knows_stays, stays_reflexive, stays_transitive}
-use Rattle.check_fun.proofs.RowLemmas.{declarations_are, declarations_stay}
+use Rattle.check_fun.proofs.RuleLemmas.{declarations_are, declarations_stay}
 use Rattle.check_fun.specs.Contexts.{context_in, Context, FindsAll, Finds, FoundAll, Found, Knows, Stays}
 use Rattle.check_fun.specs.declared.checker.Checker.{Checker}
 

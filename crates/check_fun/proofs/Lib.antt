@@ -14,8 +14,8 @@ pub mod OperatorLemmas
 pub mod OwnCallLemmas
 pub mod PartLemmas
 pub mod PatternLemmas
-pub mod PhraseLemmas
-pub mod RowLemmas
+pub mod ExprLemmas
+pub mod RuleLemmas
 pub mod SchemeLemmas
 pub mod SlotLemmas
 pub mod SoFarLemmas

@@ -38,9 +38,9 @@ abbrev are_some : List MethodType → Bool
 are_some found = not (nat_eq (length found) 0)
 
 -- none with a name is left after one more, where those with the name are left out
-without_step : (name : Name) (count : ℕ) (first : SignatureTree) (rest : List SignatureTree) (told : Bool)
-    → is_named name first ≡ told → named_methods name count rest ≡ []
-    → named_methods name count (cond (not told) (first ∷ rest) rest) ≡ []
+without_step : (name : Name) (count : ℕ) (first : SignatureTree) (rest : List SignatureTree) (reported : Bool)
+    → is_named name first ≡ reported → named_methods name count rest ≡ []
+    → named_methods name count (cond (not reported) (first ∷ rest) rest) ≡ []
 without_step name count first rest true same none = none
 without_step name count first rest false apart none = rw apart none
 
@@ -54,9 +54,9 @@ without_own name count (first ∷ others) =
 
 -- where those with another name are left out, all with the name are left after one more
 other_step : (name left_out : Name) (count : ℕ) (first : SignatureTree) (others rest : List SignatureTree)
-    (told : Bool) → bytes_eq left_out name ≡ false → is_named left_out first ≡ told
+    (reported : Bool) → bytes_eq left_out name ≡ false → is_named left_out first ≡ reported
     → named_methods name count rest ≡ named_methods name count others
-    → named_methods name count (cond (not told) (first ∷ rest) rest) ≡ named_methods name count (first ∷ others)
+    → named_methods name count (cond (not reported) (first ∷ rest) rest) ≡ named_methods name count (first ∷ others)
 other_step name left_out count first others rest true differ same left =
     let own : first.name.name ≡ left_out = (bytes_eq-Decides first.name.name left_out).0 same in
     rw (own, differ) left
@@ -73,16 +73,16 @@ without_other name left_out count (first ∷ others) differ =
     (without_other name left_out count others differ)
 
 -- one method or none
-one_or_none : (told : Bool) (method : MethodType) → are_some (if told then method ∷ [] else []) ≡ told
+one_or_none : (reported : Bool) (method : MethodType) → are_some (if reported then method ∷ [] else []) ≡ reported
 one_or_none true method = refl
 one_or_none false method = refl
 
 -- there is a method with a name exactly where the first one takes as many: the case of one more
-first_step : (name : Name) (count : ℕ) (first : SignatureTree) (others : List SignatureTree) (told : Bool)
-    → is_named name first ≡ told
+first_step : (name : Name) (count : ℕ) (first : SignatureTree) (others : List SignatureTree) (reported : Bool)
+    → is_named name first ≡ reported
     → are_some (named_methods name count (first_of_each others)) ≡ first_takes name count others
     → are_some (named_methods name count (first_of_each (first ∷ others)))
-    ≡ (if told then nat_eq (length first.params) count else first_takes name count others)
+    ≡ (if reported then nat_eq (length first.params) count else first_takes name count others)
 first_step name count first others true same found =
     let own : first.name.name ≡ name = (bytes_eq-Decides first.name.name name).0 same in
     let left : named_methods name count (filter (λ (other : SignatureTree). not (is_named first.name.name other))
@@ -102,10 +102,10 @@ first_of_each_takes name count (first ∷ others) =
     first_step name count first others (is_named name first) refl (first_of_each_takes name count others)
 
 -- no method with a name takes any parameters, if there is none: the case of one more
-none_step : (base : ℕ) (name : Name) (count : ℕ) (signature : SignatureTree) (others : List MemberTree) (told : Bool)
-    → (if told then Some base else method_among (base + 1) others name) ≡ None
+none_step : (base : ℕ) (name : Name) (count : ℕ) (signature : SignatureTree) (others : List MemberTree) (reported : Bool)
+    → (if reported then Some base else method_among (base + 1) others name) ≡ None
     → (method_among (base + 1) others name ≡ None → first_takes name count (member_signatures others) ≡ false)
-    → (if told then nat_eq (length signature.params) count else first_takes name count (member_signatures others))
+    → (if reported then nat_eq (length signature.params) count else first_takes name count (member_signatures others))
     ≡ false
 none_step base name count signature others true none rest = absurd (none-some base (sym none))
 none_step base name count signature others false none rest = rest none
@@ -126,12 +126,12 @@ IsFirstAt base name count members index = (place : ℕ) × (index ≡ base + pla
 
 -- a method that is found is the first one with the name: the case of one more
 next_step : (base : ℕ) (name : Name) (count : ℕ) (signature : SignatureTree) (end : Place) (body : Statements)
-    (others : List MemberTree) (index : ℕ) (told : Bool)
-    → (if told then Some base else method_among (base + 1) others name) ≡ Some index
+    (others : List MemberTree) (index : ℕ) (reported : Bool)
+    → (if reported then Some base else method_among (base + 1) others name) ≡ Some index
     → (method_among (base + 1) others name ≡ Some index → IsFirstAt (base + 1) name count others index)
     → (place : ℕ) × (index ≡ base + place)
     × (member_takes count (slice_get (MethodTree signature end body ∷ others) place)
-    ≡ (if told then nat_eq (length signature.params) count else first_takes name count (member_signatures others)))
+    ≡ (if reported then nat_eq (length signature.params) count else first_takes name count (member_signatures others)))
 next_step base name count signature end body others index true found rest =
     let is : base ≡ index = same_Some base index found in (0, omega arith, refl)
 next_step base name count signature end body others index false found rest =
@@ -210,14 +210,14 @@ unfolding has_method signatures_of_type
 has_no_class declarations class name count none = rw none refl
 
 -- a test of the program of a checker is one of what it knows
-pub known_method : {checker : Checker} (class method : Symbol) (count : ℕ) (told : Bool)
-    → told ≡ has_method (declarations_of checker.table)
+pub known_method : {checker : Checker} (class method : Symbol) (count : ℕ) (reported : Bool)
+    → reported ≡ has_method (declarations_of checker.table)
     (PlainClass (name_of checker.table.program.now.symbols class)) (name_of checker.table.program.now.symbols method)
     count → (context : Context) → Knows checker context
-    → told ≡ has_method context.declarations (PlainClass (name_of context.names class)) (name_of context.names method)
+    → reported ≡ has_method context.declarations (PlainClass (name_of context.names class)) (name_of context.names method)
     count
 unfolding context_in
-known_method class method count told is context knows = rw (← knows.is) is
+known_method class method count reported is context knows = rw (← knows.is) is
 
 -- what a checker knows of `this` is its class
 pub this_known : {checker : Checker} (context : Context) → Knows checker context
@@ -226,17 +226,17 @@ unfolding context_in
 this_known context knows = rw (← knows.is) refl
 
 -- what is not denied is so
-not_denied : (told : Bool) → told ≡ not (not told)
+not_denied : (reported : Bool) → reported ≡ not (not reported)
 not_denied true = refl
 not_denied false = refl
 
 -- `this` has the methods of its class
-pub this_has : {checker : Checker} (class method : Symbol) (count : ℕ) (told : Bool) → checker.this ≡ Some class
-    → ((context : Context) → Knows checker context → told ≡ has_method context.declarations
+pub this_has : {checker : Checker} (class method : Symbol) (count : ℕ) (reported : Bool) → checker.this ≡ Some class
+    → ((context : Context) → Knows checker context → reported ≡ has_method context.declarations
     (PlainClass (name_of context.names class)) (name_of context.names method) count)
     → (context : Context) → Knows checker context
-    → told ≡ not (this_lacks_method context.declarations context.frame (name_of context.names method) count)
-this_has class method count told this has context knows =
+    → reported ≡ not (this_lacks_method context.declarations context.frame (name_of context.names method) count)
+this_has class method count reported this has context knows =
     rw (this_known context knows, this) (has context knows ∙ not_denied _)
 
 -- outside of a class there is none

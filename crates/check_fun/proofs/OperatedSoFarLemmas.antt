@@ -16,7 +16,7 @@ use Rattle.abs_types.specs.TypeShapes.{type_at, types_at}
 use Rattle.abs_types.specs.TypeTables.{declarations_of, types_in}
 use Rattle.abs_types.specs.declared.table.shape.TypeIndex.{TypeIndex}
 use Rattle.check_fun.proofs.ContextLemmas.{knows_stays, stays_transitive}
-use Rattle.check_fun.proofs.RowLemmas.{declarations_are, declarations_stay, stands_for}
+use Rattle.check_fun.proofs.RuleLemmas.{declarations_are, declarations_stay, stands_for}
 use Rattle.check_fun.specs.Contexts.{context_in, operators_of, Context, FindsAll, Finds, FoundAll, Found, Knows, Stays}
 use Rattle.check_fun.specs.declared.checker.Checker.{Checker}
 

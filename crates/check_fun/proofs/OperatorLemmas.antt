@@ -15,7 +15,7 @@ use Rattle.abs_types.specs.declared.table.shape.Shape.{Shape}
 use Rattle.abs_types.specs.declared.table.shape.Shape.TheVariants as shape
 use Rattle.abs_types.specs.declared.table.shape.TypeIndex.{TypeIndex}
 use Rattle.check_fun.proofs.FoundLemmas.{finds_none}
-use Rattle.check_fun.proofs.RowLemmas.{stands_for}
+use Rattle.check_fun.proofs.RuleLemmas.{stands_for}
 use Rattle.check_fun.specs.Contexts.{Finds}
 use Rattle.check_fun.specs.declared.checker.Checker.{Checker}
 
@@ -124,8 +124,8 @@ pub arithmetic_type : (declarations : List DeclTree) (one other : PlainType) (fo
     → operator_type declarations found one other ≡ both_are declarations PlainInt PlainInt one other
 unfolding operator_type
 arithmetic_type declarations one other found is =
-    ⊎_elim (λ told. rw told refl) (λ more. ⊎_elim (λ told. rw told refl)
-    (λ last. ⊎_elim (λ told. rw told refl) (λ told. rw told refl) last) more) is
+    ⊎_elim (λ reported. rw reported refl) (λ more. ⊎_elim (λ reported. rw reported refl)
+    (λ last. ⊎_elim (λ reported. rw reported refl) (λ reported. rw reported refl) last) more) is
 
 -- that of a comparison of two numbers
 pub comparison_type : (declarations : List DeclTree) (one other : PlainType) (found : Operator)
@@ -134,19 +134,19 @@ pub comparison_type : (declarations : List DeclTree) (one other : PlainType) (fo
     → operator_type declarations found one other ≡ both_are declarations PlainInt bool_type one other
 unfolding operator_type
 comparison_type declarations one other found is =
-    ⊎_elim (λ told. rw told refl) (λ more. ⊎_elim (λ told. rw told refl)
-    (λ last. ⊎_elim (λ told. rw told refl) (λ told. rw told refl) last) more) is
+    ⊎_elim (λ reported. rw reported refl) (λ more. ⊎_elim (λ reported. rw reported refl)
+    (λ last. ⊎_elim (λ reported. rw reported refl) (λ reported. rw reported refl) last) more) is
 
 -- that of `==` and `!=`
 pub equal_type : (declarations : List DeclTree) (one other : PlainType) (found : Operator)
     → (found ≡ operator.Equal) ⊎ (found ≡ operator.NotEqual)
     → operator_type declarations found one other ≡ equality_type declarations one other
 unfolding operator_type
-equal_type declarations one other found is = ⊎_elim (λ told. rw told refl) (λ told. rw told refl) is
+equal_type declarations one other found is = ⊎_elim (λ reported. rw reported refl) (λ reported. rw reported refl) is
 
 -- that of `&&` and `||`
 pub logical_type : (declarations : List DeclTree) (one other : PlainType) (found : Operator)
     → (found ≡ operator.And) ⊎ (found ≡ operator.Or)
     → operator_type declarations found one other ≡ both_are declarations bool_type bool_type one other
 unfolding operator_type
-logical_type declarations one other found is = ⊎_elim (λ told. rw told refl) (λ told. rw told refl) is
+logical_type declarations one other found is = ⊎_elim (λ reported. rw reported refl) (λ reported. rw reported refl) is

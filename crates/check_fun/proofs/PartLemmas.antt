@@ -110,7 +110,7 @@ given_none : (name : Name) (head : PlainType) → ((one other : PlainType) → h
 given_none name (PlainApplied one other) apart differ = absurd (apart one other refl)
 given_none name (PlainData other) apart differ =
     ap (λ (same : Bool). if same then Some [] else None)
-    (false_from_ne_true (bytes_eq name other) (λ told. differ (ap PlainData (sym ((bytes_eq-Decides name other).0 told)))))
+    (false_from_ne_true (bytes_eq name other) (λ reported. differ (ap PlainData (sym ((bytes_eq-Decides name other).0 reported)))))
 given_none name head apart differ = refl
 
 -- what is so of each item of a list is so of each item of the list from its end on

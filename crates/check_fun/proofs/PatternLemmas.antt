@@ -29,7 +29,8 @@ use Rattle.abs_tree.specs.declared.symbol.Symbol.{Symbol}
 use Rattle.abs_tree.specs.declared.syntax.pattern.Pattern as code
 use Rattle.abs_tree.specs.declared.syntax.pattern.Pattern.{Pattern}
 use Rattle.abs_types.proofs.KeepLemmas.{keeps_reflexive, keeps_transitive}
-use Rattle.abs_types.specs.Mistyped.{does_not_fit, offence_if}
+use Rattle.abs_tree.specs.Offences.{offence_if}
+use Rattle.abs_types.specs.Mistyped.{does_not_fit}
 use Rattle.abs_types.specs.PatternTypes.{constructor_parts, if_as_many, is_foreign, part_subjects, subjects, first_subject, other_subjects, pattern_fits, pattern_offences, pattern_types, patterns_offences, patterns_types}
 use Rattle.abs_types.specs.PlainTypes.{PlainType}
 use Rattle.abs_types.specs.Subtyping.{fits}
@@ -48,12 +49,12 @@ declarations_known knows = ap (λ (one : Context). one.declarations) knows.is
 
 -- a subject with a type fits another one exactly where the table says so
 pub unfit_found : {checker : Checker} {context : Context} {found : Option TypeIndex} {asked : TypeIndex}
-    {given : Option PlainType} {wanted : PlainType} (subject : TypeIndex) (told : Bool) → found ≡ Some subject
+    {given : Option PlainType} {wanted : PlainType} (subject : TypeIndex) (reported : Bool) → found ≡ Some subject
     → Knows checker context → Finds checker found given → Finds checker (Some asked) (Some wanted)
-    → told ≡ fits (declarations_of checker.table) (type_at (types_in checker.table) subject)
+    → reported ≡ fits (declarations_of checker.table) (type_at (types_in checker.table) subject)
     (type_at (types_in checker.table) asked)
-    → does_not_fit context.declarations given wanted ≡ not told
-unfit_found {checker} {context} {found} {asked} {given} {wanted} subject told found_is knows one other is =
+    → does_not_fit context.declarations given wanted ≡ not reported
+unfit_found {checker} {context} {found} {asked} {given} {wanted} subject reported found_is knows one other is =
     let type = type_at (types_in checker.table) in
     ap (λ (one_type : Option PlainType). does_not_fit context.declarations one_type wanted)
     (sym one.is ∙ ap (option_map type) found_is)
@@ -71,8 +72,8 @@ unfit_missing {checker} declarations wanted found_is one =
     (sym one.is ∙ ap (option_map (type_at (types_in checker.table))) found_is)
 
 -- there is no offence exactly where there is no reason for it
-pub none_if : (offends told : Bool) (place : Place) → offends ≡ not told
-    → told ≡ nat_eq (length (offence_if offends T1 place)) 0
+pub none_if : (offends reported : Bool) (place : Place) → offends ≡ not reported
+    → reported ≡ nat_eq (length (offence_if offends T1 place)) 0
 none_if offends true place is = rw is refl
 none_if offends false place is = rw is refl
 
@@ -348,8 +349,8 @@ finds_listed {checker} None {types} known = record {
   are = ap (λ (some : Option (List PlainType)). Some (unwrap_or some [])) known.are;
 }
 
--- what is refuted twice is told
-refuted_twice : (told : Bool) → not (not told) ≡ told
+-- what is refuted twice is reported
+refuted_twice : (reported : Bool) → not (not reported) ≡ reported
 refuted_twice true = refl
 refuted_twice false = refl
 
@@ -362,14 +363,14 @@ pub built_met : {context : Context} {type : Option PlainType} {first between : O
     → PatternsMet context (unwrap_or (matched context.declarations type constructor count) []) between patterns fit now
     → PatternMet context type first (Built place constructor (pattern_trees context.names patterns))
     (not foreign && fit) now
-built_met {context} {type} {first} {between} {now} {count} place constructor patterns foreign fit counted told noted
+built_met {context} {type} {first} {between} {now} {count} place constructor patterns foreign fit counted reported noted
     met =
     let arguments = pattern_trees context.names patterns in
     let types = unwrap_or (matched context.declarations type constructor count) [] in
     let as_many = patterns_counted context.names patterns ∙ sym counted in
     let foreign_is = foreign_matched context.declarations type constructor arguments
     ∙ ap (λ (many : ℕ). is_some type && is_none (matched context.declarations type constructor many)) as_many
-    ∙ sym told in
+    ∙ sym reported in
     let parts_are = subjects_matched context.declarations type constructor arguments
     ∙ ap (λ (many : ℕ). map Some (unwrap_or (matched context.declarations type constructor many) [])) as_many in
     let offends = ap₂ (λ (one : Bool) (parts : List (Option PlainType)).

@@ -5,7 +5,7 @@
 use Rattle.std.proofs.Common.{◌≡◌, Bool, true, false, List, ◌++◌, ◌∷◌, [], Some, None, Option, refl, sym, ap, subst, option_map, if◌then◌else◌}
 use Rattle.std.specs.Prelude.{option_and_then}
 use Rattle.std.proofs.lemmas.Option.{none-some}
-use Rattle.abs_tree.specs.Syntax.{VariableTree, Unresolved, AtSlot, AtBound, AtField, DeclTree, Phrase, LetIn, IfElse, OperatorsOf, Prefixed, NumberOf, StringOf, NullOf, DestinyOf, ThisOf, FieldOf, OwnCallOf, VariableOf, ApplyOf, BuildOf, CaseOf, Phrases, NoPhrase, NextPhrase, Operands, NoOperands, NextOperand, Branches, NoBranch, NextBranch}
+use Rattle.abs_tree.specs.Syntax.{VariableTree, Unresolved, AtSlot, AtBound, AtField, DeclTree, ExprTree, LetIn, IfElse, OperatorsOf, Prefixed, NumberOf, StringOf, NullOf, DestinyOf, ThisOf, FieldOf, OwnCallOf, VariableOf, ApplyOf, BuildOf, CaseOf, ExprTrees, NoExpr, NextExpr, Operands, NoOperands, NextOperand, Branches, NoBranch, NextBranch}
 use Rattle.abs_tree.specs.declared.syntax.expression.Operator.{Operator}
 use Rattle.abs_types.specs.OperatorTypes.{prefix_type}
 use Rattle.abs_types.specs.PatternTypes.{pattern_fits, pattern_types}
@@ -40,7 +40,7 @@ made : {A B : Type 0} {one other : Option A} (of : A → Option B) → AtLeast o
 made of missing = missing
 made of same = same
 
--- each row of the table of phrases needs all its parts
+-- each typing rule needs all its parts
 let_more : (declarations : List DeclTree) (type : PlainType) {value other body next : Option PlainType}
     → AtLeast value other → AtLeast body next
     → AtLeast (let_type declarations type value body) (let_type declarations type other next)
@@ -122,9 +122,9 @@ subject_more declarations frame wider bound branches {subject = subject} same mo
 
 mutual
   -- an expression, and what it has in it
-  more_typed : (declarations : List DeclTree) (frame wider : Frame) (bound : List (Option PlainType)) (phrase : Phrase)
+  more_typed : (declarations : List DeclTree) (frame wider : Frame) (bound : List (Option PlainType)) (expr_tree : ExprTree)
       → SeesMore frame wider
-      → AtLeast (type_in declarations frame bound phrase) (type_in declarations wider bound phrase)
+      → AtLeast (type_in declarations frame bound expr_tree) (type_in declarations wider bound expr_tree)
   more_typed declarations frame wider bound (LetIn place type variable_place variable value body) more =
       let_more declarations (plain type) (more_typed declarations frame wider bound value more)
       (more_typed declarations frame wider (bound ++ Some (plain type) ∷ []) body more)
@@ -155,10 +155,10 @@ mutual
   more_typed declarations frame wider bound (FieldOf place name_place name) more = missing
 
   all_more_typed : (declarations : List DeclTree) (frame wider : Frame) (bound : List (Option PlainType))
-      (phrases : Phrases) → SeesMore frame wider
-      → AtLeast (types_in declarations frame bound phrases) (types_in declarations wider bound phrases)
-  all_more_typed declarations frame wider bound NoPhrase more = same
-  all_more_typed declarations frame wider bound (NextPhrase first others) more =
+      (expr_trees : ExprTrees) → SeesMore frame wider
+      → AtLeast (types_in declarations frame bound expr_trees) (types_in declarations wider bound expr_trees)
+  all_more_typed declarations frame wider bound NoExpr more = same
+  all_more_typed declarations frame wider bound (NextExpr first others) more =
       both_more (more_typed declarations frame wider bound first more)
       (all_more_typed declarations frame wider bound others more)
 
@@ -181,8 +181,8 @@ mutual
       (branches_more declarations frame wider bound subject others more)
 
 -- an expression keeps its type in a wider frame
-pub type_stays : (declarations : List DeclTree) (frame wider : Frame) (bound : List (Option PlainType)) (phrase : Phrase)
-    (type : PlainType) → SeesMore frame wider → type_in declarations frame bound phrase ≡ Some type
-    → type_in declarations wider bound phrase ≡ Some type
-type_stays declarations frame wider bound phrase type more is =
-    is_kept (more_typed declarations frame wider bound phrase more) is
+pub type_stays : (declarations : List DeclTree) (frame wider : Frame) (bound : List (Option PlainType)) (expr_tree : ExprTree)
+    (type : PlainType) → SeesMore frame wider → type_in declarations frame bound expr_tree ≡ Some type
+    → type_in declarations wider bound expr_tree ≡ Some type
+type_stays declarations frame wider bound expr_tree type more is =
+    is_kept (more_typed declarations frame wider bound expr_tree more) is

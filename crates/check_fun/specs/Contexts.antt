@@ -20,14 +20,14 @@ use Rattle.std.specs.declared.vec.Vec.{Vec}
 use Rattle.abs_tree.specs.Names.{name_of}
 use Rattle.abs_tree.specs.Offences.{earlier}
 use Rattle.abs_tree.specs.Syntax.{Name, DeclTree}
-use Rattle.abs_tree.specs.SyntaxViews.{phrase, phrases, operand_trees, branches as branch_trees}
+use Rattle.abs_tree.specs.SyntaxViews.{expr_tree, expr_trees, operand_trees, branches as branch_trees}
 use Rattle.abs_tree.specs.declared.refusal.Offence.{Offence}
 use Rattle.abs_tree.specs.declared.symbol.Symbol.{Symbol}
 use Rattle.abs_tree.specs.declared.syntax.expression.Branch.{Branch}
 use Rattle.abs_tree.specs.declared.syntax.expression.Expr.{Expr}
 use Rattle.abs_tree.specs.declared.syntax.expression.Operand.{Operand}
 use Rattle.abs_tree.specs.declared.syntax.expression.Operator.{Operator}
-use Rattle.abs_types.specs.ExpressionOffences.{phrase_offences, phrases_offences, operands_offences, branches_offences}
+use Rattle.abs_types.specs.ExpressionOffences.{expr_offences, exprs_offences, operands_offences, branches_offences}
 use Rattle.abs_types.specs.PlainTypes.{PlainType, PlainData, PlainParameter, applied_to}
 use Rattle.abs_types.specs.Schemes.{Scheme}
 use Rattle.abs_types.specs.TypeShapes.{type_at, types_at, IsAmong}
@@ -154,10 +154,10 @@ operators_of (one ∷ operands) (type ∷ types) = (one.operator, type) ∷ oper
 
 -- the type of an expression from memory, and those of several
 abbrev pub typed : Context → Expr → Option PlainType
-typed context expr = type_in context.declarations context.frame context.bound (phrase context.names expr)
+typed context expr = type_in context.declarations context.frame context.bound (expr_tree context.names expr)
 
 abbrev pub all_typed : Context → List Expr → Option (List PlainType)
-all_typed context exprs = all_types_in context.declarations context.frame context.bound (phrases context.names exprs)
+all_typed context exprs = all_types_in context.declarations context.frame context.bound (expr_trees context.names exprs)
 
 abbrev pub operands_typed : Context → List Operand → Option (List (Operator × PlainType))
 operands_typed context operands =
@@ -169,11 +169,11 @@ branches_typed context subject branches =
 
 -- their offences
 abbrev pub offends : Context → Expr → List Offence
-offends context expr = phrase_offences context.declarations context.frame context.bound (phrase context.names expr)
+offends context expr = expr_offences context.declarations context.frame context.bound (expr_tree context.names expr)
 
 abbrev pub all_offend : Context → List Expr → List Offence
 all_offend context exprs =
-    phrases_offences context.declarations context.frame context.bound (phrases context.names exprs)
+    exprs_offences context.declarations context.frame context.bound (expr_trees context.names exprs)
 
 abbrev pub operands_offend : Context → List Operand → List Offence
 operands_offend context operands =

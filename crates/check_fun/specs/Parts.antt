@@ -5,24 +5,24 @@
 --   `branch_typed`, `branch_offends`   the type of a branch, if its pattern fits the subject, and its offences
 --   `with_last`                        one more type after several
 use Rattle.std.specs.Prelude.{List, [], ◌∷◌, ◌++◌, map, Option, Some, None, if◌then◌else◌}
-use Rattle.abs_tree.specs.Syntax.{Phrase}
+use Rattle.abs_tree.specs.Syntax.{ExprTree}
 use Rattle.abs_tree.specs.SyntaxViews.{pattern_tree}
 use Rattle.abs_tree.specs.declared.refusal.Offence.{Offence}
 use Rattle.abs_tree.specs.declared.syntax.expression.Branch.{Branch}
 use Rattle.abs_tree.specs.declared.syntax.expression.Expr.{Expr}
 use Rattle.abs_tree.specs.declared.syntax.expression.Operand.{Operand}
-use Rattle.abs_types.specs.ExpressionOffences.{phrase_offences}
+use Rattle.abs_types.specs.ExpressionOffences.{expr_offences}
 use Rattle.abs_types.specs.PatternTypes.{pattern_fits, pattern_offences, pattern_types}
 use Rattle.abs_types.specs.PlainTypes.{PlainType}
 use Rattle.abs_types.specs.Typing.{type_in}
 use Rattle.check_fun.specs.Contexts.{offends, typed, with_bound, Context}
 
 -- the type of a tree, and its offences
-abbrev pub tree_typed : Context → Phrase → Option PlainType
+abbrev pub tree_typed : Context → ExprTree → Option PlainType
 tree_typed context tree = type_in context.declarations context.frame context.bound tree
 
-abbrev pub tree_offends : Context → Phrase → List Offence
-tree_offends context tree = phrase_offences context.declarations context.frame context.bound tree
+abbrev pub tree_offends : Context → ExprTree → List Offence
+tree_offends context tree = expr_offences context.declarations context.frame context.bound tree
 
 -- the right operands of operators, in their order
 abbrev pub rights_of : List Operand → List Expr

@@ -2,11 +2,11 @@
 ghost use Rattle.std.specs.Prelude.{IfOk, OnOk};
 ghost use Rattle.abs_tree.specs.Names.{name_of};
 ghost use Rattle.abs_tree.specs.Syntax.{ApplyOf, BuildOf, OperatorsOf, OwnCallOf};
-ghost use Rattle.abs_tree.specs.SyntaxViews.{operand_trees, phrase, phrases};
+ghost use Rattle.abs_tree.specs.SyntaxViews.{operand_trees, expr_tree, expr_trees};
 ghost use Rattle.check_fun.specs.Contexts.{all_offend, all_typed, items_of, operands_offend, Context, FindsAll, Finds, Knows, Noted, Stays};
 ghost use Rattle.check_fun.specs.Parts.{rights_of, tree_offends, tree_typed};
 
-use crate::checked_rows::with_last;
+use crate::checked_rules::with_last;
 use crate::checker::Checker;
 use abs_tree::{Expr, Operand, Place, Symbol};
 use abs_types::TypeIndex;
@@ -25,10 +25,10 @@ impl Checker<'_> {
         operands: &[Operand],
     ) -> Result<Option<TypeIndex>, AllocError>
         ensures found { (context : Context) → Knows self.old context → IfOk result (λ found. Finds self.new found
-            (tree_typed context (OperatorsOf place (phrase context.names first.now)
+            (tree_typed context (OperatorsOf place (expr_tree context.names first.now)
             (operand_trees context.names operands.now)))) }
         ensures noted { (context : Context) → Knows self.old context → OnOk result (Noted self.old.first
-            (tree_offends context (OperatorsOf place (phrase context.names first.now)
+            (tree_offends context (OperatorsOf place (expr_tree context.names first.now)
             (operand_trees context.names operands.now))) self.new.first) }
         ensures stays { OnOk result (Stays self.old self.new) }
     {
@@ -81,10 +81,10 @@ impl Checker<'_> {
     ) -> Result<Option<TypeIndex>, AllocError>
         ensures found { (context : Context) → Knows self.old context → IfOk result (λ found. Finds self.new found
             (tree_typed context (ApplyOf place (name_of context.names function)
-            (phrases context.names arguments.now)))) }
+            (expr_trees context.names arguments.now)))) }
         ensures noted { (context : Context) → Knows self.old context → OnOk result (Noted self.old.first
             (tree_offends context (ApplyOf place (name_of context.names function)
-            (phrases context.names arguments.now))) self.new.first) }
+            (expr_trees context.names arguments.now))) self.new.first) }
         ensures stays { OnOk result (Stays self.old self.new) }
     {
         let given = self.arguments(arguments)?;
@@ -102,10 +102,10 @@ impl Checker<'_> {
     ) -> Result<Option<TypeIndex>, AllocError>
         ensures found { (context : Context) → Knows self.old context → IfOk result (λ found. Finds self.new found
             (tree_typed context (BuildOf place (name_of context.names constructor)
-            (phrases context.names arguments.now)))) }
+            (expr_trees context.names arguments.now)))) }
         ensures noted { (context : Context) → Knows self.old context → OnOk result (Noted self.old.first
             (tree_offends context (BuildOf place (name_of context.names constructor)
-            (phrases context.names arguments.now))) self.new.first) }
+            (expr_trees context.names arguments.now))) self.new.first) }
         ensures stays { OnOk result (Stays self.old self.new) }
     {
         let given = self.arguments(arguments)?;
@@ -124,10 +124,10 @@ impl Checker<'_> {
     ) -> Result<Option<TypeIndex>, AllocError>
         ensures found { (context : Context) → Knows self.old context → IfOk result (λ found. Finds self.new found
             (tree_typed context (OwnCallOf place (name_of context.names method)
-            (phrases context.names arguments.now)))) }
+            (expr_trees context.names arguments.now)))) }
         ensures noted { (context : Context) → Knows self.old context → OnOk result (Noted self.old.first
             (tree_offends context (OwnCallOf place (name_of context.names method)
-            (phrases context.names arguments.now))) self.new.first) }
+            (expr_trees context.names arguments.now))) self.new.first) }
         ensures stays { OnOk result (Stays self.old self.new) }
     {
         let given = self.arguments(arguments)?;

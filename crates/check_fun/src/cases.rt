@@ -1,12 +1,12 @@
 //! `case`: the types of its branches, each of which sees the variables of its pattern.
 ghost use Rattle.std.specs.Prelude.{Option, IfOk, OnOk};
 ghost use Rattle.abs_tree.specs.Syntax.{CaseOf};
-ghost use Rattle.abs_tree.specs.SyntaxViews.{branches as branch_trees, phrase};
+ghost use Rattle.abs_tree.specs.SyntaxViews.{branches as branch_trees, expr_tree};
 ghost use Rattle.abs_types.specs.PlainTypes.{PlainType};
 ghost use Rattle.check_fun.specs.Contexts.{branches_offend, branches_typed, items_of, Context, FindsAll, Finds, Found, Knows, Noted, Stays};
 ghost use Rattle.check_fun.specs.Parts.{branch_offends, branch_typed, tree_offends, tree_typed};
 
-use crate::checked_rows::{value_if, with_last};
+use crate::checked_rules::{value_if, with_last};
 use crate::checker::Checker;
 use abs_tree::{Branch, Expr, Place};
 use abs_types::TypeIndex;
@@ -25,10 +25,10 @@ impl Checker<'_> {
         branches: &[Branch],
     ) -> Result<Option<TypeIndex>, AllocError>
         ensures found { (context : Context) → Knows self.old context → IfOk result (λ found. Finds self.new found
-            (tree_typed context (CaseOf place (phrase context.names subject.now)
+            (tree_typed context (CaseOf place (expr_tree context.names subject.now)
             (branch_trees context.names branches.now)))) }
         ensures noted { (context : Context) → Knows self.old context → OnOk result (Noted self.old.first
-            (tree_offends context (CaseOf place (phrase context.names subject.now)
+            (tree_offends context (CaseOf place (expr_tree context.names subject.now)
             (branch_trees context.names branches.now))) self.new.first) }
         ensures stays { OnOk result (Stays self.old self.new) }
     {

@@ -1,7 +1,7 @@
 //! Expressions: each has its type, or what offends in it is noted.
 ghost use Rattle.std.specs.Prelude.{◌∷◌, [], ⊤, Some, OnOk, IfOk};
 ghost use Rattle.abs_tree.specs.Syntax.{CaseOf, IfElse, LetIn, OperatorsOf, Prefixed as PrefixedOf, VariableTree};
-ghost use Rattle.abs_tree.specs.SyntaxViews.{phrase, type_tree};
+ghost use Rattle.abs_tree.specs.SyntaxViews.{expr_tree, type_tree};
 ghost use Rattle.abs_types.specs.PlainTypes.{PlainType};
 ghost use Rattle.check_fun.specs.Contexts.{offends, typed, with_bound, Context, Finds, Found, Knows, Noted, Stays};
 ghost use Rattle.check_fun.specs.Parts.{tree_offends, tree_typed};
@@ -60,7 +60,7 @@ impl Checker<'_> {
     /// The same of an expression of the lowest level of the grammar.
     #[cycle(expressions)]
     fn primary(&mut self, expr: &Expr) -> Result<Option<TypeIndex>, AllocError>
-        requires primary { elim (phrase self.old.table.program.now.symbols expr.now) [
+        requires primary { elim (expr_tree self.old.table.program.now.symbols expr.now) [
           | LetIn _ _ _ _ _ _ ↦ ⊥
           | IfElse _ _ _ _ ↦ ⊥
           | OperatorsOf _ _ _ ↦ ⊥
@@ -113,11 +113,11 @@ impl Checker<'_> {
         ensures found { (context : Context) (variable_place : Place) (variable : VariableTree) → Knows self.old context
             → IfOk result (λ found. Finds self.new found (tree_typed context
             (LetIn place (type_tree context.names type_of.now) variable_place variable
-            (phrase context.names value.now) (phrase context.names body.now)))) }
+            (expr_tree context.names value.now) (expr_tree context.names body.now)))) }
         ensures noted { (context : Context) (variable_place : Place) (variable : VariableTree) → Knows self.old context
             → OnOk result (Noted self.old.first (tree_offends context
             (LetIn place (type_tree context.names type_of.now) variable_place variable
-            (phrase context.names value.now) (phrase context.names body.now))) self.new.first) }
+            (expr_tree context.names value.now) (expr_tree context.names body.now))) self.new.first) }
         ensures stays { OnOk result (Stays self.old self.new) }
     {
         let given = self.expression(value)?;
@@ -160,12 +160,12 @@ impl Checker<'_> {
     ) -> Result<Option<TypeIndex>, AllocError>
         ensures found { (context : Context) → Knows self.old context
             → IfOk result (λ found. Finds self.new found (tree_typed context
-            (IfElse place (phrase context.names condition.now) (phrase context.names first.now)
-            (phrase context.names second.now)))) }
+            (IfElse place (expr_tree context.names condition.now) (expr_tree context.names first.now)
+            (expr_tree context.names second.now)))) }
         ensures noted { (context : Context) → Knows self.old context
             → OnOk result (Noted self.old.first (tree_offends context
-            (IfElse place (phrase context.names condition.now) (phrase context.names first.now)
-            (phrase context.names second.now))) self.new.first) }
+            (IfElse place (expr_tree context.names condition.now) (expr_tree context.names first.now)
+            (expr_tree context.names second.now))) self.new.first) }
         ensures stays { OnOk result (Stays self.old self.new) }
     {
         let given = self.expression(condition)?;
@@ -183,9 +183,9 @@ impl Checker<'_> {
         operand: &Expr,
     ) -> Result<Option<TypeIndex>, AllocError>
         ensures found { (context : Context) → Knows self.old context → IfOk result (λ found. Finds self.new found
-            (tree_typed context (PrefixedOf place prefix (phrase context.names operand.now)))) }
+            (tree_typed context (PrefixedOf place prefix (expr_tree context.names operand.now)))) }
         ensures noted { (context : Context) → Knows self.old context → OnOk result (Noted self.old.first
-            (tree_offends context (PrefixedOf place prefix (phrase context.names operand.now))) self.new.first) }
+            (tree_offends context (PrefixedOf place prefix (expr_tree context.names operand.now))) self.new.first) }
         ensures stays { OnOk result (Stays self.old self.new) }
     {
         let given = self.expression(operand)?;

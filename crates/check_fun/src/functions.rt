@@ -3,8 +3,8 @@ ghost use Rattle.std.specs.Prelude.{◌≡◌, ◌++◌, Some, option_map, IfOk,
 ghost use Rattle.abs_tree.specs.Offences.{first_offence};
 ghost use Rattle.abs_tree.specs.Refusals.{refusal_of};
 ghost use Rattle.abs_program.specs.NamedViews.{named_tree};
-ghost use Rattle.abs_tree.specs.SyntaxPlaces.{phrase_place};
-ghost use Rattle.abs_tree.specs.SyntaxViews.{decl_tree, phrase, type_tree};
+ghost use Rattle.abs_tree.specs.SyntaxPlaces.{expr_place};
+ghost use Rattle.abs_tree.specs.SyntaxViews.{decl_tree, expr_tree, type_tree};
 ghost use Rattle.abs_types.specs.Mistyped.{unfit};
 ghost use Rattle.abs_types.specs.PlainTypes.{plain, PlainType};
 ghost use Rattle.abs_types.specs.TypeOffences.{function_offences, function_offences_in};
@@ -73,7 +73,7 @@ impl Checker<'_> {
     fn asked_value(&mut self, value: &Expr, asked: &TypeTerm) -> Result<(), AllocError>
         ensures noted { (context : Context) → Knows self.old context → OnOk result (Noted self.old.first
             (offends context value.now ++ unfit context.declarations (typed context value.now)
-            (plain (type_tree context.names asked.now)) (phrase_place (phrase context.names value.now)))
+            (plain (type_tree context.names asked.now)) (expr_place (expr_tree context.names value.now)))
             self.new.first) }
         ensures stays { OnOk result (Stays self.old self.new) }
     {

@@ -3,7 +3,7 @@
 
 mod applications;
 mod cases;
-mod checked_rows;
+mod checked_rules;
 mod checker;
 mod expressions;
 mod frames;
@@ -16,7 +16,7 @@ mod notes;
 mod operators;
 mod parts;
 mod patterns;
-mod rows;
+mod rules;
 mod schemes;
 
 pub use checker::Checker;

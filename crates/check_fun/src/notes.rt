@@ -1,6 +1,7 @@
 //! What a checker notes: its first offence, by place and code.
 ghost use Rattle.std.specs.Prelude.{Option, Some};
-ghost use Rattle.abs_types.specs.Mistyped.{offence_if, unfit, untyped};
+ghost use Rattle.abs_tree.specs.Offences.{offence_if};
+ghost use Rattle.abs_types.specs.Mistyped.{unfit, untyped};
 ghost use Rattle.abs_types.specs.PlainTypes.{PlainType};
 ghost use Rattle.check_fun.specs.Contexts.{Context, Finds, Found, Knows, Noted, Stays};
 
@@ -20,7 +21,7 @@ impl Checker<'_> {
         }
     }
 
-    /// Notes a phrase at a place, if all its parts have types and it has none.
+    /// Notes an expression at a place, if all its parts have types and it has none.
     pub fn note_untyped(&mut self, parts_typed: bool, found: Option<TypeIndex>, place: Place)
         ensures noted { (type : Option PlainType) → Finds self.old found type
             → Noted self.old.first (untyped parts_typed type place) self.new.first }
@@ -29,7 +30,7 @@ impl Checker<'_> {
         self.note_if(parts_typed && found.is_none(), Code::T1, place);
     }
 
-    /// Notes a phrase at a place, if it has a type that does not fit the type that is asked for.
+    /// Notes an expression at a place, if it has a type that does not fit the type that is asked for.
     pub fn note_unfit(&mut self, found: Option<TypeIndex>, asked: TypeIndex, place: Place)
         requires found { Found self.old found }
         requires asked { Found self.old (Some asked) }

@@ -14,7 +14,7 @@ impl Checker<'_> {
     /// The type of operators of one precedence, given those of the first operand, and of the others in their order:
     /// each operator takes what those before it give.
     #[tactic(auto, using(crate::proofs::ContextLemmas::stays_transitive))]
-    pub(crate) fn operators_row(
+    pub(crate) fn operators_rule(
         &mut self,
         first: TypeIndex,
         operands: &[Operand],
@@ -32,7 +32,7 @@ impl Checker<'_> {
     {
         let mut left = first;
         for (index, operand) in operands.iter().enumerate() {
-            match self.operator_row(operand.operator, left, rights[index])? {
+            match self.operator_rule(operand.operator, left, rights[index])? {
                 Some(found) => left = found,
                 None => return Ok(None),
             }
@@ -42,7 +42,7 @@ impl Checker<'_> {
 
     /// The type of an operator between operands of two types.
     #[tactic(auto, using(crate::proofs::ContextLemmas::found_stays, crate::proofs::ContextLemmas::stays_transitive))]
-    fn operator_row(
+    fn operator_rule(
         &mut self,
         operator: Operator,
         left: TypeIndex,
@@ -57,26 +57,26 @@ impl Checker<'_> {
         ensures stays { Stays self.old self.new }
     {
         match operator {
-            Operator::Plus => Ok(self.sum_row(left, right)),
+            Operator::Plus => Ok(self.sum_rule(left, right)),
             Operator::Minus | Operator::Times | Operator::Divide | Operator::Remainder => {
                 let int = self.int()?;
-                Ok(self.both_row(int, int, left, right))
+                Ok(self.both_rule(int, int, left, right))
             }
             Operator::Less | Operator::LessEqual | Operator::Greater | Operator::GreaterEqual => {
                 let int = self.int()?;
                 let bool = self.bool()?;
-                Ok(self.both_row(int, bool, left, right))
+                Ok(self.both_rule(int, bool, left, right))
             }
-            Operator::Equal | Operator::NotEqual => self.equality_row(left, right),
+            Operator::Equal | Operator::NotEqual => self.equality_rule(left, right),
             Operator::And | Operator::Or => {
                 let bool = self.bool()?;
-                Ok(self.both_row(bool, bool, left, right))
+                Ok(self.both_rule(bool, bool, left, right))
             }
         }
     }
 
     /// That of `+`: two numbers, two strings, or an operand of no value, for which the other one decides.
-    fn sum_row(&self, left: TypeIndex, right: TypeIndex) -> Option<TypeIndex>
+    fn sum_rule(&self, left: TypeIndex, right: TypeIndex) -> Option<TypeIndex>
         requires left { Found self.now (Some left) }
         requires right { Found self.now (Some right) }
         ensures { (one other : PlainType) → Finds self.now (Some left) (Some one)
@@ -101,7 +101,7 @@ impl Checker<'_> {
     }
 
     /// That of an operator which asks for two operands of one type, and gives another one.
-    fn both_row(
+    fn both_rule(
         &self,
         asked: TypeIndex,
         gives: TypeIndex,
@@ -128,7 +128,7 @@ impl Checker<'_> {
 
     /// That of `==` and `!=`: operands that have a join give a `Bool`.
     #[tactic(auto, using(crate::proofs::ContextLemmas::stays_transitive))]
-    fn equality_row(
+    fn equality_rule(
         &mut self,
         left: TypeIndex,
         right: TypeIndex,

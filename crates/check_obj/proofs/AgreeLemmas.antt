@@ -36,13 +36,13 @@ typed_found table met number found is =
     lookup-map_values (type_at (types_in table)) (nat_eq number) met
     ∙ ap (option_map (type_at (types_in table))) is
 
--- an entry whose number was met has the type that was met, if that is told
-pub same_known : (table : TypeTable) (met : List (ℕ × TypeIndex)) (number : ℕ) (index known : TypeIndex) (told : Bool)
+-- an entry whose number was met has the type that was met, if that is reported
+pub same_known : (table : TypeTable) (met : List (ℕ × TypeIndex)) (number : ℕ) (index known : TypeIndex) (reported : Bool)
     → lookup (nat_eq number) met ≡ Some known
-    → ((told ≡ true) ↔ (type_at (types_in table) known ≡ type_at (types_in table) index))
-    → told ≡ same_or_new (type_at (types_in table) index) (lookup (nat_eq number) (typed_row table met))
-same_known table met number index known told is tells =
-    same_tells told (type_at (types_in table) known) (type_at (types_in table) index) tells
+    → ((reported ≡ true) ↔ (type_at (types_in table) known ≡ type_at (types_in table) index))
+    → reported ≡ same_or_new (type_at (types_in table) index) (lookup (nat_eq number) (typed_row table met))
+same_known table met number index known reported is tells =
+    same_tells reported (type_at (types_in table) known) (type_at (types_in table) index) tells
     ∙ ap (same_or_new (type_at (types_in table) index)) (sym (typed_found table met number (Some known) is))
 
 -- what is met after an entry, if this was found before
@@ -138,7 +138,7 @@ agree_by : {table : TypeTable} {several : List ℕ} {row : List (ℕ × PlainTyp
     else entries_agree several (typed_row table met) (typed_row table rest))
     ≡ entries_agree several (typed_row table was) row
 agree_by {table} {several} {row} {was} {met} {left} {rest} {number} {index} counts so same is =
-    ap (λ (told : Bool). if told then
+    ap (λ (reported : Bool). if reported then
     same_or_new (type_at (types_in table) index) (lookup (nat_eq number) (typed_row table met))
     && entries_agree several (with_entry (typed_row table met) (number, type_at (types_in table) index))
     (typed_row table rest)
@@ -157,7 +157,7 @@ after_by : {table : TypeTable} {several : List ℕ} {row : List (ℕ × PlainTyp
     else met_after several (typed_row table met) (typed_row table rest))
     ≡ met_after several (typed_row table was) row
 after_by {table} {several} {row} {was} {met} {left} {rest} {number} {index} counts so same is =
-    ap (λ (told : Bool). if told then
+    ap (λ (reported : Bool). if reported then
     met_after several (with_entry (typed_row table met) (number, type_at (types_in table) index))
     (typed_row table rest)
     else met_after several (typed_row table met) (typed_row table rest)) is
@@ -179,13 +179,13 @@ agree_skip counts so same is skipped = record {
 -- those after one that agrees do
 pub agree_next : {table : TypeTable} {several : List ℕ} {row : List (ℕ × PlainType)}
     {was met left rest after : List (ℕ × TypeIndex)} {number : ℕ} {index : TypeIndex}
-    (counts told : Bool) → AgreeSoFar table several was row met left
+    (counts reported : Bool) → AgreeSoFar table several was row met left
     → left ≡ (number, index) ∷ rest → counts ≡ list_any (nat_eq number) several → counts ≡ true
-    → told ≡ same_or_new (type_at (types_in table) index) (lookup (nat_eq number) (typed_row table met))
-    → told ≡ true → HasTypes table after
+    → reported ≡ same_or_new (type_at (types_in table) index) (lookup (nat_eq number) (typed_row table met))
+    → reported ≡ true → HasTypes table after
     → typed_row table after ≡ with_entry (typed_row table met) (number, type_at (types_in table) index)
     → AgreeSoFar table several was row after rest
-agree_next {table} {several} {row} {was} {met} {left} {rest} {after} {number} {index} counts told so same is counted
+agree_next {table} {several} {row} {was} {met} {left} {rest} {after} {number} {index} counts reported so same is counted
     tells agrees among met_is = record {
       among_left = rest_among so same;
       among_met = among;
@@ -200,11 +200,11 @@ agree_next {table} {several} {row} {was} {met} {left} {rest} {after} {number} {i
 -- one that does not agree settles that not all do
 pub agree_fails : {table : TypeTable} {several : List ℕ} {row : List (ℕ × PlainType)}
     {was met left rest : List (ℕ × TypeIndex)} {number : ℕ} {index : TypeIndex}
-    (counts told : Bool) → AgreeSoFar table several was row met left
+    (counts reported : Bool) → AgreeSoFar table several was row met left
     → left ≡ (number, index) ∷ rest → counts ≡ list_any (nat_eq number) several → counts ≡ true
-    → told ≡ same_or_new (type_at (types_in table) index) (lookup (nat_eq number) (typed_row table met))
-    → told ≡ false → false ≡ entries_agree several (typed_row table was) row
-agree_fails {table} {several} {row} {was} {met} {left} {rest} {number} {index} counts told so same is counted tells
+    → reported ≡ same_or_new (type_at (types_in table) index) (lookup (nat_eq number) (typed_row table met))
+    → reported ≡ false → false ≡ entries_agree several (typed_row table was) row
+agree_fails {table} {several} {row} {was} {met} {left} {rest} {number} {index} counts reported so same is counted tells
     fails =
     ap (λ (first : Bool). first
     && entries_agree several (with_entry (typed_row table met) (number, type_at (types_in table) index))

@@ -31,7 +31,7 @@ use Rattle.check_obj.proofs.InheritedLemmas.{inherited, inherits, named_own}
 use Rattle.check_obj.proofs.MeetLemmas.{above_listed, listed_above}
 use Rattle.check_obj.proofs.OneTypeLemmas.{agree_found, agree_whole, head_or_tail, HaveOneType}
 use Rattle.check_obj.proofs.SameTypeLemmas.{both_tell}
-use Rattle.check_obj.proofs.SeveralToldLemmas.{no_types}
+use Rattle.check_obj.proofs.SeveralReportedLemmas.{no_types}
 use Rattle.check_obj.specs.MethodRows.{row_entry, signature_type, IsDeclared, TellsSeveral}
 use Rattle.check_obj.specs.MethodsMet.{entries_agree, entries_in, met_after, typed_row, HasTypes}
 
@@ -201,10 +201,10 @@ agreed_first {table} none =
 
 -- those of one more agree, if they agree with what is met
 agreed_more : {table : TypeTable} {several : List ℕ} {met : List (ℕ × TypeIndex)} {above : List ℕ} (index : ℕ)
-    (told : Bool) → AgreedSoFar table several met above
-    → told ≡ entries_agree several (typed_row table met) (entries_in table index)
-    → told ≡ entries_agree several [] (gathered table above ++ entries_in table index)
-agreed_more {table} {several} {met} {above} index told so tells =
+    (reported : Bool) → AgreedSoFar table several met above
+    → reported ≡ entries_agree several (typed_row table met) (entries_in table index)
+    → reported ≡ entries_agree several [] (gathered table above ++ entries_in table index)
+agreed_more {table} {several} {met} {above} index reported so tells =
     tells ∙ (ap (λ (entries : List (ℕ × PlainType)). entries_agree several entries (entries_in table index)) so.after
     ∙ (ap (λ (agreed : Bool). agreed
     && entries_agree several (met_after several [] (gathered table above)) (entries_in table index)) (sym so.agreed)
@@ -212,19 +212,19 @@ agreed_more {table} {several} {met} {above} index told so tells =
 
 -- it is so after one more
 pub agreed_next : {table : TypeTable} {several : List ℕ} {met after : List (ℕ × TypeIndex)} (above : List ℕ)
-    (index : ℕ) (told : Bool) → AgreedSoFar table several met (take index above) → index < length above
-    → told ≡ entries_agree several (typed_row table met) (entries_in table (get_or above index 0)) → told ≡ true
+    (index : ℕ) (reported : Bool) → AgreedSoFar table several met (take index above) → index < length above
+    → reported ≡ entries_agree several (typed_row table met) (entries_in table (get_or above index 0)) → reported ≡ true
     → HasTypes table after
-    → (told ≡ true → typed_row table after
+    → (reported ≡ true → typed_row table after
     ≡ met_after several (typed_row table met) (entries_in table (get_or above index 0)))
     → AgreedSoFar table several after (take (index + 1) above)
-agreed_next {table} {several} {met} {after} above index told so there tells agrees_here among met_is =
+agreed_next {table} {several} {met} {after} above index reported so there tells agrees_here among met_is =
     let other = get_or above index 0 in
     let is : gathered table (take (index + 1) above) ≡ gathered table (take index above) ++ entries_in table other =
     ap (gathered table) (take_more above index 0 there) ∙ gathered_push table (take index above) other in
     record {
       among = among;
-      agreed = ap (entries_agree several []) is ∙ (sym (agreed_more other told so tells) ∙ agrees_here);
+      agreed = ap (entries_agree several []) is ∙ (sym (agreed_more other reported so tells) ∙ agrees_here);
       after = met_is agrees_here
           ∙ (ap (λ (entries : List (ℕ × PlainType)). met_after several entries (entries_in table other)) so.after
           ∙ (sym (after_append several [] (gathered table (take index above)) (entries_in table other))
@@ -233,14 +233,14 @@ agreed_next {table} {several} {met} {after} above index told so there tells agre
 
 -- one that does not agree settles that not all do
 pub agreed_fails : {table : TypeTable} {several : List ℕ} {met : List (ℕ × TypeIndex)} (interface : ℕ)
-    (above : List ℕ) (index : ℕ) (told : Bool) → AgreedSoFar table several met (take index above)
+    (above : List ℕ) (index : ℕ) (reported : Bool) → AgreedSoFar table several met (take index above)
     → index < length above
-    → told ≡ entries_agree several (typed_row table met) (entries_in table (get_or above index 0)) → told ≡ false
+    → reported ≡ entries_agree several (typed_row table met) (entries_in table (get_or above index 0)) → reported ≡ false
     → ((other : ℕ) → is_listed above other ≡ is_below (declarations_of table) interface other)
     → (place : Place) (name : DeclaredTree) (extended : List DeclaredTree) (signatures : List SignatureTree)
     → slice_get (declarations_of table) interface ≡ Some (InterfaceTree place name extended signatures)
     → false ≡ agrees (declarations_of table) interface signatures
-agreed_fails {table} {several} {met} interface above index told so there tells fails lists place name extended
+agreed_fails {table} {several} {met} interface above index reported so there tells fails lists place name extended
     signatures found =
     let declarations = declarations_of table in
     let IsBelow : ℕ → Type 0 = λ (other : ℕ). is_below declarations interface other ≡ true in
@@ -253,10 +253,10 @@ agreed_fails {table} {several} {met} interface above index told so there tells f
     sym (false_from_ne_true (agree (methods_at declarations interface))
     (λ agreed. true≢false (sym (consistent_agree [] (gathered table (take index above) ++ entries_in table other)
     (entries_consistent table interface several agreed) (All-nil (IsEntryOf table interface)) such)
-    ∙ (sym (agreed_more other told so tells) ∙ fails))))
+    ∙ (sym (agreed_more other reported so tells) ∙ fails))))
     ∙ agree_at declarations interface found
 
--- methods of one name at an interface have one type, where names that are not told have one type, and entries agree
+-- methods of one name at an interface have one type, where names that are not reported have one type, and entries agree
 one_type_at : (table : TypeTable) (several : List ℕ) (interface : ℕ) (entries : List (ℕ × PlainType))
     → TellsSeveral table several → entries_agree several [] entries ≡ true
     → ((one : SignatureTree) → Contains (methods_at (declarations_of table) interface) one
@@ -295,24 +295,24 @@ has_gathered table interface above one lists among = ⊎_elim
 
 -- the interface itself settles whether all agree
 pub agreed_all : {table : TypeTable} {several : List ℕ} {met : List (ℕ × TypeIndex)} (interface : ℕ)
-    (above : List ℕ) (index : ℕ) (told : Bool) → AgreedSoFar table several met (take index above)
-    → length above ≤ index → told ≡ entries_agree several (typed_row table met) (entries_in table interface)
+    (above : List ℕ) (index : ℕ) (reported : Bool) → AgreedSoFar table several met (take index above)
+    → length above ≤ index → reported ≡ entries_agree several (typed_row table met) (entries_in table interface)
     → ((other : ℕ) → is_listed above other ≡ is_below (declarations_of table) interface other)
     → TellsSeveral table several
     → (place : Place) (name : DeclaredTree) (extended : List DeclaredTree) (signatures : List SignatureTree)
     → slice_get (declarations_of table) interface ≡ Some (InterfaceTree place name extended signatures)
-    → told ≡ agrees (declarations_of table) interface signatures
-agreed_all {table} {several} {met} interface above index told so over tells lists several_told place name extended
+    → reported ≡ agrees (declarations_of table) interface signatures
+agreed_all {table} {several} {met} interface above index reported so over tells lists several_reported place name extended
     signatures found =
     let declarations = declarations_of table in
     let entries = gathered table above ++ entries_in table interface in
-    let settled : told ≡ entries_agree several [] entries =
-    agreed_more interface told so tells
+    let settled : reported ≡ entries_agree several [] entries =
+    agreed_more interface reported so tells
     ∙ ap (λ (items : List ℕ). entries_agree several [] (gathered table items ++ entries_in table interface))
     (take_all index above over) in
-    both_tell told (agree (methods_at declarations interface))
+    both_tell reported (agree (methods_at declarations interface))
     (λ agrees_here. agree_whole (methods_at declarations interface)
-    (one_type_at table several interface entries several_told (sym settled ∙ agrees_here)
+    (one_type_at table several interface entries several_reported (sym settled ∙ agrees_here)
     (λ one among. has_gathered table interface above one lists among)
     (λ one among. declared_at declarations interface one found among)))
     (λ agreed. settled ∙ consistent_agree [] entries (entries_consistent table interface several agreed)

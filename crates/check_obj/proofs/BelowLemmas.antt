@@ -31,48 +31,48 @@ has indices index = list_any (λ (other : ℕ). nat_eq other index) indices
 meant_is : (declarations : List DeclTree) (name : Name) (index : ℕ) (meaning : Option TypeMeaning)
     → meaning_of (spaces_of declarations).types name ≡ meaning → has (interface_of meaning) index ≡ true
     → IsInterfaceAt declarations index
-meant_is declarations name index None known told = absurd (true≢false (sym told))
-meant_is declarations name index (Some (type.Interface own)) known told =
+meant_is declarations name index None known reported = absurd (true≢false (sym reported))
+meant_is declarations name index (Some (type.Interface own)) known reported =
     ⊎_elim
     (λ same. subst (IsInterfaceAt declarations) (eqb-true own index same)
     (record { name = name; is = interface_is_declared declarations name own known }))
     (λ none. absurd (true≢false (sym none)))
-    (or_cases (nat_eq own index) false told)
-meant_is declarations name index (Some (type.Data taking)) known told = absurd (true≢false (sym told))
-meant_is declarations name index (Some type.Int) known told = absurd (true≢false (sym told))
-meant_is declarations name index (Some type.String) known told = absurd (true≢false (sym told))
-meant_is declarations name index (Some type.Fut) known told = absurd (true≢false (sym told))
+    (or_cases (nat_eq own index) false reported)
+meant_is declarations name index (Some (type.Data taking)) known reported = absurd (true≢false (sym reported))
+meant_is declarations name index (Some type.Int) known reported = absurd (true≢false (sym reported))
+meant_is declarations name index (Some type.String) known reported = absurd (true≢false (sym reported))
+meant_is declarations name index (Some type.Fut) known reported = absurd (true≢false (sym reported))
 
 -- so is each of those that names stand for
 named_are : (declarations : List DeclTree) (names : List DeclaredTree) (index : ℕ)
     → has (interfaces_named (spaces_of declarations) names) index ≡ true → IsInterfaceAt declarations index
-named_are declarations [] index told = absurd (true≢false (sym told))
-named_are declarations (name ∷ others) index told =
+named_are declarations [] index reported = absurd (true≢false (sym reported))
+named_are declarations (name ∷ others) index reported =
     let own = interface_of (meaning_of (spaces_of declarations).types name.name) in
     let more = interfaces_named (spaces_of declarations) others in
     ⊎_elim
     (λ here. meant_is declarations name.name index (meaning_of (spaces_of declarations).types name.name) refl here)
     (λ there. named_are declarations others index there)
     (or_cases (has own index) (has more index)
-    (sym (list_any-append (λ (other : ℕ). nat_eq other index) own more) ∙ told))
+    (sym (list_any-append (λ (other : ℕ). nat_eq other index) own more) ∙ reported))
 
 -- so is each of those above a declaration in one step
 above_are : (declarations : List DeclTree) (declaration : DeclTree) (index : ℕ)
     → has (above (spaces_of declarations) declaration) index ≡ true → IsInterfaceAt declarations index
-above_are declarations (InterfaceTree place name extended signatures) index told =
-    named_are declarations extended index told
-above_are declarations (ClassTree place name params implemented members) index told =
-    named_are declarations implemented index told
-above_are declarations (DataTree place name type_params constructors) index told = absurd (true≢false (sym told))
-above_are declarations (FunctionTree place result name type_params params value) index told =
-    absurd (true≢false (sym told))
+above_are declarations (InterfaceTree place name extended signatures) index reported =
+    named_are declarations extended index reported
+above_are declarations (ClassTree place name params implemented members) index reported =
+    named_are declarations implemented index reported
+above_are declarations (DataTree place name type_params constructors) index reported = absurd (true≢false (sym reported))
+above_are declarations (FunctionTree place result name type_params params value) index reported =
+    absurd (true≢false (sym reported))
 
 -- so is each of those to which an edge leads from a declaration of several
 rows_are : (declarations rows : List DeclTree) (node index : ℕ)
     → has (get_or (map (above (spaces_of declarations)) rows) node []) index ≡ true → IsInterfaceAt declarations index
-rows_are declarations [] node index told = absurd (true≢false (sym told))
-rows_are declarations (first ∷ others) zero index told = above_are declarations first index told
-rows_are declarations (first ∷ others) (suc node) index told = rows_are declarations others node index told
+rows_are declarations [] node index reported = absurd (true≢false (sym reported))
+rows_are declarations (first ∷ others) zero index reported = above_are declarations first index reported
+rows_are declarations (first ∷ others) (suc node) index reported = rows_are declarations others node index reported
 
 -- so is each that is reached
 reached_is : {declarations : List DeclTree} {index node : ℕ} → Reaches (supertypes declarations) index node
@@ -84,4 +84,4 @@ reached_is {declarations} {index} (in_more node next led later) = reached_is lat
 pub below_is_interface : (declarations : List DeclTree) (one other : ℕ) → is_below declarations one other ≡ true
     → IsInterfaceAt declarations other
 unfolding is_below
-below_is_interface declarations one other told = reached_is (reaches_found (supertypes declarations) one other told)
+below_is_interface declarations one other reported = reached_is (reaches_found (supertypes declarations) one other reported)

@@ -35,7 +35,7 @@ use Rattle.abs_types.specs.Typing.{Frame}
 use Rattle.check_fun.proofs.ContextLemmas.{found_stays, maybe_same, noted_after, noted_same}
 use Rattle.check_fun.specs.Contexts.{context_in, with_slots, Context, Found, Knows, Noted, Stays}
 use Rattle.check_fun.specs.declared.checker.Checker.{Checker}
-use Rattle.check_obj.proofs.EndingLemmas.{is_last_told}
+use Rattle.check_obj.proofs.EndingLemmas.{is_last_reported}
 use Rattle.check_obj.specs.Bodies.{after, statement_offends, statements_offend, unbound}
 use Rattle.check_obj.specs.Endings.{IsFilled}
 use Rattle.check_obj.specs.Visible.{undone, Undoes}
@@ -156,7 +156,7 @@ pub is_end : (names : List Name) (stmts : List Stmt) (is_last : Bool) (count ind
     → (is_last ≡ true → IsFilled stmts count)
     → (is_last && nat_le count (index + 1)) ≡ (is_last && are_empty (statements names (drop (index + 1) stmts)))
 is_end names stmts false count index filled = refl
-is_end names stmts true count index filled = is_last_told names stmts count index (filled refl)
+is_end names stmts true count index filled = is_last_reported names stmts count index (filled refl)
 
 -- the offences of a statement, and of those after it
 offences_split : (context : Context) (is_last : Bool) (stmts : List Stmt) (index : ℕ) (one : Stmt)
@@ -185,7 +185,7 @@ pub block_step : {start now later : Checker} {is_last flag : Bool} {stmts : List
     → ((context : Context) → Knows now context → Knows later (after context one))
     → ((slots : List (Option PlainType)) → Undoes now shown slots → Undoes later shown_later slots)
     → Keeps now.table later.table → BlockSoFar start is_last stmts (index + 1) later shown_later
-block_step {start} {now} {later} {is_last} {flag} {stmts} {index} one so below is told noted knows undoes keeps =
+block_step {start} {now} {later} {is_last} {flag} {stmts} {index} one so below is reported noted knows undoes keeps =
     let more : take (index + 1) stmts ≡ take index stmts ++ one ∷ [] =
     take_more stmts index one below ∙ ap (λ (last : Stmt). take index stmts ++ last ∷ []) (sym is) in
     record {
@@ -197,7 +197,7 @@ block_step {start} {now} {later} {is_last} {flag} {stmts} {index} one so below i
           let before = all_after context (take index stmts) in
           let is_end = is_last && are_empty (statements context.names (drop (index + 1) stmts)) in
           let here = subst (λ (last : Bool). Noted now.first (statement_offends before last one) later.first)
-          (told context.names) (noted before (so.knows (unbound context) known)) in
+          (reported context.names) (noted before (so.knows (unbound context) known)) in
           so.noted context known final
           (subst (λ (offences : List Offence). Noted now.first offences final)
           (sym (offences_split context is_last stmts index one below is))

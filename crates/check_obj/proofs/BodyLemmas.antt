@@ -31,7 +31,7 @@ use Rattle.abs_tree.specs.declared.syntax.statement.Stmt.{Stmt}
 use Rattle.abs_types.proofs.KeepLemmas.{keeps_transitive}
 use Rattle.abs_types.specs.Endings.{ends_with_return}
 use Rattle.abs_types.specs.InterfacesMet.{same_type}
-use Rattle.abs_types.specs.Mistyped.{offence_if}
+use Rattle.abs_tree.specs.Offences.{offence_if}
 use Rattle.abs_types.specs.OperatorTypes.{unit_type}
 use Rattle.abs_types.specs.PlainTypes.{PlainType, PlainInt, PlainString, PlainBottom, PlainNull, PlainFut, PlainData, PlainApplied, PlainInterface, PlainClass, PlainParameter, plain}
 use Rattle.abs_types.specs.Schemes.{param_types}
@@ -95,18 +95,18 @@ other_type (PlainClass name) other = refl
 other_type (PlainParameter index) other = refl
 
 -- a body whose result type is not `Unit` ends well, if it ends with `return`
-pub ends_otherwise : {checker : Checker} {gives unit : TypeIndex} {type : PlainType} {same told : Bool}
+pub ends_otherwise : {checker : Checker} {gives unit : TypeIndex} {type : PlainType} {same reported : Bool}
     (names : List Name) (stmts : List Stmt) → Finds checker (Some gives) (Some type)
     → Finds checker (Some unit) (Some unit_type)
     → (same ≡ true) ↔ (type_at (types_in checker.table) gives ≡ type_at (types_in checker.table) unit)
-    → same ≡ false → told ≡ ends_with_return (statements names stmts)
-    → told ≡ ends_well type (statements names stmts)
-ends_otherwise {checker} {gives} {unit} {type} names stmts finds is_unit is_same apart told =
+    → same ≡ false → reported ≡ ends_with_return (statements names stmts)
+    → reported ≡ ends_well type (statements names stmts)
+ends_otherwise {checker} {gives} {unit} {type} names stmts finds is_unit is_same apart reported =
     let type_is : type_at (types_in checker.table) gives ≡ type = same_Some _ _ finds.is in
     let unit_is : type_at (types_in checker.table) unit ≡ unit_type = same_Some _ _ is_unit.is in
     let other : same_type type unit_type ≡ false =
     other_type type (λ equal. true≢false (sym (is_same.1 (type_is ∙ (equal ∙ sym unit_is))) ∙ apart)) in
-    rw other told
+    rw other reported
 
 -- a body has the slots of its parameters and those of its statements
 body_count : (names : List Name) (params : ℕ) (body : Body) → BodyHasSlots names params body
@@ -191,18 +191,18 @@ still_in_class signature body knows = record {
 }
 
 -- what is noted in a method
-pub method_noted : {before entered checked ended now : Option Offence} {told : Bool} {stmts last : List Stmt}
+pub method_noted : {before entered checked ended now : Option Offence} {reported : Bool} {stmts last : List Stmt}
     (context : Context) (class : Name) (fields : List PlainType) (signature : Signature) (body : Body)
     → entered ≡ before → stmts ≡ body.statements.items
     → Noted entered (statements_offend (in_method context class fields signature body) true stmts) checked
     → ended ≡ checked → last ≡ body.statements.items
-    → told ≡ ends_well (plain (type_tree context.names signature.result)) (statements context.names last)
-    → Noted ended (offence_if (not told) T5 body.end) now
+    → reported ≡ ends_well (plain (type_tree context.names signature.result)) (statements context.names last)
+    → Noted ended (offence_if (not reported) T5 body.end) now
     → Noted before (method_offences context.declarations class fields (signature_tree context.names signature) body.end
     (statements context.names body.statements.items)) now
 method_noted context class fields signature body entered_is stmts_are checked ended_is last_are
-    told ended =
-    noted_after _ _ (rw (entered_is, stmts_are) at checked) (rw (ended_is, told, last_are) at ended)
+    reported ended =
+    noted_after _ _ (rw (entered_is, stmts_are) at checked) (rw (ended_is, reported, last_are) at ended)
 
 -- what is around the statements of the main block
 abbrev pub in_main : Context → Body → Context

@@ -26,9 +26,9 @@ first_named name [] = None
 first_named name (first ∷ others) = if is_named name first then Some first else first_named name others
 
 -- none with a name is left after one more, where those with the name are left out
-without_step : (name : Name) (count : ℕ) (first : SignatureTree) (rest : List SignatureTree) (told : Bool)
-    → is_named name first ≡ told → filter (is_called name count) rest ≡ []
-    → filter (is_called name count) (cond (not told) (first ∷ rest) rest) ≡ []
+without_step : (name : Name) (count : ℕ) (first : SignatureTree) (rest : List SignatureTree) (reported : Bool)
+    → is_named name first ≡ reported → filter (is_called name count) rest ≡ []
+    → filter (is_called name count) (cond (not reported) (first ∷ rest) rest) ≡ []
 without_step name count first rest true same none = none
 without_step name count first rest false apart none = rw apart none
 
@@ -42,9 +42,9 @@ without_own name count (first ∷ others) =
 
 -- where those with another name are left out, all with the name are left after one more
 other_step : (name left_out : Name) (count : ℕ) (first : SignatureTree) (others rest : List SignatureTree)
-    (told : Bool) → bytes_eq left_out name ≡ false → is_named left_out first ≡ told
+    (reported : Bool) → bytes_eq left_out name ≡ false → is_named left_out first ≡ reported
     → filter (is_called name count) rest ≡ filter (is_called name count) others
-    → filter (is_called name count) (cond (not told) (first ∷ rest) rest)
+    → filter (is_called name count) (cond (not reported) (first ∷ rest) rest)
     ≡ filter (is_called name count) (first ∷ others)
 other_step name left_out count first others rest true differ same left =
     let own : first.name.name ≡ left_out = (bytes_eq-Decides first.name.name left_out).0 same in
@@ -62,16 +62,16 @@ without_other name left_out count (first ∷ others) differ =
     (without_other name left_out count others differ)
 
 -- one method or none
-one_or_none : (told : Bool) (first : SignatureTree) → cond told (first ∷ []) [] ≡ (if told then first ∷ [] else [])
+one_or_none : (reported : Bool) (first : SignatureTree) → cond reported (first ∷ []) [] ≡ (if reported then first ∷ [] else [])
 one_or_none true first = refl
 one_or_none false first = refl
 
 -- those called so among the first of each name: the case of one more
-first_step : (name : Name) (count : ℕ) (first : SignatureTree) (others : List SignatureTree) (told : Bool)
-    → is_named name first ≡ told
+first_step : (name : Name) (count : ℕ) (first : SignatureTree) (others : List SignatureTree) (reported : Bool)
+    → is_named name first ≡ reported
     → filter (is_called name count) (first_of_each others) ≡ if_there count (first_named name others)
     → filter (is_called name count) (first_of_each (first ∷ others))
-    ≡ if_there count (if told then Some first else first_named name others)
+    ≡ if_there count (if reported then Some first else first_named name others)
 first_step name count first others true same found =
     let own : first.name.name ≡ name = (bytes_eq-Decides first.name.name name).0 same in
     let left : filter (is_called name count) (filter (λ (other : SignatureTree). not (is_named first.name.name other))
@@ -91,10 +91,10 @@ first_called name count (first ∷ others) =
     first_step name count first others (is_named name first) refl (first_called name count others)
 
 -- no method has a name, if none is found: the case of one more
-none_step : (base : ℕ) (name : Name) (signature : SignatureTree) (others : List MemberTree) (told : Bool)
-    → (if told then Some base else index_among (base + 1) others name) ≡ None
+none_step : (base : ℕ) (name : Name) (signature : SignatureTree) (others : List MemberTree) (reported : Bool)
+    → (if reported then Some base else index_among (base + 1) others name) ≡ None
     → (index_among (base + 1) others name ≡ None → first_named name (member_signatures others) ≡ None)
-    → (if told then Some signature else first_named name (member_signatures others)) ≡ None
+    → (if reported then Some signature else first_named name (member_signatures others)) ≡ None
 none_step base name signature others true none rest = absurd (none-some base (sym none))
 none_step base name signature others false none rest = rest none
 
@@ -114,12 +114,12 @@ IsFirstAt base name members index = (place : ℕ) × (index ≡ base + place)
 
 -- a method that is found is the first one with the name: the case of one more
 next_step : (base : ℕ) (name : Name) (signature : SignatureTree) (end : Place) (body : Statements)
-    (others : List MemberTree) (index : ℕ) (told : Bool)
-    → (if told then Some base else index_among (base + 1) others name) ≡ Some index
+    (others : List MemberTree) (index : ℕ) (reported : Bool)
+    → (if reported then Some base else index_among (base + 1) others name) ≡ Some index
     → (index_among (base + 1) others name ≡ Some index → IsFirstAt (base + 1) name others index)
     → (place : ℕ) × (index ≡ base + place)
     × (option_and_then method_in (slice_get (MethodTree signature end body ∷ others) place)
-    ≡ (if told then Some signature else first_named name (member_signatures others)))
+    ≡ (if reported then Some signature else first_named name (member_signatures others)))
 next_step base name signature end body others index true found rest =
     let is : base ≡ index = same_Some base index found in (0, omega arith, refl)
 next_step base name signature end body others index false found rest =

@@ -2,9 +2,9 @@
 --
 --   `AreMethods`                   methods from memory are those of a type with a name and this many parameters
 --   `methods_known`                those that are found are
---   `has_told`                     whether there is one
+--   `has_reported`                 whether there is one
 --   `call_found`, `call_noted`     what a call gives, and what is noted of it
---   `call_silent`                  what is noted where an argument has no type
+--   `call_unoffending`             what is noted where an argument has no type
 --   `taking_known`                 what the first method gives that takes the arguments
 use denote.Ref.{Bor}
 use Rattle.std.proofs.Common.{◌≡◌, ℕ, Bool, true, false, not, List, [], ◌∷◌, Option, Some, None, if◌then◌else◌, filter, length, map, nat_eq, refl, sym, ap, ◌∙◌, subst, append-nil}
@@ -18,7 +18,8 @@ use Rattle.abs_tree.specs.declared.refusal.Offence.{Offence}
 use Rattle.abs_tree.specs.declared.symbol.Symbol.{Symbol}
 use Rattle.abs_tree.specs.declared.syntax.declaration.Signature.{Signature}
 use Rattle.abs_types.specs.Methods.{call_type, first_taking, has_method, is_called, method_type, methods_named, named_methods, signatures_of_type}
-use Rattle.abs_types.specs.Mistyped.{offence_if, untyped}
+use Rattle.abs_tree.specs.Offences.{offence_if}
+use Rattle.abs_types.specs.Mistyped.{untyped}
 use Rattle.abs_types.specs.PlainTypes.{PlainType, PlainInt, PlainString, PlainBottom, PlainNull, PlainFut, PlainData, PlainApplied, PlainInterface, PlainClass, PlainParameter}
 use Rattle.abs_types.specs.SideTypes.{call_offences, called_type}
 use Rattle.abs_types.specs.TypeShapes.{type_at, types_at}
@@ -32,9 +33,9 @@ use Rattle.check_fun.specs.declared.heads.Head.{Head}
 use Rattle.check_obj.specs.Calls.{called, signatures_of_head, trees_of}
 
 -- the types of methods with a name are those of the methods that are called so: the case of one more
-named_step : (first : SignatureTree) (named : List SignatureTree) (rest : List SignatureTree) (told : Bool)
-    → (if told then method_type first ∷ map method_type rest else map method_type rest)
-    ≡ map method_type (if told then first ∷ rest else rest)
+named_step : (first : SignatureTree) (named : List SignatureTree) (rest : List SignatureTree) (reported : Bool)
+    → (if reported then method_type first ∷ map method_type rest else map method_type rest)
+    ≡ map method_type (if reported then first ∷ rest else rest)
 named_step first named rest true = refl
 named_step first named rest false = refl
 
@@ -89,11 +90,11 @@ methods_known {checker} {context} {type} {methods} head method count knows heade
     headed
 
 -- whether there is one
-pub has_told : {context : Context} {type : PlainType} {name : Name} {count : ℕ} {methods : List (Bor Signature)}
+pub has_reported : {context : Context} {type : PlainType} {name : Name} {count : ℕ} {methods : List (Bor Signature)}
     (empty : Bool) (size : ℕ) → AreMethods context type name count methods → size ≡ length methods
     → empty ≡ nat_eq size 0 → has_method context.declarations type name count ≡ not empty
 unfolding has_method
-has_told {context} {methods = methods} empty size are sized is =
+has_reported {context} {methods = methods} empty size are sized is =
     rw (← are.are, length-map (trees_of context.names methods) method_type, length-map methods _, is, sized) refl
 
 -- what the first method gives that takes arguments of these types
@@ -114,7 +115,7 @@ given_count {checker} {given} {known} finds =
     ∙ ap length (same_Some (types_at (types_in checker.table) given) known finds.are)
 
 -- what is not missing is there
-there_again : (told : Bool) → not (not told) ≡ told
+there_again : (reported : Bool) → not (not reported) ≡ reported
 there_again true = refl
 there_again false = refl
 
@@ -151,14 +152,14 @@ call_noted {checker} declarations name count place receiver given empty object t
     (noted_after _ _ missing (step type known of_object of_types))
 
 -- where an argument has no type, only a missing method is
-pub call_silent : {checker : Checker} {before now : Option Offence} {object : Option PlainType}
+pub call_unoffending : {checker : Checker} {before now : Option Offence} {object : Option PlainType}
     {types : Option (List PlainType)} (declarations : List DeclTree) (name : Name) (count : ℕ) (place : Place)
     (receiver : TypeIndex) (empty : Bool) → Finds checker (Some receiver) object → FindsAll checker None types
     → ((type : PlainType) → Finds checker (Some receiver) (Some type)
     → has_method declarations type name count ≡ not empty)
     → Noted before (offence_if empty T2 place) now
     → Noted before (call_offences declarations object name count types place) now
-call_silent {checker} declarations name count place receiver empty object types has missing =
+call_unoffending {checker} declarations name count place receiver empty object types has missing =
     let type = type_at (types_in checker.table) receiver in
     let of_object : Finds checker (Some receiver) (Some type) = record { found_is = object.found_is; is = refl } in
     rw (← object.is, ← types.are, has type of_object, there_again empty, append-nil) missing

@@ -4,7 +4,7 @@
 --   `object_found`, `no_object`        an object, if the arguments fit what its class takes
 --   `given_own`                        what indices stand for
 --   `given_found`, `none_given`        what gives a type by those of arguments, if all of them have types
---   `given_noted`, `given_silent`      what is noted then
+--   `given_noted`, `given_unoffending`  what is noted then
 use Rattle.std.proofs.Common.{◌≡◌, Bool, true, List, ◌++◌, Option, Some, None, is_some, if◌then◌else◌, refl, ap, subst, append-nil}
 use Rattle.std.specs.Prelude.{option_and_then, slice_get}
 use Rattle.abs_program.specs.NameSpaces.{spaces_of}
@@ -77,23 +77,23 @@ given_noted {checker} {before} {now = now} offences gives given place finds note
     (step (types_at (types_in checker.table) given) (record { found_are = finds.found_are; are = refl })))
 
 -- where one has no type, nothing is
-pub given_silent : {checker : Checker} {before now : Option Offence} {types : Option (List PlainType)}
+pub given_unoffending : {checker : Checker} {before now : Option Offence} {types : Option (List PlainType)}
     (offences : List Offence) (gives : List PlainType → Option PlainType) (place : Place)
     → FindsAll checker None types → Noted before offences now
     → Noted before (offences ++ untyped (is_some types) (option_and_then gives types) place) now
-given_silent {before = before} {now} offences gives place finds noted =
+given_unoffending {before = before} {now} offences gives place finds noted =
     subst (λ (types : Option (List PlainType)).
     Noted before (offences ++ untyped (is_some types) (option_and_then gives types) place) now) finds.are
     (rw append-nil noted)
 
 -- an object, if the arguments fit what its class takes
 pub object_found : {checker now : Checker} {takes : Option (List PlainType)} {found : Option TypeIndex}
-    (fit : List PlainType → Bool) (object : PlainType) (taken : List TypeIndex) (told : Bool)
+    (fit : List PlainType → Bool) (object : PlainType) (taken : List TypeIndex) (reported : Bool)
     → FindsAll checker (Some taken) takes
-    → ((known : List PlainType) → FindsAll checker (Some taken) (Some known) → told ≡ fit known)
-    → Finds now found (if told then Some object else None)
+    → ((known : List PlainType) → FindsAll checker (Some taken) (Some known) → reported ≡ fit known)
+    → Finds now found (if reported then Some object else None)
     → Finds now found (option_and_then (λ types. if fit types then Some object else None) takes)
-object_found {checker} {now} {found = found} fit object taken told finds is made =
+object_found {checker} {now} {found = found} fit object taken reported finds is made =
     let known = types_at (types_in checker.table) taken in
     let same = is known (record { found_are = finds.found_are; are = refl }) in
     subst (λ (types : Option (List PlainType)).

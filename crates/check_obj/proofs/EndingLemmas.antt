@@ -1,6 +1,6 @@
 -- Blocks without a statement, and where statements end.
 --
---   `is_last_told`                         whether a statement is the last one
+--   `is_last_reported`                     whether a statement is the last one
 --   `ends_with_last`, `ends_with_none`     whether the last statement is `return`
 use Rattle.std.proofs.Common.{◌≡◌, ℕ, zero, suc, ◌+◌, ◌-◌, ◌<◌, ◌≤◌, Bool, true, false, List, [], ◌∷◌, Some, length, get_or, drop, nat_le, refl, sym, ◌∙◌, inl, inr, arith, true≢false}
 use Rattle.std.specs.Prelude.{slice_get}
@@ -56,9 +56,9 @@ statement_at (first ∷ others) zero inside = (first, refl)
 statement_at (first ∷ others) (suc index) inside = statement_at others index (omega (arith, inside))
 
 -- a statement is the last one exactly where the first statements, up to the last that is no empty block, end with it
-pub is_last_told : (names : List Name) (stmts : List Stmt) (count index : ℕ) → IsFilled stmts count
+pub is_last_reported : (names : List Name) (stmts : List Stmt) (count index : ℕ) → IsFilled stmts count
     → nat_le count (index + 1) ≡ rest_empty names stmts (index + 1)
-is_last_told names stmts count index filled = elim (cases_lt (index + 1) count) [
+is_last_reported names stmts count index filled = elim (cases_lt (index + 1) count) [
   | inl less ↦
       let there = statement_at stmts (count - 1) (omega (arith, less, filled.within)) in
       let empty = filled.last names (count - 1) there.0 (omega (arith, less)) there.1 in
@@ -101,10 +101,10 @@ ends_at names (first ∷ others) (suc index) stmt there filled rest =
     rw (not_empty_at names others index stmt there filled) (ends_at names others index stmt there filled rest)
 
 -- so does the one before the count
-pub ends_with_last : (names : List Name) (stmts : List Stmt) (count : ℕ) (stmt : Stmt) (told : Bool)
+pub ends_with_last : (names : List Name) (stmts : List Stmt) (count : ℕ) (stmt : Stmt) (reported : Bool)
     → IsFilled stmts count → 0 < count → stmt ≡ get_or stmts (count - 1) stmt
-    → told ≡ returns (statement names stmt) → told ≡ ends_with_return (statements names stmts)
-ends_with_last names stmts count stmt told filled some at is =
+    → reported ≡ returns (statement names stmt) → reported ≡ ends_with_return (statements names stmts)
+ends_with_last names stmts count stmt reported filled some at is =
     let there = slice_get_read stmts (length stmts) (count - 1) stmt refl (omega (arith, some, filled.within)) at in
     let one : suc (count - 1) ≡ count = omega (arith, some) in
     is ∙ ends_at names stmts (count - 1) stmt there (filled.last names (count - 1) stmt (omega (arith, some)) there)

@@ -37,7 +37,7 @@ agree_append_if : (several : List ℕ) (met : List (ℕ × PlainType)) (first : 
     && entries_agree several (if counts then met_after several (with_entry met first) others
     else met_after several met others) more)
 agree_append_if several met first others more true rest =
-    ap (λ (told : Bool). same_or_new first.1 (lookup (nat_eq first.0) met) && told) (rest (with_entry met first))
+    ap (λ (reported : Bool). same_or_new first.1 (lookup (nat_eq first.0) met) && reported) (rest (with_entry met first))
     ∙ and_assoc (same_or_new first.1 (lookup (nat_eq first.0) met))
     (entries_agree several (with_entry met first) others)
     (entries_agree several (met_after several (with_entry met first) others) more)
@@ -158,9 +158,9 @@ pub record Consistent (several : List ℕ) (P : ℕ × PlainType → Type 0) : T
 
 -- what is found among such entries is such: the case of one more entry
 such_step : (P : ℕ × PlainType → Type 0) (first : ℕ × PlainType) (others : List (ℕ × PlainType)) (number : ℕ)
-    (type : PlainType) (told : Bool) → nat_eq number first.0 ≡ told → P first
+    (type : PlainType) (reported : Bool) → nat_eq number first.0 ≡ reported → P first
     → (lookup (nat_eq number) others ≡ Some type → P (number, type))
-    → cond told (Some first.1) (lookup (nat_eq number) others) ≡ Some type → P (number, type)
+    → cond reported (Some first.1) (lookup (nat_eq number) others) ≡ Some type → P (number, type)
 such_step P first others number type true same such rest found =
     subst (λ (at : ℕ). P (at, type)) (sym (eqb-true number first.0 same))
     (subst (λ (known : PlainType). P (first.0, known)) (same_Some first.1 type found) such)

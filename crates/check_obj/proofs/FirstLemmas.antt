@@ -1,7 +1,7 @@
 -- The first method of each name, and look-ups of methods by the numbers of their names.
 --
 --   `IsNamed`                      the number of a method's name tells the name
---   `name_test`                    whether methods have one name is told by the numbers of their names
+--   `name_test`                    whether methods have one name follows from the numbers of their names
 --   `named_none`                   no methods have names of the table
 --   `named_signature`, ..          so have methods of the code's trees
 --   `named_first`                  so have the first ones of each name
@@ -35,7 +35,7 @@ use Rattle.check_obj.specs.MethodRows.{row_entry, AreNamed}
 abbrev pub IsNamed : List Name → SignatureTree → Type 0
 IsNamed names signature = named_by names (number_of_name names signature.name.name) ≡ signature.name.name
 
--- whether methods have one name is told by the numbers of their names
+-- whether methods have one name follows from the numbers of their names
 pub name_test : (names : List Name) (one other : SignatureTree) → IsNamed names one → IsNamed names other
     → nat_eq (number_of_name names other.name.name) (number_of_name names one.name.name)
     ≡ is_named other.name.name one
@@ -48,15 +48,15 @@ name_test names one other one_named other_named = by (is_named other.name.name o
     same_numbers same =
         sym one_named ∙ (ap (named_by names) (sym ((Decides-eqb (number other) (number one)).0 same)) ∙ other_named)
 
-    by : (told : Bool) → is_named other.name.name one ≡ told → nat_eq (number other) (number one) ≡ told
+    by : (reported : Bool) → is_named other.name.name one ≡ reported → nat_eq (number other) (number one) ≡ reported
     by true same = (Decides-eqb (number other) (number one)).1
         (ap (number_of_name names) (sym ((bytes_eq-Decides one.name.name other.name.name).0 same)))
     by false apart = apart_numbers (nat_eq (number other) (number one)) refl
       where
-        apart_numbers : (told : Bool) → nat_eq (number other) (number one) ≡ told → told ≡ false
-        apart_numbers false told = refl
-        apart_numbers true told = absurd (true≢false
-            (sym ((bytes_eq-Decides one.name.name other.name.name).1 (same_numbers told)) ∙ apart))
+        apart_numbers : (reported : Bool) → nat_eq (number other) (number one) ≡ reported → reported ≡ false
+        apart_numbers false reported = refl
+        apart_numbers true reported = absurd (true≢false
+            (sym ((bytes_eq-Decides one.name.name other.name.name).1 (same_numbers reported)) ∙ apart))
 
 -- no methods have names of the table
 pub named_none : {names : List Name} → AreNamed names []
@@ -107,9 +107,9 @@ abbrev pub has_name : Name → List SignatureTree → Bool
 has_name name signatures = list_any (is_named name) signatures
 
 -- where those with another name are left out, one with a name is left: the case of one more
-left_step : (name left_out : Name) (first : SignatureTree) (others rest : List SignatureTree) (told : Bool)
-    → bytes_eq left_out name ≡ false → is_named left_out first ≡ told → has_name name rest ≡ has_name name others
-    → has_name name (cond (not told) (first ∷ rest) rest) ≡ has_name name (first ∷ others)
+left_step : (name left_out : Name) (first : SignatureTree) (others rest : List SignatureTree) (reported : Bool)
+    → bytes_eq left_out name ≡ false → is_named left_out first ≡ reported → has_name name rest ≡ has_name name others
+    → has_name name (cond (not reported) (first ∷ rest) rest) ≡ has_name name (first ∷ others)
 left_step name left_out first others rest true differ same left =
     let own : first.name.name ≡ left_out = (bytes_eq-Decides first.name.name left_out).0 same in
     rw (own, differ) left
@@ -135,12 +135,12 @@ push_step : (first last : SignatureTree) (rest : List SignatureTree) (same there
     (first ∷ without first.name.name rest) last
 push_step first last rest true true same there = refl
 push_step first last rest true false same there =
-    let told : is_named first.name.name last ≡ true =
+    let reported : is_named first.name.name last ≡ true =
     (bytes_eq-Decides last.name.name first.name.name).1
     (sym ((bytes_eq-Decides first.name.name last.name.name).0 same)) in
     ap (λ (xs : List SignatureTree). first ∷ xs)
     (filter-append (λ (other : SignatureTree). not (is_named first.name.name other)) rest (last ∷ [])
-    ∙ (ap (λ (b : Bool). without first.name.name rest ++ cond (not b) (last ∷ []) []) told
+    ∙ (ap (λ (b : Bool). without first.name.name rest ++ cond (not b) (last ∷ []) []) reported
     ∙ append-nil (without first.name.name rest)))
 push_step first last rest false true apart there =
     let left : has_name last.name.name (without first.name.name rest) ≡ true =
@@ -149,11 +149,11 @@ push_step first last rest false true apart there =
 push_step first last rest false false apart there =
     let left : has_name last.name.name (without first.name.name rest) ≡ false =
     has_left last.name.name first.name.name rest apart ∙ there in
-    let told : is_named first.name.name last ≡ false =
+    let reported : is_named first.name.name last ≡ false =
     nat_list_eq_equiv.symm last.name.name first.name.name ∙ apart in
     ap (λ (xs : List SignatureTree). first ∷ xs)
     (filter-append (λ (other : SignatureTree). not (is_named first.name.name other)) rest (last ∷ [])
-    ∙ ap (λ (b : Bool). without first.name.name rest ++ cond (not b) (last ∷ []) []) told)
+    ∙ ap (λ (b : Bool). without first.name.name rest ++ cond (not b) (last ∷ []) []) reported)
     ∙ ap (λ (b : Bool). one_more b (first ∷ without first.name.name rest) last) (sym left)
 
 -- the first ones of each name, with one more method, which counts if there is none with its name
@@ -180,9 +180,9 @@ is_looked_up names (first ∷ others) wanted named own =
     test : ℕ → Bool
     test = nat_eq (number_of_name names wanted.name.name)
 
-    by : (told : Bool) → told ≡ is_named wanted.name.name first
+    by : (reported : Bool) → reported ≡ is_named wanted.name.name first
         → is_some (lookup test (map (row_entry names) others)) ≡ has_name wanted.name.name others
-        → is_some (cond told (Some (row_entry names first).1) (lookup test (map (row_entry names) others)))
+        → is_some (cond reported (Some (row_entry names first).1) (lookup test (map (row_entry names) others)))
         ≡ is_named wanted.name.name first || has_name wanted.name.name others
     by true same rest = ap (λ (b : Bool). b || has_name wanted.name.name others) same
     by false apart rest = rest ∙ ap (λ (b : Bool). b || has_name wanted.name.name others) apart

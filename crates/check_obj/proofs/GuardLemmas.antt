@@ -4,7 +4,7 @@
 --   `guard_begins`, `guard_next`, `guard_ends`     before the first part, after one more, and after all
 use Rattle.std.proofs.Common.{◌≡◌, ℕ, ◌+◌, ◌<◌, ◌≤◌, List, [], ◌∷◌, ◌++◌, get_or, length, take, sym, ap, ◌∙◌, subst, append_assoc, append-nil}
 use Rattle.std.proofs.lemmas.List.{take_all, take_more}
-use Rattle.abs_tree.specs.SyntaxViews.{phrase}
+use Rattle.abs_tree.specs.SyntaxViews.{expr_tree}
 use Rattle.abs_tree.specs.declared.refusal.Offence.{Offence}
 use Rattle.abs_tree.specs.declared.syntax.statement.Test.{Test}
 use Rattle.abs_types.specs.StatementOffences.{part_offences}
@@ -16,7 +16,7 @@ use Rattle.check_obj.specs.Bodies.{guard_offends, unbound}
 -- the offences of a part
 abbrev pub part_offends : Context → Test → List Offence
 part_offends context test =
-    part_offences context.declarations context.frame test.place (phrase context.names test.value.value) test.asks
+    part_offences context.declarations context.frame test.place (expr_tree context.names test.value.value) test.asks
 
 -- those of several parts and of one more
 offends_push : (context : Context) (tests : List Test) (last : Test)

@@ -31,9 +31,9 @@ has_first {table} {own} {asked} among same = rw same (record { among = among; se
 
 -- the type of an entry that is found is of the table: the case of one more entry
 among_step : (types : List PlainType) (test : ℕ → Bool) (first : ℕ × TypeIndex) (others : List (ℕ × TypeIndex))
-    (found : TypeIndex) (told : Bool) → All (IsEntry types) (first ∷ others)
+    (found : TypeIndex) (reported : Bool) → All (IsEntry types) (first ∷ others)
     → (lookup test others ≡ Some found → IsAmong types found)
-    → (if told then Some first.1 else lookup test others) ≡ Some found → IsAmong types found
+    → (if reported then Some first.1 else lookup test others) ≡ Some found → IsAmong types found
 among_step types test first others found true among rest is =
     subst (IsAmong types) (same_Some first.1 found is) (All-head (IsEntry types) first others among)
 among_step types test first others found false among rest is = rest is
@@ -64,36 +64,36 @@ settled_by : {table : TypeTable} {own asked left rest : List (ℕ × TypeIndex)}
     && has_entries (typed_row table own) (typed_row table rest)
     ≡ has_entries (typed_row table own) (typed_row table asked)
 settled_by {table} {own} {asked} {left} {rest} {number} {index} found so same is =
-    ap (λ (told : Bool). told && has_entries (typed_row table own) (typed_row table rest))
+    ap (λ (reported : Bool). reported && has_entries (typed_row table own) (typed_row table rest))
     (sym (has_by table own number index found is))
     ∙ (ap (λ (row : List (ℕ × TypeIndex)). has_entries (typed_row table own) (typed_row table row)) (sym same)
     ∙ so.settled)
 
 -- the entries after one that a row has settle whether it has all
 pub has_next : {table : TypeTable} {own asked left rest : List (ℕ × TypeIndex)} {number : ℕ} {index : TypeIndex}
-    (found : TypeIndex) (told : Bool) → HasSoFar table own asked left → left ≡ (number, index) ∷ rest
+    (found : TypeIndex) (reported : Bool) → HasSoFar table own asked left → left ≡ (number, index) ∷ rest
     → lookup (nat_eq number) own ≡ Some found
-    → ((told ≡ true) ↔ (type_at (types_in table) found ≡ type_at (types_in table) index)) → told ≡ true
+    → ((reported ≡ true) ↔ (type_at (types_in table) found ≡ type_at (types_in table) index)) → reported ≡ true
     → HasSoFar table own asked rest
-has_next {table} {own} {asked} {left} {rest} {number} {index} found told so same is tells equal = record {
+has_next {table} {own} {asked} {left} {rest} {number} {index} found reported so same is tells equal = record {
   among = record {
     among = All-tail (IsEntry (types_in table)) (number, index) rest
         (subst (λ (row : List (ℕ × TypeIndex)). All (IsEntry (types_in table)) row) same so.among.among);
   };
   settled = ap (λ (first : Bool). first && has_entries (typed_row table own) (typed_row table rest))
-      (sym equal ∙ same_tells told (type_at (types_in table) found) (type_at (types_in table) index) tells)
+      (sym equal ∙ same_tells reported (type_at (types_in table) found) (type_at (types_in table) index) tells)
       ∙ settled_by (Some found) so same is;
 }
 
 -- one of another type settles that a row has not all
 pub has_differs : {table : TypeTable} {own asked left rest : List (ℕ × TypeIndex)} {number : ℕ} {index : TypeIndex}
-    (found : TypeIndex) (told : Bool) → HasSoFar table own asked left → left ≡ (number, index) ∷ rest
+    (found : TypeIndex) (reported : Bool) → HasSoFar table own asked left → left ≡ (number, index) ∷ rest
     → lookup (nat_eq number) own ≡ Some found
-    → ((told ≡ true) ↔ (type_at (types_in table) found ≡ type_at (types_in table) index)) → told ≡ false
+    → ((reported ≡ true) ↔ (type_at (types_in table) found ≡ type_at (types_in table) index)) → reported ≡ false
     → false ≡ has_entries (typed_row table own) (typed_row table asked)
-has_differs {table} {own} {asked} {left} {rest} {number} {index} found told so same is tells differ =
+has_differs {table} {own} {asked} {left} {rest} {number} {index} found reported so same is tells differ =
     ap (λ (first : Bool). first && has_entries (typed_row table own) (typed_row table rest))
-    (sym differ ∙ same_tells told (type_at (types_in table) found) (type_at (types_in table) index) tells)
+    (sym differ ∙ same_tells reported (type_at (types_in table) found) (type_at (types_in table) index) tells)
     ∙ settled_by (Some found) so same is
 
 -- one that is not there settles it too

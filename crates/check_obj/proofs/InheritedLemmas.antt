@@ -141,8 +141,8 @@ none_contained signature there = omega (arith, there.1)
 
 -- a method of a declaration, if that is above another one
 inherited_if : (declarations : List DeclTree) (index next : ℕ) (first : DeclTree) (signature : SignatureTree)
-    (told : Bool) → is_below declarations index next ≡ told → slice_get declarations next ≡ Some first
-    → Contains (if told then signatures_in first else []) signature → Inherits declarations index signature
+    (reported : Bool) → is_below declarations index next ≡ reported → slice_get declarations next ≡ Some first
+    → Contains (if reported then signatures_in first else []) signature → Inherits declarations index signature
 inherited_if declarations index next first signature true below there among = record {
   other = next;
   below = below;
@@ -183,7 +183,7 @@ inherits_from declarations index next (first ∷ others) zero declaration signat
     let here : is_below declarations index next ≡ true =
     ap (is_below declarations index) (omega arith) ∙ below in
     let own : (if is_below declarations index next then signatures_in first else []) ≡ signatures_in declaration =
-    ap (λ (told : Bool). if told then signatures_in first else []) here
+    ap (λ (reported : Bool). if reported then signatures_in first else []) here
     ∙ ap signatures_in (same_Some first declaration there) in
     Contains-append_left (if is_below declarations index next then signatures_in first else [])
     (signatures_above declarations index (1 + next) others) signature

@@ -25,7 +25,7 @@ pub mod ResultLemmas
 pub mod RowsLemmas
 pub mod SameTypeLemmas
 pub mod SeveralLemmas
-pub mod SeveralToldLemmas
+pub mod SeveralReportedLemmas
 pub mod ShapeLemmas
 pub mod SideLemmas
 pub mod TakingLemmas

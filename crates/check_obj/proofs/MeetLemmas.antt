@@ -43,7 +43,7 @@ other_name first other wanted same apart =
     (bytes_eq-Decides first.name.name wanted.name.name).0 same in
     let differ : bytes_eq other.name.name wanted.name.name ≡ false =
     ap (bytes_eq other.name.name) (sym name_is) ∙ apart in
-    ap (λ (told : Bool). told && same_method (method_type other) (method_type wanted)) differ
+    ap (λ (reported : Bool). reported && same_method (method_type other) (method_type wanted)) differ
 
 -- a method is not declared where others have its name
 none_named : (first wanted : SignatureTree) (others : List SignatureTree) → is_named wanted.name.name first ≡ true
@@ -52,16 +52,16 @@ none_named : (first wanted : SignatureTree) (others : List SignatureTree) → is
 none_named first wanted [] same apart = refl
 none_named first wanted (other ∷ others) same apart =
     let IsApart : SignatureTree → Type 0 = λ (one : SignatureTree). is_named first.name.name one ≡ false in
-    ap (λ (told : Bool). told || has_signature others wanted)
+    ap (λ (reported : Bool). reported || has_signature others wanted)
     (other_name first other wanted same (All-head IsApart other others apart))
     ∙ none_named first wanted others same (All-tail IsApart other others apart)
 
 -- whether a row has a method with the type tells whether it is declared: the case of one more
-entry_step : (first wanted : SignatureTree) (others : List SignatureTree) (found : Option PlainType) (told : Bool)
-    → told ≡ is_named wanted.name.name first
+entry_step : (first wanted : SignatureTree) (others : List SignatureTree) (found : Option PlainType) (reported : Bool)
+    → reported ≡ is_named wanted.name.name first
     → All (λ (other : SignatureTree). is_named first.name.name other ≡ false) others
     → is_same (signature_type wanted) found ≡ has_signature others wanted
-    → is_same (signature_type wanted) (cond told (Some (signature_type first)) found)
+    → is_same (signature_type wanted) (cond reported (Some (signature_type first)) found)
     ≡ has_signature (first ∷ others) wanted
 entry_step first wanted others found true same apart rest =
     method_test first wanted
@@ -141,9 +141,9 @@ met_past declarations class other none = ap (has_signatures (own_signatures decl
 -- each of several methods is declared
 all_have : (own signatures : List SignatureTree) → has_signatures own signatures ≡ true
     → All (λ (one : SignatureTree). has_signature own one ≡ true) signatures
-all_have own [] told = All-nil (λ (one : SignatureTree). has_signature own one ≡ true)
-all_have own (first ∷ others) told =
-    let both = and_parts (has_signature own first) (has_signatures own others) told in
+all_have own [] reported = All-nil (λ (one : SignatureTree). has_signature own one ≡ true)
+all_have own (first ∷ others) reported =
+    let both = and_parts (has_signature own first) (has_signatures own others) reported in
     All-cons (λ (one : SignatureTree). has_signature own one ≡ true) first others both.0
     (all_have own others both.1)
 
@@ -228,11 +228,11 @@ met_not declarations class above index below lacks lists place name params imple
     let Has : SignatureTree → Type 0 = λ (one : SignatureTree). has_signature own one ≡ true in
     let is_above = listed_above declarations class above lists other (Contains-get_or above index 0 below) in
     let not_all : has_signatures own (inherited_signatures declarations class) ≡ true → ⊥ =
-    λ told.
+    λ reported.
     true≢false (sym (have_all own (own_signatures declarations other)
     (All-weaker (Contains (own_signatures declarations other)) Has
     (λ one among. All-contains Has (inherited_signatures declarations class) one
-    (all_have own (inherited_signatures declarations class) told)
+    (all_have own (inherited_signatures declarations class) reported)
     (inherits declarations class other one is_above among))
     (own_signatures declarations other) (All-contains_itself (own_signatures declarations other)))) ∙ lacks) in
     sym (false_from_ne_true (has_signatures own (inherited_signatures declarations class)) not_all)

@@ -32,7 +32,7 @@ both_found : (one other : SignatureTree) → can_be_both one other ≡ true → 
     → signature_type one ≡ signature_type other
 both_found one other can same =
     one_type one other
-    (ap (λ (told : Bool). not told || same_method (method_type one) (method_type other))
+    (ap (λ (reported : Bool). not reported || same_method (method_type one) (method_type other))
     (sym ((bytes_eq-Decides one.name.name other.name.name).1 same)) ∙ can)
 
 -- a method that can be with all can be with each
@@ -77,9 +77,9 @@ agree_found (first ∷ others) agreed =
     }
 
 -- methods can be both, if they have one type where they have one name: by whether they have one name
-can_be_by : (one other : SignatureTree) (told : Bool) → bytes_eq one.name.name other.name.name ≡ told
+can_be_by : (one other : SignatureTree) (reported : Bool) → bytes_eq one.name.name other.name.name ≡ reported
     → (one.name.name ≡ other.name.name → signature_type one ≡ signature_type other)
-    → (not told || same_method (method_type one) (method_type other)) ≡ true
+    → (not reported || same_method (method_type one) (method_type other)) ≡ true
 can_be_by one other true same tells =
     sym (method_test one other)
     ∙ (ap (same_type (signature_type one)) (sym (tells ((bytes_eq-Decides one.name.name other.name.name).0 same)))

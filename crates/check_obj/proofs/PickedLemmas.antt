@@ -54,9 +54,9 @@ picked_append pick declarations count (at ∷ first) others =
 
 -- none is picked in an interface that is not: the case of one more
 none_picked_step : (pick : ℕ → Bool) (declarations : List DeclTree) (count interface base : ℕ)
-    (rest : List SignatureAt) (told : Bool) → pick interface ≡ false → [] ≡ picked pick declarations count rest
+    (rest : List SignatureAt) (reported : Bool) → pick interface ≡ false → [] ≡ picked pick declarations count rest
     → [] ≡ picked pick declarations count
-    (if told then record { interface = interface; index = base } ∷ [] else rest)
+    (if reported then record { interface = interface; index = base } ∷ [] else rest)
 none_picked_step pick declarations count interface base rest true apart none = rw apart refl
 none_picked_step pick declarations count interface base rest false apart none = none
 
@@ -99,11 +99,11 @@ method_there declarations interface index place own extended signatures first th
 
 -- the place of the first method with a name is picked: the case of one more
 one_picked_step : (pick : ℕ → Bool) (declarations : List DeclTree) (count interface base : ℕ) (first : SignatureTree)
-    (rest : List SignatureAt) (later : Option SignatureTree) (told : Bool) → pick interface ≡ true
+    (rest : List SignatureAt) (later : Option SignatureTree) (reported : Bool) → pick interface ≡ true
     → signature_tree_at declarations (record { interface = interface; index = base }) ≡ Some first
     → if_there count later ≡ picked pick declarations count rest
-    → if_there count (if told then Some first else later)
-    ≡ picked pick declarations count (if told then record { interface = interface; index = base } ∷ [] else rest)
+    → if_there count (if reported then Some first else later)
+    ≡ picked pick declarations count (if reported then record { interface = interface; index = base } ∷ [] else rest)
 one_picked_step pick declarations count interface base first rest later true picks is found =
     rw (picks, is) (sym (append-nil (if_called count first)))
 one_picked_step pick declarations count interface base first rest later false picks is found = found
@@ -125,13 +125,13 @@ one_picked pick declarations count interface base place own extended all (first 
 
 -- the methods of a declaration that is picked
 abbrev methods_if : Bool → DeclTree → List SignatureTree
-methods_if told declaration = if told then signatures_in declaration else []
+methods_if reported declaration = if reported then signatures_in declaration else []
 
 -- those called so of a declaration are at the places that are picked
 picked_in : (pick : ℕ → Bool) (declarations : List DeclTree) (count index : ℕ) (declaration : DeclTree) (name : Name)
-    (told : Bool) → pick index ≡ told → slice_get declarations index ≡ Some declaration
+    (reported : Bool) → pick index ≡ reported → slice_get declarations index ≡ Some declaration
     → (pick index ≡ true → IsInterfaceAt declarations index)
-    → filter (is_called name count) (methods_if told declaration)
+    → filter (is_called name count) (methods_if reported declaration)
     ≡ picked pick declarations count (places_in index declaration name)
 picked_in pick declarations count index (InterfaceTree place own extended signatures) name true picks there so =
     first_called name count signatures
@@ -255,11 +255,11 @@ added_begins {before = before} = record { added = sym (append-nil before) }
 
 -- the method at one more place
 added_one : (pick : ℕ → Bool) (declarations : List DeclTree) (count : ℕ) (places : List SignatureAt) (index : ℕ)
-    (default : SignatureAt) (told : Bool) → index < length places → pick (get_or places index default).interface ≡ told
+    (default : SignatureAt) (reported : Bool) → index < length places → pick (get_or places index default).interface ≡ reported
     → picked pick declarations count (take (index + 1) places)
     ≡ picked pick declarations count (take index places)
-    ++ (if told then if_there count (signature_tree_at declarations (get_or places index default)) else [])
-added_one pick declarations count places index default told there is =
+    ++ (if reported then if_there count (signature_tree_at declarations (get_or places index default)) else [])
+added_one pick declarations count places index default reported there is =
     let at = get_or places index default in
     ap (picked pick declarations count) (take_more places index default there)
     ∙ picked_append pick declarations count (take index places) (at ∷ [])

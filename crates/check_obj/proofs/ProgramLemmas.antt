@@ -4,7 +4,8 @@
 --   `rows_kept`, `several_kept`        rows have the methods of their declarations in a table that grows
 --   `IsNumbered`                       offences of declarations, each of which is known by its index
 --   `DeclarationsSoFar`                the first declarations were checked
---   `declarations_begin`, `declarations_next`, `declarations_end`      before the first one, after one more, and after all
+--   `declarations_begin`, `declarations_next`, `declarations_end`      before the first one, after one more, and after
+--                                                                      all
 --   `own_declaration`                  a declaration of the program is at its index among the trees
 --   `slots_at`                         the bodies of a declaration have their slots
 --   `noted_own`, `noted_there`         what is noted in each context is noted in that of the program
@@ -60,12 +61,12 @@ rows_kept {before} keeps were = record {
 pub several_kept : {before now : TypeTable} {several : List ℕ} → Keeps before now → TellsSeveral before several
     → TellsSeveral now several
 several_kept {before} {now} {several} keeps were = record {
-  one_type = λ one other first second named told.
+  one_type = λ one other first second named reported.
       were.one_type one other
       (subst (λ (all : List DeclTree). IsDeclared all one) (same_declarations keeps) first)
       (subst (λ (all : List DeclTree). IsDeclared all other) (same_declarations keeps) second) named
       (ap (λ (names : List Name). list_any (nat_eq (number_of_name names one.name.name)) several)
-      (sym (same_names keeps)) ∙ told);
+      (sym (same_names keeps)) ∙ reported);
 }
 
 -- Offences of several declarations, the first of which has this index, are those of each.
@@ -132,11 +133,11 @@ declarations_next {offences_in} {offences} {start} {now} {after} {all} {index} p
     omega (arith, length-map (take index all) tree, length-take index all, there) in
     let same : Noted now.first (offences_in declarations place (tree one)) after.first =
     rw so.keeps.program_is at noted in
-    let told : Noted now.first (offences_in declarations index (tree one)) after.first = rw counted at same in
+    let reported : Noted now.first (offences_in declarations index (tree one)) after.first = rw counted at same in
     record {
       keeps = keeps_transitive so.keeps keeps;
       noted = rw (more, map-append, numbered_push (numbered declarations) 0 before (tree one), sized)
-          (noted_after (offences declarations 0 before) (offences_in declarations index (tree one)) so.noted told);
+          (noted_after (offences declarations 0 before) (offences_in declarations index (tree one)) so.noted reported);
     }
 
 -- all were

@@ -4,7 +4,7 @@
 --   `same_found`, `same_itself`    types that are the same by the test are equal, and a type is the same as itself
 --   `both_tell`                    two tests that hold of each other are the same
 --   `same_tells`                   what tells whether types are equal is the test
---   `method_test`                  whether methods take and give the same types is told by their types
+--   `method_test`                  whether methods take and give the same types follows from their types
 --   `one_type`                     methods of the same types have one type
 use Rattle.std.proofs.Common.{◌≡◌, ◌↔◌, Bool, true, false, List, [], ◌∷◌, ◌++◌, refl, sym, ap, ap₂, ◌∙◌, true≢false, eq-eqb, eqb-true}
 use Rattle.std.proofs.lemmas.Bool.{and_from, and_parts}
@@ -19,20 +19,20 @@ use Rattle.check_obj.specs.MethodRows.{signature_type}
 
 -- types that are the same by the test are equal
 pub same_found : (one other : PlainType) → same_type one other ≡ true → one ≡ other
-same_found PlainInt PlainInt told = refl
-same_found PlainString PlainString told = refl
-same_found PlainBottom PlainBottom told = refl
-same_found PlainNull PlainNull told = refl
-same_found (PlainFut one) (PlainFut other) told = ap PlainFut (same_found one other told)
-same_found (PlainData one) (PlainData other) told = ap PlainData ((bytes_eq-Decides one other).0 told)
-same_found (PlainApplied head argument) (PlainApplied other_head other_argument) told =
-    let both = and_parts (same_type head other_head) (same_type argument other_argument) told in
+same_found PlainInt PlainInt reported = refl
+same_found PlainString PlainString reported = refl
+same_found PlainBottom PlainBottom reported = refl
+same_found PlainNull PlainNull reported = refl
+same_found (PlainFut one) (PlainFut other) reported = ap PlainFut (same_found one other reported)
+same_found (PlainData one) (PlainData other) reported = ap PlainData ((bytes_eq-Decides one other).0 reported)
+same_found (PlainApplied head argument) (PlainApplied other_head other_argument) reported =
+    let both = and_parts (same_type head other_head) (same_type argument other_argument) reported in
     ap₂ PlainApplied (same_found head other_head both.0) (same_found argument other_argument both.1)
-same_found (PlainInterface one) (PlainInterface other) told =
-    ap PlainInterface ((bytes_eq-Decides one other).0 told)
-same_found (PlainClass one) (PlainClass other) told = ap PlainClass ((bytes_eq-Decides one other).0 told)
-same_found (PlainParameter one) (PlainParameter other) told = ap PlainParameter (eqb-true one other told)
-same_found _ _ told = absurd (true≢false (sym told))
+same_found (PlainInterface one) (PlainInterface other) reported =
+    ap PlainInterface ((bytes_eq-Decides one other).0 reported)
+same_found (PlainClass one) (PlainClass other) reported = ap PlainClass ((bytes_eq-Decides one other).0 reported)
+same_found (PlainParameter one) (PlainParameter other) reported = ap PlainParameter (eqb-true one other reported)
+same_found _ _ reported = absurd (true≢false (sym reported))
 
 -- a type is the same as itself
 pub same_itself : (one : PlainType) → same_type one one ≡ true
@@ -50,12 +50,12 @@ same_itself (PlainParameter index) = eq-eqb index index refl
 
 -- so are types in order
 all_same_found : (ones others : List PlainType) → same_types ones others ≡ true → ones ≡ others
-all_same_found [] [] told = refl
-all_same_found (one ∷ ones) (other ∷ others) told =
-    let both = and_parts (same_type one other) (same_types ones others) told in
+all_same_found [] [] reported = refl
+all_same_found (one ∷ ones) (other ∷ others) reported =
+    let both = and_parts (same_type one other) (same_types ones others) reported in
     ap₂ (λ (type : PlainType) (types : List PlainType). type ∷ types) (same_found one other both.0)
     (all_same_found ones others both.1)
-all_same_found _ _ told = absurd (true≢false (sym told))
+all_same_found _ _ reported = absurd (true≢false (sym reported))
 
 -- types in order are the same as themselves
 all_same_itself : (ones : List PlainType) → same_types ones ones ≡ true
@@ -70,9 +70,9 @@ both_tell false true first second = second refl
 both_tell false false first second = refl
 
 -- what tells whether types are equal is the test
-pub same_tells : (told : Bool) (one other : PlainType) → ((told ≡ true) ↔ (one ≡ other)) → told ≡ same_type one other
-same_tells told one other tells =
-    both_tell told (same_type one other)
+pub same_tells : (reported : Bool) (one other : PlainType) → ((reported ≡ true) ↔ (one ≡ other)) → reported ≡ same_type one other
+same_tells reported one other tells =
+    both_tell reported (same_type one other)
     (λ yes. ap (same_type one) (sym (tells.0 yes)) ∙ same_itself one)
     (λ yes. tells.1 (same_found one other yes))
 
@@ -103,22 +103,22 @@ parts_equal one other ones others equal =
       ap (λ (parts : PlainType × List PlainType). value_of parts.0) spines,
     )
 
--- whether methods take and give the same types is told by their types
+-- whether methods take and give the same types follows from their types
 pub method_test : (one other : SignatureTree)
     → same_type (signature_type one) (signature_type other) ≡ same_method (method_type one) (method_type other)
 method_test one other =
     both_tell (same_type (signature_type one) (signature_type other))
     (same_method (method_type one) (method_type other))
-    (λ told.
+    (λ reported.
     let parts = parts_equal (plain one.result) (plain other.result) (param_types one.params)
-    (param_types other.params) (same_found (signature_type one) (signature_type other) told) in
+    (param_types other.params) (same_found (signature_type one) (signature_type other) reported) in
     and_from (same_types (param_types one.params) (param_types other.params))
     (same_type (plain one.result) (plain other.result))
     (ap (same_types (param_types one.params)) (sym parts.0) ∙ all_same_itself (param_types one.params))
     (ap (same_type (plain one.result)) (sym parts.1) ∙ same_itself (plain one.result)))
-    (λ told.
+    (λ reported.
     let both = and_parts (same_types (param_types one.params) (param_types other.params))
-    (same_type (plain one.result) (plain other.result)) told in
+    (same_type (plain one.result) (plain other.result)) reported in
     let equal : signature_type one ≡ signature_type other =
     ap₂ (λ (gives : PlainType) (takes : List PlainType). applied_to (PlainFut gives) takes)
     (same_found (plain one.result) (plain other.result) both.1)
@@ -128,4 +128,4 @@ method_test one other =
 -- methods of the same types have one type
 pub one_type : (one other : SignatureTree) → same_method (method_type one) (method_type other) ≡ true
     → signature_type one ≡ signature_type other
-one_type one other told = same_found (signature_type one) (signature_type other) (method_test one other ∙ told)
+one_type one other reported = same_found (signature_type one) (signature_type other) (method_test one other ∙ reported)

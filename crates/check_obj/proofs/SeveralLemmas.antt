@@ -3,7 +3,7 @@
 --   `NotedSoFar`                   the methods of a row before those that are left are noted
 --   `noted_first`                  it is so before the first one
 --   `noted_same`, `noted_new`      it is so after one whose type is known, and after one with a new name
---   `noted_several`                it is so after one of another type, whose name is told
+--   `noted_several`                it is so after one of another type, whose name is reported
 --   `still_found`, `last_found`    what is found among entries and one more
 --   `types_push`                   the types of entries and one more are of the table
 --   `noted_all`                    all are noted, if none is left
@@ -29,7 +29,7 @@ use Rattle.abs_types.specs.declared.table.shape.TypeIndex.{TypeIndex}
 use Rattle.check_obj.proofs.MethodRowLemmas.{entry_at, IsEntry}
 use Rattle.check_obj.specs.MethodsMet.{typed_row, HasTypes, IsKnown}
 
--- the type of an entry is known, unless its number is told to have several
+-- the type of an entry is known, unless its number is reported to have several
 abbrev pub IsKnownEntry : TypeTable → List (ℕ × TypeIndex) → List ℕ → ℕ × PlainType → Type 0
 IsKnownEntry table known several entry = IsKnown table known several entry.0 entry.1
 
@@ -98,50 +98,50 @@ left_among {table} {row} {was} {left} {rest} {known} {was_several} {several} {nu
 
 -- it is so after one whose type is known
 pub noted_same : {table : TypeTable} {row was left rest known : List (ℕ × TypeIndex)}
-    {was_several several : List ℕ} {number : ℕ} {index : TypeIndex} (first : TypeIndex) (told : Bool)
+    {was_several several : List ℕ} {number : ℕ} {index : TypeIndex} (first : TypeIndex) (reported : Bool)
     → NotedSoFar table row was was_several known several left → left ≡ (number, index) ∷ rest
     → lookup (nat_eq number) known ≡ Some first
-    → ((told ≡ true) ↔ (type_at (types_in table) first ≡ type_at (types_in table) index)) → told ≡ true
+    → ((reported ≡ true) ↔ (type_at (types_in table) first ≡ type_at (types_in table) index)) → reported ≡ true
     → NotedSoFar table row was was_several known several rest
-noted_same {table} {row} {was} {left} {rest} {known} {was_several} {several} {number} {index} first told so same is
+noted_same {table} {row} {was} {left} {rest} {known} {was_several} {several} {number} {index} first reported so same is
     tells equal =
     noted_next so same so.among_known (λ at type is_known. is_known) (record {
       is = λ alone. lookup-map_values (type_at (types_in table)) (nat_eq number) known
           ∙ (ap (option_map (type_at (types_in table))) is ∙ ap Some (tells.0 equal));
     })
 
--- a number that is not told after one more is told was not told: by whether that was told
-not_told : (several : List ℕ) (number at : ℕ) (told : Bool)
-    → list_any (nat_eq at) (if told then several else several ++ number ∷ []) ≡ false
+-- a number that is not reported after one more is reported was not reported: by whether that was reported
+not_reported : (several : List ℕ) (number at : ℕ) (reported : Bool)
+    → list_any (nat_eq at) (if reported then several else several ++ number ∷ []) ≡ false
     → list_any (nat_eq at) several ≡ false
-not_told several number at true fails = fails
-not_told several number at false fails =
+not_reported several number at true fails = fails
+not_reported several number at false fails =
     (or_parts (list_any (nat_eq at) several) (list_any (nat_eq at) (number ∷ []))
     (sym (list_any-append (nat_eq at) several (number ∷ [])) ∙ fails)).0
 
--- it is so after one of another type, whose name is told
+-- it is so after one of another type, whose name is reported
 pub noted_several : {table : TypeTable} {row was left rest known : List (ℕ × TypeIndex)}
     {was_several several after : List ℕ} {number : ℕ} {index : TypeIndex}
     → NotedSoFar table row was was_several known several left → left ≡ (number, index) ∷ rest
     → after ≡ insert_key nat_eq several number → NotedSoFar table row was was_several known after rest
 noted_several {table} {row} {was} {left} {rest} {known} {was_several} {several} {after} {number} {index} so same
     inserted =
-    let is_told : list_any (nat_eq number) after ≡ true =
+    let is_reported : list_any (nat_eq number) after ≡ true =
     ap (list_any (nat_eq number)) inserted
     ∙ list_any-from_Contains nat_eq_equiv number (insert_key nat_eq several number)
     (Contains-insert_key nat_eq eqb-true several number) in
     noted_next so same so.among_known
     (λ at type is_known. record {
-      is = λ alone. is_known.is (not_told several number at (list_any (nat_eq number) several)
+      is = λ alone. is_known.is (not_reported several number at (list_any (nat_eq number) several)
           (ap (list_any (nat_eq at)) (sym inserted) ∙ alone));
     })
-    (record { is = λ alone. absurd (true≢false (sym is_told ∙ alone)) })
+    (record { is = λ alone. absurd (true≢false (sym is_reported ∙ alone)) })
 
 -- what is found is found with one more entry: the case of one entry before
-found_step : {A : Type 0} (first : ℕ × A) (others more : List (ℕ × A)) (test : ℕ → Bool) (found : A) (told : Bool)
+found_step : {A : Type 0} (first : ℕ × A) (others more : List (ℕ × A)) (test : ℕ → Bool) (found : A) (reported : Bool)
     → (lookup test others ≡ Some found → lookup test more ≡ Some found)
-    → cond told (Some first.1) (lookup test others) ≡ Some found
-    → cond told (Some first.1) (lookup test more) ≡ Some found
+    → cond reported (Some first.1) (lookup test others) ≡ Some found
+    → cond reported (Some first.1) (lookup test more) ≡ Some found
 found_step first others more test found true rest is = is
 found_step first others more test found false rest is = rest is
 
@@ -153,17 +153,17 @@ still_found (first ∷ others) last test found is =
     found_step first others (others ++ last ∷ []) test found (test first.0) (still_found others last test found) is
 
 -- what was not found is found as the last entry: the case of one entry before
-last_step : {A : Type 0} (first last : ℕ × A) (others : List (ℕ × A)) (test : ℕ → Bool) (told : Bool)
+last_step : {A : Type 0} (first last : ℕ × A) (others : List (ℕ × A)) (test : ℕ → Bool) (reported : Bool)
     → (lookup test others ≡ None → lookup test (others ++ last ∷ []) ≡ Some last.1)
-    → cond told (Some first.1) (lookup test others) ≡ None
-    → cond told (Some first.1) (lookup test (others ++ last ∷ [])) ≡ Some last.1
+    → cond reported (Some first.1) (lookup test others) ≡ None
+    → cond reported (Some first.1) (lookup test (others ++ last ∷ [])) ≡ Some last.1
 last_step first last others test true rest none = absurd (none-some first.1 (sym none))
 last_step first last others test false rest none = rest none
 
 -- what was not found is found as the last entry
 pub last_found : {A : Type 0} (entries : List (ℕ × A)) (last : ℕ × A) (test : ℕ → Bool)
     → lookup test entries ≡ None → test last.0 ≡ true → lookup test (entries ++ last ∷ []) ≡ Some last.1
-last_found [] last test none passes = ap (λ (told : Bool). cond told (Some last.1) None) passes
+last_found [] last test none passes = ap (λ (reported : Bool). cond reported (Some last.1) None) passes
 last_found (first ∷ others) last test none passes =
     last_step first last others test (test first.0) (λ is_none. last_found others last test is_none passes) none
 

@@ -8,15 +8,16 @@
 use Rattle.std.proofs.Common.{◌≡◌, ℕ, suc, Bool, true, false, not, ◌||◌, List, [], ◌∷◌, ◌++◌, Option, Some, None, is_some, is_none, length, refl, sym, ap, ◌∙◌, subst, true≢false, option_map, append_assoc}
 use Rattle.std.proofs.lemmas.List.{length-map}
 use Rattle.std.proofs.lemmas.Option.{none-some, same_Some}
-use Rattle.abs_tree.specs.Syntax.{Name, DeclTree, Phrase, LetIn, IfElse, OperatorsOf, Prefixed, NumberOf, StringOf, NullOf, DestinyOf, ThisOf, FieldOf, OwnCallOf, VariableOf, ApplyOf, BuildOf, CaseOf}
-use Rattle.abs_tree.specs.SyntaxViews.{phrase}
+use Rattle.abs_tree.specs.Syntax.{Name, DeclTree, ExprTree, LetIn, IfElse, OperatorsOf, Prefixed, NumberOf, StringOf, NullOf, DestinyOf, ThisOf, FieldOf, OwnCallOf, VariableOf, ApplyOf, BuildOf, CaseOf}
+use Rattle.abs_tree.specs.SyntaxViews.{expr_tree}
 use Rattle.abs_tree.specs.declared.place.Place.{Place}
 use Rattle.abs_tree.specs.declared.refusal.Code.{Code}
 use Rattle.abs_tree.specs.declared.refusal.Code.TheVariants.{T2}
 use Rattle.abs_tree.specs.declared.refusal.Offence.{Offence}
 use Rattle.abs_tree.specs.declared.syntax.expression.Expr.{Expr}
-use Rattle.abs_types.specs.ExpressionOffences.{lacks_method, phrase_offences}
-use Rattle.abs_types.specs.Mistyped.{offence_if, untyped}
+use Rattle.abs_types.specs.ExpressionOffences.{lacks_method, expr_offences}
+use Rattle.abs_tree.specs.Offences.{offence_if}
+use Rattle.abs_types.specs.Mistyped.{untyped}
 use Rattle.abs_types.specs.PlainTypes.{PlainType, PlainClass, PlainFut}
 use Rattle.abs_types.specs.SideTypes.{call_offences, called_type, can_be_called, whole_offences, whole_type}
 use Rattle.abs_types.specs.TypeShapes.{type_at, types_at}
@@ -29,8 +30,8 @@ use Rattle.check_fun.specs.declared.checker.Checker.{Checker}
 use Rattle.check_obj.specs.Bodies.{IsNoCall}
 
 -- a type is missing exactly where no index is found
-none_known : {checker : Checker} {type : Option PlainType} (found : Option TypeIndex) (told : Bool)
-    → is_some found ≡ not told → Finds checker found type → told ≡ is_none type
+none_known : {checker : Checker} {type : Option PlainType} (found : Option TypeIndex) (reported : Bool)
+    → is_some found ≡ not reported → Finds checker found type → reported ≡ is_none type
 none_known None true is finds = ap is_none finds.is
 none_known None false is finds = absurd (true≢false (sym is))
 none_known (Some index) true is finds = absurd (true≢false is)
@@ -38,11 +39,11 @@ none_known (Some index) false is finds = ap is_none finds.is
 
 -- what is not found is noted
 pub noted_missing : {checker : Checker} {type : Option PlainType} {before now : Option Offence}
-    (found : Option TypeIndex) (told : Bool) (code : Code) (place : Place) → is_some found ≡ not told
-    → Finds checker found type → Noted before (offence_if told code place) now
+    (found : Option TypeIndex) (reported : Bool) (code : Code) (place : Place) → is_some found ≡ not reported
+    → Finds checker found type → Noted before (offence_if reported code place) now
     → Noted before (offence_if (is_none type) code place) now
-noted_missing {before = before} {now} found told code place is finds noted =
-    subst (λ (missing : Bool). Noted before (offence_if missing code place) now) (none_known found told is finds) noted
+noted_missing {before = before} {now} found reported code place is finds noted =
+    subst (λ (missing : Bool). Noted before (offence_if missing code place) now) (none_known found reported is finds) noted
 
 -- one type in front of others: there are as many as of the others, and one
 both_count : (first : Option PlainType) (others : Option (List PlainType)) (known : List PlainType) (count : ℕ)
@@ -99,10 +100,10 @@ own_noted {before} {now = now} declarations this name count types place offences
     (noted_after offences _ first (noted_after _ _ second third))
 
 -- an expression that is no call on `this` has the type and the offences that it has as a part
-pub other_type : (declarations : List DeclTree) (frame : Frame) (tree : Phrase)
+pub other_type : (declarations : List DeclTree) (frame : Frame) (tree : ExprTree)
     → IsNoCall tree
     → (whole_type declarations frame tree ≡ type_in declarations frame [] tree)
-    × (whole_offences declarations frame tree ≡ phrase_offences declarations frame [] tree)
+    × (whole_offences declarations frame tree ≡ expr_offences declarations frame [] tree)
 other_type declarations frame (LetIn place type variable_place variable value body) other = (refl, refl)
 other_type declarations frame (IfElse place condition first second) other = (refl, refl)
 other_type declarations frame (OperatorsOf place first rights) other = (refl, refl)
@@ -121,9 +122,9 @@ other_type declarations frame (CaseOf place subject branches) other = (refl, ref
 
 -- that it is none is known in a context of the checker
 pub no_call_known : {checker : Checker} {context : Context} (value : Expr) → Knows checker context
-    → IsNoCall (phrase checker.table.program.now.symbols value) → IsNoCall (phrase context.names value)
+    → IsNoCall (expr_tree checker.table.program.now.symbols value) → IsNoCall (expr_tree context.names value)
 unfolding context_in
-no_call_known value knows other = subst (λ (one : Context). IsNoCall (phrase one.names value)) knows.is other
+no_call_known value knows other = subst (λ (one : Context). IsNoCall (expr_tree one.names value)) knows.is other
 
 -- what is found stands for a type of the table
 pub found_there : {checker : Checker} {type : Option PlainType} (found : Option TypeIndex)

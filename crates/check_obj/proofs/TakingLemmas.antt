@@ -25,7 +25,7 @@ use Rattle.abs_types.specs.TypeShapes.{type_at, types_at}
 use Rattle.abs_types.specs.TypeTables.{declarations_of, types_in}
 use Rattle.abs_types.specs.declared.table.shape.TypeIndex.{TypeIndex}
 use Rattle.check_fun.proofs.ContextLemmas.{finds_all_stays, knows_stays, stays_reflexive, stays_transitive}
-use Rattle.check_fun.proofs.RowLemmas.{declarations_are}
+use Rattle.check_fun.proofs.RuleLemmas.{declarations_are}
 use Rattle.check_fun.specs.Contexts.{Context, FindsAll, Knows, Stays}
 use Rattle.check_fun.specs.declared.checker.Checker.{Checker}
 use Rattle.check_obj.specs.Calls.{trees_of}
@@ -94,7 +94,7 @@ fit_ends {checker} {given} {takes} {index} from over same =
     (rw (none, none_too) at from.settled)
 
 -- a test and one that fails
-and_false : (told : Bool) → told && false ≡ false
+and_false : (reported : Bool) → reported && false ≡ false
 and_false true = refl
 and_false false = refl
 
@@ -172,12 +172,12 @@ FindsTaken now next method takes = (context : Context) → Knows now context
     → FindsAll next (Some takes) (Some (takes_in context.names method))
 
 -- whether a method takes types, in what a checker knew at the start
-told_at : {start now next : Checker} {given takes : List TypeIndex} {methods : List (Bor Signature)} {index : ℕ}
+reported_at : {start now next : Checker} {given takes : List TypeIndex} {methods : List (Bor Signature)} {index : ℕ}
     {fit : Bool} {context : Context} {types : List PlainType} (method : Bor Signature)
     → TakingFrom start now given methods index → Stays now next → FindsTaken now next method takes
     → TellsFit next given takes fit → Knows start context → FindsAll start (Some given) (Some types)
     → fit ≡ all_fit context.declarations types (takes_in context.names method)
-told_at {context = context} {types = types} method from stays taken tells knows finds =
+reported_at {context = context} {types = types} method from stays taken tells knows finds =
     tells context types (takes_in context.names method) (knows_stays (stays_transitive from.stays stays) knows)
     (finds_all_stays (stays_transitive from.stays stays) finds) (taken context (knows_stays from.stays knows))
 
@@ -192,11 +192,11 @@ taking_next {start} {next = next} {methods = methods} {index = index} method fro
       first = first ∙ from.first;
       stays = stays_transitive from.stays stays;
       left = λ context types knows finds.
-          let told = sym (told_at method from stays taken tells knows finds) ∙ fails in
+          let reported = sym (reported_at method from stays taken tells knows finds) ∙ fails in
           sym (taking_at context.declarations context.names types methods index method there is
           ∙ ap (λ (fit : Bool). if fit then Some (plain (type_tree context.names method.now.result))
           else first_taking context.declarations types
-          (map method_type (trees_of context.names (drop (index + 1) methods)))) told)
+          (map method_type (trees_of context.names (drop (index + 1) methods)))) reported)
           ∙ from.left context types knows finds;
     }
 
@@ -210,9 +210,9 @@ pub taking_found : {start now next : Checker} {given takes : List TypeIndex} {me
     ≡ first_taking context.declarations types (map method_type (trees_of context.names methods))
 taking_found {methods = methods} {index = index} {context = context} {types = types} method from there is stays taken
     tells fit knows finds =
-    let told = sym (told_at method from stays taken tells knows finds) ∙ fit in
+    let reported = sym (reported_at method from stays taken tells knows finds) ∙ fit in
     sym (taking_at context.declarations context.names types methods index method there is
     ∙ ap (λ (fit : Bool). if fit then Some (plain (type_tree context.names method.now.result))
     else first_taking context.declarations types
-    (map method_type (trees_of context.names (drop (index + 1) methods)))) told)
+    (map method_type (trees_of context.names (drop (index + 1) methods)))) reported)
     ∙ from.left context types knows finds

@@ -9,7 +9,7 @@
 --   `after`                            the context after a statement
 --   `statement_offends`, ..            the offences of a statement, and of several
 use Rattle.std.specs.Prelude.{⊤, Bool, List, [], ◌++◌, Option, Some}
-use Rattle.abs_tree.specs.Syntax.{Phrase, OwnCallOf}
+use Rattle.abs_tree.specs.Syntax.{ExprTree, OwnCallOf}
 use Rattle.abs_tree.specs.SyntaxViews.{side_tree, statement, statements, tests}
 use Rattle.abs_tree.specs.declared.refusal.Offence.{Offence}
 use Rattle.abs_tree.specs.declared.syntax.statement.RightSide.{RightSide}
@@ -25,7 +25,7 @@ abbrev pub unbound : Context → Context
 unbound context = record context { bound = [] }
 
 -- an expression is no call on `this`
-abbrev pub IsNoCall : Phrase → Type 0
+abbrev pub IsNoCall : ExprTree → Type 0
 IsNoCall (OwnCallOf place method arguments) = ⊥
 IsNoCall _ = ⊤
 

@@ -7,7 +7,7 @@
 --   `AreNamed`                     each method has a name of a table of names, or the empty one
 --   `IsRow`, `AreRows`             a row has these methods, and each row has those of its declaration
 --   `IsDeclared`                   an interface declares a method
---   `TellsSeveral`                 names that are not told have one type in all interfaces
+--   `TellsSeveral`                 names that are not reported have one type in all interfaces
 use Rattle.std.specs.Prelude.{◌≡◌, ℕ, true, false, List, [], get_or, length, map, nat_eq, slice_get, All, Contains, Some}
 use Rattle.std.specs.List.{list_any}
 use Rattle.abs_program.specs.Holdings.{is_interface}

@@ -2,7 +2,7 @@
 --
 --   `typed_row`                    a row with the types for which its indices stand
 --   `HasTypes`                     the types of a row are of the table
---   `IsKnown`                      a number has one type that is known, unless it is told to have several
+--   `IsKnown`                      a number has one type that is known, unless it is reported to have several
 --   `has_entry`, `has_entries`     whether a row has the same type under a number, and under those of another row
 --   `same_or_new`, `with_entry`    whether an entry has the type that was met, and what is met after it
 --   `entries_agree`, `met_after`   the same of several entries, of which only those with names of several types count
@@ -27,7 +27,7 @@ typed_row table row = map (λ (entry : ℕ × TypeIndex). (entry.0, type_at (typ
 pub record HasTypes (table : TypeTable) (row : List (ℕ × TypeIndex)) : Type 0 where
   pub among : All (λ (entry : ℕ × TypeIndex). IsAmong (types_in table) entry.1) row
 
--- The type of a number is known, unless the number is told to have several.
+-- The type of a number is known, unless the number is reported to have several.
 pub record IsKnown (table : TypeTable) (known : List (ℕ × TypeIndex)) (several : List ℕ) (number : ℕ)
     (type : PlainType) : Type 0 where
   pub is : list_any (nat_eq number) several ≡ false → lookup (nat_eq number) (typed_row table known) ≡ Some type

@@ -3,7 +3,8 @@ ghost use Rattle.std.specs.Prelude.{◌≡◌, ◌++◌, List, not, is_none, Som
 ghost use Rattle.abs_tree.specs.Syntax.{Name};
 ghost use Rattle.abs_tree.specs.SyntaxViews.{maybe_side, side_tree, target_tree};
 ghost use Rattle.abs_tree.specs.declared.refusal.Code.TheVariants.{T3};
-ghost use Rattle.abs_types.specs.Mistyped.{mistyped_if, offence_if};
+ghost use Rattle.abs_tree.specs.Offences.{offence_if};
+ghost use Rattle.abs_types.specs.Mistyped.{mistyped_if};
 ghost use Rattle.abs_types.specs.PlainTypes.{PlainType};
 ghost use Rattle.abs_types.specs.SideTypes.{side_offences};
 ghost use Rattle.abs_types.specs.StatementOffences.{can_be_null, initial_offences, target_place as place_of_target, target_type as type_of_target, unfit_side};

@@ -3,7 +3,7 @@ ghost use Rattle.std.specs.Prelude.{◌≡◌, ◌++◌, ◌∷◌, [], List, So
 ghost use Rattle.abs_tree.specs.Names.{name_of};
 ghost use Rattle.abs_program.specs.SlotViews.{MemberHasSlots};
 ghost use Rattle.abs_tree.specs.Syntax.{Name};
-ghost use Rattle.abs_tree.specs.SyntaxViews.{maybe_phrase, member_tree, param_tree};
+ghost use Rattle.abs_tree.specs.SyntaxViews.{maybe_expr, member_tree, param_tree};
 ghost use Rattle.abs_types.specs.PlainTypes.{PlainType};
 ghost use Rattle.abs_types.specs.Schemes.{param_types};
 ghost use Rattle.abs_types.specs.TypeOffences.{field_offences, field_types, members_offences, value_frame};
@@ -143,7 +143,7 @@ fn field(
     ensures noted { (context : Context) (known : List PlainType) (type : PlainType)
         → Knows checker.old (with_frame context (value_frame known)) → Finds checker.old (Some declared) (Some type)
         → OnOk result (Noted checker.old.first
-        (field_offences context.declarations known type place (maybe_phrase context.names initial.now))
+        (field_offences context.declarations known type place (maybe_expr context.names initial.now))
         checker.new.first) }
     ensures knows { (context : Context) (known : List PlainType) (type : PlainType)
         → Knows checker.old (with_frame context (value_frame known)) → Finds checker.old (Some declared) (Some type)
@@ -165,7 +165,7 @@ fn field_value(
     ensures noted { (context : Context) (known : List PlainType) (type : PlainType)
         → Knows checker.old (with_frame context (value_frame known)) → Finds checker.old (Some declared) (Some type)
         → OnOk result (Noted checker.old.first
-        (field_offences context.declarations known type place (maybe_phrase context.names initial.now))
+        (field_offences context.declarations known type place (maybe_expr context.names initial.now))
         checker.new.first) }
     ensures stays { OnOk result (Stays checker.old checker.new) }
 {

@@ -1,6 +1,6 @@
 //! Guards of `await`.
 ghost use Rattle.std.specs.Prelude.{OnOk};
-ghost use Rattle.abs_tree.specs.SyntaxViews.{phrase};
+ghost use Rattle.abs_tree.specs.SyntaxViews.{expr_tree};
 ghost use Rattle.abs_types.specs.StatementOffences.{part_offences};
 ghost use Rattle.check_fun.specs.Contexts.{Context, Knows, Noted, Stays};
 ghost use Rattle.check_obj.specs.Bodies.{guard_offends, unbound};
@@ -31,7 +31,7 @@ pub(crate) fn guard(checker: &mut Checker<'_>, tests: &[Test]) -> Result<(), All
 /// [`AllocError`] if an allocation fails, or if there are too many types.
 fn part(checker: &mut Checker<'_>, test: &Test) -> Result<(), AllocError>
     ensures noted { (context : Context) → Knows checker.old (unbound context) → OnOk result (Noted checker.old.first
-        (part_offences context.declarations context.frame test.now.place (phrase context.names test.now.value.value)
+        (part_offences context.declarations context.frame test.now.place (expr_tree context.names test.now.value.value)
         test.now.asks) checker.new.first) }
     ensures stays { OnOk result (Stays checker.old checker.new) }
 {

@@ -100,7 +100,7 @@ pub(crate) fn agrees(
     requires several { TellsSeveral table.now several.now.keys }
     ensures { (place : PlaceOf) (name : DeclaredTree) (extended : List DeclaredTree) (signatures : List SignatureTree)
         → slice_get (declarations_of table.now) interface ≡ Some (InterfaceTree place name extended signatures)
-        → IfOk result (λ told. told ≡ agree_in (declarations_of table.now) interface signatures) }
+        → IfOk result (λ reported. reported ≡ agree_in (declarations_of table.now) interface signatures) }
 {
     if several.is_empty() {
         return Ok(true);
@@ -129,9 +129,9 @@ fn agree_with(
     requires rows { AreRows table.now (map (λ row. row.types.entries) rows.now) }
     requires met { HasTypes table.now met.old.entries }
     ensures types { OnOk result (HasTypes table.now met.new.entries) }
-    ensures agree { IfOk result (λ told. told ≡ entries_agree several.now.keys
+    ensures agree { IfOk result (λ reported. reported ≡ entries_agree several.now.keys
         (typed_row table.now met.old.entries) (entries_in table.now interface)) }
-    ensures met { IfOk result (λ told. told ≡ true → typed_row table.now met.new.entries
+    ensures met { IfOk result (λ reported. reported ≡ true → typed_row table.now met.new.entries
         ≡ met_after several.now.keys (typed_row table.now met.old.entries) (entries_in table.now interface)) }
 {
     let Some(row) = rows.get(interface as usize) else {
@@ -161,7 +161,7 @@ fn agrees_with(
     requires met { HasTypes table.now met.old.entries }
     requires one { IsAmong (types_in table.now) type_of }
     ensures types { OnOk result (HasTypes table.now met.new.entries) }
-    ensures same { IfOk result (λ told. told ≡ same_or_new (type_at (types_in table.now) type_of)
+    ensures same { IfOk result (λ reported. reported ≡ same_or_new (type_at (types_in table.now) type_of)
         (lookup (nat_eq name) (typed_row table.now met.old.entries))) }
     ensures met { OnOk result (typed_row table.now met.new.entries
         ≡ with_entry (typed_row table.now met.old.entries) (name, type_at (types_in table.now) type_of)) }
@@ -188,7 +188,7 @@ pub(crate) fn meets(
     ensures { (place : PlaceOf) (name : DeclaredTree) (params : List ParamTree) (implemented : List DeclaredTree)
         (members : List MemberTree)
         → slice_get (declarations_of table.now) class ≡ Some (ClassTree place name params implemented members)
-        → IfOk result (λ told. told ≡ meets_interfaces (declarations_of table.now) class members) }
+        → IfOk result (λ reported. reported ≡ meets_interfaces (declarations_of table.now) class members) }
 {
     let Some(own) = rows.get(class as usize) else {
         return Ok(true);

@@ -89,8 +89,8 @@ fn ends_well(
     stmts: &[Stmt],
 ) -> Result<bool, AllocError>
     requires { Found checker.old (Some gives) }
-    ensures told { (names : List Name) (type : PlainType) → Finds checker.old (Some gives) (Some type)
-        → IfOk result (λ told. told ≡ ends_as_asked type (statement_trees names stmts.now)) }
+    ensures reported { (names : List Name) (type : PlainType) → Finds checker.old (Some gives) (Some type)
+        → IfOk result (λ reported. reported ≡ ends_as_asked type (statement_trees names stmts.now)) }
     ensures first { checker.new.first ≡ checker.old.first }
     ensures stays { OnOk result (Stays checker.old checker.new) }
 {

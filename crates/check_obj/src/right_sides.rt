@@ -2,11 +2,11 @@
 ghost use Rattle.std.specs.Prelude.{◌≡◌, ◌++◌, List, Option, Some, option_map, is_none, length, IfOk, OnOk};
 ghost use Rattle.abs_tree.specs.Names.{name_of};
 ghost use Rattle.abs_tree.specs.Syntax.{Name, OwnCallOf, VariableOf};
-ghost use Rattle.abs_tree.specs.SyntaxViews.{phrase, phrases, side_tree, variable_tree};
+ghost use Rattle.abs_tree.specs.SyntaxViews.{expr_tree, expr_trees, side_tree, variable_tree};
 ghost use Rattle.abs_tree.specs.declared.place.Place.{Place as PlaceOf};
 ghost use Rattle.abs_types.specs.Mistyped.{mistyped_if};
 ghost use Rattle.abs_types.specs.PlainTypes.{PlainFut, PlainType};
-ghost use Rattle.abs_types.specs.SideTypes.{called_type, call_offences, future_type, row_offences, row_type, value_type, whole_offences, whole_type};
+ghost use Rattle.abs_types.specs.SideTypes.{called_type, call_offences, future_type, offences_by_operands, type_by_operands, value_type, whole_offences, whole_type};
 ghost use Rattle.abs_types.specs.StatementOffences.{unfit_place as place_of_unfit};
 ghost use Rattle.check_fun.specs.Contexts.{items_of, offends, Context, FindsAll, Finds, FoundAll, Found, Knows, Noted, Stays};
 ghost use Rattle.check_obj.specs.Bodies.{IsNoCall, side_fits, side_offends, side_typed, unbound};
@@ -71,14 +71,18 @@ pub(crate) fn right_side(
             ..
         } => creation(checker, *place, *class, arguments),
         RightSide::Value(_, value) => whole(checker, value),
-        RightSide::Send { place, method, row } => sent(checker, *place, *method, row),
+        RightSide::Send {
+            place,
+            method,
+            operands,
+        } => sent(checker, *place, *method, operands),
         RightSide::Get { place, future, .. } => value_got(checker, *place, future),
         RightSide::Call {
             place,
             method,
-            row,
+            operands,
             ..
-        } => row_call(checker, *place, *method, row),
+        } => call_by_operands(checker, *place, *method, operands),
     }
 }
 
@@ -86,9 +90,9 @@ pub(crate) fn right_side(
 fn whole(checker: &mut Checker<'_>, value: &Expr) -> Result<Option<TypeIndex>, AllocError>
     ensures found { (context : Context) → Knows checker.old (unbound context)
         → IfOk result (λ found. Finds checker.new found
-        (whole_type context.declarations context.frame (phrase context.names value.now))) }
+        (whole_type context.declarations context.frame (expr_tree context.names value.now))) }
     ensures noted { (context : Context) → Knows checker.old (unbound context) → OnOk result (Noted checker.old.first
-        (whole_offences context.declarations context.frame (phrase context.names value.now)) checker.new.first) }
+        (whole_offences context.declarations context.frame (expr_tree context.names value.now)) checker.new.first) }
     ensures there { IfOk result (λ found. Found checker.new found) }
     ensures stays { OnOk result (Stays checker.old checker.new) }
 {
@@ -104,12 +108,12 @@ fn whole(checker: &mut Checker<'_>, value: &Expr) -> Result<Option<TypeIndex>, A
 
 /// The same of an expression that is no call on `this`.
 fn other_value(checker: &mut Checker<'_>, value: &Expr) -> Result<Option<TypeIndex>, AllocError>
-    requires { IsNoCall (phrase checker.old.table.program.now.symbols value.now) }
+    requires { IsNoCall (expr_tree checker.old.table.program.now.symbols value.now) }
     ensures found { (context : Context) → Knows checker.old (unbound context)
         → IfOk result (λ found. Finds checker.new found
-        (whole_type context.declarations context.frame (phrase context.names value.now))) }
+        (whole_type context.declarations context.frame (expr_tree context.names value.now))) }
     ensures noted { (context : Context) → Knows checker.old (unbound context) → OnOk result (Noted checker.old.first
-        (whole_offences context.declarations context.frame (phrase context.names value.now)) checker.new.first) }
+        (whole_offences context.declarations context.frame (expr_tree context.names value.now)) checker.new.first) }
     ensures there { IfOk result (λ found. Found checker.new found) }
     ensures stays { OnOk result (Stays checker.old checker.new) }
 {
@@ -125,10 +129,10 @@ fn own_call(
 ) -> Result<Option<TypeIndex>, AllocError>
     ensures found { (context : Context) → Knows checker.old (unbound context)
         → IfOk result (λ found. Finds checker.new found (whole_type context.declarations context.frame
-        (OwnCallOf place (name_of context.names method) (phrases context.names arguments.now)))) }
+        (OwnCallOf place (name_of context.names method) (expr_trees context.names arguments.now)))) }
     ensures noted { (context : Context) → Knows checker.old (unbound context) → OnOk result (Noted checker.old.first
         (whole_offences context.declarations context.frame
-        (OwnCallOf place (name_of context.names method) (phrases context.names arguments.now))) checker.new.first) }
+        (OwnCallOf place (name_of context.names method) (expr_trees context.names arguments.now))) checker.new.first) }
     ensures there { IfOk result (λ found. Found checker.new found) }
     ensures stays { OnOk result (Stays checker.old checker.new) }
 {
@@ -143,40 +147,40 @@ fn sent(
     checker: &mut Checker<'_>,
     place: Place,
     method: Symbol,
-    row: &[Expr],
+    operands: &[Expr],
 ) -> Result<Option<TypeIndex>, AllocError>
     ensures found { (context : Context) → Knows checker.old (unbound context)
-        → IfOk result (λ found. Finds checker.new found (option_map PlainFut (row_type context.declarations
-        context.frame (name_of context.names method) (phrases context.names row.now)))) }
+        → IfOk result (λ found. Finds checker.new found (option_map PlainFut (type_by_operands context.declarations
+        context.frame (name_of context.names method) (expr_trees context.names operands.now)))) }
     ensures noted { (context : Context) → Knows checker.old (unbound context) → OnOk result (Noted checker.old.first
-        (row_offences context.declarations context.frame place (name_of context.names method)
-        (phrases context.names row.now)) checker.new.first) }
+        (offences_by_operands context.declarations context.frame place (name_of context.names method)
+        (expr_trees context.names operands.now)) checker.new.first) }
     ensures there { IfOk result (λ found. Found checker.new found) }
     ensures stays { OnOk result (Stays checker.old checker.new) }
 {
-    match row_call(checker, place, method, row)? {
+    match call_by_operands(checker, place, method, operands)? {
         Some(gives) => Ok(Some(checker.future(gives)?)),
         None => Ok(None),
     }
 }
 
-/// The type of what a call gives whose row is its receiver and its arguments.
-fn row_call(
+/// The type of what a call gives, by its operands: its receiver, followed by its arguments.
+fn call_by_operands(
     checker: &mut Checker<'_>,
     place: Place,
     method: Symbol,
-    row: &[Expr],
+    operands: &[Expr],
 ) -> Result<Option<TypeIndex>, AllocError>
     ensures found { (context : Context) → Knows checker.old (unbound context)
-        → IfOk result (λ found. Finds checker.new found (row_type context.declarations context.frame
-        (name_of context.names method) (phrases context.names row.now))) }
+        → IfOk result (λ found. Finds checker.new found (type_by_operands context.declarations context.frame
+        (name_of context.names method) (expr_trees context.names operands.now))) }
     ensures noted { (context : Context) → Knows checker.old (unbound context) → OnOk result (Noted checker.old.first
-        (row_offences context.declarations context.frame place (name_of context.names method)
-        (phrases context.names row.now)) checker.new.first) }
+        (offences_by_operands context.declarations context.frame place (name_of context.names method)
+        (expr_trees context.names operands.now)) checker.new.first) }
     ensures there { IfOk result (λ found. Found checker.new found) }
     ensures stays { OnOk result (Stays checker.old checker.new) }
 {
-    let Some((receiver, arguments)) = row.split_first() else {
+    let Some((receiver, arguments)) = operands.split_first() else {
         checker.note_if(true, Code::T1, place);
         return Ok(None);
     };
@@ -229,10 +233,10 @@ fn value_got(
     future: &Expr,
 ) -> Result<Option<TypeIndex>, AllocError>
     ensures found { (context : Context) → Knows checker.old (unbound context) → IfOk result
-        (λ found. Finds checker.new found (future_type context.frame (phrase context.names future.now))) }
+        (λ found. Finds checker.new found (future_type context.frame (expr_tree context.names future.now))) }
     ensures noted { (context : Context) → Knows checker.old (unbound context) → OnOk result (Noted checker.old.first
         (offends (unbound context) future.now
-        ++ mistyped_if (is_none (future_type context.frame (phrase context.names future.now))) place)
+        ++ mistyped_if (is_none (future_type context.frame (expr_tree context.names future.now))) place)
         checker.new.first) }
     ensures there { IfOk result (λ found. Found checker.new found) }
     ensures stays { OnOk result (Stays checker.old checker.new) }
@@ -246,7 +250,7 @@ fn value_got(
 /// The type of the value of a future that a parameter or a local has, if an expression is one.
 pub(crate) fn value_in(checker: &Checker<'_>, future: &Expr) -> Option<TypeIndex>
     ensures { (context : Context) → Knows checker.now context
-        → Finds checker.now result (future_type context.frame (phrase context.names future.now)) }
+        → Finds checker.now result (future_type context.frame (expr_tree context.names future.now)) }
 {
     match future {
         Expr::Variable(_, variable) => slot_value(checker, *variable),

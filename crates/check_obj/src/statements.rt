@@ -2,9 +2,9 @@
 ghost use Rattle.std.specs.Prelude.{⊤, false, not, List, Option, ◌++◌, OnOk};
 ghost use Rattle.abs_tree.specs.declared.refusal.Code.TheVariants.{T5};
 ghost use Rattle.abs_tree.specs.Syntax.{DeclareOf};
-ghost use Rattle.abs_tree.specs.SyntaxPlaces.{phrase_place};
-ghost use Rattle.abs_tree.specs.SyntaxViews.{maybe_statements, phrase, statement as statement_tree};
-ghost use Rattle.abs_types.specs.Mistyped.{offence_if};
+ghost use Rattle.abs_tree.specs.SyntaxPlaces.{expr_place};
+ghost use Rattle.abs_tree.specs.SyntaxViews.{maybe_statements, expr_tree, statement as statement_tree};
+ghost use Rattle.abs_tree.specs.Offences.{offence_if};
 ghost use Rattle.abs_types.specs.OperatorTypes.{bool_type};
 ghost use Rattle.abs_types.specs.PlainTypes.{PlainString, PlainType};
 ghost use Rattle.abs_types.specs.StatementOffences.{asked_offences, else_offences, result_offences};
@@ -123,8 +123,8 @@ fn if_else(
     second: &Option<Vec<Stmt>>,
 ) -> Result<(), AllocError>
     ensures noted { (context : Context) → Knows checker.old (unbound context) → OnOk result (Noted checker.old.first
-        (asked_offences context.declarations context.frame (phrase context.names condition.now) bool_type
-        (phrase_place (phrase context.names condition.now))
+        (asked_offences context.declarations context.frame (expr_tree context.names condition.now) bool_type
+        (expr_place (expr_tree context.names condition.now))
         ++ statements_offend context false first.now
         ++ else_offences context.declarations context.frame (maybe_statements context.names second.now))
         checker.new.first) }
@@ -142,8 +142,8 @@ fn if_else(
 #[cycle(statements)]
 fn while_do(checker: &mut Checker<'_>, condition: &Expr, body: &[Stmt]) -> Result<(), AllocError>
     ensures noted { (context : Context) → Knows checker.old (unbound context) → OnOk result (Noted checker.old.first
-        (asked_offences context.declarations context.frame (phrase context.names condition.now) bool_type
-        (phrase_place (phrase context.names condition.now)) ++ statements_offend context false body.now)
+        (asked_offences context.declarations context.frame (expr_tree context.names condition.now) bool_type
+        (expr_place (expr_tree context.names condition.now)) ++ statements_offend context false body.now)
         checker.new.first) }
     ensures stays { OnOk result (Stays checker.old checker.new) }
 {
@@ -154,8 +154,8 @@ fn while_do(checker: &mut Checker<'_>, condition: &Expr, body: &[Stmt]) -> Resul
 /// Checks a condition, which is a `Bool`.
 fn check_condition(checker: &mut Checker<'_>, condition: &Expr) -> Result<(), AllocError>
     ensures noted { (context : Context) → Knows checker.old (unbound context) → OnOk result (Noted checker.old.first
-        (asked_offences context.declarations context.frame (phrase context.names condition.now) bool_type
-        (phrase_place (phrase context.names condition.now))) checker.new.first) }
+        (asked_offences context.declarations context.frame (expr_tree context.names condition.now) bool_type
+        (expr_place (expr_tree context.names condition.now))) checker.new.first) }
     ensures stays { OnOk result (Stays checker.old checker.new) }
 {
     let bool = checker.bool()?;
@@ -165,7 +165,7 @@ fn check_condition(checker: &mut Checker<'_>, condition: &Expr) -> Result<(), Al
 /// Checks what is printed, which is a `String`.
 fn printed(checker: &mut Checker<'_>, place: Place, value: &Expr) -> Result<(), AllocError>
     ensures noted { (context : Context) → Knows checker.old (unbound context) → OnOk result (Noted checker.old.first
-        (asked_offences context.declarations context.frame (phrase context.names value.now) PlainString place)
+        (asked_offences context.declarations context.frame (expr_tree context.names value.now) PlainString place)
         checker.new.first) }
     ensures stays { OnOk result (Stays checker.old checker.new) }
 {
@@ -182,7 +182,7 @@ fn returned(
 ) -> Result<(), AllocError>
     ensures noted { (context : Context) → Knows checker.old (unbound context) → OnOk result (Noted checker.old.first
         (offence_if (not is_last) T5 place ++ result_offences context.declarations context.frame
-        (phrase context.names value.now) context.frame.task) checker.new.first) }
+        (expr_tree context.names value.now) context.frame.task) checker.new.first) }
     ensures stays { OnOk result (Stays checker.old checker.new) }
 {
     checker.note_if(!is_last, Code::T5, place);

@@ -20,7 +20,7 @@ use Rattle.abs_program.specs.Members.{method_of}
 use Rattle.abs_program.specs.NameSpaces.{NameSpaces, spaces_of}
 use Rattle.abs_program.specs.Slots.{body_slots}
 use Rattle.abs_tree.specs.Syntax.{Name, Statement, BlockOf, IfOf, WhileOf, MaybeStatements, NoElse, Else, Statements, NoStatement, NextStatement, ParamTree, DeclaredTree, MemberTree, FieldTree, MethodTree, DeclTree, ClassTree, ProgramTree}
-use Rattle.abs_tree.specs.SyntaxCounts.{count_phrases}
+use Rattle.abs_tree.specs.SyntaxCounts.{count_exprs}
 use Rattle.abs_tree.specs.SyntaxSizes.{count_of, statement_count, decl_statements, fields_among}
 use Rattle.abs_program.specs.Tables.{meaning_of}
 use Rattle.abs_program.specs.Whole.{Inside, StatementIsThere, ElseIsThere, StatementsAreThere, MembersAreThere, DeclarationIsThere, IsWhole}
@@ -142,12 +142,12 @@ class_is_there spaces declarations class place name params implemented members a
     are)).2
 
 -- there are as many initial values as fields among members
-count_phrases-initials : (members : List MemberTree)
-    → count_phrases (initials_among members) ≡ fields_among members
-count_phrases-initials [] = refl
-count_phrases-initials (FieldTree type name initial ∷ others) =
-    ap (λ (count : ℕ). 1 + count) (count_phrases-initials others)
-count_phrases-initials (MethodTree signature end body ∷ others) = count_phrases-initials others
+count_exprs-initials : (members : List MemberTree)
+    → count_exprs (initials_among members) ≡ fields_among members
+count_exprs-initials [] = refl
+count_exprs-initials (FieldTree type name initial ∷ others) =
+    ap (λ (count : ℕ). 1 + count) (count_exprs-initials others)
+count_exprs-initials (MethodTree signature end body ∷ others) = count_exprs-initials others
 
 -- what a new object of a class takes, by the members of the class
 abbrev entry_with : List ParamTree → List MemberTree → ClassEntryTree
@@ -181,7 +181,7 @@ named_body_there : (program : ProgramTree) (class method : Name) (body : BodyAt)
     → option_and_then (class_entry program.source.declarations)
     (option_map (λ (taking : Taking). taking.declaration) meaning) ≡ Some entry
     → StatementsAreThere
-    (method_inside (spaces_of program.source.declarations) (entry.params + count_phrases entry.initials) body)
+    (method_inside (spaces_of program.source.declarations) (entry.params + count_exprs entry.initials) body)
     body.statements
 named_body_there program class method body entry None whole means found taken = absurd (none-some body found)
 named_body_there program class method body entry (Some taking) whole means found taken =
@@ -192,9 +192,9 @@ named_body_there program class method body entry (Some taking) whole means found
     let is = class_entry-is declarations index own.place own.declared own.params own.implemented own.members
     own.there in
     let same : entry_with own.params own.members ≡ entry = same_Some _ _ (sym is ∙ taken) in
-    let fields : length own.params + fields_among own.members ≡ entry.params + count_phrases entry.initials =
-    ap (λ (count : ℕ). length own.params + count) (sym (count_phrases-initials own.members))
-    ∙ ap (λ (one : ClassEntryTree). one.params + count_phrases one.initials) same in
+    let fields : length own.params + fields_among own.members ≡ entry.params + count_exprs entry.initials =
+    ap (λ (count : ℕ). length own.params + count) (sym (count_exprs-initials own.members))
+    ∙ ap (λ (one : ClassEntryTree). one.params + count_exprs one.initials) same in
     let named = method_in_class-body declarations index method body found in
     let at = class_body-member 0 declarations index named.0 body own.place own.declared own.params own.implemented
     own.members own.there named.1 in
@@ -214,12 +214,12 @@ pub method_statement_is_there : (program : ProgramTree) (class method : Name) (b
       type_params = 0;
       has_this = true;
       has_task = true;
-      fields = entry.params + count_phrases entry.initials;
+      fields = entry.params + count_exprs entry.initials;
       slots = length (body_slots body.params body.statements);
     }) point.statement
 method_statement_is_there program class method body entry index point whole found taken of at =
     statement_of_body_there program body
-    (method_inside (spaces_of program.source.declarations) (entry.params + count_phrases entry.initials) body) index
+    (method_inside (spaces_of program.source.declarations) (entry.params + count_exprs entry.initials) body) index
     point (OfMethod class method found)
     (named_body_there program class method body entry
     (meaning_of (spaces_of program.source.declarations).classes class) whole refl found taken) of at

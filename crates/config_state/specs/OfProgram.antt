@@ -12,7 +12,7 @@ use Rattle.abs_program.specs.Control.{Point, program_points}
 use Rattle.abs_program.specs.Instructions.{Awaits, effect_of}
 use Rattle.abs_program.specs.Slots.{body_slots}
 use Rattle.abs_tree.specs.Syntax.{ProgramTree}
-use Rattle.abs_tree.specs.SyntaxCounts.{count_phrases}
+use Rattle.abs_tree.specs.SyntaxCounts.{count_exprs}
 use Rattle.abs_values.specs.ValueTrees.{FutureValue}
 use Rattle.config_state.specs.Bodies.{class_taking, BodyAt, body_of, IsStatementOf}
 use Rattle.config_state.specs.Configurations.{ObjectState, FrameState, TaskState, Configuration, object_at, fields_of, Each}
@@ -24,7 +24,7 @@ use Rattle.config_state.specs.declared.task.State.TheVariants.{Awaiting}
 pub record IsObjectOf (program : ProgramTree) (object : ObjectState) : Type 0 where
   pub class : ClassEntryTree
   pub class_there : class_taking program object.class ≡ Some class
-  pub fields_are : length object.fields ≡ class.params + count_phrases class.initials
+  pub fields_are : length object.fields ≡ class.params + count_exprs class.initials
 
 -- The frame is that of a method of the class of its object, or of the main block. It has the slots of its body, and its
 -- next statement is one of its body, if one is left.

@@ -14,7 +14,7 @@ use Rattle.abs_tree.specs.Limits.{application_limit}
 use Rattle.abs_tree.specs.Names.{name_of}
 use Rattle.abs_values.specs.Results.{Fails, Gives, built_result}
 use Rattle.abs_values.specs.Scopes.{FunctionBody, Library, function_named, own_scope}
-use Rattle.abs_tree.specs.Syntax.{Name, Phrase}
+use Rattle.abs_tree.specs.Syntax.{Name, ExprTree}
 use Rattle.abs_values.specs.ValueTrees.{ValueTree, NextPart, built_value, parts_of_list}
 use Rattle.abs_values.specs.ValueViews.{value_tree, value_trees}
 use Rattle.abs_values.specs.declared.evaluated.Fault.TheVariants as fault
@@ -28,7 +28,7 @@ use Rattle.fun_eval.specs.Evaluating.{arguments_in, library_in, names_in, AddedA
 use Rattle.fun_eval.specs.declared.evaluator.Evaluator.{Evaluator}
 
 -- an application within the limit is counted
-pub counted : (library : Library) (give : List ValueTree → Phrase → ℕ → Outcome) (name : Name)
+pub counted : (library : Library) (give : List ValueTree → ExprTree → ℕ → Outcome) (name : Name)
     (values : List ValueTree) (made : ℕ) → made < application_limit
     → application_outcome library give name values made ≡ function_outcome library give name values (made + 1)
 counted library give name values made fits =
@@ -62,7 +62,7 @@ applied before now left first function found added counted_first =
     ∙ applied_stays before now left function (drop first (arguments_in now)) now.applications added.library_is)
 
 -- `toString`
-pub to_string_named : (library : Library) (give : List ValueTree → Phrase → ℕ → Outcome) (name : Name)
+pub to_string_named : (library : Library) (give : List ValueTree → ExprTree → ℕ → Outcome) (name : Name)
     (values : List ValueTree) (made : ℕ) → bytes_eq name (codes "toString") ≡ true
     → function_outcome library give name values made ≡ ends_with (string_of_result library.names values) made
 to_string_named library give name values made is = rw is refl
@@ -91,20 +91,20 @@ left_counted values first = ap length (drop-map value_tree first values) ∙ (le
     ∙ length-drop first values)
 
 -- a function that is declared
-pub defined_named : (library : Library) (give : List ValueTree → Phrase → ℕ → Outcome) (name : Name)
+pub defined_named : (library : Library) (give : List ValueTree → ExprTree → ℕ → Outcome) (name : Name)
     (values : List ValueTree) (made : ℕ) → bytes_eq name (codes "toString") ≡ false
     → function_outcome library give name values made
     ≡ body_outcome give values (function_named library.functions name) made
 defined_named library give name values made is = rw is refl
 
-pub body_entered : (give : List ValueTree → Phrase → ℕ → Outcome) (values : List ValueTree)
+pub body_entered : (give : List ValueTree → ExprTree → ℕ → Outcome) (values : List ValueTree)
     (found : Option FunctionBody) (function : FunctionBody) (made : ℕ) → found ≡ Some function
     → length values ≡ function.arity → body_outcome give values found made ≡ give values function.value made
 body_entered give values found function made is same =
     let fits : nat_eq (length values) function.arity ≡ true = eq-eqb (length values) function.arity same in
     rw (is, fits) refl
 
-pub body_other : (give : List ValueTree → Phrase → ℕ → Outcome) (values : List ValueTree)
+pub body_other : (give : List ValueTree → ExprTree → ℕ → Outcome) (values : List ValueTree)
     (found : Option FunctionBody) (function : FunctionBody) (made : ℕ) → found ≡ Some function
     → length values ≢ function.arity → body_outcome give values found made ≡ ends_with (Fails fault.Mistyped) made
 body_other give values found function made is other =

@@ -8,8 +8,8 @@ use Rattle.abs_values.specs.Evaluation.{Outcome, branches_outcome, chosen_outcom
 use Rattle.abs_values.specs.Operations.{truth_of}
 use Rattle.abs_values.specs.Results.{Gives}
 use Rattle.abs_values.specs.Scopes.{Library, Scope, with_bound}
-use Rattle.abs_tree.specs.Syntax.{Name, Phrase}
-use Rattle.abs_tree.specs.SyntaxViews.{branches as branch_trees, phrase}
+use Rattle.abs_tree.specs.Syntax.{Name, ExprTree}
+use Rattle.abs_tree.specs.SyntaxViews.{branches as branch_trees, expr_tree}
 use Rattle.abs_values.specs.ValueTrees.{ValueTree}
 use Rattle.abs_values.specs.ValueViews.{value_tree}
 use Rattle.abs_tree.specs.declared.syntax.expression.Branch.{Branch}
@@ -20,7 +20,7 @@ use Rattle.fun_eval.proofs.OutcomeLemmas.{after_value}
 use Rattle.fun_eval.proofs.SoFarLemmas.{gives_stays, library_stays, names_stay}
 use Rattle.fun_eval.proofs.StackLemmas.{begins_added}
 use Rattle.fun_eval.proofs.ValueLemmas.{one_stays}
-use Rattle.fun_eval.specs.Evaluating.{arguments_in, bound_in, gives_in, library_in, names_in, outcome_in, scope_in, scope_of, Binds, ChosenBranch, IsWithin, Stays}
+use Rattle.fun_eval.specs.Evaluating.{arguments_in, bound_in, gives_in, library_in, names_in, outcome_in, scope_in, evaluator_scope, Binds, ChosenBranch, IsWithin, Stays}
 use Rattle.fun_eval.specs.declared.evaluator.Evaluator.{Evaluator}
 use Rattle.fun_eval.specs.declared.scope.Frame.{Frame}
 
@@ -28,24 +28,24 @@ use Rattle.fun_eval.specs.declared.scope.Frame.{Frame}
 pub gives_bound : (within : Frame) (left : ℕ) (before now : Evaluator) (taken : List ValueTree)
     → now.library ≡ before.library → arguments_in now ≡ arguments_in before → bound_in now ≡ bound_in before ++ taken
     → IsWithin within before
-    → evaluate (library_in before) (with_bound (scope_of within before) taken) left ≡ gives_in now within left
+    → evaluate (library_in before) (with_bound (evaluator_scope within before) taken) left ≡ gives_in now within left
 gives_bound within left before now taken library arguments bound is =
     ap (λ (scope : Scope). evaluate (library_in before) scope left)
     (sym (ap (λ (items : List ValueTree). scope_in within items (bound_in now)) arguments
     ∙ (ap (scope_in within (arguments_in before)) bound
     ∙ scope_bound within (arguments_in before) (bound_in before) taken (within_trees within before is))))
-    ∙ ap (λ (known : Library). evaluate known (scope_of within now) left) (sym (library_stays before now library))
+    ∙ ap (λ (known : Library). evaluate known (evaluator_scope within now) left) (sym (library_stays before now library))
 
 -- the same of one expression
 bound_one : (within : Frame) (left : ℕ) (before now : Evaluator) (taken : List ValueTree) (item : Expr)
     → now.library ≡ before.library → arguments_in now ≡ arguments_in before → bound_in now ≡ bound_in before ++ taken
     → IsWithin within before
-    → evaluate (library_in before) (with_bound (scope_of within before) taken) left (phrase (names_in before) item)
-    now.applications ≡ outcome_in now within left (phrase (names_in now) item)
+    → evaluate (library_in before) (with_bound (evaluator_scope within before) taken) left (expr_tree (names_in before) item)
+    now.applications ≡ outcome_in now within left (expr_tree (names_in now) item)
 bound_one within left before now taken item library arguments bound is =
-    ap (λ (give : Phrase → ℕ → Outcome). give (phrase (names_in before) item) now.applications)
+    ap (λ (give : ExprTree → ℕ → Outcome). give (expr_tree (names_in before) item) now.applications)
     (gives_bound within left before now taken library arguments bound is)
-    ∙ ap (λ (names : List Name). gives_in now within left (phrase names item) now.applications)
+    ∙ ap (λ (names : List Name). gives_in now within left (expr_tree names item) now.applications)
     (sym (names_stay before now library))
 
 -- what a frame reads is still on the stacks
@@ -63,12 +63,12 @@ within_bound within before now taken arguments bound is =
 pub let_taken : (within : Frame) (left : ℕ) (before middle now : Evaluator) (found : Outcome) (value : Value)
     (body : Expr) → IsWithin within before → Stays before middle
     → found ≡ ends_with (Gives (value_tree value)) middle.applications → Binds (value_tree value) middle now
-    → outcome_after found (λ one. evaluate (library_in before) (with_bound (scope_of within before) (one ∷ [])) left
-    (phrase (names_in before) body)) ≡ outcome_in now within left (phrase (names_in now) body)
+    → outcome_after found (λ one. evaluate (library_in before) (with_bound (evaluator_scope within before) (one ∷ [])) left
+    (expr_tree (names_in before) body)) ≡ outcome_in now within left (expr_tree (names_in now) body)
 let_taken within left before middle now found value body is stays gives binds =
     after_value found (value_tree value) middle.applications _ gives
-    ∙ (ap (evaluate (library_in before) (with_bound (scope_of within before) (value_tree value ∷ [])) left
-    (phrase (names_in before) body)) (sym binds.applications_are)
+    ∙ (ap (evaluate (library_in before) (with_bound (evaluator_scope within before) (value_tree value ∷ [])) left
+    (expr_tree (names_in before) body)) (sym binds.applications_are)
     ∙ bound_one within left before now (value_tree value ∷ []) body (binds.library_is ∙ stays.library_is)
     (binds.arguments_are ∙ stays.arguments_are)
     (binds.bound_are ∙ ap (λ (items : List ValueTree). items ++ value_tree value ∷ []) stays.bound_are) is)
@@ -83,10 +83,10 @@ within_let within before middle now value stays binds is =
 pub case_taken : (within : Frame) (left : ℕ) (before now : Evaluator) (subject : Outcome) (branches : List Branch)
     (branch : Branch) → IsWithin within before → ChosenBranch subject branches branch before now
     → outcome_after subject (branches_outcome (names_in before)
-    (λ values. evaluate (library_in before) (with_bound (scope_of within before) values) left)
-    (branch_trees (names_in before) branches)) ≡ outcome_in now within left (phrase (names_in now) branch.value)
+    (λ values. evaluate (library_in before) (with_bound (evaluator_scope within before) values) left)
+    (branch_trees (names_in before) branches)) ≡ outcome_in now within left (expr_tree (names_in now) branch.value)
 case_taken within left before now subject branches branch is chosen =
-    chosen.is (λ values. evaluate (library_in before) (with_bound (scope_of within before) values) left)
+    chosen.is (λ values. evaluate (library_in before) (with_bound (evaluator_scope within before) values) left)
     ∙ bound_one within left before now (drop (length (bound_in before)) (bound_in now)) branch.value chosen.library_is
     chosen.arguments_are (begins_added chosen.begins) is
 
@@ -100,14 +100,14 @@ within_chosen within before now subject branches branch is chosen =
 pub if_taken : (within : Frame) (left : ℕ) (before now : Evaluator) (found : Outcome) (value : ValueTree)
     (answer : Bool) (first second taken : Expr) → Stays before now → found ≡ ends_with (Gives value) now.applications
     → truth_of (names_in now) value ≡ Some answer
-    → chosen_outcome (gives_in before within left) (phrase (names_in before) first) (phrase (names_in before) second)
-    (Some answer) now.applications ≡ gives_in before within left (phrase (names_in before) taken) now.applications
-    → outcome_after found (λ one. chosen_outcome (gives_in before within left) (phrase (names_in before) first)
-    (phrase (names_in before) second) (truth_of (names_in before) one))
-    ≡ outcome_in now within left (phrase (names_in now) taken)
+    → chosen_outcome (gives_in before within left) (expr_tree (names_in before) first) (expr_tree (names_in before) second)
+    (Some answer) now.applications ≡ gives_in before within left (expr_tree (names_in before) taken) now.applications
+    → outcome_after found (λ one. chosen_outcome (gives_in before within left) (expr_tree (names_in before) first)
+    (expr_tree (names_in before) second) (truth_of (names_in before) one))
+    ≡ outcome_in now within left (expr_tree (names_in now) taken)
 if_taken within left before now found value answer first second taken stays gives truth chooses =
     after_value found value now.applications _ gives
-    ∙ (ap (λ (one : _). chosen_outcome (gives_in before within left) (phrase (names_in before) first)
-    (phrase (names_in before) second) one now.applications)
+    ∙ (ap (λ (one : _). chosen_outcome (gives_in before within left) (expr_tree (names_in before) first)
+    (expr_tree (names_in before) second) one now.applications)
     (ap (λ (names : List Name). truth_of names value) (sym (names_stay before now stays.library_is)) ∙ truth)
     ∙ (chooses ∙ one_stays within left taken before now stays.library_is (gives_stays within left stays)))

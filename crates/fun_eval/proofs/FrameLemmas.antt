@@ -10,7 +10,7 @@ use Rattle.std.proofs.Math.Seq.{drop-length, take-length}
 use Rattle.abs_values.specs.Scopes.{Scope, own_scope, with_bound}
 use Rattle.abs_values.specs.ValueTrees.{ValueTree}
 use Rattle.abs_values.specs.ValueViews.{value_tree}
-use Rattle.fun_eval.specs.Evaluating.{arguments_in, bound_in, scope_in, scope_of, AreWithin, IsWithin, Stays}
+use Rattle.fun_eval.specs.Evaluating.{arguments_in, bound_in, scope_in, evaluator_scope, AreWithin, IsWithin, Stays}
 use Rattle.fun_eval.specs.declared.evaluator.Evaluator.{Evaluator}
 use Rattle.fun_eval.specs.declared.scope.Frame.{Frame}
 use Rattle.fun_eval.specs.declared.scope.Frame.TheVariants as frame
@@ -79,7 +79,7 @@ within_trees within evaluator is =
 
 -- where the stacks are as before
 pub scope_stays : (within : Frame) {before now : Evaluator} → Stays before now
-    → scope_of within now ≡ scope_of within before
+    → evaluator_scope within now ≡ evaluator_scope within before
 scope_stays within {before} {now} stays =
     ap (λ (items : List ValueTree). scope_in within items (bound_in now)) stays.arguments_are
     ∙ ap (scope_in within (arguments_in before)) stays.bound_are

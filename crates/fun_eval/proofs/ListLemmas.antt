@@ -8,7 +8,7 @@ use Rattle.abs_values.specs.Evaluation.{Outcome, Outcomes, all_end_with, ends_wi
 use Rattle.abs_tree.specs.Limits.{level_limit}
 use Rattle.abs_values.specs.Results.{Gives, Results, AllGive, OneFails}
 use Rattle.abs_values.specs.Scopes.{Library, own_scope}
-use Rattle.abs_tree.specs.Syntax.{Phrase, Phrases, NoPhrase, NextPhrase}
+use Rattle.abs_tree.specs.Syntax.{ExprTree, ExprTrees, NoExpr, NextExpr}
 use Rattle.abs_values.specs.ValueTrees.{ValueTree}
 use Rattle.fun_eval.specs.Evaluating.{AreStopped, IsStopped}
 use Rattle.fun_eval.specs.declared.stop.Stop.{Stop}
@@ -45,46 +45,46 @@ one_before value (AllGive values) = refl
 one_before value (OneFails cause) = refl
 
 -- one more value
-first_value : (give : Phrase → ℕ → Outcome) (first : Phrase) (others : Phrases) (value : ValueTree) (made now : ℕ)
+first_value : (give : ExprTree → ℕ → Outcome) (first : ExprTree) (others : ExprTrees) (value : ValueTree) (made now : ℕ)
     → give first made ≡ ends_with (Gives value) now
-    → outcomes_of give (NextPhrase first others) made ≡ with_earlier (value ∷ []) (outcomes_of give others now)
+    → outcomes_of give (NextExpr first others) made ≡ with_earlier (value ∷ []) (outcomes_of give others now)
 first_value give first others value made now is =
     rw is
     (ap (λ (results : Results). all_end_with results (outcomes_of give others now).applications)
     (one_before value (outcomes_of give others now).results))
 
-pub earlier_step : (give : Phrase → ℕ → Outcome) (earlier : List ValueTree) (first : Phrase) (others : Phrases)
+pub earlier_step : (give : ExprTree → ℕ → Outcome) (earlier : List ValueTree) (first : ExprTree) (others : ExprTrees)
     (value : ValueTree) (made now : ℕ) → give first made ≡ ends_with (Gives value) now
-    → with_earlier earlier (outcomes_of give (NextPhrase first others) made)
+    → with_earlier earlier (outcomes_of give (NextExpr first others) made)
     ≡ with_earlier (earlier ++ value ∷ []) (outcomes_of give others now)
 earlier_step give earlier first others value made now is =
     ap (with_earlier earlier) (first_value give first others value made now is)
     ∙ more_values earlier value (outcomes_of give others now).results (outcomes_of give others now).applications
 
 -- no more expression
-pub earlier_end : (give : Phrase → ℕ → Outcome) (earlier : List ValueTree) (made : ℕ)
-    → with_earlier earlier (outcomes_of give NoPhrase made) ≡ all_end_with (AllGive earlier) made
+pub earlier_end : (give : ExprTree → ℕ → Outcome) (earlier : List ValueTree) (made : ℕ)
+    → with_earlier earlier (outcomes_of give NoExpr made) ≡ all_end_with (AllGive earlier) made
 earlier_end give earlier made =
     ap (λ (all : List ValueTree). all_end_with (AllGive all) made) (append-nil earlier)
 
 -- a fault
-pub earlier_stop : (give : Phrase → ℕ → Outcome) (earlier : List ValueTree) (first : Phrase) (others : Phrases)
+pub earlier_stop : (give : ExprTree → ℕ → Outcome) (earlier : List ValueTree) (first : ExprTree) (others : ExprTrees)
     (made : ℕ) (cause : Stop) → IsStopped (give first made).result cause
-    → AreStopped (with_earlier earlier (outcomes_of give (NextPhrase first others) made)).results cause
+    → AreStopped (with_earlier earlier (outcomes_of give (NextExpr first others) made)).results cause
 earlier_stop give earlier first others made (stop.Fault cause) is = rw is refl
 earlier_stop give earlier first others made stop.Memory is = tt
 
 -- an initial value
-pub initial_step : (library : Library) (values : List ValueTree) (first : Phrase) (others : Phrases) (value : ValueTree)
+pub initial_step : (library : Library) (values : List ValueTree) (first : ExprTree) (others : ExprTrees) (value : ValueTree)
     (made now : ℕ) → evaluate library (own_scope values) level_limit first made ≡ ends_with (Gives value) now
-    → initial_outcomes library (NextPhrase first others) values made
+    → initial_outcomes library (NextExpr first others) values made
     ≡ initial_outcomes library others (values ++ value ∷ []) now
 unfolding initial_outcomes
 initial_step library values first others value made now is = rw is refl
 
-pub initial_stop : (library : Library) (values : List ValueTree) (first : Phrase) (others : Phrases) (made : ℕ)
+pub initial_stop : (library : Library) (values : List ValueTree) (first : ExprTree) (others : ExprTrees) (made : ℕ)
     (cause : Stop) → IsStopped (evaluate library (own_scope values) level_limit first made).result cause
-    → AreStopped (initial_outcomes library (NextPhrase first others) values made).results cause
+    → AreStopped (initial_outcomes library (NextExpr first others) values made).results cause
 unfolding initial_outcomes
 initial_stop library values first others made (stop.Fault cause) is = rw is refl
 initial_stop library values first others made stop.Memory is = tt

@@ -13,7 +13,7 @@ use Rattle.std.specs.Result.{IsErrAnd, OnOk}
 use Rattle.abs_values.specs.Evaluation.{Outcome, Outcomes, ends_with, outcome_after, outcome_after_all, operand_outcome, operators_outcome, result_after}
 use Rattle.abs_values.specs.Operations.{operation_result}
 use Rattle.abs_values.specs.Results.{Result as ResultTree, Gives, AllGive}
-use Rattle.abs_tree.specs.Syntax.{Name, Phrase, Operands, NoOperands, NextOperand}
+use Rattle.abs_tree.specs.Syntax.{Name, ExprTree, Operands, NoOperands, NextOperand}
 use Rattle.abs_values.specs.ValueTrees.{ValueTree}
 use Rattle.abs_tree.specs.declared.syntax.expression.Operator.{Operator}
 use Rattle.abs_tree.specs.declared.syntax.expression.Operator.TheVariants as operator
@@ -69,7 +69,7 @@ after_stops found (stop.Fault cause) next is = rw is refl
 after_stops found stop.Memory next is = tt
 
 -- in an operator list
-pub operators_stop : (names : List Name) (give : Phrase → ℕ → Outcome) (left : Outcome) (operands : Operands)
+pub operators_stop : (names : List Name) (give : ExprTree → ℕ → Outcome) (left : Outcome) (operands : Operands)
     (cause : Stop) → IsStopped left.result cause → IsStopped (operators_outcome names give left operands).result cause
 operators_stop names give left NoOperands cause is = is
 operators_stop names give left (NextOperand operation right others) cause is =
@@ -77,7 +77,7 @@ operators_stop names give left (NextOperand operation right others) cause is =
     (after_stop left cause (operand_outcome names give operation right) is)
 
 -- an operator other than `&&` and `||` asks for both operands
-pub other_operand : (names : List Name) (give : Phrase → ℕ → Outcome) (operation : Operator) (right : Phrase)
+pub other_operand : (names : List Name) (give : ExprTree → ℕ → Outcome) (operation : Operator) (right : ExprTree)
     (left : ValueTree) (made : ℕ) → (operation ≡ operator.And → ⊥) → (operation ≡ operator.Or → ⊥)
     → operand_outcome names give operation right left made
     ≡ result_after (give right made) (operation_result names operation left)

@@ -13,7 +13,7 @@ use Rattle.abs_values.specs.Evaluation.{Outcome, branches_outcome}
 use Rattle.abs_tree.proofs.SyntaxLemmas.{pattern_tree-built}
 use Rattle.abs_tree.specs.Names.{name_of, number_of_name}
 use Rattle.abs_values.specs.Operations.{all_matched, both_matched, matched}
-use Rattle.abs_tree.specs.Syntax.{Name, VariableTree, Phrase, PatternTree, AnyValue, Binds, SameNumber, SameString, Built, PatternTrees, Branches, NextBranch}
+use Rattle.abs_tree.specs.Syntax.{Name, VariableTree, ExprTree, PatternTree, AnyValue, Binds, SameNumber, SameString, Built, PatternTrees, Branches, NextBranch}
 use Rattle.abs_tree.specs.SyntaxViews.{pattern_tree, pattern_trees}
 use Rattle.abs_values.specs.ValueTrees.{ValueTree, IntValue, StringValue, BuiltValue, ObjectValue, FutureValue, NullValue, ValueTrees}
 use Rattle.abs_values.specs.ValueViews.{value_tree, value_trees}
@@ -223,8 +223,8 @@ so_far_all (pattern ∷ patterns) (value ∷ values) none so_far =
     (λ empty. let zero : suc (length values) ≡ 0 = empty in omega (arith, zero)) none)
 
 -- a branch whose pattern matches is the first one
-pub first_matches : (names : List Name) (give : List ValueTree → Phrase → ℕ → Outcome) (pattern : PatternTree)
-    (body : Phrase) (others : Branches) (value : ValueTree) (made : ℕ) (before now : List ValueTree) (answer : Bool)
+pub first_matches : (names : List Name) (give : List ValueTree → ExprTree → ℕ → Outcome) (pattern : PatternTree)
+    (body : ExprTree) (others : Branches) (value : ValueTree) (made : ℕ) (before now : List ValueTree) (answer : Bool)
     → answer ≡ true → Matches (matched names pattern value) answer before now
     → branches_outcome names give (NextBranch pattern body others) value made ≡ give (drop (length before) now) body made
 first_matches names give pattern body others value made before now answer does matches =
@@ -244,8 +244,8 @@ first_begins (Some taken) answer before now matches = subst (Begins before) (sym
 first_begins None answer before now matches = matches.1
 
 -- a branch whose pattern does not match is passed over
-pub none_matches : (names : List Name) (give : List ValueTree → Phrase → ℕ → Outcome) (pattern : PatternTree)
-    (body : Phrase) (others : Branches) (value : ValueTree) (made : ℕ) (before now : List ValueTree) (answer : Bool)
+pub none_matches : (names : List Name) (give : List ValueTree → ExprTree → ℕ → Outcome) (pattern : PatternTree)
+    (body : ExprTree) (others : Branches) (value : ValueTree) (made : ℕ) (before now : List ValueTree) (answer : Bool)
     → answer ≡ false → Matches (matched names pattern value) answer before now
     → branches_outcome names give (NextBranch pattern body others) value made
     ≡ branches_outcome names give others value made

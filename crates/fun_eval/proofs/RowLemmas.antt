@@ -3,9 +3,9 @@ use Rattle.std.proofs.Common.{◌≡◌, ℕ, suc, ◌+◌, ◌<◌, ◌≤◌, 
 use Rattle.std.proofs.Math.Seq.{drop-cons}
 use Rattle.std.specs.declared.alloc.Global.{Global}
 use Rattle.std.specs.declared.sync.Arc.{Arc}
-use Rattle.abs_program.specs.InstructionViews.{shared_phrases}
-use Rattle.abs_tree.specs.Syntax.{Name, NoPhrase, NextPhrase, NoOperands, NextOperand, NoBranch, NextBranch}
-use Rattle.abs_tree.specs.SyntaxViews.{phrase, phrases, operand_trees, pattern_tree, branches as branch_trees}
+use Rattle.abs_program.specs.InstructionViews.{shared_expr_trees}
+use Rattle.abs_tree.specs.Syntax.{Name, NoExpr, NextExpr, NoOperands, NextOperand, NoBranch, NextBranch}
+use Rattle.abs_tree.specs.SyntaxViews.{expr_tree, expr_trees, operand_trees, pattern_tree, branches as branch_trees}
 use Rattle.abs_tree.specs.declared.syntax.expression.Branch.{Branch}
 use Rattle.abs_tree.specs.declared.syntax.expression.Expr.{Expr}
 use Rattle.abs_tree.specs.declared.syntax.expression.Operand.{Operand}
@@ -18,19 +18,19 @@ row_at items index item there is =
     ∙ (ap (λ (one : _). one ∷ drop (suc index) items) (sym is)
     ∙ ap (λ (next : ℕ). item ∷ drop next items) (let after : suc index ≡ index + 1 = omega arith in after))
 
-pub phrases_at : (names : List Name) (exprs : List Expr) (index : ℕ) (item : Expr) → index < length exprs
+pub exprs_at : (names : List Name) (exprs : List Expr) (index : ℕ) (item : Expr) → index < length exprs
     → item ≡ get_or exprs index item
-    → phrases names (drop index exprs) ≡ NextPhrase (phrase names item) (phrases names (drop (index + 1) exprs))
-phrases_at names exprs index item there is = ap (phrases names) (row_at exprs index item there is)
+    → expr_trees names (drop index exprs) ≡ NextExpr (expr_tree names item) (expr_trees names (drop (index + 1) exprs))
+exprs_at names exprs index item there is = ap (expr_trees names) (row_at exprs index item there is)
 
-pub phrases_end : (names : List Name) (exprs : List Expr) (index : ℕ) → length exprs ≤ index
-    → phrases names (drop index exprs) ≡ NoPhrase
-phrases_end names exprs index past = ap (phrases names) (drop_of_length-le exprs past)
+pub exprs_end : (names : List Name) (exprs : List Expr) (index : ℕ) → length exprs ≤ index
+    → expr_trees names (drop index exprs) ≡ NoExpr
+exprs_end names exprs index past = ap (expr_trees names) (drop_of_length-le exprs past)
 
 pub operands_at : (names : List Name) (operands : List Operand) (index : ℕ) (item : Operand) → index < length operands
     → item ≡ get_or operands index item
     → operand_trees names (drop index operands)
-    ≡ NextOperand item.operator (phrase names item.right) (operand_trees names (drop (index + 1) operands))
+    ≡ NextOperand item.operator (expr_tree names item.right) (operand_trees names (drop (index + 1) operands))
 operands_at names operands index item there is = ap (operand_trees names) (row_at operands index item there is)
 
 pub operands_end : (names : List Name) (operands : List Operand) (index : ℕ) → length operands ≤ index
@@ -40,7 +40,7 @@ operands_end names operands index past = ap (operand_trees names) (drop_of_lengt
 pub branches_at : (names : List Name) (branches : List Branch) (index : ℕ) (item : Branch) → index < length branches
     → item ≡ get_or branches index item
     → branch_trees names (drop index branches)
-    ≡ NextBranch (pattern_tree names item.pattern) (phrase names item.value)
+    ≡ NextBranch (pattern_tree names item.pattern) (expr_tree names item.value)
     (branch_trees names (drop (index + 1) branches))
 branches_at names branches index item there is = ap (branch_trees names) (row_at branches index item there is)
 
@@ -50,10 +50,10 @@ branches_end names branches index past = ap (branch_trees names) (drop_of_length
 
 pub shared_at : (names : List Name) (exprs : List (Arc Expr Global)) (index : ℕ) (item : Arc Expr Global)
     → index < length exprs → item ≡ get_or exprs index item
-    → shared_phrases names (drop index exprs)
-    ≡ NextPhrase (phrase names item.value) (shared_phrases names (drop (index + 1) exprs))
-shared_at names exprs index item there is = ap (shared_phrases names) (row_at exprs index item there is)
+    → shared_expr_trees names (drop index exprs)
+    ≡ NextExpr (expr_tree names item.value) (shared_expr_trees names (drop (index + 1) exprs))
+shared_at names exprs index item there is = ap (shared_expr_trees names) (row_at exprs index item there is)
 
 pub shared_end : (names : List Name) (exprs : List (Arc Expr Global)) (index : ℕ) → length exprs ≤ index
-    → shared_phrases names (drop index exprs) ≡ NoPhrase
-shared_end names exprs index past = ap (shared_phrases names) (drop_of_length-le exprs past)
+    → shared_expr_trees names (drop index exprs) ≡ NoExpr
+shared_end names exprs index past = ap (shared_expr_trees names) (drop_of_length-le exprs past)

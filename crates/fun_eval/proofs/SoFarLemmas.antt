@@ -8,8 +8,8 @@ use Rattle.abs_values.specs.Evaluation.{Outcome, ends_with, evaluate, operand_ou
 use Rattle.abs_values.specs.Results.{Gives}
 use Rattle.abs_values.specs.Scopes.{Library, Scope, library_of}
 use Rattle.abs_program.specs.NamedViews.{program_tree}
-use Rattle.abs_tree.specs.Syntax.{Name, Phrase}
-use Rattle.abs_tree.specs.SyntaxViews.{operand_trees, phrase}
+use Rattle.abs_tree.specs.Syntax.{Name, ExprTree}
+use Rattle.abs_tree.specs.SyntaxViews.{operand_trees, expr_tree}
 use Rattle.abs_values.specs.ValueTrees.{ValueTree}
 use Rattle.abs_values.specs.ValueViews.{value_tree}
 use Rattle.abs_tree.specs.declared.syntax.expression.Operand.{Operand}
@@ -17,7 +17,7 @@ use Rattle.abs_values.specs.declared.value.Value.{Value}
 use Rattle.fun_eval.proofs.FrameLemmas.{scope_stays}
 use Rattle.fun_eval.proofs.OutcomeLemmas.{operators_stop}
 use Rattle.fun_eval.proofs.RowLemmas.{operands_at, operands_end}
-use Rattle.fun_eval.specs.Evaluating.{gives_in, library_in, names_in, outcome_in, scope_of, IsStopped, Stays}
+use Rattle.fun_eval.specs.Evaluating.{gives_in, library_in, names_in, outcome_in, evaluator_scope, IsStopped, Stays}
 use Rattle.fun_eval.specs.declared.evaluator.Evaluator.{Evaluator}
 use Rattle.fun_eval.specs.declared.library.Library.{Library as Program}
 use Rattle.fun_eval.specs.declared.scope.Frame.{Frame}
@@ -34,7 +34,7 @@ names_stay before now is = ap (λ (library : Program). library.program.now.symbo
 pub gives_stays : (within : Frame) (left : ℕ) {before now : Evaluator} → Stays before now
     → gives_in now within left ≡ gives_in before within left
 gives_stays within left {before} {now} stays =
-    ap (λ (library : Library). evaluate library (scope_of within now) left) (library_stays before now stays.library_is)
+    ap (λ (library : Library). evaluate library (evaluator_scope within now) left) (library_stays before now stays.library_is)
     ∙ ap (λ (scope : Scope). evaluate (library_in before) scope left) (scope_stays within stays)
 
 pub stays_same : (evaluator : Evaluator) → Stays evaluator evaluator
@@ -54,7 +54,7 @@ pub record OperatorsSoFar (expected : Outcome) (within : Frame) (left : ℕ) (so
   pub is : expected ≡ operators_outcome (names_in before) (gives_in before within left)
       (ends_with (Gives (value_tree so_far)) now.applications) (operand_trees (names_in before) operands)
 
-pub operators_begin : (within : Frame) (left : ℕ) (first : Phrase) (so_far : Value) (operands : List Operand)
+pub operators_begin : (within : Frame) (left : ℕ) (first : ExprTree) (so_far : Value) (operands : List Operand)
     (before now : Evaluator) → Stays before now
     → outcome_in before within left first ≡ ends_with (Gives (value_tree so_far)) now.applications
     → OperatorsSoFar (operators_outcome (names_in before) (gives_in before within left)
@@ -69,21 +69,21 @@ operators_begin within left first so_far operands before now stays is = record {
 -- the outcome of one operator is the same as before
 operand_stays : (within : Frame) (left : ℕ) (item : Operand) (value : ValueTree) (made : ℕ) {before now : Evaluator}
     → Stays before now
-    → operand_outcome (names_in now) (gives_in now within left) item.operator (phrase (names_in now) item.right) value made
-    ≡ operand_outcome (names_in before) (gives_in before within left) item.operator (phrase (names_in before) item.right)
+    → operand_outcome (names_in now) (gives_in now within left) item.operator (expr_tree (names_in now) item.right) value made
+    ≡ operand_outcome (names_in before) (gives_in before within left) item.operator (expr_tree (names_in before) item.right)
     value made
 operand_stays within left item value made {before} {now} stays =
-    ap (λ (names : List Name). operand_outcome names (gives_in now within left) item.operator (phrase names item.right)
+    ap (λ (names : List Name). operand_outcome names (gives_in now within left) item.operator (expr_tree names item.right)
     value made) (names_stay before now stays.library_is)
-    ∙ ap (λ (give : Phrase → ℕ → Outcome). operand_outcome (names_in before) give item.operator
-    (phrase (names_in before) item.right) value made) (gives_stays within left stays)
+    ∙ ap (λ (give : ExprTree → ℕ → Outcome). operand_outcome (names_in before) give item.operator
+    (expr_tree (names_in before) item.right) value made) (gives_stays within left stays)
 
 -- the outcome of the operators that are left, by that of the first of them
 operators_next : {expected : Outcome} {within : Frame} {left : ℕ} {so_far : Value} (operands : List Operand)
     {before now : Evaluator} (index : ℕ) (item : Operand) → index < length operands → item ≡ get_or operands index item
     → OperatorsSoFar expected within left so_far (drop index operands) before now
     → expected ≡ operators_outcome (names_in before) (gives_in before within left)
-    (operand_outcome (names_in now) (gives_in now within left) item.operator (phrase (names_in now) item.right)
+    (operand_outcome (names_in now) (gives_in now within left) item.operator (expr_tree (names_in now) item.right)
     (value_tree so_far) now.applications) (operand_trees (names_in before) (drop (index + 1) operands))
 operators_next {expected} {within} {left} {so_far} operands {before} {now} index item there item_is found =
     found.is
@@ -99,7 +99,7 @@ pub operators_step : {expected : Outcome} {within : Frame} {left : ℕ} {so_far 
     → index < length operands → item ≡ get_or operands index item
     → OperatorsSoFar expected within left so_far (drop index operands) before between → Stays between now
     → operand_outcome (names_in between) (gives_in between within left) item.operator
-    (phrase (names_in between) item.right) (value_tree so_far) between.applications
+    (expr_tree (names_in between) item.right) (value_tree so_far) between.applications
     ≡ ends_with (Gives (value_tree value)) now.applications
     → OperatorsSoFar expected within left value (drop (index + 1) operands) before now
 operators_step {expected} {within} {left} {so_far} operands {before} {between} index item value now there item_is found
@@ -116,12 +116,12 @@ pub operators_stopped : {expected : Outcome} {within : Frame} {left : ℕ} {so_f
     → item ≡ get_or operands index item
     → OperatorsSoFar expected within left so_far (drop index operands) before now
     → IsStopped (operand_outcome (names_in now) (gives_in now within left) item.operator
-    (phrase (names_in now) item.right) (value_tree so_far) now.applications).result cause
+    (expr_tree (names_in now) item.right) (value_tree so_far) now.applications).result cause
     → IsStopped expected.result cause
 operators_stopped {expected} {within} {left} {so_far} operands {before} {now} index item cause there item_is found is =
     subst (λ (outcome : Outcome). IsStopped outcome.result cause) (sym (operators_next operands index item there item_is found))
     (operators_stop (names_in before) (gives_in before within left)
-    (operand_outcome (names_in now) (gives_in now within left) item.operator (phrase (names_in now) item.right)
+    (operand_outcome (names_in now) (gives_in now within left) item.operator (expr_tree (names_in now) item.right)
     (value_tree so_far) now.applications) (operand_trees (names_in before) (drop (index + 1) operands)) cause is)
 
 pub operators_end : {expected : Outcome} {within : Frame} {left : ℕ} {so_far : Value} (operands : List Operand)

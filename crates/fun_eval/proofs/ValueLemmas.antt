@@ -9,58 +9,58 @@ use Rattle.std.proofs.Math.Seq.{drop-length}
 use Rattle.abs_values.specs.Evaluation.{Outcome, Outcomes, all_end_with, ends_with, evaluate, outcomes_of}
 use Rattle.abs_values.specs.Results.{Gives, AllGive}
 use Rattle.abs_values.specs.Scopes.{Library, Scope}
-use Rattle.abs_tree.specs.Syntax.{Name, Phrase, Phrases}
-use Rattle.abs_tree.specs.SyntaxViews.{phrase, phrases}
+use Rattle.abs_tree.specs.Syntax.{Name, ExprTree, ExprTrees}
+use Rattle.abs_tree.specs.SyntaxViews.{expr_tree, expr_trees}
 use Rattle.abs_values.specs.ValueTrees.{ValueTree}
 use Rattle.abs_values.specs.ValueViews.{value_tree}
 use Rattle.abs_tree.specs.declared.syntax.expression.Expr.{Expr}
 use Rattle.abs_values.specs.declared.value.Value.{Value}
 use Rattle.fun_eval.proofs.FrameLemmas.{arguments_counted, bound_counted, scope_arguments, within_longer, within_trees}
 use Rattle.fun_eval.proofs.ListLemmas.{earlier_begin, earlier_end, earlier_step, earlier_stop, with_earlier}
-use Rattle.fun_eval.proofs.RowLemmas.{phrases_at, phrases_end}
+use Rattle.fun_eval.proofs.RowLemmas.{exprs_at, exprs_end}
 use Rattle.fun_eval.proofs.SoFarLemmas.{gives_stays, library_stays, names_stay, stays_further}
 use Rattle.fun_eval.proofs.StackLemmas.{added_twice, begins_added, begins_longer, begins_more, begins_same, pushed}
-use Rattle.fun_eval.specs.Evaluating.{arguments_in, bound_in, gives_in, library_in, names_in, scope_in, scope_of, AddedArguments, AreStopped, IsStopped, IsWithin, Stays}
+use Rattle.fun_eval.specs.Evaluating.{arguments_in, bound_in, gives_in, library_in, names_in, scope_in, evaluator_scope, AddedArguments, AreStopped, IsStopped, IsWithin, Stays}
 use Rattle.fun_eval.specs.Matching.{Begins}
 use Rattle.fun_eval.specs.declared.evaluator.Evaluator.{Evaluator}
 use Rattle.fun_eval.specs.declared.scope.Frame.{Frame}
 use Rattle.fun_eval.specs.declared.stop.Stop.{Stop}
 
 -- Expressions that are left follow values: the outcomes of all are those of the rest after these values.
-pub record Follow (expected : Outcomes) (give : Phrase → ℕ → Outcome) (names : List Name) (values : List ValueTree)
+pub record Follow (expected : Outcomes) (give : ExprTree → ℕ → Outcome) (names : List Name) (values : List ValueTree)
     (exprs : List Expr) (made : ℕ) : Type 0 where
-  pub is : expected ≡ with_earlier values (outcomes_of give (phrases names exprs) made)
+  pub is : expected ≡ with_earlier values (outcomes_of give (expr_trees names exprs) made)
 
-follow_step : {expected : Outcomes} {give : Phrase → ℕ → Outcome} {names : List Name} {values : List ValueTree}
+follow_step : {expected : Outcomes} {give : ExprTree → ℕ → Outcome} {names : List Name} {values : List ValueTree}
     (exprs : List Expr) {made : ℕ} (index : ℕ) (item : Expr) (value : ValueTree) (now : ℕ) → index < length exprs
     → item ≡ get_or exprs index item → Follow expected give names values (drop index exprs) made
-    → give (phrase names item) made ≡ ends_with (Gives value) now
+    → give (expr_tree names item) made ≡ ends_with (Gives value) now
     → Follow expected give names (values ++ value ∷ []) (drop (index + 1) exprs) now
 follow_step {expected} {give} {names} {values} exprs {made} index item value now there item_is found is = record {
   is =
       found.is
-      ∙ (ap (λ (trees : Phrases). with_earlier values (outcomes_of give trees made))
-      (phrases_at names exprs index item there item_is)
-      ∙ earlier_step give values (phrase names item) (phrases names (drop (index + 1) exprs)) value made now is);
+      ∙ (ap (λ (trees : ExprTrees). with_earlier values (outcomes_of give trees made))
+      (exprs_at names exprs index item there item_is)
+      ∙ earlier_step give values (expr_tree names item) (expr_trees names (drop (index + 1) exprs)) value made now is);
 }
 
-follow_stop : {expected : Outcomes} {give : Phrase → ℕ → Outcome} {names : List Name} {values : List ValueTree}
+follow_stop : {expected : Outcomes} {give : ExprTree → ℕ → Outcome} {names : List Name} {values : List ValueTree}
     (exprs : List Expr) {made : ℕ} (index : ℕ) (item : Expr) (cause : Stop) → index < length exprs
     → item ≡ get_or exprs index item → Follow expected give names values (drop index exprs) made
-    → IsStopped (give (phrase names item) made).result cause → AreStopped expected.results cause
+    → IsStopped (give (expr_tree names item) made).result cause → AreStopped expected.results cause
 follow_stop {expected} {give} {names} {values} exprs {made} index item cause there item_is found is =
     subst (λ (outcomes : Outcomes). AreStopped outcomes.results cause)
     (sym (found.is
-    ∙ ap (λ (trees : Phrases). with_earlier values (outcomes_of give trees made))
-    (phrases_at names exprs index item there item_is)))
-    (earlier_stop give values (phrase names item) (phrases names (drop (index + 1) exprs)) made cause is)
+    ∙ ap (λ (trees : ExprTrees). with_earlier values (outcomes_of give trees made))
+    (exprs_at names exprs index item there item_is)))
+    (earlier_stop give values (expr_tree names item) (expr_trees names (drop (index + 1) exprs)) made cause is)
 
-follow_end : {expected : Outcomes} {give : Phrase → ℕ → Outcome} {names : List Name} {values : List ValueTree}
+follow_end : {expected : Outcomes} {give : ExprTree → ℕ → Outcome} {names : List Name} {values : List ValueTree}
     (exprs : List Expr) {made : ℕ} (index : ℕ) → length exprs ≤ index
     → Follow expected give names values (drop index exprs) made → expected ≡ all_end_with (AllGive values) made
 follow_end {expected} {give} {names} {values} exprs {made} index past found =
     found.is
-    ∙ (ap (λ (trees : Phrases). with_earlier values (outcomes_of give trees made)) (phrases_end names exprs index past)
+    ∙ (ap (λ (trees : ExprTrees). with_earlier values (outcomes_of give trees made)) (exprs_end names exprs index past)
     ∙ earlier_end give values made)
 
 -- The expressions that are left follow the values so far.
@@ -72,7 +72,7 @@ pub record ValuesSoFar (expected : Outcomes) (within : Frame) (left : ℕ) (valu
 
 pub values_begin : (within : Frame) (left : ℕ) (values : List Value) (exprs : List Expr) (before : Evaluator)
     → values ≡ [] → Stays before before
-    → ValuesSoFar (outcomes_of (gives_in before within left) (phrases (names_in before) exprs) before.applications) within
+    → ValuesSoFar (outcomes_of (gives_in before within left) (expr_trees (names_in before) exprs) before.applications) within
     left values exprs before before
 values_begin within left values exprs before none stays = record {
   stays = stays;
@@ -82,18 +82,18 @@ values_begin within left values exprs before none stays = record {
 -- the outcome of an expression is the same as before
 pub one_stays : (within : Frame) (left : ℕ) (item : Expr) (before now : Evaluator) → now.library ≡ before.library
     → gives_in now within left ≡ gives_in before within left
-    → gives_in before within left (phrase (names_in before) item) now.applications
-    ≡ gives_in now within left (phrase (names_in now) item) now.applications
+    → gives_in before within left (expr_tree (names_in before) item) now.applications
+    ≡ gives_in now within left (expr_tree (names_in now) item) now.applications
 one_stays within left item before now library same =
-    ap (λ (give : Phrase → ℕ → Outcome). give (phrase (names_in before) item) now.applications) (sym same)
-    ∙ ap (λ (names : List Name). gives_in now within left (phrase names item) now.applications)
+    ap (λ (give : ExprTree → ℕ → Outcome). give (expr_tree (names_in before) item) now.applications) (sym same)
+    ∙ ap (λ (names : List Name). gives_in now within left (expr_tree names item) now.applications)
     (sym (names_stay before now library))
 
 pub values_step : {expected : Outcomes} {within : Frame} {left : ℕ} {values : List Value} (exprs : List Expr)
     {before between : Evaluator} (index : ℕ) (item : Expr) (value : Value) (added : List Value) (now : Evaluator)
     → index < length exprs → item ≡ get_or exprs index item
     → ValuesSoFar expected within left values (drop index exprs) before between → Stays between now
-    → gives_in between within left (phrase (names_in between) item) between.applications
+    → gives_in between within left (expr_tree (names_in between) item) between.applications
     ≡ ends_with (Gives (value_tree value)) now.applications
     → added ≡ values ++ value ∷ []
     → ValuesSoFar expected within left added (drop (index + 1) exprs) before now
@@ -110,7 +110,7 @@ values_step {expected} {within} {left} {values} exprs {before} {between} index i
 pub values_stopped : {expected : Outcomes} {within : Frame} {left : ℕ} {values : List Value} (exprs : List Expr)
     {before now : Evaluator} (index : ℕ) (item : Expr) (cause : Stop) → index < length exprs
     → item ≡ get_or exprs index item → ValuesSoFar expected within left values (drop index exprs) before now
-    → IsStopped (gives_in now within left (phrase (names_in now) item) now.applications).result cause
+    → IsStopped (gives_in now within left (expr_tree (names_in now) item) now.applications).result cause
     → AreStopped expected.results cause
 values_stopped {expected} {within} {left} {values} exprs {before} {now} index item cause there item_is found is =
     follow_stop exprs index item cause there item_is found.follow
@@ -133,7 +133,7 @@ pub record ArgumentsSoFar (expected : Outcomes) (within : Frame) (left : ℕ) (e
       (drop (length (arguments_in before)) (arguments_in now)) exprs now.applications
 
 pub arguments_begin : (within : Frame) (left : ℕ) (exprs : List Expr) (before : Evaluator)
-    → ArgumentsSoFar (outcomes_of (gives_in before within left) (phrases (names_in before) exprs) before.applications)
+    → ArgumentsSoFar (outcomes_of (gives_in before within left) (expr_trees (names_in before) exprs) before.applications)
     within left exprs before before
 arguments_begin within left exprs before = record {
   library_is = refl;
@@ -147,7 +147,7 @@ pub gives_added : (within : Frame) (left : ℕ) (before now : Evaluator) → now
     → bound_in now ≡ bound_in before → Begins (arguments_in before) (arguments_in now) → IsWithin within before
     → gives_in now within left ≡ gives_in before within left
 gives_added within left before now library bound begins is =
-    ap (λ (known : Library). evaluate known (scope_of within now) left) (library_stays before now library)
+    ap (λ (known : Library). evaluate known (evaluator_scope within now) left) (library_stays before now library)
     ∙ ap (λ (scope : Scope). evaluate (library_in before) scope left)
     (ap (λ (items : List ValueTree). scope_in within items (bound_in now)) (begins_added begins)
     ∙ (ap (scope_in within (arguments_in before ++ drop (length (arguments_in before)) (arguments_in now))) bound
@@ -165,7 +165,7 @@ pub arguments_step : {expected : Outcomes} {within : Frame} {left : ℕ} (exprs 
     {before between : Evaluator} (index : ℕ) (item : Expr) (value : Value) (middle now : Evaluator)
     → index < length exprs → item ≡ get_or exprs index item → IsWithin within before
     → ArgumentsSoFar expected within left (drop index exprs) before between → Stays between middle
-    → gives_in between within left (phrase (names_in between) item) between.applications
+    → gives_in between within left (expr_tree (names_in between) item) between.applications
     ≡ ends_with (Gives (value_tree value)) middle.applications
     → now.library ≡ middle.library → now.bound.items ≡ middle.bound.items → now.applications ≡ middle.applications
     → now.arguments.items ≡ middle.arguments.items ++ value ∷ []
@@ -190,11 +190,11 @@ arguments_step {expected} {within} {left} exprs {before} {between} index item va
       follow = record {
         is = next.is
             ∙ (ap (λ (trees : List ValueTree). with_earlier trees (outcomes_of (gives_in before within left)
-            (phrases (names_in before) (drop (index + 1) exprs)) middle.applications))
+            (expr_trees (names_in before) (drop (index + 1) exprs)) middle.applications))
             (sym (ap (drop (length (arguments_in before))) top
             ∙ added_twice (arguments_in before) (arguments_in between) (value_tree value ∷ []) found.begins))
             ∙ ap (λ (n : ℕ). with_earlier (drop (length (arguments_in before)) (arguments_in now))
-            (outcomes_of (gives_in before within left) (phrases (names_in before) (drop (index + 1) exprs)) n))
+            (outcomes_of (gives_in before within left) (expr_trees (names_in before) (drop (index + 1) exprs)) n))
             (sym made));
       };
     }
@@ -203,7 +203,7 @@ pub arguments_stopped : {expected : Outcomes} {within : Frame} {left : ℕ} (exp
     {before now : Evaluator} (index : ℕ) (item : Expr) (cause : Stop) → index < length exprs
     → item ≡ get_or exprs index item → IsWithin within before
     → ArgumentsSoFar expected within left (drop index exprs) before now
-    → IsStopped (gives_in now within left (phrase (names_in now) item) now.applications).result cause
+    → IsStopped (gives_in now within left (expr_tree (names_in now) item) now.applications).result cause
     → AreStopped expected.results cause
 arguments_stopped {expected} {within} {left} exprs {before} {now} index item cause there item_is is_within found is =
     follow_stop exprs index item cause there item_is found.follow

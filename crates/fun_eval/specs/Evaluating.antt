@@ -2,7 +2,7 @@
 --
 --   `names_in`, `library_in`, `declarations_in`        the names, the library and the declarations of its program
 --   `arguments_in`, `bound_in`         its stacks, as trees
---   `scope_in`, `scope_of`             what a frame reads, with these stacks, and with those of an evaluator
+--   `scope_in`, `evaluator_scope`             what a frame reads, with these stacks, and with those of an evaluator
 --   `AreWithin`, `IsWithin`            what a frame reads is on the stacks
 --   `gives_in`, `outcome_in`           the outcome of each expression, and after the applications so far
 --   `IsStopped`, `IsOutcome`           the code stops as this result says; it gives this outcome
@@ -16,8 +16,8 @@ use Rattle.abs_values.specs.Evaluation.{Outcome, Outcomes, all_end_with, branche
 use Rattle.abs_values.specs.Results.{Result as ResultTree, Gives, Fails, AllGive, OneFails, Results}
 use Rattle.abs_values.specs.Scopes.{Library, Scope, library_of}
 use Rattle.abs_program.specs.NamedViews.{named_tree, program_tree}
-use Rattle.abs_tree.specs.Syntax.{Name, DeclTree, Phrase}
-use Rattle.abs_tree.specs.SyntaxViews.{branches as branch_trees, phrase}
+use Rattle.abs_tree.specs.Syntax.{Name, DeclTree, ExprTree}
+use Rattle.abs_tree.specs.SyntaxViews.{branches as branch_trees, expr_tree}
 use Rattle.abs_values.specs.ValueTrees.{ValueTree}
 use Rattle.abs_values.specs.ValueViews.{value_tree}
 use Rattle.abs_tree.specs.declared.syntax.expression.Branch.{Branch}
@@ -62,8 +62,8 @@ scope_in (frame.Function first count from) arguments bound = record {
   bound = drop from bound;
 }
 
-abbrev pub scope_of : Frame → Evaluator → Scope
-scope_of frame evaluator = scope_in frame (arguments_in evaluator) (bound_in evaluator)
+abbrev pub evaluator_scope : Frame → Evaluator → Scope
+evaluator_scope frame evaluator = scope_in frame (arguments_in evaluator) (bound_in evaluator)
 
 -- what a frame reads from the stacks is on them, if they are so long
 abbrev pub AreWithin : Frame → ℕ → ℕ → Type 0
@@ -74,12 +74,12 @@ abbrev pub IsWithin : Frame → Evaluator → Type 0
 IsWithin frame evaluator = AreWithin frame (length evaluator.arguments.items) (length evaluator.bound.items)
 
 -- the outcome of each expression after some applications, in a frame of the evaluator and with some levels left
-abbrev pub gives_in : Evaluator → Frame → ℕ → Phrase → ℕ → Outcome
-gives_in evaluator frame left = evaluate (library_in evaluator) (scope_of frame evaluator) left
+abbrev pub gives_in : Evaluator → Frame → ℕ → ExprTree → ℕ → Outcome
+gives_in evaluator frame left = evaluate (library_in evaluator) (evaluator_scope frame evaluator) left
 
 -- the same after the applications so far
-abbrev pub outcome_in : Evaluator → Frame → ℕ → Phrase → Outcome
-outcome_in evaluator frame left phrase = gives_in evaluator frame left phrase evaluator.applications
+abbrev pub outcome_in : Evaluator → Frame → ℕ → ExprTree → Outcome
+outcome_in evaluator frame left expr_tree = gives_in evaluator frame left expr_tree evaluator.applications
 
 -- The code stops with the fault of this result. Or memory runs out.
 abbrev pub IsStopped : ResultTree → Stop → Type 0
@@ -133,8 +133,8 @@ GivesAll expected (Err cause) = AreStopped expected cause
 pub record ChosenBranch (subject : Outcome) (branches : List Branch) (branch : Branch) (before now : Evaluator)
     : Type 0 where
   pub begins : Begins (bound_in before) (bound_in now)
-  pub is : (give : List ValueTree → Phrase → ℕ → Outcome)
+  pub is : (give : List ValueTree → ExprTree → ℕ → Outcome)
       → outcome_after subject (branches_outcome (names_in before) give (branch_trees (names_in before) branches))
-      ≡ give (drop (length (bound_in before)) (bound_in now)) (phrase (names_in before) branch.value) now.applications
+      ≡ give (drop (length (bound_in before)) (bound_in now)) (expr_tree (names_in before) branch.value) now.applications
   pub library_is : now.library ≡ before.library
   pub arguments_are : arguments_in now ≡ arguments_in before

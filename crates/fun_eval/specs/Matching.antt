@@ -11,8 +11,8 @@ use Rattle.std.specs.Ordering.{int_eq}
 use Rattle.std.specs.Str.{bytes_eq}
 use Rattle.abs_values.specs.Evaluation.{Outcome, branches_outcome, ends_with}
 use Rattle.abs_values.specs.Results.{Fails}
-use Rattle.abs_tree.specs.Syntax.{Name, Phrase}
-use Rattle.abs_tree.specs.SyntaxViews.{branches as branch_trees, phrase}
+use Rattle.abs_tree.specs.Syntax.{Name, ExprTree}
+use Rattle.abs_tree.specs.SyntaxViews.{branches as branch_trees, expr_tree}
 use Rattle.abs_values.specs.ValueTrees.{ValueTree, IntValue, StringValue, BuiltValue, ValueTrees}
 use Rattle.abs_values.specs.declared.evaluated.Fault.TheVariants as fault
 use Rattle.abs_tree.specs.declared.syntax.expression.Branch.{Branch}
@@ -44,8 +44,8 @@ Matches None answer before now = (answer ≡ false) × Begins before now
 -- branch it is the fault Match.
 abbrev pub ChoosesFirst : List Name → List Branch → ValueTree → Option Branch → List ValueTree → List ValueTree → Type 0
 ChoosesFirst names branches value (Some branch) before now = Begins before now
-    × ((give : List ValueTree → Phrase → ℕ → Outcome) (made : ℕ)
+    × ((give : List ValueTree → ExprTree → ℕ → Outcome) (made : ℕ)
     → branches_outcome names give (branch_trees names branches) value made
-    ≡ give (drop (length before) now) (phrase names branch.value) made)
-ChoosesFirst names branches value None before now = (give : List ValueTree → Phrase → ℕ → Outcome) (made : ℕ)
+    ≡ give (drop (length before) now) (expr_tree names branch.value) made)
+ChoosesFirst names branches value None before now = (give : List ValueTree → ExprTree → ℕ → Outcome) (made : ℕ)
     → branches_outcome names give (branch_trees names branches) value made ≡ ends_with (Fails fault.Match) made

@@ -7,7 +7,7 @@
 use Rattle.std.specs.Prelude.{◌≡◌, ⊤, [], map, Option, Some, None, Result, Ok, Err}
 use Rattle.abs_values.specs.Results.{Result as ResultTree, Gives, Fails}
 use Rattle.abs_values.specs.Scopes.{Scope as ScopeTree}
-use Rattle.abs_tree.specs.Syntax.{Phrase, DeclTree, FunctionTree}
+use Rattle.abs_tree.specs.Syntax.{ExprTree, DeclTree, FunctionTree}
 use Rattle.abs_values.specs.ValueTrees.{ValueTree}
 use Rattle.abs_values.specs.ValueViews.{value_tree}
 use Rattle.abs_values.specs.declared.evaluated.Env.{Env}
@@ -42,6 +42,6 @@ IsResult expected (Err (stop.Fault cause)) = expected ≡ Fails cause
 IsResult expected (Err stop.Memory) = ⊤
 
 -- the value of a declaration, if it is a function
-abbrev pub value_of_function : Option DeclTree → Option Phrase
+abbrev pub value_of_function : Option DeclTree → Option ExprTree
 value_of_function (Some (FunctionTree place result name type_params params value)) = Some value
 value_of_function declaration = None

@@ -8,7 +8,7 @@ ghost use Rattle.abs_program.specs.NameSpaces.{spaces_of};
 ghost use Rattle.abs_values.specs.Results.{built_result};
 ghost use Rattle.abs_values.specs.Scopes.{function_named, own_scope};
 ghost use Rattle.abs_tree.specs.Syntax.{Name};
-ghost use Rattle.abs_tree.specs.SyntaxViews.{decl_tree, phrase, phrases};
+ghost use Rattle.abs_tree.specs.SyntaxViews.{decl_tree, expr_tree, expr_trees};
 ghost use Rattle.abs_program.specs.Tables.{meaning_of};
 ghost use Rattle.abs_values.specs.ValueTrees.{parts_of_list};
 ghost use Rattle.fun_eval.specs.Reading.{value_of_function, IsResult};
@@ -35,7 +35,7 @@ impl Evaluator<'_> {
     ) -> Result<Value, Stop>
         requires { IsWithin frame.now self.old }
         ensures outcome { IsOutcome (outcome_after_all
-            (outcomes_of (gives_in self.old frame.now left) (phrases (names_in self.old) arguments.now)
+            (outcomes_of (gives_in self.old frame.now left) (expr_trees (names_in self.old) arguments.now)
             self.old.applications) (application_outcome (library_in self.old)
             (λ values. evaluate (library_in self.old) (own_scope values) left)
             (name_of (names_in self.old) function))) result self.new }
@@ -58,9 +58,9 @@ impl Evaluator<'_> {
     ) -> Result<(), Stop>
         requires { IsWithin frame.now self.old }
         ensures added { OnOk result (AddedArguments (outcomes_of (gives_in self.old frame.now left)
-            (phrases (names_in self.old) arguments.now) self.old.applications) self.old self.new) }
+            (expr_trees (names_in self.old) arguments.now) self.old.applications) self.old self.new) }
         ensures stopped { IfErr result (AreStopped (outcomes_of (gives_in self.old frame.now left)
-            (phrases (names_in self.old) arguments.now) self.old.applications).results) }
+            (expr_trees (names_in self.old) arguments.now) self.old.applications).results) }
     {
         for argument in arguments {
             let value = self.part(frame, left, argument)?;
@@ -141,7 +141,7 @@ impl Evaluator<'_> {
     ) -> Result<Value, Stop>
         requires { IsWithin frame.now self.old }
         ensures outcome { IsOutcome (outcome_after_all
-            (outcomes_of (gives_in self.old frame.now left) (phrases (names_in self.old) arguments.now)
+            (outcomes_of (gives_in self.old frame.now left) (expr_trees (names_in self.old) arguments.now)
             self.old.applications) (λ values. ends_with (built_result
             (number_of_name (names_in self.old) (name_of (names_in self.old) constructor))
             (parts_of_list values)))) result self.new }
@@ -166,7 +166,7 @@ impl Evaluator<'_> {
     ) -> Result<Vec<Value>, Stop>
         requires { IsWithin frame.now self.old }
         ensures values { GivesValues (outcomes_of (gives_in self.old frame.now left)
-            (phrases (names_in self.old) exprs.now) self.old.applications) result self.new }
+            (expr_trees (names_in self.old) exprs.now) self.old.applications) result self.new }
         ensures stays { OnOk result (Stays self.old self.new) }
     {
         let mut values = Vec::with_capacity(self.library.alloc, exprs.len())?;
@@ -179,7 +179,7 @@ impl Evaluator<'_> {
 
 /// The value of the function that is declared at an index, if it is one.
 fn function_value(declarations: &[Decl], index: u32) -> Option<&Expr>
-    ensures { (names : List Name) → option_map (λ value. phrase names value.now) result
+    ensures { (names : List Name) → option_map (λ value. expr_tree names value.now) result
         ≡ value_of_function (slice_get (map (decl_tree names) declarations.now) index) }
 {
     match declarations.get(index as usize)? {

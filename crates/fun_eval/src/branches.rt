@@ -3,11 +3,11 @@ ghost use Rattle.std.specs.Prelude.{◌∷◌, [], ℕ, List, IfErr, IfOk, OnOk}
 ghost use Rattle.abs_values.specs.Evaluation.{branches_outcome, chosen_outcome, evaluate, outcome_after, Outcome};
 ghost use Rattle.abs_values.specs.Operations.{truth_of};
 ghost use Rattle.abs_values.specs.Scopes.{with_bound};
-ghost use Rattle.abs_tree.specs.Syntax.{Phrase};
-ghost use Rattle.abs_tree.specs.SyntaxViews.{branches as branch_trees, phrase};
+ghost use Rattle.abs_tree.specs.Syntax.{ExprTree};
+ghost use Rattle.abs_tree.specs.SyntaxViews.{branches as branch_trees, expr_tree};
 ghost use Rattle.abs_values.specs.ValueTrees.{ValueTree};
 ghost use Rattle.abs_values.specs.ValueViews.{value_tree};
-ghost use Rattle.fun_eval.specs.Evaluating.{gives_in, library_in, names_in, outcome_in, scope_of, Binds, ChosenBranch, IsOutcome, IsStopped, IsWithin, Stays};
+ghost use Rattle.fun_eval.specs.Evaluating.{gives_in, library_in, names_in, outcome_in, evaluator_scope, Binds, ChosenBranch, IsOutcome, IsStopped, IsWithin, Stays};
 
 use crate::evaluator::Evaluator;
 use crate::patterns::first_match;
@@ -31,9 +31,9 @@ impl Evaluator<'_> {
     ) -> Result<Value, Stop>
         requires { IsWithin frame.now self.old }
         ensures outcome { IsOutcome (outcome_after
-            (outcome_in self.old frame.now left (phrase (names_in self.old) condition.now))
-            (λ found. chosen_outcome (gives_in self.old frame.now left) (phrase (names_in self.old) first.now)
-            (phrase (names_in self.old) second.now) (truth_of (names_in self.old) found))) result self.new }
+            (outcome_in self.old frame.now left (expr_tree (names_in self.old) condition.now))
+            (λ found. chosen_outcome (gives_in self.old frame.now left) (expr_tree (names_in self.old) first.now)
+            (expr_tree (names_in self.old) second.now) (truth_of (names_in self.old) found))) result self.new }
         ensures stays { OnOk result (Stays self.old self.new) }
     {
         let condition = self.evaluate(frame, left, condition)?;
@@ -56,9 +56,9 @@ impl Evaluator<'_> {
     ) -> Result<Value, Stop>
         requires { IsWithin frame.now self.old }
         ensures outcome { IsOutcome (outcome_after
-            (outcome_in self.old frame.now left (phrase (names_in self.old) value.now))
-            (λ found. evaluate (library_in self.old) (with_bound (scope_of frame.now self.old) (found ∷ [])) left
-            (phrase (names_in self.old) body.now))) result self.new }
+            (outcome_in self.old frame.now left (expr_tree (names_in self.old) value.now))
+            (λ found. evaluate (library_in self.old) (with_bound (evaluator_scope frame.now self.old) (found ∷ [])) left
+            (expr_tree (names_in self.old) body.now))) result self.new }
         ensures stays { OnOk result (Stays self.old self.new) }
     {
         let outside = self.bound.len();
@@ -89,9 +89,9 @@ impl Evaluator<'_> {
     ) -> Result<Value, Stop>
         requires { IsWithin frame.now self.old }
         ensures outcome { IsOutcome (outcome_after
-            (outcome_in self.old frame.now left (phrase (names_in self.old) subject.now))
+            (outcome_in self.old frame.now left (expr_tree (names_in self.old) subject.now))
             (branches_outcome (names_in self.old) (λ values. evaluate (library_in self.old)
-            (with_bound (scope_of frame.now self.old) values) left)
+            (with_bound (evaluator_scope frame.now self.old) values) left)
             (branch_trees (names_in self.old) branches.now))) result self.new }
         ensures stays { OnOk result (Stays self.old self.new) }
     {
@@ -114,10 +114,10 @@ impl Evaluator<'_> {
     ) -> Result<&'b Branch, Stop>
         requires { IsWithin frame.now self.old }
         ensures chosen { IfOk result (λ branch. ChosenBranch
-            (outcome_in self.old frame.now left (phrase (names_in self.old) subject.now)) branches.now branch.now
+            (outcome_in self.old frame.now left (expr_tree (names_in self.old) subject.now)) branches.now branch.now
             self.old self.new) }
-        ensures stopped { (give : List ValueTree → Phrase → ℕ → Outcome) → IfErr result (λ cause. IsStopped
-            (outcome_after (outcome_in self.old frame.now left (phrase (names_in self.old) subject.now))
+        ensures stopped { (give : List ValueTree → ExprTree → ℕ → Outcome) → IfErr result (λ cause. IsStopped
+            (outcome_after (outcome_in self.old frame.now left (expr_tree (names_in self.old) subject.now))
             (branches_outcome (names_in self.old) give (branch_trees (names_in self.old) branches.now))).result cause) }
     {
         let value = self.part(frame, left, subject)?;

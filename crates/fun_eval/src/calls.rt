@@ -1,11 +1,11 @@
 //! The calls that evaluate the expressions of a statement, each with all levels and a count of its own.
 ghost use Rattle.std.specs.Prelude.{◌≡◌, [], IfOk};
 ghost use Rattle.abs_values.specs.Evaluation.{result_of, results_of};
-ghost use Rattle.abs_program.specs.InstructionViews.{shared_phrases};
+ghost use Rattle.abs_program.specs.InstructionViews.{shared_expr_trees};
 ghost use Rattle.abs_values.specs.Results.{result_tree, results_tree};
 ghost use Rattle.abs_values.specs.Scopes.{library_of};
 ghost use Rattle.abs_program.specs.NamedViews.{program_tree};
-ghost use Rattle.abs_tree.specs.SyntaxViews.{phrase, phrases};
+ghost use Rattle.abs_tree.specs.SyntaxViews.{expr_tree, expr_trees};
 ghost use Rattle.fun_eval.specs.Evaluating.{library_in, names_in, GivesAll};
 ghost use Rattle.fun_eval.specs.Reading.{env_scope, scope_tree};
 
@@ -30,7 +30,7 @@ pub fn eval(
     expr: &Expr,
 ) -> Result<Evaluated, AllocError>
     ensures { IfOk result (λ found. result_tree found ≡ result_of (library_of (program_tree program.now))
-        (env_scope env.now) (phrase program.now.symbols expr.now)) }
+        (env_scope env.now) (expr_tree program.now.symbols expr.now)) }
 {
     eval_in(alloc, program, Scope::of(env), expr)
 }
@@ -45,7 +45,8 @@ pub fn eval_all(
     inits: &[Arc<Expr>],
 ) -> Result<Output, AllocError>
     ensures { IfOk result (λ output. results_tree output ≡ results_of (library_of (program_tree program.now))
-        (env_scope env.now) (phrases program.now.symbols exprs.now) (shared_phrases program.now.symbols inits.now)) }
+        (env_scope env.now) (expr_trees program.now.symbols exprs.now)
+        (shared_expr_trees program.now.symbols inits.now)) }
 {
     eval_all_in(alloc, program, Scope::of(env), exprs, inits)
 }
@@ -58,7 +59,7 @@ pub fn eval_in(
     expr: &Expr,
 ) -> Result<Evaluated, AllocError>
     ensures { IfOk result (λ found. result_tree found ≡ result_of (library_of (program_tree program.now))
-        (scope_tree scope.entry) (phrase program.now.symbols expr.now)) }
+        (scope_tree scope.entry) (expr_tree program.now.symbols expr.now)) }
 {
     let mut evaluator = Evaluator::new(alloc, program);
     match evaluator.evaluate(&Frame::Statement(scope), LEVEL_LIMIT, expr) {
@@ -77,8 +78,8 @@ pub fn eval_all_in(
     inits: &[Arc<Expr>],
 ) -> Result<Output, AllocError>
     ensures { IfOk result (λ output. results_tree output ≡ results_of (library_of (program_tree program.now))
-        (scope_tree scope.entry) (phrases program.now.symbols exprs.now)
-        (shared_phrases program.now.symbols inits.now)) }
+        (scope_tree scope.entry) (expr_trees program.now.symbols exprs.now)
+        (shared_expr_trees program.now.symbols inits.now)) }
 {
     let mut evaluator = Evaluator::new(alloc, program);
     match evaluator.all_values(scope, exprs, inits) {
@@ -99,7 +100,7 @@ impl Evaluator<'_> {
         requires bound { self.old.bound.items ≡ [] }
         requires applications { self.old.applications ≡ 0 }
         ensures { GivesAll (results_of (library_in self.old) (scope_tree scope.entry)
-            (phrases (names_in self.old) exprs.now) (shared_phrases (names_in self.old) inits.now)) result }
+            (expr_trees (names_in self.old) exprs.now) (shared_expr_trees (names_in self.old) inits.now)) result }
     {
         let mut values = self.values(&Frame::Statement(scope), LEVEL_LIMIT, exprs)?;
         for initial in inits {

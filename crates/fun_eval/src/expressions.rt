@@ -1,7 +1,7 @@
 //! Expressions: the form of an expression says how it is evaluated.
 ghost use Rattle.std.specs.Prelude.{OnOk};
 ghost use Rattle.abs_values.specs.Results.{string_result};
-ghost use Rattle.abs_tree.specs.SyntaxViews.{phrase};
+ghost use Rattle.abs_tree.specs.SyntaxViews.{expr_tree};
 ghost use Rattle.fun_eval.specs.Evaluating.{names_in, outcome_in, IsOutcome, IsWithin, Stays};
 ghost use Rattle.fun_eval.specs.Reading.{IsResult};
 
@@ -21,7 +21,7 @@ impl Evaluator<'_> {
     #[cycle(evaluation)]
     pub fn evaluate(&mut self, frame: &Frame<'_>, left: u32, expr: &Expr) -> Result<Value, Stop>
         requires { IsWithin frame.now self.old }
-        ensures outcome { IsOutcome (outcome_in self.old frame.now left (phrase (names_in self.old) expr.now)) result
+        ensures outcome { IsOutcome (outcome_in self.old frame.now left (expr_tree (names_in self.old) expr.now)) result
             self.new }
         ensures stays { OnOk result (Stays self.old self.new) }
     {
@@ -77,7 +77,7 @@ impl Evaluator<'_> {
     #[inline(always)]
     pub fn part(&mut self, frame: &Frame<'_>, left: u32, expr: &Expr) -> Result<Value, Stop>
         requires { IsWithin frame.now self.old }
-        ensures outcome { IsOutcome (outcome_in self.old frame.now left (phrase (names_in self.old) expr.now)) result
+        ensures outcome { IsOutcome (outcome_in self.old frame.now left (expr_tree (names_in self.old) expr.now)) result
             self.new }
         ensures stays { OnOk result (Stays self.old self.new) }
     {

@@ -2,7 +2,7 @@
 ghost use Rattle.std.specs.Prelude.{OnOk};
 ghost use Rattle.abs_values.specs.Evaluation.{logical_outcome, operand_outcome, operators_outcome, result_after};
 ghost use Rattle.abs_values.specs.Operations.{prefix_result, truth_of};
-ghost use Rattle.abs_tree.specs.SyntaxViews.{operand_trees, phrase};
+ghost use Rattle.abs_tree.specs.SyntaxViews.{operand_trees, expr_tree};
 ghost use Rattle.abs_values.specs.ValueViews.{value_tree};
 ghost use Rattle.fun_eval.specs.Evaluating.{gives_in, names_in, outcome_in, IsOutcome, IsWithin, Stays};
 
@@ -25,7 +25,7 @@ impl Evaluator<'_> {
     ) -> Result<Value, Stop>
         requires { IsWithin frame.now self.old }
         ensures outcome { IsOutcome (operators_outcome (names_in self.old) (gives_in self.old frame.now left)
-            (outcome_in self.old frame.now left (phrase (names_in self.old) first.now))
+            (outcome_in self.old frame.now left (expr_tree (names_in self.old) first.now))
             (operand_trees (names_in self.old) operands.now)) result self.new }
         ensures stays { OnOk result (Stays self.old self.new) }
     {
@@ -47,7 +47,7 @@ impl Evaluator<'_> {
     ) -> Result<Value, Stop>
         requires { IsWithin frame.now self.old }
         ensures outcome { IsOutcome (operand_outcome (names_in self.old) (gives_in self.old frame.now left)
-            operand.now.operator (phrase (names_in self.old) operand.now.right) (value_tree so_far)
+            operand.now.operator (expr_tree (names_in self.old) operand.now.right) (value_tree so_far)
             self.old.applications) result self.new }
         ensures stays { OnOk result (Stays self.old self.new) }
     {
@@ -74,7 +74,7 @@ impl Evaluator<'_> {
     ) -> Result<Value, Stop>
         requires { IsWithin frame.now self.old }
         ensures outcome { IsOutcome (logical_outcome (names_in self.old) (gives_in self.old frame.now left) decides
-            (phrase (names_in self.old) right.now) (truth_of (names_in self.old) (value_tree so_far))
+            (expr_tree (names_in self.old) right.now) (truth_of (names_in self.old) (value_tree so_far))
             self.old.applications) result self.new }
         ensures stays { OnOk result (Stays self.old self.new) }
     {
@@ -100,7 +100,7 @@ impl Evaluator<'_> {
     ) -> Result<Value, Stop>
         requires { IsWithin frame.now self.old }
         ensures outcome { IsOutcome (result_after
-            (outcome_in self.old frame.now left (phrase (names_in self.old) operand.now))
+            (outcome_in self.old frame.now left (expr_tree (names_in self.old) operand.now))
             (prefix_result (names_in self.old) prefix)) result self.new }
         ensures stays { OnOk result (Stays self.old self.new) }
     {

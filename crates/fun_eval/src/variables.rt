@@ -7,7 +7,7 @@ ghost use Rattle.abs_tree.specs.SyntaxViews.{variable_tree};
 ghost use Rattle.abs_values.specs.ValueTrees.{ValueTree};
 ghost use Rattle.abs_values.specs.ValueViews.{value_tree};
 ghost use Rattle.fun_eval.specs.Reading.{found_result, IsResult};
-ghost use Rattle.fun_eval.specs.Evaluating.{names_in, scope_in, scope_of};
+ghost use Rattle.fun_eval.specs.Evaluating.{names_in, scope_in, evaluator_scope};
 
 use crate::evaluator::Evaluator;
 use crate::scope::Frame;
@@ -18,7 +18,7 @@ use abs_values::{Fault, Value};
 impl Evaluator<'_> {
     /// The value of a variable.
     pub fn variable(&self, frame: &Frame<'_>, variable: Variable) -> Result<Value, Stop>
-        ensures { IsResult (read_result (scope_of frame.now self.now)
+        ensures { IsResult (read_result (evaluator_scope frame.now self.now)
             (location_of (variable_tree (names_in self.now) variable))) result }
     {
         match variable {

@@ -13,7 +13,7 @@ use Rattle.std.proofs.lemmas.Option.{same_Some}
 use Rattle.std.specs.Prelude.{IsSome, is_some}
 use Rattle.abs_values.specs.References.{ToFuture, IsIn}
 use Rattle.abs_values.specs.Results.{Result}
-use Rattle.abs_tree.specs.Syntax.{NoPhrase, ProgramTree}
+use Rattle.abs_tree.specs.Syntax.{NoExpr, ProgramTree}
 use Rattle.abs_values.specs.ValueTrees.{FutureValue}
 use Rattle.abs_program.specs.Whole.{IsWhole}
 use Rattle.config_state.proofs.BodyLemmas.{get-there}
@@ -24,14 +24,14 @@ use Rattle.config_state.specs.declared.task.State.{State}
 use Rattle.config_state.specs.declared.task.State.TheVariants.{Ready, Running, Awaiting}
 use Rattle.step_rules.proofs.AfterLemmas.{task-away, object-kept}
 use Rattle.step_rules.proofs.CauseLemmas.{ended_has_none, running_has_none_iff, ready_has_iff, awaiting_has_iff}
-use Rattle.step_rules.proofs.FormedRowLemmas.{event-formed}
+use Rattle.step_rules.proofs.FormedRuleLemmas.{event-formed}
 use Rattle.step_rules.proofs.KeepLemmas.{event_keeps_program}
 use Rattle.step_rules.proofs.StayLemmas.{change_stays, event_change}
 use Rattle.step_rules.specs.Blocked.{IsAtOpenGet, IsFree, AreResolved}
 use Rattle.step_rules.specs.Changes.{Change, configuration_after}
 use Rattle.step_rules.specs.Events.{Step, event_of}
 use Rattle.step_rules.specs.Homes.{IsHoused}
-use Rattle.step_rules.specs.Inputs.{initials_at, phrases_at, input_in, input_with, input_of_task, input_of}
+use Rattle.step_rules.specs.Inputs.{initials_at, exprs_at, input_in, input_with, input_of_task, input_of}
 use Rattle.step_rules.specs.Stays.{Stays}
 
 -- a future is inside its own value
@@ -67,18 +67,18 @@ input_in_same : (program : ProgramTree) (config after : Configuration) (state : 
     → input_in program after state frame ≡ input_in program config state frame
 input_in_same program config after Running frame same = ap (λ (object : Option ObjectState). record {
   scope = record { this = frame.object; slots = frame.slots; fields = fields_of object; bound = [] };
-  phrases = phrases_at (next_point program frame);
+  expr_trees = exprs_at (next_point program frame);
   initials = initials_at program (next_point program frame);
 }) same
 input_in_same program config after Ready frame same = ap (λ (object : Option ObjectState). record {
   scope = record { this = frame.object; slots = frame.slots; fields = fields_of object; bound = [] };
-  phrases = NoPhrase;
-  initials = NoPhrase;
+  expr_trees = NoExpr;
+  initials = NoExpr;
 }) same
 input_in_same program config after Awaiting frame same = ap (λ (object : Option ObjectState). record {
   scope = record { this = frame.object; slots = frame.slots; fields = fields_of object; bound = [] };
-  phrases = NoPhrase;
-  initials = NoPhrase;
+  expr_trees = NoExpr;
+  initials = NoExpr;
 }) same
 
 -- the input of frames, of which the innermost one's object is as before

@@ -21,7 +21,7 @@ use Rattle.config_state.specs.declared.config.Config.{Config}
 use Rattle.config_state.specs.declared.task.TaskCell.{TaskCell}
 use Rattle.step_rules.specs.Blocked.{IsAtOpenGet, AreResolved}
 use Rattle.step_rules.specs.Lookups.{named_value}
-use Rattle.step_rules.specs.WaitRows.{Unresolved, guard_by_outcome, guard_by_task, guard_by_value}
+use Rattle.step_rules.specs.WaitRules.{Unresolved, guard_by_outcome, guard_by_task, guard_by_value}
 
 -- what the next statement of a frame does is the effect of its instruction
 pub next_effect_found : (program : ProgramTree) (frame : FrameState) (index : ℕ) (found : Option InstructionTree)

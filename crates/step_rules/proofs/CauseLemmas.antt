@@ -27,7 +27,7 @@ use Rattle.step_rules.specs.Changes.{Change}
 use Rattle.step_rules.specs.Events.{run_change, run_frames, change_by_state, change_by_outcome, change_of_task, change_by, change_of, step_by, event_of}
 use Rattle.step_rules.specs.Inputs.{Input, input_in, input_with, input_of_task, input_of, output_of}
 use Rattle.step_rules.specs.Lookups.{Runner, named_value}
-use Rattle.step_rules.specs.WaitRows.{Guard, Faulty, Unresolved, Resolved, guard_by_outcome, guard_by_task, guard_by_value, guard_before, guard_of, take_if_free, take_row, take_if_resolved, wake_by, wake_row}
+use Rattle.step_rules.specs.WaitRules.{Guard, Faulty, Unresolved, Resolved, guard_by_outcome, guard_by_task, guard_by_value, guard_before, guard_of, take_if_free, take_rule, take_if_resolved, wake_by, wake_rule}
 
 -- the change of a task, by what is found at its index
 change_found : (program : ProgramTree) (config : Configuration) (index : ℕ) (found : Option TaskState)
@@ -125,7 +125,7 @@ change_going program config index task frame others state is state_is =
 
 -- a task can take its cog where nobody holds it
 taken_iff : (config : Configuration) (index : ℕ) (task : TaskState)
-    → IsSome (take_row index task (slice_get config.cogs task.cog)) ↔ IsFree config task.cog
+    → IsSome (take_rule index task (slice_get config.cogs task.cog)) ↔ IsFree config task.cog
 taken_iff config index task = (λ some. by (slice_get config.cogs task.cog) refl some, back)
   where
     of : (cog : Cog) → slice_get config.cogs task.cog ≡ Some cog → (holder : Option ℕ) → cog.holder ≡ holder
@@ -134,12 +134,12 @@ taken_iff config index task = (λ some. by (slice_get config.cogs task.cog) refl
     of cog is (Some other) holds some = absurd cc
 
     by : (found : Option Cog) → slice_get config.cogs task.cog ≡ found
-        → is_some (take_row index task found) ≡ true → IsFree config task.cog
+        → is_some (take_rule index task found) ≡ true → IsFree config task.cog
     by None is some = absurd cc
     by (Some cog) is some = of cog is cog.holder refl some
 
-    back : IsFree config task.cog → is_some (take_row index task (slice_get config.cogs task.cog)) ≡ true
-    back free = ap is_some (ap (take_row index task) free.there ∙ ap (take_if_free index task) free.free)
+    back : IsFree config task.cog → is_some (take_rule index task (slice_get config.cogs task.cog)) ≡ true
+    back free = ap is_some (ap (take_rule index task) free.there ∙ ap (take_if_free index task) free.free)
 
 -- a ready task has an event exactly where nobody holds its cog
 pub ready_has_iff : (program : ProgramTree) (config : Configuration) (index : ℕ) (task : TaskState)
@@ -148,7 +148,7 @@ pub ready_has_iff : (program : ProgramTree) (config : Configuration) (index : �
 ready_has_iff program config index task formed there still ready =
     let now = going config index task (formed.tasks_formed index task there) there still in
     let same : is_some (event_of program config index)
-    ≡ is_some (take_row index task (slice_get config.cogs task.cog)) =
+    ≡ is_some (take_rule index task (slice_get config.cogs task.cog)) =
     event_some program config index
     ∙ ap is_some (change_going program config index task now.0 now.1 Ready now.2 ready) in
     let taken = taken_iff config index task in
@@ -224,7 +224,7 @@ part_resolved config slots name are at no_wait =
 -- a task wakes where its guard is resolved and it can take its cog
 woken : (config : Configuration) (index : ℕ) (task : TaskState) (guard : Guard)
     → IsSome (take_if_resolved config index task guard)
-    → (guard ≡ Resolved) × IsSome (take_row index task (slice_get config.cogs task.cog))
+    → (guard ≡ Resolved) × IsSome (take_rule index task (slice_get config.cogs task.cog))
 woken config index task (Faulty cause) some = absurd cc
 woken config index task Unresolved some = absurd cc
 woken config index task Resolved some = (refl, some)
@@ -275,7 +275,7 @@ change_at_guard : (program : ProgramTree) (config : Configuration) (index : ℕ)
     ≡ take_if_resolved config index task (guard_of config frame.slots at.named)
 change_at_guard program config index task frame others at is awaits =
     change_going program config index task frame others Awaiting is awaits
-    ∙ (ap (wake_row program config index task) is.frames_are
+    ∙ (ap (wake_rule program config index task) is.frames_are
     ∙ (ap (option_and_then (λ (point : Point). wake_by config index task frame (effect_of point.statement)))
     at.point_there
     ∙ ap (wake_by config index task frame) at.awaits))

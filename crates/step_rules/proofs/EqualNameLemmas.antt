@@ -31,7 +31,7 @@ use denote.Enum.Bare.{same_true, true_same}
 
 -- what a test decides, by another test that it is the same as, and by what that decides
 pub decided : {P Q : Type 0} {test other : Bool} → test ≡ other → Decides other P → (P → Q) → (Q → P) → Decides test Q
-decided same decides forth back = (λ told. forth (decides.0 (sym same ∙ told)), λ so. same ∙ decides.1 (back so))
+decided same decides forth back = (λ reported. forth (decides.0 (sym same ∙ reported)), λ so. same ∙ decides.1 (back so))
 
 -- what the comparison of two lists decides, by that of two lists that they are
 pub decided_items : {A Q : Type 0} (equal : A → A → Bool) {ones others row rest : List A} → ones ≡ row → others ≡ rest
@@ -43,7 +43,7 @@ decided_items equal same_ones same_others decides =
 pub apart_by : {T : Type 0} (number : T → ℕ) (one other : List Name → T) (test : Bool) → test ≡ false
     → eqb (number (one [])) (number (other [])) ≡ false → Decides test ((names : List Name) → one names ≡ other names)
 apart_by number one other test is_false apart = (
-  λ told. absurd (false≢true (sym is_false ∙ told)),
+  λ reported. absurd (false≢true (sym is_false ∙ reported)),
   λ same. absurd (eqb-false (number (one [])) (number (other [])) apart (ap number (same []))),
 )
 

@@ -73,7 +73,7 @@ mutual
   patterns_in_row-Decides : (n : _) (row : Row_of-Pattern n) (m : _) (others : Row_of-Pattern m)
       → Decides (pointwise pattern_impl.ghosts.eq (items-the_row-Pattern n row) (items-the_row-Pattern m others))
       ((names : List Name) → pattern_row names row ≡ pattern_row names others)
-  patterns_in_row-Decides n end_of-Pattern m end_of-Pattern = (λ told names. refl, λ same. refl)
+  patterns_in_row-Decides n end_of-Pattern m end_of-Pattern = (λ reported names. refl, λ same. refl)
   patterns_in_row-Decides n (more_of-Pattern one row) m (more_of-Pattern other others) =
       decided refl (Decides-and _ _ (pattern_equal-Decides one other) (patterns_in_row-Decides _ row _ others))
       (λ same names i. NextPattern (same.0 names i) (same.1 names i))

@@ -10,15 +10,15 @@ use Rattle.abs_values.specs.Scopes.{Scope}
 use Rattle.abs_values.specs.ValueTrees.{ValueTree, same_value}
 use Rattle.step_rules.proofs.EqualNameLemmas.{decided}
 
--- rows of values
+-- lists of values
 values_equal-Decides : (ones others : List ValueTree) → Decides (pointwise same_value ones others) (ones ≡ others)
 values_equal-Decides = pointwise_decides same_value-Decides
 
 -- the own object
 object_equal-Decides : (one other : Option ℕ) → Decides (option_eq nat_eq one other) (one ≡ other)
-object_equal-Decides None None = (λ told. refl, λ same. refl)
-object_equal-Decides None (Some other) = (λ told. absurd (cc), λ same. absurd (cc))
-object_equal-Decides (Some one) None = (λ told. absurd (cc), λ same. absurd (cc))
+object_equal-Decides None None = (λ reported. refl, λ same. refl)
+object_equal-Decides None (Some other) = (λ reported. absurd (cc), λ same. absurd (cc))
+object_equal-Decides (Some one) None = (λ reported. absurd (cc), λ same. absurd (cc))
 object_equal-Decides (Some one) (Some other) =
     decided refl (Decides-eqb one other) (λ same. ap Some same) (λ same. cc)
 

@@ -83,8 +83,8 @@ mutual
       (Decides-and _ _ (place_equal-Decides place other_place) (Decides-eqb parameter other_parameter))
       (λ same names i. ParameterType (same.0 i) (same.1 i))
       (λ same. (cc (same []), cc (same [])))
-  type_equal-Decides code.Bottom code.Bottom = Decides-at _ _ (type_laws.is _ _) (λ told names. refl, λ same. refl)
-  type_equal-Decides code.Null code.Null = Decides-at _ _ (type_laws.is _ _) (λ told names. refl, λ same. refl)
+  type_equal-Decides code.Bottom code.Bottom = Decides-at _ _ (type_laws.is _ _) (λ reported names. refl, λ same. refl)
+  type_equal-Decides code.Null code.Null = Decides-at _ _ (type_laws.is _ _) (λ reported names. refl, λ same. refl)
   type_equal-Decides (code.Class symbol) (code.Class other_symbol) =
       decided (type_laws.is _ _) (symbol_equal-Decides symbol other_symbol)
       (λ same names i. ClassType (same names i))
@@ -94,7 +94,7 @@ mutual
   types_in_row-Decides : (n : _) (row : Row_of-TypeTerm n) (m : _) (others : Row_of-TypeTerm m)
       → Decides (pointwise type_impl.ghosts.eq (items-the_row-TypeTerm n row) (items-the_row-TypeTerm m others))
       ((names : List Name) → type_row names row ≡ type_row names others)
-  types_in_row-Decides n end_of-TypeTerm m end_of-TypeTerm = (λ told names. refl, λ same. refl)
+  types_in_row-Decides n end_of-TypeTerm m end_of-TypeTerm = (λ reported names. refl, λ same. refl)
   types_in_row-Decides n (more_of-TypeTerm one row) m (more_of-TypeTerm other others) =
       decided refl (Decides-and _ _ (type_equal-Decides one other) (types_in_row-Decides _ row _ others))
       (λ same names i. NextType (same.0 names i) (same.1 names i))

@@ -1,7 +1,7 @@
 -- An event whose plan needs room may take memory.
 --
 --   `Grows`, `grows_by_plan`   a change that needs room, and the change of a plan that does
---   `memory_by_row`            a row that needs room is that of a statement that may take memory
+--   `memory_by_rule`           a rule that needs room is that of a statement that may take memory
 --   `memory_by_plan`           so the event of a plan that needs room may take memory
 --   `memory_by_output`         so may one whose change with an output may
 use Rattle.std.proofs.Common.{◌≡◌, ◌≢◌, ◌≤◌, ℕ, suc, true, List, [], length, slice_get, Option, Some, None, IsSome, option_map, Result, Ok, Err, OnErr, refl, sym, ap, ◌∙◌, subst, arith}
@@ -15,15 +15,15 @@ use Rattle.config_state.specs.Views.{object_state, task_state}
 use Rattle.config_state.specs.declared.frame.Target.{Target}
 use Rattle.config_state.specs.declared.frame.Target.TheVariants.{Nothing}
 use Rattle.step_rules.proofs.EventPlanLemmas.{HasParts, plan_parts}
-use Rattle.step_rules.proofs.RowLemmas.{row_of}
+use Rattle.step_rules.proofs.RuleLemmas.{rule_of}
 use Rattle.step_rules.specs.Changes.{Change, plain_change}
 use Rattle.step_rules.specs.Events.{change_of}
 use Rattle.step_rules.specs.Lookups.{Runner, successor}
 use Rattle.step_rules.specs.Memory.{MayTakeMemory, takes_memory}
-use Rattle.step_rules.specs.ObjectRows.{goes_on}
+use Rattle.step_rules.specs.ObjectRules.{goes_on}
 use Rattle.step_rules.specs.Plans.{NeedsRoom, ForCog, ForObject, ForTask, ForLine, ForFrame, plan_change, plan_lines}
-use Rattle.step_rules.specs.RowParts.{IsRunner, IsAt}
-use Rattle.step_rules.specs.Rows.{Row, Taken, Faulted, Skipped, Stored, Cleared, Chosen, Printed, Made, Called, Pushed, Got, Passed, Released, Suspended, Gave, Popped}
+use Rattle.step_rules.specs.RuleParts.{IsRunner, IsRunningAt}
+use Rattle.step_rules.specs.Rules.{Rule, Taken, Faulted, Skipped, Stored, Cleared, Chosen, Printed, Made, Called, Pushed, Got, Passed, Released, Suspended, Gave, Popped}
 use Rattle.step_rules.specs.Targets.{target_of}
 use Rattle.step_rules.specs.declared.kind.Did.{Did}
 use Rattle.step_rules.specs.declared.kind.Did.TheVariants as did
@@ -86,7 +86,7 @@ module _ (program : ProgramTree) (config : Configuration) (index : ℕ) (change 
     (there : slice_get config.tasks index ≡ Some task) (grows : Grows task change) where
   -- the event at a statement that may take memory, if the task has no result after it
   memory_at : (at : Runner) (point : Point) (values : List ValueTree) → at.index ≡ index
-      → IsAt program config at point values → takes_memory (Some (effect_of point.statement)) ≡ true
+      → IsRunningAt program config at point values → takes_memory (Some (effect_of point.statement)) ≡ true
       → change.task.outcome ≡ None → MayTakeMemory program config index (Some change)
   memory_at at point values same is takes still = record {
     task = at.task;
@@ -148,43 +148,43 @@ module _ (program : ProgramTree) (config : Configuration) (index : ℕ) (change 
     no_frame = few;
   })
 
-  -- the row of a change that needs room is that of a statement that may take memory
-  memory_by_row : Row program config index change → MayTakeMemory program config index (Some change)
-  memory_by_row (Taken before cog found still can cog_there free is) = moved before found _ _ _ (omega arith) is
-  memory_by_row (Faulted at cause same runner why is) =
+  -- the rule of a change that needs room is that of a statement that may take memory
+  memory_by_rule : Rule program config index change → MayTakeMemory program config index (Some change)
+  memory_by_rule (Taken before cog found still can cog_there free is) = moved before found _ _ _ (omega arith) is
+  memory_by_rule (Faulted at cause same runner why is) =
       moved at.task (runner_there at same runner) _ _ _ (omega arith) is
-  memory_by_row (Skipped at point values same is_at effect is) =
+  memory_by_rule (Skipped at point values same is_at effect is) =
       went_on at same is_at.runner Nothing NullValue (successor point.goes true) is
-  memory_by_row (Stored at point target value same is_at effect is) =
+  memory_by_rule (Stored at point target value same is_at effect is) =
       went_on at same is_at.runner (target_of target) value (successor point.goes true) is
-  memory_by_row (Cleared at point values target same is_at effect is) =
+  memory_by_rule (Cleared at point values target same is_at effect is) =
       went_on at same is_at.runner (target_of (Some target)) NullValue (successor point.goes true) is
-  memory_by_row (Chosen at point value answer same is_at effect truth is) =
+  memory_by_rule (Chosen at point value answer same is_at effect truth is) =
       went_on at same is_at.runner Nothing NullValue (successor point.goes answer) is
-  memory_by_row (Printed at point string same is_at effect is) = memory_at at point _ same is_at
+  memory_by_rule (Printed at point string same is_at effect is) = memory_at at point _ same is_at
       (ap (λ (one : EffectTree). takes_memory (Some one)) effect)
       (ap (λ (one : Change). one.task.outcome) is ∙ is_at.runner.open_still)
-  memory_by_row (Made at point values made class target entry same is_at effect taking is) =
+  memory_by_rule (Made at point values made class target entry same is_at effect taking is) =
       memory_at at point _ same is_at (ap (λ (one : EffectTree). takes_memory (Some one)) effect)
       (ap (λ (one : Change). one.task.outcome) is ∙ is_at.runner.open_still)
-  memory_by_row (Called at point object cell arguments method target body same is_at effect cell_there callable is) =
+  memory_by_rule (Called at point object cell arguments method target body same is_at effect cell_there callable is) =
       memory_at at point _ same is_at (ap (λ (one : EffectTree). takes_memory (Some one)) effect)
       (ap (λ (one : Change). one.task.outcome) is ∙ is_at.runner.open_still)
-  memory_by_row (Pushed at point object arguments method target body same is_at effect object_there callable is) =
+  memory_by_rule (Pushed at point object arguments method target body same is_at effect object_there callable is) =
       memory_at at point _ same is_at (ap (λ (one : EffectTree). takes_memory (Some one)) effect)
       (ap (λ (one : Change). one.task.outcome) is ∙ is_at.runner.open_still)
-  memory_by_row (Got at point values slot target future given value same is_at effect named given_there outcome is) =
+  memory_by_rule (Got at point values slot target future given value same is_at effect named given_there outcome is) =
       went_on at same is_at.runner (target_of target) value (successor point.goes true) is
-  memory_by_row (Passed at point values names same is_at effect resolved is) =
+  memory_by_rule (Passed at point values names same is_at effect resolved is) =
       went_on at same is_at.runner Nothing NullValue (successor point.goes true) is
-  memory_by_row (Released at point values names same is_at effect unresolved is) =
+  memory_by_rule (Released at point values names same is_at effect unresolved is) =
       moved at.task (runner_there at same is_at.runner) _ _ _ (omega arith) is
-  memory_by_row (Suspended at point values same is_at effect is) =
+  memory_by_rule (Suspended at point values same is_at effect is) =
       moved at.task (runner_there at same is_at.runner) _ _ _
       (omega (arith, ap length is_at.runner.frames_are)) is
-  memory_by_row (Gave at value same runner outermost is_value is) =
+  memory_by_rule (Gave at value same runner outermost is_value is) =
       moved at.task (runner_there at same runner) _ _ _ (omega arith) is
-  memory_by_row (Popped at below rest value same runner others_are is_value is) =
+  memory_by_rule (Popped at below rest value same runner others_are is_value is) =
       went at same runner at.frame.target value below.next below rest did.Went
       (omega (arith, ap length runner.frames_are, ap length others_are)) is
 
@@ -195,8 +195,8 @@ pub memory_by_plan : (names : List Name) (program : ProgramTree) (config : Confi
     → MayTakeMemory program config index (change_of program config index)
 memory_by_plan names program config index plan change is planned needs =
     let parts = plan_parts names config index plan change planned in
-    subst (MayTakeMemory program config index) (sym is) (memory_by_row program config index change parts.0 parts.1
-    (grows_by_plan names parts.0 plan change parts.2 needs) (row_of program config index change is))
+    subst (MayTakeMemory program config index) (sym is) (memory_by_rule program config index change parts.0 parts.1
+    (grows_by_plan names parts.0 plan change parts.2 needs) (rule_of program config index change is))
 
 -- so may one whose change with the output may
 pub memory_by_output : (program : ProgramTree) (config : Configuration) (index : ℕ) (found : Option Change)

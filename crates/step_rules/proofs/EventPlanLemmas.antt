@@ -17,7 +17,7 @@ use Rattle.config_state.specs.OfProgram.{IsConfigOf}
 use Rattle.config_state.specs.Views.{object_state, task_state}
 use Rattle.config_state.specs.WellFormed.{IsWellFormed}
 use Rattle.config_state.specs.declared.frame.Frame.{Frame}
-use Rattle.step_rules.proofs.FormedRowLemmas.{event-formed}
+use Rattle.step_rules.proofs.FormedRuleLemmas.{event-formed}
 use Rattle.step_rules.proofs.KeepLemmas.{event_keeps_program}
 use Rattle.step_rules.specs.Changes.{Change, configuration_after}
 use Rattle.step_rules.specs.Events.{Step, change_by, change_of, step_by, event_of}

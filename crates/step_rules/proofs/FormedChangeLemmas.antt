@@ -19,8 +19,8 @@ use Rattle.step_rules.proofs.FormedLemmas.{formed-after}
 use Rattle.step_rules.proofs.FormedPartLemmas.{fields_after-there, put-formed}
 use Rattle.step_rules.proofs.OutputLemmas.{fields-there}
 use Rattle.step_rules.specs.Changes.{Change, plain_change, kept_change, ended_change, configuration_after}
-use Rattle.step_rules.specs.ObjectRows.{goes_on}
-use Rattle.step_rules.specs.Targets.{Own, put}
+use Rattle.step_rules.specs.ObjectRules.{goes_on}
+use Rattle.step_rules.specs.Targets.{FramesAndFields, put}
 use Rattle.step_rules.specs.declared.kind.Did.{Did}
 use Rattle.step_rules.specs.declared.kind.Did.TheVariants as did
 
@@ -108,12 +108,12 @@ module _ (config : Configuration) (index : ℕ) (task : TaskState) (formed : IsW
       })
 
   -- the change of a task that goes on with these frames and fields, where maybe something is made
-  abbrev pub keeps : Option ℕ → Own → List (List ℕ) → Did → Option Cog → Option ObjectState → Option TaskState → Change
+  abbrev pub keeps : Option ℕ → FramesAndFields → List (List ℕ) → Did → Option Cog → Option ObjectState → Option TaskState → Change
   keeps at own lines kind cog object new =
       record (kept_change index task at own lines kind) { cog = cog; object = object; new = new }
 
   -- the task goes on and holds its cog
-  pub keeps-formed : task.state ≡ Running → (at : Option ℕ) (own : Own) (lines : List (List ℕ)) (kind : Did)
+  pub keeps-formed : task.state ≡ Running → (at : Option ℕ) (own : FramesAndFields) (lines : List (List ℕ)) (kind : Did)
       (cog : Option Cog) (object : Option ObjectState) (new : Option TaskState)
       → own.frames ≢ []
       → Each own.frames (λ depth frame. IsFrameFormed

@@ -3,7 +3,7 @@
 --
 --   `AreHoused`, ..                frames of a task at home
 --   `Houses`, `kept_housed`        what a change has to keep, and the configuration after it
---   `row_houses`                   every row keeps this
+--   `rule_houses`                  every rule keeps this
 --   `event_keeps_houses`           every event does
 use Rattle.std.proofs.Common.{◌≡◌, ℕ, suc, true, List, [], ◌∷◌, length, slice_get, Option, Some, None, refl, sym, ap, ◌∙◌, subst, codes}
 use Rattle.std.proofs.lemmas.Option.{same_Some, option_and_then_some}
@@ -23,18 +23,18 @@ use Rattle.config_state.specs.declared.frame.Target.TheVariants.{Nothing}
 use Rattle.config_state.specs.declared.task.State.TheVariants.{Ready, Running, Awaiting}
 use Rattle.step_rules.proofs.AfterLemmas.{task-after, object-after, object-there, object-new}
 use Rattle.step_rules.proofs.FrameLemmas.{run_task_is}
-use Rattle.step_rules.proofs.RowLemmas.{row_of}
+use Rattle.step_rules.proofs.RuleLemmas.{rule_of}
 use Rattle.step_rules.proofs.StayLemmas.{event_change}
 use Rattle.step_rules.specs.Changes.{Change, configuration_after, plain_change, kept_change, ended_change}
 use Rattle.step_rules.specs.Events.{Step, event_of}
 use Rattle.step_rules.specs.Homes.{IsHome, IsMade, IsTaskHoused, IsHoused}
 use Rattle.step_rules.specs.Lookups.{Runner, place_of, successor}
-use Rattle.step_rules.specs.ObjectRows.{goes_on, new_with, call_with}
-use Rattle.step_rules.specs.Rows.{Row, Taken, Faulted, Skipped, Stored, Cleared, Chosen, Printed, Made, Called, Pushed, Got, Passed, Released, Suspended, Gave, Popped}
+use Rattle.step_rules.specs.ObjectRules.{goes_on, new_with, call_with}
+use Rattle.step_rules.specs.Rules.{Rule, Taken, Faulted, Skipped, Stored, Cleared, Chosen, Printed, Made, Called, Pushed, Got, Passed, Released, Suspended, Gave, Popped}
 use Rattle.step_rules.specs.Stays.{IsSameObject, TaskAfter, Moved, Old, New, ObjectAfter, Kept, Filled, Fresh}
-use Rattle.step_rules.specs.WaitRows.{suspend_row}
+use Rattle.step_rules.specs.WaitRules.{suspend_rule}
 use Rattle.step_rules.specs.Targets.{slots_after, target_of}
-use Rattle.step_rules.specs.RowParts.{IsRunner, IsAt}
+use Rattle.step_rules.specs.RuleParts.{IsRunner, IsRunningAt}
 use Rattle.step_rules.specs.NewEntries.{task_for, home_of}
 use Rattle.step_rules.specs.declared.kind.Did.{Did}
 use Rattle.step_rules.specs.declared.kind.Did.TheVariants as did
@@ -248,7 +248,7 @@ module _ (program : ProgramTree) (config : Configuration) (index : ℕ) where
 
     -- a new object
     made_houses : (at : Runner) (point : Point) (values : List ValueTree) (mode : Mode) (class : Name)
-        (target : Option VariableTree) (entry : ClassEntryTree) → at.index ≡ index → IsAt program config at point values
+        (target : Option VariableTree) (entry : ClassEntryTree) → at.index ≡ index → IsRunningAt program config at point values
         → effect_of point.statement ≡ Makes mode class target
         → Houses program config index (new_with program config at (place_of point) (successor point.goes true) mode
         class target values (Some entry))
@@ -315,7 +315,7 @@ module _ (program : ProgramTree) (config : Configuration) (index : ℕ) where
 
     -- a task that lets others go first
     suspended_houses : (at : Runner) (next : Option ℕ) → IsRunner config at
-        → Houses program config index (suspend_row at next)
+        → Houses program config index (suspend_rule at next)
     suspended_houses at next runner =
         let below : FrameState = record at.frame { next = next } in
         let task : TaskState = record at.task { frames = below ∷ at.others; state = Ready } in
@@ -334,43 +334,43 @@ module _ (program : ProgramTree) (config : Configuration) (index : ℕ) where
         (other_frames_housed config at.task.cog at.task.object at.task.method at.frame at.others
         (all_housed at runner)))
 
-    -- every row keeps a configuration housed
-    row_houses : (change : Change) → Row program config index change → Houses program config index change
-    row_houses change (Taken task cog there unended can at free changed) =
+    -- every rule keeps a configuration housed
+    rule_houses : (change : Change) → Rule program config index change → Houses program config index change
+    rule_houses change (Taken task cog there unended can at free changed) =
         let is = housed.tasks_housed index task there in
         rw changed (plain_houses (record task { state = Running }) (Some index) did.Took
         (record { own = is.own; frames = is.frames; outermost = is.outermost }))
-    row_houses change (Faulted at cause same runner fails changed) =
+    rule_houses change (Faulted at cause same runner fails changed) =
         rw changed (ended_houses at.task _ (runner_housed at runner))
-    row_houses change (Skipped at point values same is skips changed) =
+    rule_houses change (Skipped at point values same is skips changed) =
         rw changed (next_houses at Nothing NullValue (successor point.goes true) [] did.Went is.runner)
-    row_houses change (Stored at point target value same is stores changed) =
+    rule_houses change (Stored at point target value same is stores changed) =
         rw changed (next_houses at (target_of target) value (successor point.goes true) [] did.Went is.runner)
-    row_houses change (Cleared at point values target same is clears changed) = rw changed
+    rule_houses change (Cleared at point values target same is clears changed) = rw changed
         (next_houses at (target_of (Some target)) NullValue (successor point.goes true) [] did.Went is.runner)
-    row_houses change (Chosen at point value answer same is chooses truth changed) =
+    rule_houses change (Chosen at point value answer same is chooses truth changed) =
         rw changed (next_houses at Nothing NullValue (successor point.goes answer) [] did.Went is.runner)
-    row_houses change (Printed at point string same is prints changed) =
+    rule_houses change (Printed at point string same is prints changed) =
         rw changed (next_houses at Nothing NullValue (successor point.goes true) (string ∷ []) did.Printed is.runner)
-    row_houses change (Made at point values mode class target entry same is makes taking changed) =
+    rule_houses change (Made at point values mode class target entry same is makes taking changed) =
         rw changed (made_houses at point values mode class target entry same is makes)
-    row_houses change (Called at point object cell arguments method target body same is sends there found changed) =
+    rule_houses change (Called at point object cell arguments method target body same is sends there found changed) =
         rw changed (called_houses at point object cell arguments method target body same is.runner there)
-    row_houses change (Pushed at point object arguments method target body same is calls there found changed) =
+    rule_houses change (Pushed at point object arguments method target body same is calls there found changed) =
         rw changed (pushed_houses at (successor point.goes true) arguments method target body is.runner)
-    row_houses change (Got at point values slot target future task value same is gets holds there gives changed) =
+    rule_houses change (Got at point values slot target future task value same is gets holds there gives changed) =
         rw changed (next_houses at (target_of target) value (successor point.goes true) [] did.Went is.runner)
-    row_houses change (Passed at point values names same is awaits resolved changed) =
+    rule_houses change (Passed at point values names same is awaits resolved changed) =
         rw changed (next_houses at Nothing NullValue (successor point.goes true) [] did.Went is.runner)
-    row_houses change (Released at point values names same is awaits waits changed) =
+    rule_houses change (Released at point values names same is awaits waits changed) =
         let home = runner_housed at is.runner in
         rw changed (plain_houses (record at.task { state = Awaiting }) None did.Released
         (record { own = home.own; frames = home.frames; outermost = home.outermost }))
-    row_houses change (Suspended at point values same is suspends changed) =
+    rule_houses change (Suspended at point values same is suspends changed) =
         rw changed (suspended_houses at (successor point.goes true) is.runner)
-    row_houses change (Gave at value same runner others gives changed) =
+    rule_houses change (Gave at value same runner others gives changed) =
         rw changed (ended_houses at.task _ (runner_housed at runner))
-    row_houses change (Popped at below rest value same runner others gives changed) =
+    rule_houses change (Popped at below rest value same runner others gives changed) =
         rw changed (popped_houses at below rest value runner others)
 
 -- each event of a housed configuration leads to one
@@ -381,4 +381,4 @@ event_keeps_houses program config index step housed is =
     let event = event_change program config index step is in
     subst (λ (one : Step). IsHoused program one.config) (sym event.2)
     (kept_housed program config index event.0 housed
-    (row_houses program config index housed event.0 (row_of program config index event.0 event.1)))
+    (rule_houses program config index housed event.0 (rule_of program config index event.0 event.1)))

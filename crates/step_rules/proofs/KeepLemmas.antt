@@ -3,7 +3,7 @@
 --   `Keeps`, `kept_program`        what a change has to keep, and the configuration after it
 --   `ended_keeps`, `went_keeps`    a change by which a task ends, and one by which it goes on
 --   `made_keeps`, `called_keeps`, ..   those that make an object or a task, push a frame, or wait
---   `row_keeps`                    every row keeps this
+--   `rule_keeps`                   every rule keeps this
 --   `event_keeps_program`          every event does
 use Rattle.std.proofs.Common.{◌≡◌, ℕ, Bool, true, List, [], ◌∷◌, length, slice_get, Option, Some, None, refl, sym, ap, ◌∙◌, subst, codes, option_map}
 use Rattle.std.proofs.lemmas.List.{length-set}
@@ -26,18 +26,18 @@ use Rattle.config_state.specs.declared.task.State.TheVariants.{Ready, Running, A
 use Rattle.step_rules.proofs.AfterLemmas.{written-own, task-after, object-after, object-new}
 use Rattle.step_rules.proofs.GrowthLemmas.{WritesAll, outgrows_by, task_stays}
 use Rattle.step_rules.proofs.FrameLemmas.{successor_is, moved_frame, callable_is, started_frame, AreFramesOf, frames_of_task, task_of_frames, no_frames, one_frame, other_frames, more_frames, moved_frames, run_task_is, run_takes_none}
-use Rattle.step_rules.proofs.RowLemmas.{row_of}
+use Rattle.step_rules.proofs.RuleLemmas.{rule_of}
 use Rattle.step_rules.proofs.StayLemmas.{event_change}
 use Rattle.step_rules.proofs.UseLemmas.{CanUse, can_use, MaybeThere, target_in, effect_target, target_there, made_as_many, guard_holds}
 use Rattle.step_rules.specs.Changes.{Change, configuration_after, plain_change, kept_change, ended_change}
 use Rattle.step_rules.specs.Events.{Step, event_of}
 use Rattle.step_rules.specs.Lookups.{Runner, callable, place_of, successor}
-use Rattle.step_rules.specs.ObjectRows.{goes_on, new_with, call_with}
-use Rattle.step_rules.specs.Rows.{Row, Taken, Faulted, Skipped, Stored, Cleared, Chosen, Printed, Made, Called, Pushed, Got, Passed, Released, Suspended, Gave, Popped}
+use Rattle.step_rules.specs.ObjectRules.{goes_on, new_with, call_with}
+use Rattle.step_rules.specs.Rules.{Rule, Taken, Faulted, Skipped, Stored, Cleared, Chosen, Printed, Made, Called, Pushed, Got, Passed, Released, Suspended, Gave, Popped}
 use Rattle.step_rules.specs.Stays.{TaskAfter, Moved, Old, New, ObjectAfter, Kept, Filled, Fresh}
-use Rattle.step_rules.specs.WaitRows.{Unresolved, guard_of, suspend_row}
+use Rattle.step_rules.specs.WaitRules.{Unresolved, guard_of, suspend_rule}
 use Rattle.step_rules.specs.Targets.{slots_after, fields_after, target_of}
-use Rattle.step_rules.specs.RowParts.{IsRunner, IsAt}
+use Rattle.step_rules.specs.RuleParts.{IsRunner, IsRunningAt}
 use Rattle.step_rules.specs.NewEntries.{task_for, home_of}
 use Rattle.step_rules.specs.declared.kind.Did.{Did}
 use Rattle.step_rules.specs.declared.kind.Did.TheVariants as did
@@ -183,14 +183,14 @@ module _ (program : ProgramTree) (config : Configuration) (index : ℕ) where
         frames_of_task program config at.task (at.frame ∷ at.others) (runner_of at runner) runner.frames_are
 
     -- what its next statement can use
-    uses : (at : Runner) (point : Point) (values : List ValueTree) → IsAt program config at point values
+    uses : (at : Runner) (point : Point) (values : List ValueTree) → IsRunningAt program config at point values
         → CanUse program config at.frame.object (length at.frame.slots) point.statement
     uses at point values is = can_use program config at.frame point whole known
         ((frames_of at is.runner).frames_are 0 at.frame refl) is.point_there
 
     -- a task that goes on after its next statement
     next_keeps : (at : Runner) (point : Point) (values : List ValueTree) (target : Target) (value : ValueTree)
-        (answer : Bool) (lines : List (List ℕ)) (kind : Did) → IsAt program config at point values
+        (answer : Bool) (lines : List (List ℕ)) (kind : Did) → IsRunningAt program config at point values
         → Keeps program config index
         (goes_on config index at.task target value (successor point.goes answer) at.frame at.others lines kind)
     next_keeps at point values target value answer lines kind is =
@@ -209,7 +209,7 @@ module _ (program : ProgramTree) (config : Configuration) (index : ℕ) where
     -- a call of another object
     called_keeps : (at : Runner) (point : Point) (object : ℕ) (cell : ObjectState) (arguments : List ValueTree)
         (method : Name) (target : Option VariableTree) (body : BodyAt) → at.index ≡ index
-        → IsAt program config at point (ObjectValue object ∷ arguments) → slice_get config.objects object ≡ Some cell
+        → IsRunningAt program config at point (ObjectValue object ∷ arguments) → slice_get config.objects object ≡ Some cell
         → callable program cell.class method (length arguments) ≡ Some body
         → Keeps program config index (call_with config at (place_of point) (successor point.goes true) object cell
         method target arguments (Some body))
@@ -242,7 +242,7 @@ module _ (program : ProgramTree) (config : Configuration) (index : ℕ) where
 
     -- a new object
     made_keeps : (at : Runner) (point : Point) (values : List ValueTree) (mode : Mode) (class : Name)
-        (target : Option VariableTree) (entry : ClassEntryTree) → at.index ≡ index → IsAt program config at point values
+        (target : Option VariableTree) (entry : ClassEntryTree) → at.index ≡ index → IsRunningAt program config at point values
         → effect_of point.statement ≡ Makes mode class target → class_taking program class ≡ Some entry
         → Keeps program config index (new_with program config at (place_of point) (successor point.goes true) mode class
         target values (Some entry))
@@ -279,7 +279,7 @@ module _ (program : ProgramTree) (config : Configuration) (index : ℕ) where
 
     -- a call of the own object
     pushed_keeps : (at : Runner) (point : Point) (object : ObjectState) (arguments : List ValueTree) (method : Name)
-        (target : Option VariableTree) (body : BodyAt) → IsAt program config at point arguments
+        (target : Option VariableTree) (body : BodyAt) → IsRunningAt program config at point arguments
         → effect_of point.statement ≡ CallsOwn method target → object_at config at.frame.object ≡ Some object
         → callable program object.class method (length arguments) ≡ Some body
         → Keeps program config index (kept_change index at.task at.frame.object (record {
@@ -323,7 +323,7 @@ module _ (program : ProgramTree) (config : Configuration) (index : ℕ) where
 
     -- a task that waits for futures
     released_keeps : (at : Runner) (point : Point) (values : List ValueTree) (names : List (Option ℕ))
-        → IsAt program config at point values → effect_of point.statement ≡ Awaits names
+        → IsRunningAt program config at point values → effect_of point.statement ≡ Awaits names
         → guard_of config at.frame.slots names ≡ Unresolved
         → Keeps program config index (plain_change (record at.task { state = Awaiting }) None did.Released)
     released_keeps at point values names is awaits waits =
@@ -344,8 +344,8 @@ module _ (program : ProgramTree) (config : Configuration) (index : ℕ) where
         })
 
     -- a task that lets others go first
-    suspended_keeps : (at : Runner) (point : Point) (values : List ValueTree) → IsAt program config at point values
-        → Keeps program config index (suspend_row at (successor point.goes true))
+    suspended_keeps : (at : Runner) (point : Point) (values : List ValueTree) → IsRunningAt program config at point values
+        → Keeps program config index (suspend_rule at (successor point.goes true))
     suspended_keeps at point values is =
         let are = frames_of at is.runner in
         let below : FrameState = record at.frame { next = successor point.goes true } in
@@ -366,36 +366,36 @@ module _ (program : ProgramTree) (config : Configuration) (index : ℕ) where
         went_keeps at.task at.frame.target value below.next below rest [] did.Went runner.runs are
         (are.frames_are 0 below refl).next_is
 
-    -- every row keeps a configuration one of the program
-    row_keeps : (change : Change) → Row program config index change → Keeps program config index change
-    row_keeps change (Taken task cog there unended can at free changed) = rw changed (taken_keeps task there)
-    row_keeps change (Faulted at cause same runner fails changed) = rw changed (ended_keeps at.task _)
-    row_keeps change (Skipped at point values same is skips changed) =
+    -- every rule keeps a configuration one of the program
+    rule_keeps : (change : Change) → Rule program config index change → Keeps program config index change
+    rule_keeps change (Taken task cog there unended can at free changed) = rw changed (taken_keeps task there)
+    rule_keeps change (Faulted at cause same runner fails changed) = rw changed (ended_keeps at.task _)
+    rule_keeps change (Skipped at point values same is skips changed) =
         rw changed (next_keeps at point values Nothing NullValue true [] did.Went is)
-    row_keeps change (Stored at point target value same is stores changed) =
+    rule_keeps change (Stored at point target value same is stores changed) =
         rw changed (next_keeps at point (value ∷ []) (target_of target) value true [] did.Went is)
-    row_keeps change (Cleared at point values target same is clears changed) =
+    rule_keeps change (Cleared at point values target same is clears changed) =
         rw changed (next_keeps at point values (target_of (Some target)) NullValue true [] did.Went is)
-    row_keeps change (Chosen at point value answer same is chooses truth changed) =
+    rule_keeps change (Chosen at point value answer same is chooses truth changed) =
         rw changed (next_keeps at point (value ∷ []) Nothing NullValue answer [] did.Went is)
-    row_keeps change (Printed at point string same is prints changed) =
+    rule_keeps change (Printed at point string same is prints changed) =
         rw changed (next_keeps at point _ Nothing NullValue true (string ∷ []) did.Printed is)
-    row_keeps change (Made at point values mode class target entry same is makes taking changed) =
+    rule_keeps change (Made at point values mode class target entry same is makes taking changed) =
         rw changed (made_keeps at point values mode class target entry same is makes taking)
-    row_keeps change (Called at point object cell arguments method target body same is sends there found changed) =
+    rule_keeps change (Called at point object cell arguments method target body same is sends there found changed) =
         rw changed (called_keeps at point object cell arguments method target body same is there found)
-    row_keeps change (Pushed at point object arguments method target body same is calls there found changed) =
+    rule_keeps change (Pushed at point object arguments method target body same is calls there found changed) =
         rw changed (pushed_keeps at point object arguments method target body is calls there found)
-    row_keeps change (Got at point values slot target future task value same is gets holds there gives changed) =
+    rule_keeps change (Got at point values slot target future task value same is gets holds there gives changed) =
         rw changed (next_keeps at point values (target_of target) value true [] did.Went is)
-    row_keeps change (Passed at point values names same is awaits resolved changed) =
+    rule_keeps change (Passed at point values names same is awaits resolved changed) =
         rw changed (next_keeps at point values Nothing NullValue true [] did.Went is)
-    row_keeps change (Released at point values names same is awaits waits changed) =
+    rule_keeps change (Released at point values names same is awaits waits changed) =
         rw changed (released_keeps at point values names is awaits waits)
-    row_keeps change (Suspended at point values same is suspends changed) =
+    rule_keeps change (Suspended at point values same is suspends changed) =
         rw changed (suspended_keeps at point values is)
-    row_keeps change (Gave at value same runner others gives changed) = rw changed (ended_keeps at.task _)
-    row_keeps change (Popped at below rest value same runner others gives changed) =
+    rule_keeps change (Gave at value same runner others gives changed) = rw changed (ended_keeps at.task _)
+    rule_keeps change (Popped at below rest value same runner others gives changed) =
         rw changed (popped_keeps at below rest value runner others)
 
 -- each event of a configuration of a program leads to one
@@ -406,4 +406,4 @@ event_keeps_program program config index step whole known is =
     let event = event_change program config index step is in
     subst (λ (one : Step). IsConfigOf program one.config) (sym event.2)
     (kept_program program config index event.0 known
-    (row_keeps program config index whole known event.0 (row_of program config index event.0 event.1)))
+    (rule_keeps program config index whole known event.0 (rule_of program config index event.0 event.1)))

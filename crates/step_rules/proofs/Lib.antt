@@ -1,14 +1,14 @@
 pub mod ListLemmas
 pub mod AfterLemmas
-pub mod LocalRowLemmas
-pub mod RowLemmas
+pub mod LocalRuleLemmas
+pub mod RuleLemmas
 pub mod StayLemmas
 pub mod OutputLemmas
 pub mod FrameLemmas
 pub mod FormedLemmas
 pub mod FormedPartLemmas
 pub mod FormedChangeLemmas
-pub mod FormedRowLemmas
+pub mod FormedRuleLemmas
 pub mod GrowthLemmas
 pub mod UseLemmas
 pub mod KeepLemmas
@@ -26,7 +26,7 @@ pub mod ReadingLemmas
 pub mod EventPlanLemmas
 pub mod EventMemoryLemmas
 pub mod MoverLemmas
-pub mod RowPlanLemmas
+pub mod RulePlanLemmas
 pub mod WaitPlanLemmas
 pub mod MadeLemmas
 pub mod StatementLemmas
@@ -37,5 +37,5 @@ pub mod InstallLemmas
 pub mod EqualNameLemmas
 pub mod EqualTypeLemmas
 pub mod EqualPatternLemmas
-pub mod EqualPhraseLemmas
+pub mod EqualExprLemmas
 pub mod EqualScopeLemmas

@@ -1,7 +1,7 @@
--- The plans of the rows that make objects and tasks are the changes of these rows.
+-- The plans of the rules that make objects and tasks are the changes of these rules.
 --
 --   `goes_planned`             a plan by which a value goes to a target
---   `made`, `called`           what the code makes for `new` and for a call is the change of the row
+--   `made`, `called`           what the code makes for `new` and for a call is the change of the rule
 use Rattle.std.proofs.Common.{◌≡◌, ℕ, List, [], length, slice_get, Option, Some, None, option_map, refl, sym}
 use Rattle.std.proofs.lemmas.Option.{same_Some}
 use Rattle.abs_program.specs.Bodies.{ClassEntryTree}
@@ -20,7 +20,7 @@ use Rattle.config_state.specs.declared.object.ObjectCell.{ObjectCell}
 use Rattle.config_state.specs.declared.task.TaskCell.{TaskCell}
 use Rattle.step_rules.specs.Lookups.{Runner, callable}
 use Rattle.step_rules.specs.NewEntries.{task_for, cog_for, home_of, run_task}
-use Rattle.step_rules.specs.ObjectRows.{goes_on, new_row, call_with, call_on}
+use Rattle.step_rules.specs.ObjectRules.{goes_on, new_rule, call_with, call_on}
 use Rattle.step_rules.specs.Plans.{planned, plan_of_task}
 use Rattle.step_rules.specs.Targets.{target_of}
 use Rattle.step_rules.specs.declared.kind.Did.{Did}
@@ -58,7 +58,7 @@ module _ (program : ProgramTree) (config : Configuration) (at : Runner) where
         cog = cog;
         object = Some (record { cog = home; place = place; class = class; fields = values });
         new = new;
-      } ≡ new_row program config at place next mode class target values
+      } ≡ new_rule program config at place next mode class target values
   made place next mode class target values entry goal object after home cog new there goal_is object_is after_is
       home_is cog_is new_is = rw (there, new_is, goal_is, object_is, after_is, home_is, cog_is) refl
 

@@ -16,7 +16,7 @@ use Rattle.abs_tree.specs.Limits.{level_limit}
 use Rattle.abs_values.specs.References.{IsIn}
 use Rattle.abs_values.specs.Results.{Results, AllGive, OneFails}
 use Rattle.abs_values.specs.Scopes.{Library, library_of, Scope, own_scope, Location, InSlot, InField, InBound, InThis, value_at}
-use Rattle.abs_tree.specs.Syntax.{Phrase, Phrases, NoPhrase, NextPhrase, ProgramTree}
+use Rattle.abs_tree.specs.Syntax.{ExprTree, ExprTrees, NoExpr, NextExpr, ProgramTree}
 use Rattle.abs_values.specs.ValueTrees.{ValueTree, ObjectValue}
 use Rattle.config_state.proofs.EachLemmas.{Each-none, Each-one, Each-append}
 use Rattle.config_state.specs.Configurations.{ObjectState, FrameState, Configuration, object_at, fields_of}
@@ -30,24 +30,24 @@ module _ (config : Configuration) where
       (location : Location) (value : ValueTree) → value_at scope location ≡ Some value → ValueIsThere config value
 
   -- what an expression gives is there
-  evaluate-there : (library : Library) (scope : Scope) (phrase : Phrase) (made : ℕ) → IsScopeThere scope
-      → IfGives (evaluate library scope level_limit phrase made).result (ValueIsThere config)
-  evaluate-there library scope phrase made there =
-      IfGives-then (evaluate library scope level_limit phrase made).result (AllComeFrom scope phrase)
+  evaluate-there : (library : Library) (scope : Scope) (expr_tree : ExprTree) (made : ℕ) → IsScopeThere scope
+      → IfGives (evaluate library scope level_limit expr_tree made).result (ValueIsThere config)
+  evaluate-there library scope expr_tree made there =
+      IfGives-then (evaluate library scope level_limit expr_tree made).result (AllComeFrom scope expr_tree)
       (ValueIsThere config) (λ value comes reference inside. let from = comes reference inside in
       there from.location from.value from.there reference from.inside)
-      (evaluate-reads library level_limit scope phrase made)
+      (evaluate-reads library level_limit scope expr_tree made)
 
   -- what a list of expressions gives is there
-  outcomes_of-there : (library : Library) (scope : Scope) (phrases : Phrases) (made : ℕ) → IsScopeThere scope
-      → IfAllGive (outcomes_of (evaluate library scope level_limit) phrases made).results (AreThere config)
-  outcomes_of-there library scope phrases made there =
+  outcomes_of-there : (library : Library) (scope : Scope) (expr_trees : ExprTrees) (made : ℕ) → IsScopeThere scope
+      → IfAllGive (outcomes_of (evaluate library scope level_limit) expr_trees made).results (AreThere config)
+  outcomes_of-there library scope expr_trees made there =
       let give = evaluate library scope level_limit in
-      IfAllGive-then (outcomes_of give phrases made).results (AreGiven give phrases) (AreThere config)
+      IfAllGive-then (outcomes_of give expr_trees made).results (AreGiven give expr_trees) (AreThere config)
       (λ values given index value is. let at = given index value is in
-      IfGives-at (give at.phrase at.applications).result (ValueIsThere config) value at.gives
-      (evaluate-there library scope at.phrase at.applications there))
-      (outcomes_of-each give phrases made)
+      IfGives-at (give at.expr_tree at.applications).result (ValueIsThere config) value at.gives
+      (evaluate-there library scope at.expr_tree at.applications there))
+      (outcomes_of-each give expr_trees made)
 
   -- a scope of values that are there
   own_scope-there : (values : List ValueTree) → AreThere config values → IsScopeThere (own_scope values)
@@ -55,11 +55,11 @@ module _ (config : Configuration) where
       let own = own_slot values location value is in there own.0 value own.2
 
   -- initial values after values that are there are there too
-  initial_outcomes-there : (library : Library) (phrases : Phrases) (values : List ValueTree) (made : ℕ)
-      → AreThere config values → IfAllGive (initial_outcomes library phrases values made).results (AreThere config)
+  initial_outcomes-there : (library : Library) (expr_trees : ExprTrees) (values : List ValueTree) (made : ℕ)
+      → AreThere config values → IfAllGive (initial_outcomes library expr_trees values made).results (AreThere config)
   unfolding initial_outcomes
-  initial_outcomes-there library NoPhrase values made there = there
-  initial_outcomes-there library (NextPhrase first others) values made there =
+  initial_outcomes-there library NoExpr values made there = there
+  initial_outcomes-there library (NextExpr first others) values made there =
       outcomes_after-gives (evaluate library (own_scope values) level_limit first made) _ (AreThere config)
       (λ given gives. let found = evaluate library (own_scope values) level_limit first made in
       initial_outcomes-there library others (values ++ given ∷ []) found.applications
@@ -68,19 +68,19 @@ module _ (config : Configuration) where
       (evaluate-there library (own_scope values) first made (own_scope-there values there))))))
 
   -- the values of a statement are there, if each value that its scope gives is there
-  pub results-there : (library : Library) (scope : Scope) (phrases initials : Phrases) (values : List ValueTree)
-      → IsScopeThere scope → results_of library scope phrases initials ≡ AllGive values → AreThere config values
-  results-there library scope phrases initials values there gives =
-      by_arguments (outcomes_of (evaluate library scope level_limit) phrases 0).results refl
+  pub results-there : (library : Library) (scope : Scope) (expr_trees initials : ExprTrees) (values : List ValueTree)
+      → IsScopeThere scope → results_of library scope expr_trees initials ≡ AllGive values → AreThere config values
+  results-there library scope expr_trees initials values there gives =
+      by_arguments (outcomes_of (evaluate library scope level_limit) expr_trees 0).results refl
     where
-      by_arguments : (found : Results) → (outcomes_of (evaluate library scope level_limit) phrases 0).results ≡ found
+      by_arguments : (found : Results) → (outcomes_of (evaluate library scope level_limit) expr_trees 0).results ≡ found
           → AreThere config values
       by_arguments (AllGive arguments) is =
-          let found = outcomes_of (evaluate library scope level_limit) phrases 0 in
+          let found = outcomes_of (evaluate library scope level_limit) expr_trees 0 in
           IfAllGive-at (initial_outcomes library initials arguments found.applications).results (AreThere config)
           values (rw (results_of, all_outcomes, is) at gives)
           (initial_outcomes-there library initials arguments found.applications
-          (IfAllGive-at found.results (AreThere config) arguments is (outcomes_of-there library scope phrases 0 there)))
+          (IfAllGive-at found.results (AreThere config) arguments is (outcomes_of-there library scope expr_trees 0 there)))
       by_arguments (OneFails cause) is = let fails = rw (results_of, all_outcomes, is) at gives in absurd cc
 
   -- the fields of an object are there
@@ -116,10 +116,10 @@ module _ (config : Configuration) where
       this_value-there frame.object frame_formed.object_there value is
 
   -- the values of the expressions of a frame are there
-  pub outputs-there : IsWellFormed config → (program : ProgramTree) (frame : FrameState) (phrases initials : Phrases)
+  pub outputs-there : IsWellFormed config → (program : ProgramTree) (frame : FrameState) (expr_trees initials : ExprTrees)
       (values : List ValueTree) → IsFrameFormed config frame
-      → results_of (library_of program) (scope_of config frame) phrases initials ≡ AllGive values
+      → results_of (library_of program) (scope_of config frame) expr_trees initials ≡ AllGive values
       → AreThere config values
-  outputs-there formed program frame phrases initials values frame_formed gives =
-      results-there (library_of program) (scope_of config frame) phrases initials values
+  outputs-there formed program frame expr_trees initials values frame_formed gives =
+      results-there (library_of program) (scope_of config frame) expr_trees initials values
       (scope-there formed frame frame_formed) gives

@@ -20,15 +20,15 @@ use Rattle.config_state.specs.Configurations.{FrameState, TaskState, Configurati
 use Rattle.config_state.specs.WellFormed.{IsWellFormed}
 use Rattle.config_state.specs.declared.task.State.{State}
 use Rattle.config_state.specs.declared.task.State.TheVariants.{Running, Awaiting}
-use Rattle.step_rules.proofs.LocalRowLemmas.{row_or_is}
+use Rattle.step_rules.proofs.LocalRuleLemmas.{rule_or_is}
 use Rattle.step_rules.proofs.StatementLemmas.{given}
 use Rattle.step_rules.specs.Changes.{ended_change}
 use Rattle.step_rules.specs.Events.{change_by, change_by_outcome, change_by_state, change_of_task, other_change, run_change, run_frames, statement_change}
-use Rattle.step_rules.specs.LocalRows.{local_row, next_row, statement_row}
+use Rattle.step_rules.specs.LocalRules.{local_rule, next_rule, statement_rule}
 use Rattle.step_rules.specs.Lookups.{Runner, class_of, unit_value}
-use Rattle.step_rules.specs.ObjectRows.{give_row}
-use Rattle.step_rules.specs.Plans.{IsNoFault, plan_change, plan_of_task, row_or, whole_change}
-use Rattle.step_rules.specs.WaitRows.{wake_row}
+use Rattle.step_rules.specs.ObjectRules.{give_rule}
+use Rattle.step_rules.specs.Plans.{IsNoFault, plan_change, plan_of_task, rule_or, whole_change}
+use Rattle.step_rules.specs.WaitRules.{wake_rule}
 use Rattle.step_rules.specs.declared.plan.Plan.{Plan}
 
 -- An instruction is that of a statement.
@@ -58,10 +58,10 @@ no_point source index is =
 
 -- A task without a result ends with no fault where it gives a value.
 pub give_open : (config : Configuration) (at : Runner) (value : ValueTree) → at.task.outcome ≡ None
-    → IsNoFault (give_row config at.index at.task at.frame at.others value)
+    → IsNoFault (give_rule config at.index at.task at.frame at.others value)
 give_open config at value still = by at.others
   where
-    by : (others : List FrameState) → IsNoFault (give_row config at.index at.task at.frame others value)
+    by : (others : List FrameState) → IsNoFault (give_rule config at.index at.task at.frame others value)
     by [] = λ cause fails. absurd cc
     by (below ∷ others) = λ cause fails. absurd cc
 
@@ -69,38 +69,38 @@ module _ (program : ProgramTree) (config : Configuration) (at : Runner) where
   -- With a fault as output the task ends with it.
   pub run_faulty : (cause : Fault) → run_change program config at (OneFails cause)
       ≡ Some (ended_change at.task (Fails cause))
-  unfolding local_row
+  unfolding local_rule
   run_faulty cause = refl
 
   -- With values it is by what is next in the innermost frame.
   run_next : (values : List ValueTree) (next : Option ℕ) → at.frame.next ≡ next
-      → run_change program config at (AllGive values) ≡ row_or at
-      (next_row program (class_of (object_at config at.frame.object)) at.frame at.others
+      → run_change program config at (AllGive values) ≡ rule_or at
+      (next_rule program (class_of (object_at config at.frame.object)) at.frame at.others
       (fields_of (object_at config at.frame.object)) values next) (other_change program config at values next)
-  unfolding local_row
-  run_next values next is = row_or_is program config at (AllGive values)
-      (next_row program (class_of (object_at config at.frame.object)) at.frame at.others
+  unfolding local_rule
+  run_next values next is = rule_or_is program config at (AllGive values)
+      (next_rule program (class_of (object_at config at.frame.object)) at.frame at.others
       (fields_of (object_at config at.frame.object)) values at.frame.next)
-      ∙ ap (λ (one : Option ℕ). row_or at
-      (next_row program (class_of (object_at config at.frame.object)) at.frame at.others
+      ∙ ap (λ (one : Option ℕ). rule_or at
+      (next_rule program (class_of (object_at config at.frame.object)) at.frame at.others
       (fields_of (object_at config at.frame.object)) values one) (other_change program config at values one)) is
 
   -- At the end of its body it returns `Unit`.
   pub run_at_end : (values : List ValueTree) → at.frame.next ≡ None
       → run_change program config at (AllGive values)
-      ≡ Some (give_row config at.index at.task at.frame at.others (unit_value program.names))
+      ≡ Some (give_rule config at.index at.task at.frame at.others (unit_value program.names))
   run_at_end values is = run_next values None is ∙ given config at (unit_value program.names)
 
   -- With an index it is by the statement with that index.
   run_by : (values : List ValueTree) (index : ℕ) (found : Option Point) → at.frame.next ≡ Some index
       → slice_get (program_points program.source) index ≡ found
-      → run_change program config at (AllGive values) ≡ row_or at (option_and_then (λ point.
-      statement_row program (class_of (object_at config at.frame.object)) at.frame at.others
+      → run_change program config at (AllGive values) ≡ rule_or at (option_and_then (λ point.
+      statement_rule program (class_of (object_at config at.frame.object)) at.frame at.others
       (fields_of (object_at config at.frame.object)) point values (effect_of point.statement)) found)
       (option_and_then (λ point. statement_change program config at point values (effect_of point.statement)) found)
   run_by values index found is there = run_next values (Some index) is
-      ∙ ap (λ (one : Option Point). row_or at (option_and_then (λ point.
-      statement_row program (class_of (object_at config at.frame.object)) at.frame at.others
+      ∙ ap (λ (one : Option Point). rule_or at (option_and_then (λ point.
+      statement_rule program (class_of (object_at config at.frame.object)) at.frame at.others
       (fields_of (object_at config at.frame.object)) point values (effect_of point.statement)) one)
       (option_and_then (λ point. statement_change program config at point values (effect_of point.statement)) one))
       there
@@ -162,8 +162,8 @@ module _ (program : ProgramTree) (config : Configuration) (index : ℕ) (results
 
   -- That of one that awaits is by its frames.
   pub change_awaiting : (frames : List FrameState) → task.outcome ≡ None → task.state ≡ Awaiting
-      → task.frames ≡ frames → wake_row program config index task frames ≡ change_by program config index results
-  change_awaiting frames still awaits are = ap (wake_row program config index task) (sym are)
+      → task.frames ≡ frames → wake_rule program config index task frames ≡ change_by program config index results
+  change_awaiting frames still awaits are = ap (wake_rule program config index task) (sym are)
       ∙ change_by_its_state Awaiting still awaits
 
   -- That of one that runs is by its innermost frame.

@@ -11,7 +11,7 @@ use Rattle.config_state.specs.WellFormed.{IsWellFormed}
 use Rattle.config_state.specs.declared.frame.Target.TheVariants.{Nothing}
 use Rattle.config_state.proofs.EachLemmas.{Each-none, Each-one}
 use Rattle.config_state.proofs.FirstLemmas.{first-well_formed, first-of_program}
-use Rattle.step_rules.proofs.FormedRowLemmas.{event-formed}
+use Rattle.step_rules.proofs.FormedRuleLemmas.{event-formed}
 use Rattle.step_rules.proofs.HouseLemmas.{task_housed, one_frame_housed, event_keeps_houses}
 use Rattle.step_rules.proofs.KeepLemmas.{event_keeps_program}
 use Rattle.step_rules.specs.Events.{Step, event_of}

@@ -12,14 +12,14 @@ use Rattle.abs_program.specs.Control.{Point, program_points}
 use Rattle.abs_values.specs.Evaluation.{results_of}
 use Rattle.abs_program.specs.Instructions.{EffectTree, Skips, Suspends, Awaits, Chooses, Returns, Prints, Clears, Stores, Makes, Sends, CallsOwn, CallsOther, Gets, effect_of, InstructionTree, instruction_of, instructions}
 use Rattle.abs_values.specs.Scopes.{Scope, library_of}
-use Rattle.abs_tree.specs.Syntax.{Phrases, ProgramTree}
+use Rattle.abs_tree.specs.Syntax.{ExprTrees, ProgramTree}
 use Rattle.config_state.specs.Configurations.{FrameState, TaskState, Configuration}
 use Rattle.config_state.specs.OfProgram.{next_point}
 use Rattle.config_state.specs.declared.task.State.{State}
 use Rattle.config_state.specs.declared.task.State.TheVariants.{Ready, Running, Awaiting}
 use Rattle.step_rules.specs.Events.{change_by, change_of, step_by, event_of}
-use Rattle.step_rules.specs.InputViews.{class_by, class_made, phrases_by, running_point}
-use Rattle.step_rules.specs.Inputs.{Input, initials_of, initials_for, initials_at, input_in, input_with, input_of_task, input_of, output_of, phrases_at, scope_of}
+use Rattle.step_rules.specs.InputViews.{class_by, class_made, exprs_by, running_point}
+use Rattle.step_rules.specs.Inputs.{Input, initials_of, initials_for, initials_at, input_in, input_with, input_of_task, input_of, output_of, exprs_at, scope_of}
 
 -- the next instruction of a frame is that of its next statement
 pub instruction_found : (program : ProgramTree) (frame : FrameState) (index : ℕ) (found : Option InstructionTree)
@@ -49,24 +49,24 @@ initials_by program (CallsOther method slot target) = refl
 initials_by program (Gets slot target) = refl
 
 -- an input with these parts
-same_input : (scope : Scope) (phrases initials : Phrases) (other : Input) → scope ≡ other.scope
-    → phrases ≡ other.phrases → initials ≡ other.initials
-    → record { scope = scope; phrases = phrases; initials = initials } ≡ other
-same_input scope phrases initials other same_scope same_phrases same_initials =
-    rw (same_scope, same_phrases, same_initials)
+same_input : (scope : Scope) (expr_trees initials : ExprTrees) (other : Input) → scope ≡ other.scope
+    → expr_trees ≡ other.expr_trees → initials ≡ other.initials
+    → record { scope = scope; expr_trees = expr_trees; initials = initials } ≡ other
+same_input scope expr_trees initials other same_scope same_exprs same_initials =
+    rw (same_scope, same_exprs, same_initials)
 
 -- the input in a frame, for an instruction of it
 abbrev input_by : ProgramTree → Configuration → FrameState → Option InstructionTree → Input
 input_by program config frame instruction = record {
   scope = scope_of config frame;
-  phrases = phrases_by instruction;
+  expr_trees = exprs_by instruction;
   initials = initials_of (class_made program instruction);
 }
 
 module _ (program : ProgramTree) (config : Configuration) where
   -- the input at a statement
   input_at : (frame : FrameState) (point : Option Point)
-      → record { scope = scope_of config frame; phrases = phrases_at point; initials = initials_at program point }
+      → record { scope = scope_of config frame; expr_trees = exprs_at point; initials = initials_at program point }
       ≡ input_by program config frame (option_map instruction_of point)
   input_at frame None = refl
   input_at frame (Some point) = rw (initials_by program (effect_of point.statement))
@@ -104,10 +104,10 @@ module _ (program : ProgramTree) (config : Configuration) where
       (is : instruction ≡ option_map instruction_of (running_point program task.state frame))
       (made : class ≡ class_made program instruction) where
     -- the input of a task that has a frame, by the instruction that the task executes there
-    pub input_found : (input : Input) → input.scope ≡ scope_of config frame → input.phrases ≡ phrases_by instruction
+    pub input_found : (input : Input) → input.scope ≡ scope_of config frame → input.expr_trees ≡ exprs_by instruction
         → input.initials ≡ initials_of class → input_of program config index ≡ Some input
     unfolding input_of
-    input_found input scope phrases initials =
+    input_found input scope expr_trees initials =
         ap (input_of_task program config) there ∙ by task.frames innermost
       where
         by : (frames : List FrameState) → Some frame ≡ slice_get frames 0
@@ -117,14 +117,14 @@ module _ (program : ProgramTree) (config : Configuration) where
             (ap (input_in program config task.state) (sym (same_Some _ _ innermost))
             ∙ (input_in_state task.state frame
             ∙ (ap (input_by program config frame) (sym is)
-            ∙ sym (same_input _ _ _ (input_by program config frame instruction) scope phrases
+            ∙ sym (same_input _ _ _ (input_by program config frame instruction) scope expr_trees
             (initials ∙ ap initials_of made)))))
 
     -- the output of the input, by what is evaluated
     pub output_found : (input found : Input) → input.scope ≡ scope_of config frame
-        → input.phrases ≡ phrases_by instruction → input.initials ≡ initials_of class
+        → input.expr_trees ≡ exprs_by instruction → input.initials ≡ initials_of class
         → input_of program config index ≡ Some found
-        → results_of (library_of program) input.scope input.phrases input.initials ≡ output_of program found
+        → results_of (library_of program) input.scope input.expr_trees input.initials ≡ output_of program found
     unfolding output_of
-    output_found input found scope phrases initials is_found =
-        ap (output_of program) (same_Some _ _ (sym (input_found input scope phrases initials) ∙ is_found))
+    output_found input found scope expr_trees initials is_found =
+        ap (output_of program) (same_Some _ _ (sym (input_found input scope expr_trees initials) ∙ is_found))

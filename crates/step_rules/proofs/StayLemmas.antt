@@ -1,7 +1,7 @@
 -- What an event leaves as it was.
 --
 --   `stays_by`                     a change of a task leaves the rest
---   `row_stays`, `change_stays`    so does a row, and so does an event
+--   `rule_stays`, `change_stays`   so does a rule, and so does an event
 --   `written_is_home`              what an event writes are the fields of an object of the task's cog
 --   `event_change`                 an event is the change of its task, put in place
 use Rattle.std.proofs.Common.{◌≡◌, ℕ, true, List, [], ◌∷◌, length, slice_get, Option, Some, None, refl, sym, ap, ◌∙◌, subst}
@@ -14,16 +14,16 @@ use Rattle.config_state.specs.Configurations.{ObjectState, FrameState, TaskState
 use Rattle.config_state.specs.declared.cog.Cog.{Cog}
 use Rattle.config_state.specs.declared.task.State.{State}
 use Rattle.step_rules.proofs.AfterLemmas.{written-own, task-moved, task-kept, object-there, cog-there}
-use Rattle.step_rules.proofs.RowLemmas.{row_of}
+use Rattle.step_rules.proofs.RuleLemmas.{rule_of}
 use Rattle.step_rules.specs.Changes.{Written, Change, plain_change, kept_change, ended_change}
 use Rattle.step_rules.specs.Events.{Step, step_by, change_of, event_of}
 use Rattle.step_rules.specs.Homes.{IsHoused}
 use Rattle.step_rules.specs.Lookups.{Runner, successor}
-use Rattle.step_rules.specs.ObjectRows.{goes_on}
-use Rattle.step_rules.specs.Rows.{Row, Taken, Faulted, Skipped, Stored, Cleared, Chosen, Printed, Made, Called, Pushed, Got, Passed, Released, Suspended, Gave, Popped}
+use Rattle.step_rules.specs.ObjectRules.{goes_on}
+use Rattle.step_rules.specs.Rules.{Rule, Taken, Faulted, Skipped, Stored, Cleared, Chosen, Printed, Made, Called, Pushed, Got, Passed, Released, Suspended, Gave, Popped}
 use Rattle.step_rules.specs.Stays.{IsSameTask, Stays}
-use Rattle.step_rules.specs.Targets.{Own, target_of}
-use Rattle.step_rules.specs.RowParts.{IsRunner}
+use Rattle.step_rules.specs.Targets.{FramesAndFields, target_of}
+use Rattle.step_rules.specs.RuleParts.{IsRunner}
 use Rattle.step_rules.specs.declared.kind.Did.{Did}
 use Rattle.step_rules.specs.declared.kind.Did.TheVariants as did
 
@@ -61,7 +61,7 @@ making_stays config index kept cog object new stays =
 module _ (config : Configuration) (index : ℕ) (at : Runner) (at_index : at.index ≡ index)
     (runner : IsRunner config at) where
   -- the change of a task that runs, which writes the fields of the object of one of its frames
-  runner_stays : (change : Change) (depth : ℕ) (frame : FrameState) (own : Own) → IsSameTask at.task change.task
+  runner_stays : (change : Change) (depth : ℕ) (frame : FrameState) (own : FramesAndFields) → IsSameTask at.task change.task
       → slice_get at.task.frames depth ≡ Some frame
       → change.written ≡ option_map (λ at. record { object = at; fields = own.fields }) frame.object
       → Stays config index change
@@ -87,14 +87,14 @@ module _ (config : Configuration) (index : ℕ) (at : Runner) (at_index : at.ind
       idle_stays (ended_change at.task result) (record { cog = refl; object = refl; method = refl; call = refl }) refl
 
   -- the task goes on in its innermost frame
-  kept_stays : (holder : ℕ) (own : Own) (lines : List (List ℕ)) (kind : Did)
+  kept_stays : (holder : ℕ) (own : FramesAndFields) (lines : List (List ℕ)) (kind : Did)
       → Stays config index (kept_change holder at.task at.frame.object own lines kind)
   kept_stays holder own lines kind = runner_stays (kept_change holder at.task at.frame.object own lines kind) 0 at.frame
       own (record { cog = refl; object = refl; method = refl; call = refl })
       (ap (λ (frames : List FrameState). slice_get frames 0) runner.frames_are) refl
 
   -- the task goes on in the frame below
-  popped_stays : (below : FrameState) (rest : List FrameState) (own : Own) (lines : List (List ℕ)) (kind : Did)
+  popped_stays : (below : FrameState) (rest : List FrameState) (own : FramesAndFields) (lines : List (List ℕ)) (kind : Did)
       → at.others ≡ below ∷ rest → Stays config index (kept_change index at.task below.object own lines kind)
   popped_stays below rest own lines kind others_are =
       runner_stays (kept_change index at.task below.object own lines kind) 1 below own
@@ -108,61 +108,61 @@ module _ (config : Configuration) (index : ℕ) (at : Runner) (at_index : at.ind
   waiting_stays frames now kind = idle_stays (plain_change (record at.task { frames = frames; state = now }) None kind)
       (record { cog = refl; object = refl; method = refl; call = refl }) refl
 
--- a row leaves the rest
-pub row_stays : (program : ProgramTree) (config : Configuration) (index : ℕ) (change : Change)
-    → Row program config index change → Stays config index change
-row_stays program config index change (Taken task cog there open_still can_take cog_there free is) =
+-- a rule leaves the rest
+pub rule_stays : (program : ProgramTree) (config : Configuration) (index : ℕ) (change : Change)
+    → Rule program config index change → Stays config index change
+rule_stays program config index change (Taken task cog there open_still can_take cog_there free is) =
     stays_by config index change task there open_still (record {
       cog = ap (λ (one : Change). one.task.cog) is;
       object = ap (λ (one : Change). one.task.object) is;
       method = ap (λ (one : Change). one.task.method) is;
       call = ap (λ (one : Change). one.task.call) is;
     }) (λ written writes. absurd (cc (ap (λ (one : Change). one.written) is, writes)))
-row_stays program config index change (Faulted at cause same runner fault is) =
+rule_stays program config index change (Faulted at cause same runner fault is) =
     subst (Stays config index) (sym is) (ended_stays config index at same runner _)
-row_stays program config index change (Skipped at point values same is_at effect is) =
+rule_stays program config index change (Skipped at point values same is_at effect is) =
     subst (Stays config index) (sym is) (kept_stays config index at same is_at.runner _ _ _ _)
-row_stays program config index change (Stored at point target value same is_at effect is) =
+rule_stays program config index change (Stored at point target value same is_at effect is) =
     subst (Stays config index) (sym is) (kept_stays config index at same is_at.runner _ _ _ _)
-row_stays program config index change (Cleared at point values target same is_at effect is) =
+rule_stays program config index change (Cleared at point values target same is_at effect is) =
     subst (Stays config index) (sym is) (kept_stays config index at same is_at.runner _ _ _ _)
-row_stays program config index change (Chosen at point value answer same is_at effect truth is) =
+rule_stays program config index change (Chosen at point value answer same is_at effect truth is) =
     subst (Stays config index) (sym is) (kept_stays config index at same is_at.runner _ _ _ _)
-row_stays program config index change (Printed at point string same is_at effect is) =
+rule_stays program config index change (Printed at point string same is_at effect is) =
     subst (Stays config index) (sym is) (kept_stays config index at same is_at.runner _ _ _ _)
-row_stays program config index change (Made at point values mode class target entry same is_at effect class_there is) =
+rule_stays program config index change (Made at point values mode class target entry same is_at effect class_there is) =
     let kept : Change = goes_on config at.index at.task (target_of target) (ObjectValue (length config.objects))
     (successor point.goes true) at.frame at.others [] did.Made in
     subst (Stays config index) (sym is)
     (making_stays config index kept _ _ _ (kept_stays config index at same is_at.runner _ _ _ _))
-row_stays program config index change
+rule_stays program config index change
     (Called at point object cell arguments method target body same is_at effect cell_there can_call is) =
     let kept : Change = goes_on config at.index at.task (target_of target) (FutureValue (length config.tasks))
     (successor point.goes true) at.frame at.others [] did.Called in
     subst (Stays config index) (sym is)
     (making_stays config index kept _ _ _ (kept_stays config index at same is_at.runner _ _ _ _))
-row_stays program config index change
+rule_stays program config index change
     (Pushed at point object arguments method target body same is_at effect object_there can_call is) =
     subst (Stays config index) (sym is) (kept_stays config index at same is_at.runner _ _ _ _)
-row_stays program config index change
+rule_stays program config index change
     (Got at point values slot target future task value same is_at effect holds task_there gives is) =
     subst (Stays config index) (sym is) (kept_stays config index at same is_at.runner _ _ _ _)
-row_stays program config index change (Passed at point values names same is_at effect resolved is) =
+rule_stays program config index change (Passed at point values names same is_at effect resolved is) =
     subst (Stays config index) (sym is) (kept_stays config index at same is_at.runner _ _ _ _)
-row_stays program config index change (Released at point values names same is_at effect unresolved is) =
+rule_stays program config index change (Released at point values names same is_at effect unresolved is) =
     subst (Stays config index) (sym is) (waiting_stays config index at same is_at.runner _ _ _)
-row_stays program config index change (Suspended at point values same is_at effect is) =
+rule_stays program config index change (Suspended at point values same is_at effect is) =
     subst (Stays config index) (sym is) (waiting_stays config index at same is_at.runner _ _ _)
-row_stays program config index change (Gave at value same runner others_are value_of is) =
+rule_stays program config index change (Gave at value same runner others_are value_of is) =
     subst (Stays config index) (sym is) (ended_stays config index at same runner _)
-row_stays program config index change (Popped at below rest value same runner others_are value_of is) =
+rule_stays program config index change (Popped at below rest value same runner others_are value_of is) =
     subst (Stays config index) (sym is) (popped_stays config index at same runner below rest _ _ _ others_are)
 
 -- an event leaves the rest
 pub change_stays : (program : ProgramTree) (config : Configuration) (index : ℕ) (change : Change)
     → change_of program config index ≡ Some change → Stays config index change
 change_stays program config index change is =
-    row_stays program config index change (row_of program config index change is)
+    rule_stays program config index change (rule_of program config index change is)
 
 -- what an event writes are the fields of an object of the task's cog, where tasks are housed
 pub written_is_home : (program : ProgramTree) (config : Configuration) (index : ℕ) (change : Change) (written : Written)

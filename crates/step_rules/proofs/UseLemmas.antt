@@ -13,14 +13,14 @@ use Rattle.abs_values.proofs.ResultLemmas.{IfAllGive-at}
 use Rattle.abs_program.specs.Bodies.{ClassEntryTree}
 use Rattle.abs_program.specs.Control.{Point, program_points}
 use Rattle.abs_values.specs.Evaluation.{all_end_with, all_outcomes, evaluate, initial_outcomes, outcomes_of, results_of}
-use Rattle.abs_program.specs.Instructions.{EffectTree, Skips, Suspends, Awaits, Chooses, Returns, Prints, Clears, Stores, Makes, Sends, CallsOwn, CallsOther, Gets, target_variable, side_phrases, side_effect, phrases_of, effect_of}
+use Rattle.abs_program.specs.Instructions.{EffectTree, Skips, Suspends, Awaits, Chooses, Returns, Prints, Clears, Stores, Makes, Sends, CallsOwn, CallsOther, Gets, target_variable, side_expr_trees, side_effect, expr_trees_of, effect_of}
 use Rattle.abs_tree.specs.Limits.{level_limit}
 use Rattle.abs_program.specs.NameSpaces.{NameSpaces, spaces_of}
 use Rattle.abs_values.specs.Results.{Results, AllGive, OneFails}
 use Rattle.abs_values.specs.Scopes.{Library, Scope, library_of}
 use Rattle.abs_program.specs.Slots.{body_slots, is_this}
-use Rattle.abs_tree.specs.Syntax.{Name, VariableTree, AtSlot, AtField, AtBound, Unresolved, OwnCallOf, Phrases, NoPhrase, NextPhrase, SideTree, NewOf, ValueOf, SendOf, GetOf, CallOf, TargetTree, ToVariable, ToField, NoSide, SomeSide, Statement, BlockOf, SkipOf, SuspendOf, AwaitOf, ReturnOf, PrintOf, IfOf, WhileOf, DeclareOf, AssignOf, DoOf, ProgramTree}
-use Rattle.abs_tree.specs.SyntaxCounts.{count_phrases}
+use Rattle.abs_tree.specs.Syntax.{Name, VariableTree, AtSlot, AtField, AtBound, Unresolved, OwnCallOf, ExprTrees, NoExpr, NextExpr, SideTree, NewOf, ValueOf, SendOf, GetOf, CallOf, TargetTree, ToVariable, ToField, NoSide, SomeSide, Statement, BlockOf, SkipOf, SuspendOf, AwaitOf, ReturnOf, PrintOf, IfOf, WhileOf, DeclareOf, AssignOf, DoOf, ProgramTree}
+use Rattle.abs_tree.specs.SyntaxCounts.{count_exprs}
 use Rattle.abs_program.specs.Tables.{meaning_of}
 use Rattle.abs_values.specs.ValueTrees.{ValueTree, FutureValue, NullValue}
 use Rattle.abs_program.specs.Whole.{Inside, VariableIsThere, SideIsThere, StatementIsThere, TargetIsThere, IsWhole}
@@ -36,7 +36,7 @@ use Rattle.config_state.proofs.StatementLemmas.{class_takes_arguments, main_stat
 use Rattle.step_rules.proofs.FrameLemmas.{body_of_object}
 use Rattle.step_rules.specs.Inputs.{initials_for, initials_of, scope_of}
 use Rattle.step_rules.specs.Lookups.{named_value}
-use Rattle.step_rules.specs.WaitRows.{Guard, Faulty, Unresolved as Waits, Resolved, guard_before, guard_by_value, guard_of}
+use Rattle.step_rules.specs.WaitRules.{Guard, Faulty, Unresolved as Waits, Resolved, guard_before, guard_by_value, guard_of}
 use Rattle.step_rules.specs.Targets.{target_of}
 
 -- A statement can use what the program declares, this many slots, and the fields of this object.
@@ -114,10 +114,10 @@ side_target : (inside : Inside) (side : SideTree) (target : Option VariableTree)
 side_target inside (NewOf place mode class_place class arguments) target is = is
 side_target inside (ValueOf place (OwnCallOf at method arguments)) target is = is
 side_target inside (ValueOf place value) target is = is
-side_target inside (SendOf place method row) target is = is
+side_target inside (SendOf place method operands) target is = is
 side_target inside (GetOf place get_place future) target is = is
-side_target inside (CallOf place method NoPhrase slot) target is = is
-side_target inside (CallOf place method (NextPhrase receiver arguments) slot) target is = by_this (is_this receiver)
+side_target inside (CallOf place method NoExpr slot) target is = is
+side_target inside (CallOf place method (NextExpr receiver arguments) slot) target is = by_this (is_this receiver)
   where
     by_this : (own : Bool)
         → MaybeThere inside (target_in (if own then CallsOwn method target else CallsOther method slot target))
@@ -160,31 +160,31 @@ target_there inside (Some (AtBound depth)) config frame is slots fields = tt
 target_there inside (Some (Unresolved name)) config frame is slots fields = tt
 
 -- A statement that makes an object evaluates as many expressions as the class takes arguments.
-abbrev TakesArguments : Inside → EffectTree → Phrases → Type 0
-TakesArguments inside (Makes mode class target) phrases =
-    option_map (λ (c : Taking). c.arity) (meaning_of inside.spaces.classes class) ≡ Some (count_phrases phrases)
-TakesArguments inside _ phrases = ⊤
+abbrev TakesArguments : Inside → EffectTree → ExprTrees → Type 0
+TakesArguments inside (Makes mode class target) expr_trees =
+    option_map (λ (c : Taking). c.arity) (meaning_of inside.spaces.classes class) ≡ Some (count_exprs expr_trees)
+TakesArguments inside _ expr_trees = ⊤
 
 -- a right side does so
 side_takes : (inside : Inside) (side : SideTree) (target : Option VariableTree) → SideIsThere inside side
-    → TakesArguments inside (side_effect side target) (side_phrases side)
+    → TakesArguments inside (side_effect side target) (side_expr_trees side)
 side_takes inside (NewOf place mode class_place class arguments) target is = is.0
 side_takes inside (ValueOf place (OwnCallOf at method arguments)) target is = tt
 side_takes inside (ValueOf place value) target is = tt
-side_takes inside (SendOf place method row) target is = tt
+side_takes inside (SendOf place method operands) target is = tt
 side_takes inside (GetOf place get_place future) target is = tt
-side_takes inside (CallOf place method NoPhrase slot) target is = tt
-side_takes inside (CallOf place method (NextPhrase receiver arguments) slot) target is = by_this (is_this receiver)
+side_takes inside (CallOf place method NoExpr slot) target is = tt
+side_takes inside (CallOf place method (NextExpr receiver arguments) slot) target is = by_this (is_this receiver)
   where
     by_this : (own : Bool)
         → TakesArguments inside (if own then CallsOwn method target else CallsOther method slot target)
-        (if own then arguments else NextPhrase receiver arguments)
+        (if own then arguments else NextExpr receiver arguments)
     by_this true = tt
     by_this false = tt
 
 -- a statement does so
 statement_takes : (inside : Inside) (statement : Statement) → StatementIsThere inside statement
-    → TakesArguments inside (effect_of statement) (phrases_of statement)
+    → TakesArguments inside (effect_of statement) (expr_trees_of statement)
 statement_takes inside (DeclareOf index place type variable_place variable NoSide) is = tt
 statement_takes inside (DeclareOf index place type variable_place variable (SomeSide side)) is =
     side_takes inside side (Some variable) is.2
@@ -201,26 +201,26 @@ statement_takes inside (IfOf index place condition first second) is = tt
 statement_takes inside (WhileOf index place condition body) is = tt
 
 -- the values of expressions and of initial values are as many as these
-results_count : (library : Library) (scope : Scope) (phrases initials : Phrases) (values : List ValueTree)
-    → results_of library scope phrases initials ≡ AllGive values
-    → length values ≡ count_phrases phrases + count_phrases initials
-results_count library scope phrases initials values gives =
-    by_results (outcomes_of (evaluate library scope level_limit) phrases 0).results
-    (outcomes_of (evaluate library scope level_limit) phrases 0).applications refl
+results_count : (library : Library) (scope : Scope) (expr_trees initials : ExprTrees) (values : List ValueTree)
+    → results_of library scope expr_trees initials ≡ AllGive values
+    → length values ≡ count_exprs expr_trees + count_exprs initials
+results_count library scope expr_trees initials values gives =
+    by_results (outcomes_of (evaluate library scope level_limit) expr_trees 0).results
+    (outcomes_of (evaluate library scope level_limit) expr_trees 0).applications refl
   where
     by_results : (results : Results) (made : ℕ)
-        → outcomes_of (evaluate library scope level_limit) phrases 0 ≡ all_end_with results made
-        → length values ≡ count_phrases phrases + count_phrases initials
+        → outcomes_of (evaluate library scope level_limit) expr_trees 0 ≡ all_end_with results made
+        → length values ≡ count_exprs expr_trees + count_exprs initials
     by_results (AllGive own) made is =
         let all : (initial_outcomes library initials own made).results ≡ AllGive values =
         rw (results_of, all_outcomes, is) at gives in
         omega (
           arith,
-          IfAllGive-at (outcomes_of (evaluate library scope level_limit) phrases 0).results
-              (λ found. length found ≡ count_phrases phrases) own (ap (λ found. found.results) is)
-              (outcomes_of-count (evaluate library scope level_limit) phrases 0),
+          IfAllGive-at (outcomes_of (evaluate library scope level_limit) expr_trees 0).results
+              (λ found. length found ≡ count_exprs expr_trees) own (ap (λ found. found.results) is)
+              (outcomes_of-count (evaluate library scope level_limit) expr_trees 0),
           IfAllGive-at (initial_outcomes library initials own made).results
-              (λ found. length found ≡ length own + count_phrases initials) values all
+              (λ found. length found ≡ length own + count_exprs initials) values all
               (initial_outcomes-count library initials own made),
         )
     by_results (OneFails cause) made is =
@@ -231,25 +231,25 @@ pub made_as_many : (program : ProgramTree) (config : Configuration) (frame : Fra
     (class : Name) (target : Option VariableTree) (entry : ClassEntryTree) (values : List ValueTree)
     → CanUse program config frame.object (length frame.slots) point.statement
     → effect_of point.statement ≡ Makes mode class target → class_taking program class ≡ Some entry
-    → results_of (library_of program) (scope_of config frame) (phrases_of point.statement)
+    → results_of (library_of program) (scope_of config frame) (expr_trees_of point.statement)
     (initials_for program (effect_of point.statement)) ≡ AllGive values
-    → length values ≡ entry.params + count_phrases entry.initials
+    → length values ≡ entry.params + count_exprs entry.initials
 made_as_many program config frame point mode class target entry values can makes taking gives =
     let takes : option_map (λ (c : Taking). c.arity) (meaning_of can.inside.spaces.classes class)
-    ≡ Some (count_phrases (phrases_of point.statement)) =
-    subst (λ (effect : EffectTree). TakesArguments can.inside effect (phrases_of point.statement)) makes
+    ≡ Some (count_exprs (expr_trees_of point.statement)) =
+    subst (λ (effect : EffectTree). TakesArguments can.inside effect (expr_trees_of point.statement)) makes
     (statement_takes can.inside point.statement can.there) in
-    let as_many = class_takes_arguments program class entry (count_phrases (phrases_of point.statement)) taking
+    let as_many = class_takes_arguments program class entry (count_exprs (expr_trees_of point.statement)) taking
     (subst (λ (spaces : NameSpaces). option_map (λ (c : Taking). c.arity) (meaning_of spaces.classes class)
-    ≡ Some (count_phrases (phrases_of point.statement))) can.spaces_are takes) in
+    ≡ Some (count_exprs (expr_trees_of point.statement))) can.spaces_are takes) in
     let initials : initials_for program (effect_of point.statement) ≡ entry.initials =
     ap (initials_for program) makes ∙ ap initials_of taking in
     omega (
       arith,
       as_many,
-      ap count_phrases initials,
+      ap count_exprs initials,
       results_count (library_of program) (scope_of config frame)
-          (phrases_of point.statement) (initials_for program (effect_of point.statement)) values gives,
+          (expr_trees_of point.statement) (initials_for program (effect_of point.statement)) values gives,
     )
 
 -- A name of a guard is a slot that holds a future.

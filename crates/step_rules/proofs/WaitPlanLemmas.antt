@@ -1,4 +1,4 @@
--- What the plans of rows by which tasks wait stand for.
+-- What the plans of rules by which tasks wait stand for.
 --
 --   `wake_found`               a task that waits goes on by the effect of its next instruction
 --   `no_wake`                  it does not go on where that is no `await`
@@ -13,14 +13,14 @@ use Rattle.abs_program.specs.declared.tables.control.Effect.TheVariants as effec
 use Rattle.config_state.specs.Configurations.{FrameState, TaskState, Configuration}
 use Rattle.config_state.specs.OfProgram.{next_point}
 use Rattle.step_rules.proofs.BlockedLemmas.{next_effect_found}
-use Rattle.step_rules.specs.WaitRows.{wake_by, wake_row}
+use Rattle.step_rules.specs.WaitRules.{wake_by, wake_rule}
 
 -- a task that waits goes on by the effect of its next instruction
 pub wake_found : (program : ProgramTree) (config : Configuration) (index : ℕ) (task : TaskState) (frame : FrameState)
     (others : List FrameState) (next : ℕ) (found : Option InstructionTree) → frame.next ≡ Some next
     → found ≡ slice_get (instructions program.source) next
     → option_and_then (λ (one : InstructionTree). wake_by config index task frame one.effect) found
-    ≡ wake_row program config index task (frame ∷ others)
+    ≡ wake_rule program config index task (frame ∷ others)
 wake_found program config index task frame others next found next_is is =
     by found (next_point program frame) (next_effect_found program frame next found next_is is)
   where

@@ -11,7 +11,7 @@ use Rattle.abs_values.specs.ValueTrees.{ValueTree}
 use Rattle.config_state.specs.Configurations.{ObjectState, TaskState, Configuration}
 use Rattle.config_state.specs.declared.cog.Cog.{Cog}
 use Rattle.config_state.specs.declared.task.State.TheVariants.{Ready}
-use Rattle.step_rules.specs.Targets.{Own}
+use Rattle.step_rules.specs.Targets.{FramesAndFields}
 use Rattle.step_rules.specs.declared.kind.Did.{Did}
 use Rattle.step_rules.specs.declared.kind.Did.TheVariants as did
 
@@ -21,7 +21,8 @@ pub record Written : Type 0 where
   pub fields : List ValueTree
 
 -- all that an event changes: the task, the holder of its cog, and the fields of an object; the cog, the object and the
--- task that are made; the lines that are printed; and its kind
+-- task that are made; the lines that are printed; and its kind. An event inside a method gives the fields of the object
+-- anew, also where no value of them is another
 pub record Change : Type 0 where
   pub task : TaskState
   pub holder : Option ℕ
@@ -46,7 +47,7 @@ plain_change task holder kind = record {
 }
 
 -- the task goes on with these frames, holds its cog, and the fields of the object of its innermost frame are these
-abbrev pub kept_change : ℕ → TaskState → Option ℕ → Own → List (List ℕ) → Did → Change
+abbrev pub kept_change : ℕ → TaskState → Option ℕ → FramesAndFields → List (List ℕ) → Did → Change
 kept_change index task object own lines kind = record {
   task = record task { frames = own.frames };
   holder = Some index;

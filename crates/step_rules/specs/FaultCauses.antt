@@ -6,7 +6,7 @@
 use Rattle.std.specs.Prelude.{◌≡◌, ◌≢◌, ⊤, ℕ, List, [], ◌∷◌, length, slice_get, Option, Some, None, option_and_then}
 use Rattle.abs_program.specs.Control.{Point}
 use Rattle.abs_values.specs.Evaluation.{results_of}
-use Rattle.abs_program.specs.Instructions.{EffectTree, Awaits, Chooses, Returns, Prints, Stores, Makes, Sends, CallsOwn, CallsOther, Gets, phrases_of, effect_of}
+use Rattle.abs_program.specs.Instructions.{EffectTree, Awaits, Chooses, Returns, Prints, Stores, Makes, Sends, CallsOwn, CallsOther, Gets, expr_trees_of, effect_of}
 use Rattle.abs_values.specs.Operations.{truth_of}
 use Rattle.abs_values.specs.Results.{Fails, OneFails}
 use Rattle.abs_values.specs.Scopes.{library_of}
@@ -20,8 +20,8 @@ use Rattle.config_state.specs.Configurations.{ObjectState, TaskState, Configurat
 use Rattle.config_state.specs.OfProgram.{next_point}
 use Rattle.step_rules.specs.Inputs.{scope_of, initials_for}
 use Rattle.step_rules.specs.Lookups.{Runner, callable, class_of, named_value}
-use Rattle.step_rules.specs.RowParts.{IsAt}
-use Rattle.step_rules.specs.WaitRows.{Faulty, guard_of}
+use Rattle.step_rules.specs.RuleParts.{IsRunningAt}
+use Rattle.step_rules.specs.WaitRules.{Faulty, guard_of}
 
 -- The statement needs one value.
 abbrev pub TakesOne : EffectTree → Type 0
@@ -74,21 +74,21 @@ pub data WrongSort (program : ProgramTree) (config : Configuration) (at : Runner
 -- values of the statement.
 pub data FaultOf (program : ProgramTree) (config : Configuration) (at : Runner) (cause : Fault) : Type 0 where
   Evaluates : (point : Point) → next_point program at.frame ≡ Some point
-      → results_of (library_of program) (scope_of config at.frame) (phrases_of point.statement)
+      → results_of (library_of program) (scope_of config at.frame) (expr_trees_of point.statement)
       (initials_for program (effect_of point.statement)) ≡ OneFails cause → FaultOf program config at cause
   GetsFault : (point : Point) (values : List ValueTree) (slot : Option ℕ) (target : Option VariableTree) (future : ℕ)
-      (task : TaskState) → IsAt program config at point values → effect_of point.statement ≡ Gets slot target
+      (task : TaskState) → IsRunningAt program config at point values → effect_of point.statement ≡ Gets slot target
       → named_value at.frame.slots slot ≡ Some (FutureValue future) → slice_get config.tasks future ≡ Some task
       → task.outcome ≡ Some (Fails cause) → FaultOf program config at cause
   AwaitsFault : (point : Point) (values : List ValueTree) (names : List (Option ℕ))
-      → IsAt program config at point values → effect_of point.statement ≡ Awaits names
+      → IsRunningAt program config at point values → effect_of point.statement ≡ Awaits names
       → guard_of config at.frame.slots names ≡ Faulty cause → FaultOf program config at cause
   CallsNull : (point : Point) (arguments : List ValueTree) (method : Name) (target : Option VariableTree)
-      → IsAt program config at point (NullValue ∷ arguments) → effect_of point.statement ≡ Sends method target
+      → IsRunningAt program config at point (NullValue ∷ arguments) → effect_of point.statement ≡ Sends method target
       → cause ≡ fault.Null → FaultOf program config at cause
   GetsNull : (point : Point) (values : List ValueTree) (slot : Option ℕ) (target : Option VariableTree)
-      → IsAt program config at point values → effect_of point.statement ≡ Gets slot target
+      → IsRunningAt program config at point values → effect_of point.statement ≡ Gets slot target
       → named_value at.frame.slots slot ≡ Some NullValue → cause ≡ fault.Null → FaultOf program config at cause
   HasWrongSort : (point : Point) (values : List ValueTree) (effect : EffectTree)
-      → IsAt program config at point values → effect_of point.statement ≡ effect
+      → IsRunningAt program config at point values → effect_of point.statement ≡ effect
       → WrongSort program config at values effect → cause ≡ fault.Mistyped → FaultOf program config at cause

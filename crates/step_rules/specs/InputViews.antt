@@ -4,13 +4,13 @@
 --   `input_tree`               an input
 --   `IsSameInput`              two inputs are the same
 --   `running_point`            the next statement of a task that runs
---   `phrases_by`, `class_made`         the expressions of an instruction, and the class of a `new`
+--   `exprs_by`, `class_made`           the expressions of an instruction, and the class of a `new`
 use Rattle.std.specs.Prelude.{◌≡◌, List, Option, Some, None}
 use Rattle.abs_program.specs.Bodies.{ClassEntryTree}
 use Rattle.abs_program.specs.Control.{Point}
-use Rattle.abs_program.specs.InstructionViews.{exprs_tree, shared_phrases}
+use Rattle.abs_program.specs.InstructionViews.{exprs_tree, shared_expr_trees}
 use Rattle.abs_program.specs.Instructions.{EffectTree, Makes, InstructionTree}
-use Rattle.abs_tree.specs.Syntax.{Name, Phrases, NoPhrase, ProgramTree}
+use Rattle.abs_tree.specs.Syntax.{Name, ExprTrees, NoExpr, ProgramTree}
 use Rattle.config_state.specs.Bodies.{class_taking}
 use Rattle.config_state.specs.Configurations.{FrameState}
 use Rattle.config_state.specs.OfProgram.{next_point}
@@ -23,15 +23,15 @@ use Rattle.step_rules.specs.declared.inputs.Initials.TheVariants as initials
 use Rattle.step_rules.specs.declared.inputs.Input.{Input}
 
 -- the initial values of fields
-abbrev pub initials_tree : List Name → Initials → Phrases
-initials_tree names initials.None = NoPhrase
-initials_tree names (initials.Row row) = shared_phrases names row.value.items
+abbrev pub initials_tree : List Name → Initials → ExprTrees
+initials_tree names initials.None = NoExpr
+initials_tree names (initials.Row row) = shared_expr_trees names row.value.items
 
 -- an input
 abbrev pub input_tree : List Name → Input → InputTree
 input_tree names input = record {
   scope = env_scope input.env;
-  phrases = exprs_tree names input.exprs;
+  expr_trees = exprs_tree names input.exprs;
   initials = initials_tree names input.inits;
 }
 
@@ -46,9 +46,9 @@ running_point program Ready frame = None
 running_point program Awaiting frame = None
 
 -- the expressions of an instruction, if there is one
-abbrev pub phrases_by : Option InstructionTree → Phrases
-phrases_by None = NoPhrase
-phrases_by (Some instruction) = instruction.phrases
+abbrev pub exprs_by : Option InstructionTree → ExprTrees
+exprs_by None = NoExpr
+exprs_by (Some instruction) = instruction.expr_trees
 
 -- what a new object takes, by the effect of a statement: for `new` what its class has, if that is there
 abbrev pub class_by : ProgramTree → EffectTree → Option ClassEntryTree

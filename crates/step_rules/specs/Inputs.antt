@@ -1,17 +1,17 @@
 -- The first two steps of an event: what is evaluated, and what that gives.
 --
 --   `scope_of`                         what the expressions of a frame can read
---   `phrases_at`, `initials_at`        the expressions of a statement, and for `new` the initial values of fields
+--   `exprs_at`, `initials_at`          the expressions of a statement, and for `new` the initial values of fields
 --   `Input`, `input_of`                the input of a task: its scope and its expressions; none unless it runs
 --   `output_of`                        the output: what evaluation gives for an input
 use Rattle.std.specs.Prelude.{ℕ, List, [], ◌∷◌, slice_get, Option, Some, None}
 use Rattle.abs_program.specs.Bodies.{ClassEntryTree}
 use Rattle.abs_program.specs.Control.{Point}
 use Rattle.abs_values.specs.Evaluation.{results_of}
-use Rattle.abs_program.specs.Instructions.{EffectTree, Makes, phrases_of, effect_of}
+use Rattle.abs_program.specs.Instructions.{EffectTree, Makes, expr_trees_of, effect_of}
 use Rattle.abs_values.specs.Results.{Results}
 use Rattle.abs_values.specs.Scopes.{Scope, library_of}
-use Rattle.abs_tree.specs.Syntax.{Phrases, NoPhrase, ProgramTree}
+use Rattle.abs_tree.specs.Syntax.{ExprTrees, NoExpr, ProgramTree}
 use Rattle.config_state.specs.Bodies.{class_taking}
 use Rattle.config_state.specs.Configurations.{FrameState, TaskState, Configuration, object_at, fields_of}
 use Rattle.config_state.specs.OfProgram.{next_point}
@@ -31,37 +31,37 @@ scope_of config frame = record {
 -- values of the fields of the class
 pub record Input : Type 0 where
   pub scope : Scope
-  pub phrases : Phrases
-  pub initials : Phrases
+  pub expr_trees : ExprTrees
+  pub initials : ExprTrees
 
 -- the expressions of a statement; none where no statement is left
-abbrev pub phrases_at : Option Point → Phrases
-phrases_at None = NoPhrase
-phrases_at (Some point) = phrases_of point.statement
+abbrev pub exprs_at : Option Point → ExprTrees
+exprs_at None = NoExpr
+exprs_at (Some point) = expr_trees_of point.statement
 
 -- the initial values of the fields of a class, if there is that class
-abbrev pub initials_of : Option ClassEntryTree → Phrases
-initials_of None = NoPhrase
+abbrev pub initials_of : Option ClassEntryTree → ExprTrees
+initials_of None = NoExpr
 initials_of (Some class) = class.initials
 
 -- those that a statement needs: for `new` those of its class
-abbrev pub initials_for : ProgramTree → EffectTree → Phrases
+abbrev pub initials_for : ProgramTree → EffectTree → ExprTrees
 initials_for program (Makes mode class target) = initials_of (class_taking program class)
-initials_for program _ = NoPhrase
+initials_for program _ = NoExpr
 
-abbrev pub initials_at : ProgramTree → Option Point → Phrases
-initials_at program None = NoPhrase
+abbrev pub initials_at : ProgramTree → Option Point → ExprTrees
+initials_at program None = NoExpr
 initials_at program (Some point) = initials_for program (effect_of point.statement)
 
 -- the input in a frame where nothing is evaluated
 abbrev pub idle_input : Configuration → FrameState → Input
-idle_input config frame = record { scope = scope_of config frame; phrases = NoPhrase; initials = NoPhrase }
+idle_input config frame = record { scope = scope_of config frame; expr_trees = NoExpr; initials = NoExpr }
 
 -- the input in the innermost frame of a task; only a task that runs evaluates something
 abbrev pub input_in : ProgramTree → Configuration → State → FrameState → Input
 input_in program config Running frame = record {
   scope = scope_of config frame;
-  phrases = phrases_at (next_point program frame);
+  expr_trees = exprs_at (next_point program frame);
   initials = initials_at program (next_point program frame);
 }
 input_in program config Ready frame = idle_input config frame
@@ -81,4 +81,4 @@ input_of program config index = input_of_task program config (slice_get config.t
 
 -- the output for an input
 unfoldable pub output_of : ProgramTree → Input → Results
-output_of program input = results_of (library_of program) input.scope input.phrases input.initials
+output_of program input = results_of (library_of program) input.scope input.expr_trees input.initials

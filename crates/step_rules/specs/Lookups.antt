@@ -1,4 +1,4 @@
--- What the rows of the table of events look up.
+-- What the rules of the table of events look up.
 --
 --   `Runner`                   a task that runs, with its innermost frame
 --   `successor`, `place_of`    where control goes after a statement, and where the statement is in the source

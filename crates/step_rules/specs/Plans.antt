@@ -5,10 +5,10 @@
 --   `turn_change`              what becomes of the task
 --   `plan_of_task`, `plan_change`      the change
 --   `planned`, `IsNoFault`     the change of a task that runs; a change is no fault
---   `store_change`, ..         the changes of the rows that need one value
---   `row_or`, `whole_change`   the change of a statement, whether or not its row is local
+--   `store_change`, ..         the changes of the rules that need one value
+--   `rule_or`, `whole_change`  the change of a statement, whether or not its rule is local
 --   `NeedsRoom`                a plan needs room
---   `only`                     the value of a row that has just one
+--   `only`                     the value of a list that has just one
 --   `guard_tree`               what the futures of a guard allow, as the code says it
 use Rattle.std.specs.Prelude.{◌≡◌, ◌≢◌, ℕ, Bool, true, false, List, [], ◌∷◌, slice_get, Option, Some, None, IsSome, option_and_then, Result, Ok, Err}
 use Rattle.std.specs.Option.{option_map}
@@ -28,10 +28,10 @@ use Rattle.config_state.specs.declared.frame.Target.TheVariants.{Nothing}
 use Rattle.config_state.specs.declared.task.State.TheVariants.{Ready, Running, Awaiting}
 use Rattle.step_rules.specs.Changes.{Change, plain_change, kept_change, ended_change}
 use Rattle.step_rules.specs.Events.{local_change, statement_change}
-use Rattle.step_rules.specs.LocalRows.{Local, choose_by, statement_row}
+use Rattle.step_rules.specs.LocalRules.{Local, choose_by, statement_rule}
 use Rattle.step_rules.specs.Lookups.{Runner, successor, class_of}
-use Rattle.step_rules.specs.ObjectRows.{mistyped, goes_on, give_row}
-use Rattle.step_rules.specs.WaitRows.{Guard, Faulty, Unresolved, Resolved}
+use Rattle.step_rules.specs.ObjectRules.{mistyped, goes_on, give_rule}
+use Rattle.step_rules.specs.WaitRules.{Guard, Faulty, Unresolved, Resolved}
 use Rattle.step_rules.specs.declared.kind.Did.{Did}
 use Rattle.step_rules.specs.declared.kind.Did.TheVariants as did
 use Rattle.step_rules.specs.declared.plan.Plan.{Plan}
@@ -103,7 +103,7 @@ planned names config at plan = plan_of_task names config at.index at.task (at.fr
 abbrev pub IsNoFault : Change → Type 0
 IsNoFault change = (cause : Fault) → change.task.outcome ≢ Some (Fails cause)
 
--- the value of a row that has just one
+-- the value of a list that has just one
 abbrev pub only : List ValueTree → Option ValueTree
 only [] = None
 only (value ∷ []) = Some value
@@ -115,7 +115,7 @@ guard_tree (Err cause) = Faulty cause
 guard_tree (Ok true) = Resolved
 guard_tree (Ok false) = Unresolved
 
--- the changes of the rows that need one value: without one they are Mistyped
+-- the changes of the rules that need one value: without one they are Mistyped
 abbrev pub store_change : Configuration → Runner → Target → Option ℕ → Option ValueTree → Change
 store_change config at target next None = mistyped at.task
 store_change config at target next (Some value) =
@@ -133,16 +133,16 @@ print_change config at next value = mistyped at.task
 
 abbrev pub give_change : Configuration → Runner → Option ValueTree → Change
 give_change config at None = mistyped at.task
-give_change config at (Some value) = give_row config at.index at.task at.frame at.others value
+give_change config at (Some value) = give_rule config at.index at.task at.frame at.others value
 
--- the change of a statement, whether or not its row is local
-abbrev pub row_or : Runner → Option Local → Option Change → Option Change
-row_or at None other = other
-row_or at (Some local) other = Some (local_change at local)
+-- the change of a statement, whether or not its rule is local
+abbrev pub rule_or : Runner → Option Local → Option Change → Option Change
+rule_or at None other = other
+rule_or at (Some local) other = Some (local_change at local)
 
 abbrev pub whole_change : ProgramTree → Configuration → Runner → Point → List ValueTree → EffectTree → Option Change
-whole_change program config at point values effect = row_or at
-    (statement_row program (class_of (object_at config at.frame.object)) at.frame at.others
+whole_change program config at point values effect = rule_or at
+    (statement_rule program (class_of (object_at config at.frame.object)) at.frame at.others
     (fields_of (object_at config at.frame.object)) point values effect)
     (statement_change program config at point values effect)
 

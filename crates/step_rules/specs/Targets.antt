@@ -1,6 +1,6 @@
 -- Where the values of statements and of frames go. Assign, new, call, get and return all put their value by this.
 --
---   `Own`                      frames with the fields of the innermost one's object
+--   `FramesAndFields`                      frames with the fields of the innermost one's object
 --   `target_of`                the target of a statement
 --   `slots_after`, `fields_after`      slots and fields after a value went to a target
 --   `put`, `advanced`          a value goes to a target of a frame, and no value goes anywhere
@@ -12,7 +12,7 @@ use Rattle.config_state.specs.declared.frame.Target.{Target}
 use Rattle.config_state.specs.declared.frame.Target.TheVariants.{Nothing, Local, Field}
 
 -- frames, the innermost first, and the values of the fields of the innermost one's object
-pub record Own : Type 0 where
+pub record FramesAndFields : Type 0 where
   pub frames : List FrameState
   pub fields : List ValueTree
 
@@ -38,12 +38,12 @@ fields_after (Local slot) value fields = fields
 
 -- a value goes to a target of this frame, whose next statement then is the one given; the frame is the innermost of
 -- these, and the fields are those of its object
-abbrev pub put : Target → ValueTree → Option ℕ → FrameState → List FrameState → List ValueTree → Own
+abbrev pub put : Target → ValueTree → Option ℕ → FrameState → List FrameState → List ValueTree → FramesAndFields
 put target value next frame others fields = record {
   frames = record frame { slots = slots_after target value frame.slots; next = next } ∷ others;
   fields = fields_after target value fields;
 }
 
 -- the innermost frame goes on with this statement, and nothing else changes
-abbrev pub advanced : Option ℕ → FrameState → List FrameState → List ValueTree → Own
+abbrev pub advanced : Option ℕ → FrameState → List FrameState → List ValueTree → FramesAndFields
 advanced next frame others fields = put Nothing NullValue next frame others fields

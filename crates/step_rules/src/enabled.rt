@@ -13,7 +13,7 @@ ghost use Rattle.config_state.specs.Views.{frame_state, task_state};
 ghost use Rattle.step_rules.specs.Blocked.{IsAtOpenGet, IsFree, AreResolved};
 ghost use Rattle.step_rules.specs.Events.{event_of};
 ghost use Rattle.step_rules.specs.Lookups.{named_value};
-ghost use Rattle.step_rules.specs.WaitRows.{Unresolved, guard_by_value};
+ghost use Rattle.step_rules.specs.WaitRules.{Unresolved, guard_by_value};
 
 use abs_program::{Effect, Named};
 use abs_values::{Value, Values};

@@ -6,7 +6,7 @@ ghost use Rattle.abs_values.specs.ValueViews.{value_tree};
 ghost use Rattle.config_state.specs.ConfigViews.{configuration};
 ghost use Rattle.step_rules.specs.Lookups.{named_value as value_named};
 ghost use Rattle.step_rules.specs.Plans.{guard_tree};
-ghost use Rattle.step_rules.specs.WaitRows.{guard_by_value, guard_of};
+ghost use Rattle.step_rules.specs.WaitRules.{guard_by_value, guard_of};
 
 use abs_values::{Fault, Value, Values};
 use config_state::Config;

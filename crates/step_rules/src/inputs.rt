@@ -1,7 +1,7 @@
 //! What tasks evaluate for their events.
 ghost use Rattle.std.specs.Prelude.{◌≡◌, ◌↔◌, List, map, IsTrue};
 ghost use Rattle.std.specs.Cmp.Lexicographic.{pointwise};
-ghost use Rattle.abs_program.specs.InstructionViews.{exprs_tree, shared_phrases};
+ghost use Rattle.abs_program.specs.InstructionViews.{exprs_tree, shared_expr_trees};
 ghost use Rattle.abs_tree.specs.Syntax.{Name};
 ghost use Rattle.abs_values.specs.ValueTrees.{same_value};
 ghost use Rattle.abs_values.specs.ValueViews.{value_tree};
@@ -25,7 +25,7 @@ pub enum Initials {
 impl Initials {
     /// The initial values in order.
     pub fn as_slice(&self) -> &[Arc<Expr>]
-        ensures { (names : List Name) → shared_phrases names result.now ≡ initials_tree names self.now }
+        ensures { (names : List Name) → shared_expr_trees names result.now ≡ initials_tree names self.now }
     {
         match self {
             Initials::None => &[],
@@ -64,7 +64,7 @@ fn env_equal(left: &Env, right: &Env) -> bool
         && values_equal(left.fields.as_slice(), right.fields.as_slice())
 }
 
-/// Whether two rows of values are the same, one by one.
+/// Whether two lists of values are the same, one by one.
 fn values_equal(left: &[Value], right: &[Value]) -> bool
     ensures { result ≡ pointwise same_value (map value_tree left.now) (map value_tree right.now) }
 {

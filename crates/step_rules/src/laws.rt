@@ -12,14 +12,14 @@ ghost use Rattle.step_rules.specs.Changes.{Change, Written, configuration_after}
 ghost use Rattle.step_rules.specs.Events.{Step, change_of, event_of};
 ghost use Rattle.step_rules.specs.Homes.{IsHoused};
 ghost use Rattle.step_rules.specs.Inputs.{input_of};
-ghost use Rattle.step_rules.specs.Rows.{Row};
+ghost use Rattle.step_rules.specs.Rules.{Rule};
 ghost use Rattle.step_rules.specs.Runs.{IsReachable, IsOpen, HasStep};
 ghost use Rattle.step_rules.specs.Stays.{TaskAfter, ObjectAfter, CogAfter, Stays};
 
-/// Every event is one of the rows of the table.
-pub fn events_are_rows()
+/// Every event is one of the rules of the table.
+pub fn events_are_rules()
     ensures { (program : ProgramTree) (config : Configuration) (index : ℕ) (change : Change)
-        → change_of program config index ≡ Some change → Row program config index change }
+        → change_of program config index ≡ Some change → Rule program config index change }
 {}
 
 /// An event changes its task, the holder of its cog and the fields of the object of one of its frames, and nothing else

@@ -15,7 +15,7 @@ mod plan;
 mod planning;
 pub mod reading;
 mod room;
-mod rows;
+mod rules;
 mod turns;
 mod waits;
 
@@ -24,7 +24,7 @@ pub use events::{apply, step};
 pub use inputs::{Initials, Input, input_equal};
 pub use kind::{Did, End};
 pub use laws::{
-    events_are_rows, events_have_causes, events_keep_configurations, events_leave_the_rest,
+    events_are_rules, events_have_causes, events_keep_configurations, events_leave_the_rest,
     events_stay_apart, never_stuck_without_waits,
 };
 pub use reading::input;

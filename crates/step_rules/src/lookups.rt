@@ -48,7 +48,7 @@ pub(crate) fn successor(goes: &Successor, answer: bool) -> Option<u32>
     }
 }
 
-/// The value of a row that has just one.
+/// The value of a list that has just one.
 pub(crate) fn only(values: Values) -> Option<Value>
     ensures { option_map value_tree result ≡ only_of values }
 {

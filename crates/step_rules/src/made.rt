@@ -1,4 +1,4 @@
-//! The plans of the rows that make objects and tasks.
+//! The plans of the rules that make objects and tasks.
 ghost use Rattle.std.specs.Prelude.{◌≡◌, true, List, Some, slice_get, IfOk, OnErr};
 ghost use Rattle.std.specs.Option.{option_map};
 ghost use Rattle.abs_program.specs.Control.{Point};
@@ -13,7 +13,7 @@ ghost use Rattle.config_state.specs.Views.{task_state};
 ghost use Rattle.step_rules.specs.Lookups.{Runner, place_of, successor as successor_of};
 ghost use Rattle.step_rules.specs.Moves.{Moves, config_of, names_of, program_of};
 ghost use Rattle.step_rules.specs.NewEntries.{cog_for as cog_made, home_of as home_in, run_task as run_started};
-ghost use Rattle.step_rules.specs.ObjectRows.{call_on, call_row, new_row};
+ghost use Rattle.step_rules.specs.ObjectRules.{call_on, call_rule, new_rule};
 ghost use Rattle.step_rules.specs.Plans.{IsNoFault, planned};
 
 use crate::Did;
@@ -40,11 +40,11 @@ pub(crate) fn make(
 ) -> Result<Plan, AllocError>
     ensures plan { IfOk result (λ plan. (runner : Runner) (point : Point) → Moves at.entry runner point
         → planned (names_of at.entry) (config_of at.entry) runner plan
-        ≡ Some (new_row (program_of at.entry) (config_of at.entry) runner (place_of point)
+        ≡ Some (new_rule (program_of at.entry) (config_of at.entry) runner (place_of point)
         (successor_of point.goes true) mode (name_of (names_of at.entry) class)
         (option_map (variable_tree (names_of at.entry)) target) values)) }
     ensures memory { OnErr result ((runner : Runner) (point : Point) → Moves at.entry runner point
-        → IsNoFault (new_row (program_of at.entry) (config_of at.entry) runner (place_of point)
+        → IsNoFault (new_rule (program_of at.entry) (config_of at.entry) runner (place_of point)
         (successor_of point.goes true) mode (name_of (names_of at.entry) class)
         (option_map (variable_tree (names_of at.entry)) target) values)) }
 {
@@ -130,11 +130,11 @@ pub(crate) fn send(
 ) -> Result<Plan, AllocError>
     ensures plan { IfOk result (λ plan. (runner : Runner) (point : Point) → Moves at.entry runner point
         → planned (names_of at.entry) (config_of at.entry) runner plan
-        ≡ Some (call_row (program_of at.entry) (config_of at.entry) runner (place_of point)
+        ≡ Some (call_rule (program_of at.entry) (config_of at.entry) runner (place_of point)
         (successor_of point.goes true) (name_of (names_of at.entry) method)
         (option_map (variable_tree (names_of at.entry)) target) values)) }
     ensures memory { OnErr result ((runner : Runner) (point : Point) → Moves at.entry runner point
-        → IsNoFault (call_row (program_of at.entry) (config_of at.entry) runner (place_of point)
+        → IsNoFault (call_rule (program_of at.entry) (config_of at.entry) runner (place_of point)
         (successor_of point.goes true) (name_of (names_of at.entry) method)
         (option_map (variable_tree (names_of at.entry)) target) values)) }
 {

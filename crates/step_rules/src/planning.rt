@@ -22,7 +22,7 @@ use crate::lookups::{only, successor, target_of, unit_value};
 use crate::made::{make, send};
 use crate::mover::Mover;
 use crate::plan::{Plan, Turn};
-use crate::rows::{advance, choose, enter, give, print, store};
+use crate::rules::{advance, choose, enter, give, print, store};
 use crate::waits::{get, take, wait, wake};
 use abs_program::{Effect, Named};
 use abs_values::{Fault, Output, Value, Values};

@@ -2,18 +2,18 @@
 //! of its next statement.
 ghost use Rattle.std.specs.Prelude.{◌≡◌, ◌<◌, List, length, Some, IsSome, IfOk};
 ghost use Rattle.std.specs.Option.{option_map};
-ghost use Rattle.abs_program.specs.InstructionViews.{class_entry_tree, exprs_tree, instruction_tree, shared_phrases};
+ghost use Rattle.abs_program.specs.InstructionViews.{class_entry_tree, exprs_tree, instruction_tree, shared_expr_trees};
 ghost use Rattle.abs_program.specs.Instructions.{instruction_of};
 ghost use Rattle.abs_values.specs.Results.{results_tree};
 ghost use Rattle.abs_program.specs.NamedViews.{program_tree};
 ghost use Rattle.abs_tree.specs.Syntax.{Name};
-ghost use Rattle.abs_tree.specs.SyntaxViews.{phrases};
+ghost use Rattle.abs_tree.specs.SyntaxViews.{expr_trees};
 ghost use Rattle.config_state.specs.ConfigViews.{configuration};
 ghost use Rattle.config_state.specs.OfProgram.{IsConfigOf};
 ghost use Rattle.config_state.specs.Views.{frame_state};
 ghost use Rattle.fun_eval.specs.Reading.{env_scope, scope_tree};
 ghost use Rattle.step_rules.specs.Events.{event_of};
-ghost use Rattle.step_rules.specs.InputViews.{class_made, initials_tree, input_tree, phrases_by, running_point};
+ghost use Rattle.step_rules.specs.InputViews.{class_made, initials_tree, input_tree, exprs_by, running_point};
 ghost use Rattle.step_rules.specs.Inputs.{Input as InputTree, initials_of, input_of, output_of, scope_of};
 
 use crate::enabled::innermost;
@@ -28,8 +28,8 @@ use std::alloc::{AllocError, Global};
 use std::sync::Arc;
 
 /// The input of a task that has an event: what the expressions of its innermost frame can read, the expressions of its
-/// next statement, and for `new` also the initial values of the fields of the class. Its rows of values are copies, and
-/// its expressions are shared.
+/// next statement, and for `new` also the initial values of the fields of the class. Its lists of values are copies,
+/// and its expressions are shared.
 ///
 /// # Errors
 /// [`AllocError`] if an allocation fails.
@@ -157,8 +157,8 @@ fn env(alloc: Global, config: &Config, frame: &Frame) -> Result<Env, AllocError>
 
 /// The expressions of an instruction; none without one.
 fn exprs(instruction: Option<&Instruction>) -> &[Expr]
-    ensures { (names : List Name) → phrases names result.now
-        ≡ phrases_by (option_map (λ found. instruction_tree names found.now) instruction.entry) }
+    ensures { (names : List Name) → expr_trees names result.now
+        ≡ exprs_by (option_map (λ found. instruction_tree names found.now) instruction.entry) }
 {
     match instruction {
         Some(instruction) => instruction.exprs.as_slice(),
@@ -172,7 +172,7 @@ fn exprs(instruction: Option<&Instruction>) -> &[Expr]
 /// [`AllocError`] if there are as many copies already as can be counted.
 fn shared_exprs(instruction: Option<&Instruction>) -> Result<Exprs, AllocError>
     ensures { (names : List Name) → IfOk result (λ exprs. exprs_tree names exprs
-        ≡ phrases_by (option_map (λ found. instruction_tree names found.now) instruction.entry)) }
+        ≡ exprs_by (option_map (λ found. instruction_tree names found.now) instruction.entry)) }
 {
     match instruction {
         Some(instruction) => instruction.exprs.share(),
@@ -182,7 +182,7 @@ fn shared_exprs(instruction: Option<&Instruction>) -> Result<Exprs, AllocError>
 
 /// The initial values of the fields of a class; none without one.
 fn initials(class: Option<&ClassEntry>) -> &[Arc<Expr>]
-    ensures { (names : List Name) → shared_phrases names result.now
+    ensures { (names : List Name) → shared_expr_trees names result.now
         ≡ initials_of (option_map (λ entry. class_entry_tree names entry.now) class.entry) }
 {
     match class {

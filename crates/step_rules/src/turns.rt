@@ -112,7 +112,7 @@ fn put_in_field(objects: &mut [ObjectCell], object: Option<u32>, field: u32, val
     }
 }
 
-/// A value goes to a place in a row. Where there is no such place, the row stays as it is.
+/// A value goes to a place in a list. Where there is no such place, the list stays as it is.
 fn put_at(values: &mut Values, index: u32, value: Value)
     ensures { values.new ≡ set values.old index (value_tree value) }
 {

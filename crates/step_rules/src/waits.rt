@@ -1,4 +1,4 @@
-//! The plans of the rows by which tasks wait, and go on after it.
+//! The plans of the rules by which tasks wait, and go on after it.
 ghost use Rattle.std.specs.Prelude.{◌≡◌, ◌∷◌, true, ℕ, List, Some, slice_get, option_and_then, IfOk, OnErr};
 ghost use Rattle.std.specs.Option.{option_map};
 ghost use Rattle.abs_program.specs.Control.{Point};
@@ -12,14 +12,14 @@ ghost use Rattle.step_rules.specs.Changes.{Change};
 ghost use Rattle.step_rules.specs.Lookups.{Runner, named_value as value_named, successor as successor_of};
 ghost use Rattle.step_rules.specs.Moves.{Moves, config_of, names_of};
 ghost use Rattle.step_rules.specs.Plans.{IsNoFault, plan_of_task, planned};
-ghost use Rattle.step_rules.specs.WaitRows.{await_row, get_by_task, get_row, guard_of, take_if_resolved, take_row, wake_row};
+ghost use Rattle.step_rules.specs.WaitRules.{await_rule, get_by_task, get_rule, guard_of, take_if_resolved, take_rule, wake_rule};
 
 use crate::Did;
 use crate::guards::{are_resolved, named_value};
 use crate::lookups::{successor, target_of};
 use crate::mover::Mover;
 use crate::plan::{Plan, Turn};
-use crate::rows::{advance, store};
+use crate::rules::{advance, store};
 use abs_program::{Effect, Named};
 use abs_tree::Variable;
 use abs_values::{Evaluated, Fault, Value, Values};
@@ -30,7 +30,7 @@ use std::alloc::AllocError;
 pub(crate) fn take(config: &Config, cell: &TaskCell) -> Option<Plan>
     ensures { (names : List Name) (index : ℕ) (frames : List FrameState)
         → option_and_then (plan_of_task names (configuration names config.now) index (task_state names cell.now)
-        frames) result ≡ take_row index (task_state names cell.now) (slice_get config.now.cogs cell.now.cog) }
+        frames) result ≡ take_rule index (task_state names cell.now) (slice_get config.now.cogs cell.now.cog) }
 {
     let cog = config.cogs.items.get(cell.cog as usize)?;
     match cog.holder {
@@ -49,7 +49,7 @@ pub(crate) fn wake(
     ensures { (index : ℕ) (others : List FrameState) → option_and_then (plan_of_task program.now.symbols
         (configuration program.now.symbols config.now) index (task_state program.now.symbols cell.now)
         (frame_state program.now.symbols frame.now ∷ others)) result
-        ≡ wake_row (program_tree program.now) (configuration program.now.symbols config.now) index
+        ≡ wake_rule (program_tree program.now) (configuration program.now.symbols config.now) index
         (task_state program.now.symbols cell.now) (frame_state program.now.symbols frame.now ∷ others) }
 {
     let instruction = program.instruction(frame.next?)?;
@@ -81,7 +81,7 @@ fn take_resolved(
 /// await: the task goes on where all futures are resolved, and else it waits.
 pub(crate) fn wait(at: Mover<'_>, names: &[Option<u32>]) -> Plan
     ensures { (runner : Runner) (point : Point) → Moves at.entry runner point
-        → planned (names_of at.entry) (config_of at.entry) runner result ≡ Some (await_row (config_of at.entry) runner
+        → planned (names_of at.entry) (config_of at.entry) runner result ≡ Some (await_rule (config_of at.entry) runner
         (successor_of point.goes true) (guard_of (config_of at.entry) runner.frame.slots names.now)) }
 {
     match are_resolved(at.config, &at.frame.slots, names) {
@@ -103,10 +103,10 @@ pub(crate) fn get(
 ) -> Result<Option<Plan>, AllocError>
     ensures plan { IfOk result (λ plan. (runner : Runner) (point : Point) → Moves at.entry runner point
         → option_and_then (planned (names_of at.entry) (config_of at.entry) runner) plan
-        ≡ get_row (config_of at.entry) runner (successor_of point.goes true)
+        ≡ get_rule (config_of at.entry) runner (successor_of point.goes true)
         (option_map (variable_tree (names_of at.entry)) target) (value_named runner.frame.slots slot)) }
     ensures memory { OnErr result ((runner : Runner) (point : Point) (change : Change) → Moves at.entry runner point
-        → get_row (config_of at.entry) runner (successor_of point.goes true)
+        → get_rule (config_of at.entry) runner (successor_of point.goes true)
         (option_map (variable_tree (names_of at.entry)) target) (value_named runner.frame.slots slot) ≡ Some change
         → IsNoFault change) }
 {

@@ -1,7 +1,7 @@
 //! The functions of the prelude.
 ghost use Rattle.std.specs.Prelude.{◌≡◌, ◌+◌, ◌≤◌, codes, map, IfOk};
-ghost use Rattle.abs_tree.specs.Syntax.{FunctionTree, NoType, NextType, Built, NoPattern, NextPattern, CaseOf, NoBranch, NextBranch, ApplyOf, NoPhrase, NextPhrase};
-ghost use Rattle.abs_tree.specs.SyntaxViews.{declared as declared_tree, type_tree, param_tree, pattern_tree, phrase, decl_tree};
+ghost use Rattle.abs_tree.specs.Syntax.{FunctionTree, NoType, NextType, Built, NoPattern, NextPattern, CaseOf, NoBranch, NextBranch, ApplyOf, NoExpr, NextExpr};
+ghost use Rattle.abs_tree.specs.SyntaxViews.{declared as declared_tree, type_tree, param_tree, pattern_tree, expr_tree, decl_tree};
 ghost use Rattle.abs_names.specs.Prelude.{at as place_at, type as type_at, applied as applied_at, param as param_at, binds as binds_at, variable as variable_at, head_function, tail_function, is_empty_function, length_function, nth_function, append_function, fst_function, snd_function, from_just_function};
 
 use crate::prelude::maker::{Maker, at};
@@ -235,9 +235,9 @@ impl Maker<'_> {
         pattern: Pattern,
         value: Expr,
     ) -> Result<Expr, AllocError>
-        ensures { IfOk result (λ found. phrase self.now.symbols.now found
-            ≡ CaseOf (place_at line column) (phrase self.now.symbols.now subject)
-            (NextBranch (pattern_tree self.now.symbols.now pattern) (phrase self.now.symbols.now value) NoBranch)) }
+        ensures { IfOk result (λ found. expr_tree self.now.symbols.now found
+            ≡ CaseOf (place_at line column) (expr_tree self.now.symbols.now subject)
+            (NextBranch (pattern_tree self.now.symbols.now pattern) (expr_tree self.now.symbols.now value) NoBranch)) }
     {
         let branches = vec![in self.alloc; Branch { pattern, value }]?;
         self.case(at(line, column), subject, branches)
@@ -254,13 +254,13 @@ impl Maker<'_> {
     ) -> Result<Expr, AllocError>
         requires column { column ≤ 200 }
         requires second_column { second_column ≤ 200 }
-        ensures { IfOk result (λ found. phrase self.now.symbols.now found
+        ensures { IfOk result (λ found. expr_tree self.now.symbols.now found
             ≡ CaseOf (place_at line column) (variable_at line (column + 5) (codes "l"))
             (NextBranch (Built (place_at line (column + 9)) (codes "Nil") NoPattern)
-            (phrase self.now.symbols.now empty) (NextBranch (Built (place_at line second_column) (codes "Cons")
+            (expr_tree self.now.symbols.now empty) (NextBranch (Built (place_at line second_column) (codes "Cons")
             (NextPattern (binds_at line (second_column + 5) (codes "x"))
             (NextPattern (binds_at line (second_column + 8) (codes "r")) NoPattern)))
-            (phrase self.now.symbols.now longer) NoBranch))) }
+            (expr_tree self.now.symbols.now longer) NoBranch))) }
     {
         let subject = self.variable(line, column + 5, b"l")?;
         let nil = Branch {
@@ -283,9 +283,9 @@ impl Maker<'_> {
         name: &[u8],
         argument: Expr,
     ) -> Result<Expr, AllocError>
-        ensures { IfOk result (λ found. phrase self.now.symbols.now found
+        ensures { IfOk result (λ found. expr_tree self.now.symbols.now found
             ≡ ApplyOf (place_at line column) name.now
-            (NextPhrase (phrase self.now.symbols.now argument) NoPhrase)) }
+            (NextExpr (expr_tree self.now.symbols.now argument) NoExpr)) }
     {
         self.apply(line, column, name, vec![in self.alloc; argument]?)
     }
@@ -303,7 +303,7 @@ impl Maker<'_> {
         ensures { IfOk result (λ found. decl_tree self.now.symbols.now found
             ≡ FunctionTree (place_at line 1) (type_tree self.now.symbols.now type_of)
             (declared_tree self.now.symbols.now name) (map (declared_tree self.now.symbols.now) type_params.items)
-            (map (param_tree self.now.symbols.now) params.items) (phrase self.now.symbols.now value)) }
+            (map (param_tree self.now.symbols.now) params.items) (expr_tree self.now.symbols.now value)) }
     {
         Ok(Decl::Function {
             place: at(line, 1),

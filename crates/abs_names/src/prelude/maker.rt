@@ -4,7 +4,7 @@ ghost use Rattle.std.specs.Prelude.{◌≡◌, ◌+◌, ◌≤◌, codes, length
 ghost use Rattle.abs_tree.specs.Limits.{table_limit};
 ghost use Rattle.abs_tree.specs.Names.{name_of};
 ghost use Rattle.abs_tree.specs.Syntax.{NoType, NextType, Built, NoPattern, NextPattern, IfElse, OperatorsOf, NoOperands, NextOperand, ApplyOf, BuildOf, CaseOf};
-ghost use Rattle.abs_tree.specs.SyntaxViews.{declared as declared_tree, type_tree, type_trees, param_tree, constructor_tree, pattern_tree, pattern_trees, phrase, phrases, branches as branch_trees};
+ghost use Rattle.abs_tree.specs.SyntaxViews.{declared as declared_tree, type_tree, type_trees, param_tree, constructor_tree, pattern_tree, pattern_trees, expr_tree, expr_trees, branches as branch_trees};
 ghost use Rattle.abs_names.specs.Prelude.{at as place_at, declared as declared_at, type as type_at, applied as applied_at, param as param_at, constructor as constructor_at, binds as binds_at, variable as variable_at};
 
 use abs_tree::{
@@ -172,7 +172,7 @@ impl<'s> Maker<'s> {
     /// A variable.
     pub fn variable(&self, line: u8, column: u8, name: &[u8]) -> Result<Expr, AllocError>
         ensures { IfOk result
-            (λ found. phrase self.now.symbols.now found ≡ variable_at line column name.now) }
+            (λ found. expr_tree self.now.symbols.now found ≡ variable_at line column name.now) }
     {
         let variable = Variable::Unresolved(self.symbol(name)?);
         Ok(Expr::Variable(at(line, column), variable))
@@ -186,9 +186,9 @@ impl<'s> Maker<'s> {
         first: Expr,
         second: Expr,
     ) -> Result<Expr, AllocError>
-        ensures { IfOk result (λ found. phrase self.now.symbols.now found
-            ≡ IfElse place (phrase self.now.symbols.now condition) (phrase self.now.symbols.now first)
-            (phrase self.now.symbols.now second)) }
+        ensures { IfOk result (λ found. expr_tree self.now.symbols.now found
+            ≡ IfElse place (expr_tree self.now.symbols.now condition) (expr_tree self.now.symbols.now first)
+            (expr_tree self.now.symbols.now second)) }
     {
         Ok(Expr::If {
             place,
@@ -206,9 +206,9 @@ impl<'s> Maker<'s> {
         operator: Operator,
         right: Expr,
     ) -> Result<Expr, AllocError>
-        ensures { IfOk result (λ found. phrase self.now.symbols.now found
-            ≡ OperatorsOf place (phrase self.now.symbols.now first)
-            (NextOperand operator (phrase self.now.symbols.now right) NoOperands)) }
+        ensures { IfOk result (λ found. expr_tree self.now.symbols.now found
+            ≡ OperatorsOf place (expr_tree self.now.symbols.now first)
+            (NextOperand operator (expr_tree self.now.symbols.now right) NoOperands)) }
     {
         Ok(Expr::Operators {
             place,
@@ -225,8 +225,8 @@ impl<'s> Maker<'s> {
         name: &[u8],
         arguments: Vec<Expr>,
     ) -> Result<Expr, AllocError>
-        ensures { IfOk result (λ found. phrase self.now.symbols.now found
-            ≡ ApplyOf (place_at line column) name.now (phrases self.now.symbols.now arguments.items)) }
+        ensures { IfOk result (λ found. expr_tree self.now.symbols.now found
+            ≡ ApplyOf (place_at line column) name.now (expr_trees self.now.symbols.now arguments.items)) }
     {
         let function = self.symbol(name)?;
         Ok(Expr::Apply {
@@ -244,8 +244,8 @@ impl<'s> Maker<'s> {
         name: &[u8],
         arguments: Vec<Expr>,
     ) -> Result<Expr, AllocError>
-        ensures { IfOk result (λ found. phrase self.now.symbols.now found
-            ≡ BuildOf (place_at line column) name.now (phrases self.now.symbols.now arguments.items)) }
+        ensures { IfOk result (λ found. expr_tree self.now.symbols.now found
+            ≡ BuildOf (place_at line column) name.now (expr_trees self.now.symbols.now arguments.items)) }
     {
         let constructor = self.symbol(name)?;
         Ok(Expr::Build {
@@ -262,8 +262,8 @@ impl<'s> Maker<'s> {
         subject: Expr,
         branches: Vec<Branch>,
     ) -> Result<Expr, AllocError>
-        ensures { IfOk result (λ found. phrase self.now.symbols.now found
-            ≡ CaseOf place (phrase self.now.symbols.now subject)
+        ensures { IfOk result (λ found. expr_tree self.now.symbols.now found
+            ≡ CaseOf place (expr_tree self.now.symbols.now subject)
             (branch_trees self.now.symbols.now branches.items)) }
     {
         Ok(Expr::Case {

@@ -22,16 +22,16 @@ may_begin lexeme.Foreign = false
 may_begin _ = true
 
 -- the test agrees with the grammar on each lexeme
-may_begin_told : (kind : Lexeme) → may_begin kind ≡ begins Pattern (asked kind)
+may_begin_reported : (kind : Lexeme) → may_begin kind ≡ begins Pattern (asked kind)
 unfolding begins begins_within
-may_begin_told (lexeme.Keyword keyword.Module) = refl
-may_begin_told (lexeme.Punctuator punctuator.OpenParen) = refl
-may_begin_told _ = refl
+may_begin_reported (lexeme.Keyword keyword.Module) = refl
+may_begin_reported (lexeme.Punctuator punctuator.OpenParen) = refl
+may_begin_reported _ = refl
 
 -- the test decides which tokens a pattern may begin with
 pub first_kinds : BeginsBy Pattern may_begin
 unfolding begins begins_within
-first_kinds = record { told = may_begin_told; local_too = refl; abs_too = refl; library_too = refl }
+first_kinds = record { reported = may_begin_reported; local_too = refl; abs_too = refl; library_too = refl }
 
 -- no pattern begins with a keyword or a foreign word
 pub keywords_do_not : {kind : Lexeme}

@@ -20,7 +20,7 @@ use Rattle.abs_parser.proofs.reader.StepLemmas.{next_is}
 
 -- A nonterminal begins with just the tokens whose lexeme passes a test, and with all names of a lexeme or with none.
 pub record BeginsBy (nonterminal : Nonterminal) (test : Lexeme → Bool) : Type 0 where
-  pub told : (kind : Lexeme) → test kind ≡ begins nonterminal (asked kind)
+  pub reported : (kind : Lexeme) → test kind ≡ begins nonterminal (asked kind)
   pub local_too : begins nonterminal LowerName ≡ begins nonterminal LocalName
   pub abs_too : begins nonterminal UpperName ≡ begins nonterminal AbsName
   pub library_too : begins nonterminal UpperName ≡ begins nonterminal StdLibName
@@ -42,14 +42,14 @@ upper_alike by false false = refl
 -- the test decides whether the nonterminal may begin with a token, however the token is written
 pub begins_by_kind : {nonterminal : Nonterminal} {test : Lexeme → Bool} → BeginsBy nonterminal test
     → (kind : Lexeme) (bytes : List ℕ) → test kind ≡ begins nonterminal (token_kind_of kind bytes)
-begins_by_kind by lexeme.LowerName bytes = by.told lexeme.LowerName ∙ lower_alike by (bytes_eq bytes (codes "local"))
+begins_by_kind by lexeme.LowerName bytes = by.reported lexeme.LowerName ∙ lower_alike by (bytes_eq bytes (codes "local"))
 begins_by_kind by lexeme.UpperName bytes =
-    by.told lexeme.UpperName ∙ upper_alike by (bytes_eq bytes (codes "ABS")) (bytes_eq bytes (codes "StdLib"))
-begins_by_kind by lexeme.Number bytes = by.told lexeme.Number
-begins_by_kind by lexeme.Text bytes = by.told lexeme.Text
-begins_by_kind by (lexeme.Keyword keyword) bytes = by.told (lexeme.Keyword keyword)
-begins_by_kind by lexeme.Foreign bytes = by.told lexeme.Foreign
-begins_by_kind by (lexeme.Punctuator punctuator) bytes = by.told (lexeme.Punctuator punctuator)
+    by.reported lexeme.UpperName ∙ upper_alike by (bytes_eq bytes (codes "ABS")) (bytes_eq bytes (codes "StdLib"))
+begins_by_kind by lexeme.Number bytes = by.reported lexeme.Number
+begins_by_kind by lexeme.Text bytes = by.reported lexeme.Text
+begins_by_kind by (lexeme.Keyword keyword) bytes = by.reported (lexeme.Keyword keyword)
+begins_by_kind by lexeme.Foreign bytes = by.reported lexeme.Foreign
+begins_by_kind by (lexeme.Punctuator punctuator) bytes = by.reported (lexeme.Punctuator punctuator)
 
 -- the answer of the test for a known lexeme holds for each token of that lexeme
 pub begins_as : {nonterminal : Nonterminal} {test : Lexeme → Bool} {kind : Lexeme} → BeginsBy nonterminal test

@@ -84,8 +84,8 @@ not_false true h = refl
 not_false false h = cc
 
 -- lexemes that do not compare as different are the same
-pub kind_told : (k l : Lexeme) (differ : Bool) → differ ≡ not (ghosts.eq k l) → differ ≡ false → k ≡ l
-kind_told k l differ is same = same_kind k l (not_false (ghosts.eq k l) (sym is ∙ same))
+pub kind_reported : (k l : Lexeme) (differ : Bool) → differ ≡ not (ghosts.eq k l) → differ ≡ false → k ≡ l
+kind_reported k l differ is same = same_kind k l (not_false (ghosts.eq k l) (sym is ∙ same))
 
 -- lexemes are the same where their comparison answers true
 pub kind_equal : (k l : Lexeme) (equal : Bool) → equal ≡ ghosts.eq k l → equal ≡ true → k ≡ l

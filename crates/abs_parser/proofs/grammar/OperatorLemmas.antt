@@ -4,8 +4,8 @@
 use Rattle.std.proofs.Common.{◌≡◌, ◌≤◌, ◌<◌, ℕ, Bool, true, false, cond, List, [], ◌∷◌, ◌++◌, length, Some, None, refl, sym, ap, ◌∙◌, arith}
 use Rattle.std.proofs.lemmas.List.{append-nil}
 use Rattle.std.proofs.lemmas.Bool.{cond-true, cond-false}
-use Rattle.abs_tree.specs.Syntax.{Name, Phrase, OperatorsOf, Operands, NoOperands, NextOperand}
-use Rattle.abs_tree.specs.SyntaxViews.{phrase, operand_trees}
+use Rattle.abs_tree.specs.Syntax.{Name, ExprTree, OperatorsOf, Operands, NoOperands, NextOperand}
+use Rattle.abs_tree.specs.SyntaxViews.{expr_tree, operand_trees}
 use Rattle.abs_tree.specs.declared.place.Place.{Place}
 use Rattle.abs_tree.specs.declared.syntax.expression.Expr.{Expr}
 use Rattle.abs_tree.specs.declared.syntax.expression.Operand.{Operand}
@@ -35,7 +35,7 @@ use Rattle.abs_parser.proofs.grammar.NonterminalLemmas.{begins_with_part, part_s
 use Rattle.abs_parser.proofs.reader.InFrontSteps.{refused_in_front}
 
 -- with at least one operator, `with_operators` builds a node
-pub node_is : (names : List Name) (place : Place) (first : Phrase) (operands : List Operand) → 0 < length operands
+pub node_is : (names : List Name) (place : Place) (first : ExprTree) (operands : List Operand) → 0 < length operands
     → OperatorsOf place first (operand_trees names operands) ≡ with_operators place first (operand_trees names operands)
 node_is names place first [] some = absurd (omega arith)
 node_is names place first (operand ∷ others) some = refl
@@ -170,22 +170,22 @@ punctuator_read _ = refl
 abbrev operands_before : List Name → List Operand → Operands → Operands
 operands_before names [] after = after
 operands_before names (operand ∷ others) after =
-    NextOperand operand.operator (phrase names operand.right) (operands_before names others after)
+    NextOperand operand.operator (expr_tree names operand.right) (operands_before names others after)
 
 -- followed by those of a list, they are those of both lists
 operands_of_both : (names : List Name) (operands more : List Operand)
     → operands_before names operands (operand_trees names more) ≡ operand_trees names (operands ++ more)
 operands_of_both names [] more = refl
 operands_of_both names (operand ∷ others) more =
-    ap (NextOperand operand.operator (phrase names operand.right)) (operands_of_both names others more)
+    ap (NextOperand operand.operator (expr_tree names operand.right)) (operands_of_both names others more)
 
 -- an operand that is appended comes just before the others
 one_before : (names : List Name) (operands : List Operand) (operand : Operand) (after : Operands)
     → operands_before names (operands ++ operand ∷ []) after
-    ≡ operands_before names operands (NextOperand operand.operator (phrase names operand.right) after)
+    ≡ operands_before names operands (NextOperand operand.operator (expr_tree names operand.right) after)
 one_before names [] operand after = refl
 one_before names (first ∷ others) operand after =
-    ap (NextOperand first.operator (phrase names first.right)) (one_before names others operand after)
+    ap (NextOperand first.operator (expr_tree names first.right)) (one_before names others operand after)
 
 -- The steps
 
@@ -257,16 +257,16 @@ abbrev IsTail : Precedence → Operand → List (List ℕ) → Forest → Type 0
 IsTail precedence operand names inside =
     (repeats precedence ≡ true → (others : Forest)
     → operands_in precedence (Node (One (tail_nonterminal precedence)) inside (Node (rest_of precedence) others Empty))
-    ≡ NextOperand operand.operator (phrase names operand.right) (operands_in precedence others))
+    ≡ NextOperand operand.operator (expr_tree names operand.right) (operands_in precedence others))
     × (repeats precedence ≡ false → operands_in precedence (Node (One (tail_nonterminal precedence)) inside Empty)
-    ≡ NextOperand operand.operator (phrase names operand.right) NoOperands)
+    ≡ NextOperand operand.operator (expr_tree names operand.right) NoOperands)
 
 -- an operator with its operand was read
 operand_found : {precedence : Precedence} {depth : ℕ} {now new : List (List ℕ)} {here after to : Spot} {token : Lexed}
     (operand : Operand) → precedence_of operand.operator ≡ precedence
     → TakesKind (lexeme.Punctuator (punctuator_of operand.operator)) token here after → depth ≤ limit
     → FoundAs (One (operand_nonterminal precedence)) depth now new after to
-    (λ names inside. phrase names operand.right ≡ operand_in precedence inside)
+    (λ names inside. expr_tree names operand.right ≡ operand_in precedence inside)
     → FoundAs (One (tail_nonterminal precedence)) depth now new here to (IsTail precedence operand)
 operand_found {precedence} {depth} {now} {new} {token = token} operand is takes within found =
     let operation : operator_of (token_kind (Token token)) ≡ operand.operator =
@@ -274,7 +274,7 @@ operand_found {precedence} {depth} {now} {new} {token = token} operand is takes 
     ∙ punctuator_read operand.operator in
     let tail = λ (names : List (List ℕ)) (more : GoesOn new names) (others : Operands).
     ap (λ (operator : Operator). NextOperand operator (operand_in precedence found.inside) others) operation
-    ∙ ap (λ (tree : Phrase). NextOperand operand.operator tree others) (sym (found.is names more)) in
+    ∙ ap (λ (tree : ExprTree). NextOperand operand.operator tree others) (sym (found.is names more)) in
     all_read (over_part (operator_read operand.operator depth now is takes within) found) (λ names more. (
       λ again others. tail_tree precedence (One (tail_nonterminal precedence)) (One (operand_nonterminal precedence))
           (rest_of precedence) (Token token) depth found.inside others again
@@ -289,7 +289,7 @@ pub next_operand_read : {precedence : Precedence} {depth : ℕ} {old now new : L
     → OperatorsSoFar precedence depth old now from here operands → precedence_of operand.operator ≡ precedence
     → TakesKind (lexeme.Punctuator (punctuator_of operand.operator)) token here after → depth ≤ limit
     → FoundAs (One (operand_nonterminal precedence)) depth now new after to
-    (λ names inside. phrase names operand.right ≡ operand_in precedence inside) → repeats precedence ≡ true
+    (λ names inside. expr_tree names operand.right ≡ operand_in precedence inside) → repeats precedence ≡ true
     → OperatorsSoFar precedence depth old new from to (operands ++ operand ∷ [])
 next_operand_read {precedence} {depth} {now = now} operands operand so is takes within found again =
     let one = operand_found operand is takes within found in
@@ -308,12 +308,12 @@ next_operand_read {precedence} {depth} {now = now} operands operand so is takes 
 -- `expr` is the expression of a first operand and of the operators and operands after it
 abbrev IsNode : Place → Expr → List Operand → Expr → Type 0
 IsNode place first operands expr = (names : List (List ℕ))
-    → phrase names expr ≡ with_operators place (phrase names first) (operand_trees names operands)
+    → expr_tree names expr ≡ with_operators place (expr_tree names first) (operand_trees names operands)
 
 -- what follows a first operand was read: together they are the expression `expr`
 abbrev pub IsAfter : Precedence → Place → Expr → Expr → List (List ℕ) → Forest → Type 0
 IsAfter precedence place first expr names inside =
-    phrase names expr ≡ with_operators place (phrase names first) (operands_in precedence inside)
+    expr_tree names expr ≡ with_operators place (expr_tree names first) (operands_in precedence inside)
 
 -- what follows a first operand is found where the rest after the operands read so far is
 operators_found : {precedence : Precedence} {depth : ℕ} {old now new : List (List ℕ)} {from here to : Spot}
@@ -326,7 +326,7 @@ operators_found : {precedence : Precedence} {depth : ℕ} {old now new : List (L
 operators_found {operands = operands} place first expr others so found are is =
     all_read (over_part so.read found) (λ names more.
     is names
-    ∙ ap (with_operators place (phrase names first))
+    ∙ ap (with_operators place (expr_tree names first))
     (ap (operand_trees names) are ∙ (sym (operands_of_both names operands others)
     ∙ (sym (ap (operands_before names operands) (found.is names more))
     ∙ sym (so.is names (goes_on_further (found_goes_on found) more) found.inside)))))
@@ -337,7 +337,7 @@ pub last_operand_found : {precedence : Precedence} {depth : ℕ} {old now new : 
     → OperatorsSoFar precedence depth old now from here operands → precedence_of operand.operator ≡ precedence
     → TakesKind (lexeme.Punctuator (punctuator_of operand.operator)) token here after → depth ≤ limit
     → FoundAs (One (operand_nonterminal precedence)) depth now new after to
-    (λ names inside. phrase names operand.right ≡ operand_in precedence inside) → repeats precedence ≡ false
+    (λ names inside. expr_tree names operand.right ≡ operand_in precedence inside) → repeats precedence ≡ false
     → items ≡ operands ++ operand ∷ [] → IsNode place first items expr
     → FoundAs (rest_of precedence) depth old new from to (IsAfter precedence place first expr)
 last_operand_found {precedence} {depth} {now = now} place first expr operand so is takes within found once =
@@ -375,14 +375,14 @@ first_operand_read {depth} {old} {from = from} precedence found =
 pub precedence_found : {depth : ℕ} {old now new : List (List ℕ)} {from here to : Spot} (precedence : Precedence)
     (place : Place) (first expr : Expr)
     → FoundAs (One (operand_nonterminal precedence)) depth old now from here
-    (λ names inside. phrase names first ≡ operand_in precedence inside) → place ≡ place_of from
+    (λ names inside. expr_tree names first ≡ operand_in precedence inside) → place ≡ place_of from
     → FoundAs (rest_of precedence) depth now new here to (IsAfter precedence place first expr)
     → FoundAs (One (nonterminal_of precedence)) depth old new from to
-    (λ names inside. phrase names expr ≡ precedence_in precedence inside)
+    (λ names inside. expr_tree names expr ≡ precedence_in precedence inside)
 precedence_found precedence place first expr found at after =
     all_read (over_part (first_operand_read precedence found) after) (λ names more.
     after.is names more
-    ∙ (ap (λ (tree : Phrase). with_operators place tree (operands_in precedence after.inside))
+    ∙ (ap (λ (tree : ExprTree). with_operators place tree (operands_in precedence after.inside))
     (found.is names (goes_on_further (found_goes_on after) more))
     ∙ (ap (λ (p : Place). with_operators p (operand_in precedence found.inside) (operands_in precedence after.inside))
     (at ∙ sym (first_place_found found))
@@ -397,4 +397,4 @@ pub no_operators : {depth : ℕ} {table : List (List ℕ)} {here : Spot} (preced
     → FoundAs (rest_of precedence) depth table table here here (IsAfter precedence place first first)
 no_operators {depth} {table} {here} precedence place first none =
     all_read (opens (rest_of precedence) depth table here [] (rest_ends precedence _ depth none))
-    (λ names more. sym (ap (with_operators place (phrase names first)) (no_operands precedence)))
+    (λ names more. sym (ap (with_operators place (expr_tree names first)) (no_operands precedence)))

@@ -21,15 +21,15 @@ use Rattle.abs_tree.specs.declared.symbol.Symbol.{Symbol}
 use Rattle.abs_tree.specs.declared.syntax.expression.Expr as code_expr
 use Rattle.abs_tree.specs.declared.syntax.expression.Prefix.{Prefix}
 use Rattle.abs_tree.specs.declared.syntax.expression.Prefix.TheVariants as prefix
-use Rattle.abs_tree.specs.Syntax.{Phrase, Phrases, Prefixed, ThisOf, BuildOf}
-use Rattle.abs_tree.specs.SyntaxViews.{phrase, phrases}
+use Rattle.abs_tree.specs.Syntax.{ExprTree, ExprTrees, Prefixed, ThisOf, BuildOf}
+use Rattle.abs_tree.specs.SyntaxViews.{expr_tree, expr_trees}
 use Rattle.abs_tree.specs.Names.{name_of}
-use Rattle.abs_tree.proofs.SyntaxLemmas.{phrase-build}
+use Rattle.abs_tree.proofs.SyntaxLemmas.{expr_tree-build}
 use Rattle.abs_parser.specs.TokenKinds.{Mark, Token, TokenKind, token_kind_of, LowerName, LocalName, UpperName, AbsName, StdLibName, Number, Text, KeywordKind, PunctuatorKind, End, place_of_mark, fits}
 use Rattle.abs_parser.specs.Precedences.{prefix_punctuator}
 use Rattle.abs_parser.specs.Productions.{begins, begins_within, chosen, Unary, Primary, ThisTail, Arguments, Expr, Branch}
 use Rattle.abs_parser.specs.Readings.{One, Optional, Repeated, Wanted, Terminal, Subgoal, opened, Forest, Empty, Leaf, Node}
-use Rattle.abs_parser.specs.ReaderAnswers.{asked, maybe_phrases, is_asked}
+use Rattle.abs_parser.specs.ReaderAnswers.{asked, maybe_exprs, is_asked}
 use Rattle.abs_parser.specs.TreesOf.{written, prefix_of, named, member, built, unary_in, primary_in, primary_by, arguments_maybe, expr_in}
 use Rattle.abs_parser.proofs.grammar.FirstTokens.{BeginsBy, none_found}
 use Rattle.abs_parser.proofs.reader.FoundLemmas.{asked_fits}
@@ -46,16 +46,16 @@ may_begin (lexeme.Punctuator which) = sameb punctuators which punctuator.OpenPar
 may_begin _ = true
 
 -- the test agrees with the grammar on each lexeme
-may_begin_told : (kind : Lexeme) → may_begin kind ≡ begins Primary (asked kind)
+may_begin_reported : (kind : Lexeme) → may_begin kind ≡ begins Primary (asked kind)
 unfolding begins begins_within
-may_begin_told (lexeme.Keyword keyword.Null) = refl
-may_begin_told (lexeme.Punctuator punctuator.OpenParen) = refl
-may_begin_told _ = refl
+may_begin_reported (lexeme.Keyword keyword.Null) = refl
+may_begin_reported (lexeme.Punctuator punctuator.OpenParen) = refl
+may_begin_reported _ = refl
 
 -- the test decides which tokens a primary may begin with
 pub first_kinds : BeginsBy Primary may_begin
 unfolding begins begins_within
-first_kinds = record { told = may_begin_told; local_too = refl; abs_too = refl; library_too = refl }
+first_kinds = record { reported = may_begin_reported; local_too = refl; abs_too = refl; library_too = refl }
 
 -- no other keyword begins a primary
 pub other_keyword : (which : Keyword) → (which ≡ keyword.Null → ⊥) → (which ≡ keyword.Destiny → ⊥)
@@ -230,7 +230,7 @@ named_by true mark arguments = refl
 named_by false mark arguments = refl
 
 -- a lower-case name is a function call where it has arguments, and else a variable
-pub named_tree : (token : Lexed) (at : ℕ) (arguments : Forest) {trees : Option Phrases} → token.kind ≡ lexeme.LowerName
+pub named_tree : (token : Lexed) (at : ℕ) (arguments : Forest) {trees : Option ExprTrees} → token.kind ≡ lexeme.LowerName
     → trees ≡ arguments_maybe arguments
     → named token.place token.bytes trees
     ≡ primary_in (Leaf (Token token) at (Node (Optional Arguments) arguments Empty))
@@ -249,7 +249,7 @@ built_by false true mark arguments = refl
 built_by false false mark arguments = refl
 
 -- an upper-case name builds a value of its arguments, if it has any
-pub built_tree : (token : Lexed) (at : ℕ) (arguments : Forest) {trees : Option Phrases} → token.kind ≡ lexeme.UpperName
+pub built_tree : (token : Lexed) (at : ℕ) (arguments : Forest) {trees : Option ExprTrees} → token.kind ≡ lexeme.UpperName
     → trees ≡ arguments_maybe arguments
     → built token.place token.bytes trees
     ≡ primary_in (Leaf (Token token) at (Node (Optional Arguments) arguments Empty))
@@ -259,7 +259,7 @@ built_tree token at arguments is trees =
     ∙ built_by (bytes_eq token.bytes (codes "ABS")) (bytes_eq token.bytes (codes "StdLib")) (Token token) arguments)
 
 -- `this`, a dot and a name are a method call where there are arguments, and else a field
-pub member_tree : (this dot name : Lexed) (at : ℕ) (arguments : Forest) {trees : Option Phrases}
+pub member_tree : (this dot name : Lexed) (at : ℕ) (arguments : Forest) {trees : Option ExprTrees}
     → this.kind ≡ lexeme.Keyword keyword.This → trees ≡ arguments_maybe arguments
     → member this.place name.place name.bytes trees
     ≡ primary_in (Leaf (Token this) at
@@ -277,39 +277,39 @@ pub this_tree : (this : Lexed) (at : ℕ) → this.kind ≡ lexeme.Keyword keywo
 this_tree this at is = sym (tree_by this at (Node (Optional ThisTail) Empty Empty) is)
 
 -- an expression in parentheses has the tree of the expression
-pub group_tree : (opening closing : Lexed) (at : ℕ) (inside : Forest) {tree : Phrase}
+pub group_tree : (opening closing : Lexed) (at : ℕ) (inside : Forest) {tree : ExprTree}
     → opening.kind ≡ lexeme.Punctuator punctuator.OpenParen → tree ≡ expr_in inside
     → tree ≡ primary_in (Leaf (Token opening) at (Node (One Expr) inside (Leaf (Token closing) at Empty)))
 group_tree opening closing at inside is trees =
     trees ∙ sym (tree_by opening at (Node (One Expr) inside (Leaf (Token closing) at Empty)) is)
 
 -- the punctuator of a prefix operator is read as that operator
-prefix_told : (operation : Prefix) → prefix_of (PunctuatorKind (prefix_punctuator operation)) ≡ operation
-prefix_told prefix.Not = refl
-prefix_told prefix.Tilde = refl
-prefix_told prefix.Minus = refl
+prefix_reported : (operation : Prefix) → prefix_of (PunctuatorKind (prefix_punctuator operation)) ≡ operation
+prefix_reported prefix.Not = refl
+prefix_reported prefix.Tilde = refl
+prefix_reported prefix.Minus = refl
 
 -- the tree of a prefix operator and the unary after it
-pub prefixed_tree : (operation : Prefix) (token : Lexed) (at : ℕ) (operand : Forest) {tree : Phrase}
+pub prefixed_tree : (operation : Prefix) (token : Lexed) (at : ℕ) (operand : Forest) {tree : ExprTree}
     → token.kind ≡ lexeme.Punctuator (prefix_punctuator operation) → tree ≡ unary_in operand
     → Prefixed token.place operation tree ≡ unary_in (Leaf (Token token) at (Node (One Unary) operand Empty))
 prefixed_tree operation token at operand is trees =
     ap (Prefixed token.place operation) trees
-    ∙ ap (λ (told : Prefix). Prefixed token.place told (unary_in operand))
-    (sym (ap (λ (kind : Lexeme). prefix_of (token_kind_of kind token.bytes)) is ∙ prefix_told operation))
+    ∙ ap (λ (reported : Prefix). Prefixed token.place reported (unary_in operand))
+    (sym (ap (λ (kind : Lexeme). prefix_of (token_kind_of kind token.bytes)) is ∙ prefix_reported operation))
 
 -- a constructor has the given arguments
-pub build_phrase : (names : List (List ℕ)) (place : Place) (symbol : Symbol) (arguments : Vec code_expr.Expr Global)
+pub build_expr : (names : List (List ℕ)) (place : Place) (symbol : Symbol) (arguments : Vec code_expr.Expr Global)
     {given : Option (Vec code_expr.Expr Global)} {name : List ℕ}
     → given ≡ Some arguments → name_of names symbol ≡ name
-    → phrase names (code_expr.Build place symbol arguments) ≡ built place name (maybe_phrases names given)
-build_phrase names place symbol arguments there is = rw (there, sym is) (phrase-build names place symbol arguments)
+    → expr_tree names (code_expr.Build place symbol arguments) ≡ built place name (maybe_exprs names given)
+build_expr names place symbol arguments there is = rw (there, sym is) (expr_tree-build names place symbol arguments)
 
 -- a constructor without arguments has an empty list of them
-pub constant_phrase : (names : List (List ℕ)) (place : Place) (symbol : Symbol) (arguments : Vec code_expr.Expr Global)
+pub constant_expr : (names : List (List ℕ)) (place : Place) (symbol : Symbol) (arguments : Vec code_expr.Expr Global)
     {given : Option (Vec code_expr.Expr Global)} {name : List ℕ}
     → given ≡ None → arguments.items ≡ [] → name_of names symbol ≡ name
-    → phrase names (code_expr.Build place symbol arguments) ≡ built place name (maybe_phrases names given)
-constant_phrase names place symbol arguments none empty is =
-    rw (none, sym is) (phrase-build names place symbol arguments
-    ∙ ap (λ (items : List code_expr.Expr). BuildOf place (name_of names symbol) (phrases names items)) empty)
+    → expr_tree names (code_expr.Build place symbol arguments) ≡ built place name (maybe_exprs names given)
+constant_expr names place symbol arguments none empty is =
+    rw (none, sym is) (expr_tree-build names place symbol arguments
+    ∙ ap (λ (items : List code_expr.Expr). BuildOf place (name_of names symbol) (expr_trees names items)) empty)

@@ -5,12 +5,12 @@ use Rattle.std.specs.declared.alloc.Global.{Global}
 use Rattle.std.specs.declared.boxed.Box.{Box}
 use Rattle.std.specs.declared.vec.Vec.{Vec}
 use Rattle.abs_tree.specs.declared.place.Place.{Place}
-use Rattle.abs_tree.specs.Syntax.{Phrase, CaseOf, Branches, NoBranch, NextBranch}
-use Rattle.abs_tree.specs.SyntaxViews.{phrase, pattern_tree, branches}
+use Rattle.abs_tree.specs.Syntax.{ExprTree, CaseOf, Branches, NoBranch, NextBranch}
+use Rattle.abs_tree.specs.SyntaxViews.{expr_tree, pattern_tree, branches}
 use Rattle.abs_tree.specs.declared.syntax.expression.Branch as code_branch
 use Rattle.abs_tree.specs.declared.syntax.expression.Expr as code_expr
 use Rattle.abs_tree.specs.declared.syntax.expression.Expr.{Expr}
-use Rattle.abs_tree.proofs.SyntaxLemmas.{phrase-case}
+use Rattle.abs_tree.proofs.SyntaxLemmas.{expr_tree-case}
 use Rattle.abs_lexer.specs.declared.lexeme.Keyword.TheVariants as keyword
 use Rattle.abs_lexer.specs.declared.lexeme.Lexeme.{Lexeme}
 use Rattle.abs_lexer.specs.declared.lexeme.Lexeme.TheVariants as lexeme
@@ -39,7 +39,7 @@ use Rattle.abs_parser.proofs.reader.ExpressionSteps.{IsExpression}
 -- this branch was read
 abbrev pub IsBranch : code_branch.Branch → List (List ℕ) → Forest → Type 0
 IsBranch branch names inside = (others : Branches)
-    → NextBranch (pattern_tree names branch.pattern) (phrase names branch.value) others ≡ branch_in inside others
+    → NextBranch (pattern_tree names branch.pattern) (expr_tree names branch.value) others ≡ branch_in inside others
 
 -- a branch begins with the same tokens as a pattern
 branch_begins : (kind : TokenKind) → begins Branch kind ≡ begins Pattern kind
@@ -90,22 +90,22 @@ branch_found branch pattern arrow value semicolon within =
 abbrev pub branches_before : List (List ℕ) → List code_branch.Branch → Branches → Branches
 branches_before names [] after = after
 branches_before names (branch ∷ others) after =
-    NextBranch (pattern_tree names branch.pattern) (phrase names branch.value) (branches_before names others after)
+    NextBranch (pattern_tree names branch.pattern) (expr_tree names branch.value) (branches_before names others after)
 
 -- followed by no others, they are the trees of the branches alone
 all_branches : (names : List (List ℕ)) (arms : List code_branch.Branch)
     → branches_before names arms NoBranch ≡ branches names arms
 all_branches names [] = refl
 all_branches names (branch ∷ others) =
-    ap (NextBranch (pattern_tree names branch.pattern) (phrase names branch.value)) (all_branches names others)
+    ap (NextBranch (pattern_tree names branch.pattern) (expr_tree names branch.value)) (all_branches names others)
 
 -- the tree of one more branch comes just before the others
 one_branch : (names : List (List ℕ)) (arms : List code_branch.Branch) (branch : code_branch.Branch) (after : Branches)
     → branches_before names (arms ++ branch ∷ []) after
-    ≡ branches_before names arms (NextBranch (pattern_tree names branch.pattern) (phrase names branch.value) after)
+    ≡ branches_before names arms (NextBranch (pattern_tree names branch.pattern) (expr_tree names branch.value) after)
 one_branch names [] branch after = refl
 one_branch names (first ∷ others) branch after =
-    ap (NextBranch (pattern_tree names first.pattern) (phrase names first.value)) (one_branch names others branch after)
+    ap (NextBranch (pattern_tree names first.pattern) (expr_tree names first.value)) (one_branch names others branch after)
 
 -- A `case`
 
@@ -150,7 +150,7 @@ pub record ReadsCase (depth : ℕ) (old now : List (List ℕ)) (from here : Spot
   pub shorter : length here.rest < length from.rest
   pub is : (names : List (List ℕ)) → GoesOn now names → (inside : Forest) (mark : Mark) (at : ℕ)
       → primary_in (make (Node (Repeated Branch) inside (Leaf mark at Empty)))
-      ≡ CaseOf place (phrase names subject) (branches_before names arms (branches_in inside))
+      ≡ CaseOf place (expr_tree names subject) (branches_before names arms (branches_in inside))
 
 -- a `case` was read with its first branch
 pub first_branch : {token brace : Lexed} {from subject_at brace_at first_at here : Spot} {depth : ℕ}
@@ -178,9 +178,9 @@ first_branch {token} {brace} {depth = depth} {subject = expr} branch same takes 
           (Node (One ExprSymbol) subject.inside
           (Leaf (Token brace) depth (Node (One Branch) first.inside (Node (Repeated Branch) inside (Leaf mark at Empty))))))
           takes.kind_is
-          ∙ (ap (λ (tree : Phrase). CaseOf token.place tree (branch_in first.inside (branches_in inside)))
+          ∙ (ap (λ (tree : ExprTree). CaseOf token.place tree (branch_in first.inside (branches_in inside)))
           (sym (subject.is names (goes_on_further (found_goes_on first) more)))
-          ∙ ap (CaseOf token.place (phrase names expr)) (sym (first.is names more (branches_in inside))));
+          ∙ ap (CaseOf token.place (expr_tree names expr)) (sym (first.is names more (branches_in inside))));
     })
 
 -- one more branch of a `case` was read
@@ -196,7 +196,7 @@ next_branch {depth} {place = place} {subject} {arms} branch same so found = rw s
   is = λ names more inside mark at.
       so.is names (goes_on_further (found_goes_on found) more)
       (Node (One Branch) found.inside (Node (Repeated Branch) inside Empty)) mark at
-      ∙ ap (CaseOf place (phrase names subject))
+      ∙ ap (CaseOf place (expr_tree names subject))
       (ap (branches_before names arms) (sym (found.is names more (branches_in inside)))
       ∙ sym (one_branch names arms branch (branches_in inside)));
 })
@@ -237,13 +237,13 @@ pub case_found : {brace : Lexed} {depth : ℕ} {old now : List (List ℕ)} {from
     → ReadsCase depth old now from here place subject arms.items
     → TakesKind (lexeme.Punctuator punctuator.CloseBrace) brace here end → depth ≤ limit
     → FoundAs (One Primary) depth old now from end
-    (λ names inside. phrase names (code_expr.Case place held arms) ≡ primary_in inside)
+    (λ names inside. expr_tree names (code_expr.Case place held arms) ≡ primary_in inside)
 case_found {brace} {depth} {now = now} {here = here} {place = place} {subject} held arms same so takes within =
     let none = no_branch depth now here (fits_next refl takes) in
     all_read (over_token (over_part so.read none) takes refl refl within) (λ names more.
-    phrase-case names place held arms
-    ∙ (ap (λ (expr : Expr). CaseOf place (phrase names expr) (branches names arms.items)) same
-    ∙ (ap (CaseOf place (phrase names subject))
+    expr_tree-case names place held arms
+    ∙ (ap (λ (expr : Expr). CaseOf place (expr_tree names expr) (branches names arms.items)) same
+    ∙ (ap (CaseOf place (expr_tree names subject))
     (sym (all_branches names arms.items)
     ∙ sym (ap (λ (inside : Forest). branches_before names arms.items (branches_in inside)) (none.is names more)))
     ∙ sym (so.is names more none.inside (Token brace) depth))))

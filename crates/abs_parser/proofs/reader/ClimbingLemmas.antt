@@ -3,7 +3,7 @@
 -- of a precedence is an operand of the next one.
 use denote.Enum.Bare.{sameb, same_true}
 use Rattle.std.proofs.Common.{◌≡◌, ◌≤◌, ℕ, true, false, List, refl, arith}
-use Rattle.abs_tree.specs.SyntaxViews.{phrase}
+use Rattle.abs_tree.specs.SyntaxViews.{expr_tree}
 use Rattle.abs_tree.specs.declared.place.Place.{Place}
 use Rattle.abs_tree.specs.declared.syntax.expression.Expr.{Expr}
 use Rattle.abs_tree.specs.declared.syntax.expression.Operator.{Operator}
@@ -21,11 +21,11 @@ use Rattle.abs_parser.proofs.grammar.OperatorLemmas.{no_operators, first_operand
 
 -- this operand of a precedence was read
 abbrev pub IsOperand : Precedence → Expr → List (List ℕ) → Forest → Type 0
-IsOperand precedence expr names inside = phrase names expr ≡ operand_in precedence inside
+IsOperand precedence expr names inside = expr_tree names expr ≡ operand_in precedence inside
 
 -- this expression of a precedence was read
 abbrev pub IsPrecedence : Precedence → Expr → List (List ℕ) → Forest → Type 0
-IsPrecedence precedence expr names inside = phrase names expr ≡ precedence_in precedence inside
+IsPrecedence precedence expr names inside = expr_tree names expr ≡ precedence_in precedence inside
 
 -- the next token is no operator
 abbrev pub NoOperatorAt : Spot → Type 0

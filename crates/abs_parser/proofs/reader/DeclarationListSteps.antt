@@ -47,15 +47,15 @@ begins_declaration (lexeme.Keyword keyword) = list_any (sameb keywords keyword) 
 begins_declaration _ = false
 
 -- the test agrees with the grammar on each lexeme
-declaration_told : (kind : Lexeme) → begins_declaration kind ≡ begins Decl (asked kind)
+declaration_reported : (kind : Lexeme) → begins_declaration kind ≡ begins Decl (asked kind)
 unfolding begins begins_within
-declaration_told (lexeme.Keyword keyword.Data) = refl
-declaration_told _ = refl
+declaration_reported (lexeme.Keyword keyword.Data) = refl
+declaration_reported _ = refl
 
 -- the test decides which tokens a declaration may begin with
 declaration_kinds : BeginsBy Decl begins_declaration
 unfolding begins begins_within
-declaration_kinds = record { told = declaration_told; local_too = refl; abs_too = refl; library_too = refl }
+declaration_kinds = record { reported = declaration_reported; local_too = refl; abs_too = refl; library_too = refl }
 
 -- no declaration begins with another keyword
 pub no_declaration_keyword : {token : Lexed} {from after : Spot} (keyword : Keyword) → TakesToken token from after

@@ -4,8 +4,8 @@
 use Rattle.std.proofs.Common.{◌≡◌, ◌≤◌, ℕ, ◌+◌, true, false, List, [], ◌∷◌, Some, None, refl, ap, ◌∙◌}
 use Rattle.abs_tree.specs.Names.{with_name, number_of_name, name_of}
 use Rattle.abs_tree.specs.declared.place.Place.{Place}
-use Rattle.abs_tree.specs.Syntax.{Phrase, IfElse, LetIn, Unresolved, TypeTree}
-use Rattle.abs_tree.specs.SyntaxViews.{phrase, type_tree}
+use Rattle.abs_tree.specs.Syntax.{ExprTree, IfElse, LetIn, Unresolved, TypeTree}
+use Rattle.abs_tree.specs.SyntaxViews.{expr_tree, type_tree}
 use Rattle.abs_tree.specs.declared.symbol.Symbol.{Symbol}
 use Rattle.abs_tree.specs.declared.syntax.expression.Expr.{Expr}
 use Rattle.abs_tree.specs.declared.syntax.types.TypeTerm.{TypeTerm}
@@ -46,8 +46,8 @@ expression_shut kind depth no_let no_if e = rw (no_let, no_if, e) refl
 pub or_found : {depth : ℕ} {old new : List (List ℕ)} {from to : Spot} (expr : Expr)
     → fits (KeywordKind keyword.Let) (next (left_at from)) ≡ false
     → fits (KeywordKind keyword.If) (next (left_at from)) ≡ false
-    → FoundAs (One Or) (depth + 1) old new from to (λ names inside. phrase names expr ≡ or_in inside)
-    → FoundAs (One ExprSymbol) depth old new from to (λ names inside. phrase names expr ≡ expr_in inside)
+    → FoundAs (One Or) (depth + 1) old new from to (λ names inside. expr_tree names expr ≡ or_in inside)
+    → FoundAs (One ExprSymbol) depth old new from to (λ names inside. expr_tree names expr ≡ expr_in inside)
 or_found {depth} {old} {from = from} expr no_let no_if found =
     let begun = part_begun Or _ (depth + 1) found.rule_is in
     all_read (over_part (opens (One ExprSymbol) depth old from _ (or_opened _ depth no_let no_if begun)) found) found.is
@@ -106,7 +106,7 @@ let_begins depth table takes within = keyword_read depth table (let_opened depth
 
 -- this expression was read
 abbrev pub IsExpression : Expr → List (List ℕ) → Forest → Type 0
-IsExpression expr names inside = phrase names expr ≡ expr_in inside
+IsExpression expr names inside = expr_tree names expr ≡ expr_in inside
 
 -- the test of an `if` and `then` were read
 pub if_tested : {token then_token : Lexed} {from test_at then_at first_at : Spot} {depth : ℕ} {old now : List (List ℕ)}
@@ -144,7 +144,7 @@ pub if_found : {token then_token else_token : Lexed} {from test_at then_at first
     → TakesKind (lexeme.Keyword keyword.Else) else_token else_at second_at
     → FoundAs (One ExprSymbol) (depth + 1) two new second_at end (IsExpression second) → depth + 1 ≤ limit
     → FoundAs (One ExprSymbol) depth old new from end
-    (λ names inside. IfElse token.place (phrase names held_test) (phrase names held_first) (phrase names held_second)
+    (λ names inside. IfElse token.place (expr_tree names held_test) (expr_tree names held_first) (expr_tree names held_second)
     ≡ expr_in inside)
 if_found held_test held_first held_second same_test same_first same_second token test then_token first else_token second
     within =
@@ -204,7 +204,7 @@ pub goes_on_name : {table : List (List ℕ)} (names : List (List ℕ)) (name : L
 goes_on_name names name is = rw is (goes_on_all names (name ∷ []))
 
 -- the trees of two `let` expressions with equal parts are equal
-let_tree : {type held_type : TypeTree} {name held_name : List ℕ} {value held_value body held_body : Phrase}
+let_tree : {type held_type : TypeTree} {name held_name : List ℕ} {value held_value body held_body : ExprTree}
     (place name_place : Place) → held_type ≡ type → held_name ≡ name → held_value ≡ value → held_body ≡ body
     → LetIn place held_type name_place (Unresolved held_name) held_value held_body
     ≡ LetIn place type name_place (Unresolved name) value body
@@ -228,7 +228,7 @@ pub let_found : {token paren name close equals in_token : Lexed}
     → FoundAs (One ExprSymbol) (depth + 1) three new body_at end (IsExpression body) → depth + 1 ≤ limit
     → FoundAs (One ExprSymbol) depth old new from end
     (λ names inside. LetIn token.place (type_tree names held_type) name.place (Unresolved (name_of names symbol))
-    (phrase names held_value) (phrase names held_body) ≡ expr_in inside)
+    (expr_tree names held_value) (expr_tree names held_body) ≡ expr_in inside)
 let_found {token = token} {name = name_token} {one = one} held_type symbol held_value held_body same_type same_value same_body
     takes paren type name number is close equals value in_token body within =
     let named = let_named takes paren type name is within in
@@ -238,4 +238,4 @@ let_found {token = token} {name = name_token} {one = one} held_type symbol held_
     let_tree token.place name_token.place
     (ap (type_tree names) same_type ∙ type.is names (goes_on_further (goes_on_name one name_token.bytes is) since))
     (symbol_kept one symbol number is names since)
-    (ap (phrase names) same_value ∙ value.is names after) (ap (phrase names) same_body ∙ body.is names more))
+    (ap (expr_tree names) same_value ∙ value.is names after) (ap (expr_tree names) same_body ∙ body.is names more))

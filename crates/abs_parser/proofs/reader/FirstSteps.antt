@@ -9,7 +9,7 @@ use Rattle.std.specs.declared.alloc.Global.{Global}
 use Rattle.std.specs.declared.vec.Vec.{Vec}
 use Rattle.abs_tree.specs.Names.{with_name, number_of_name, name_of}
 use Rattle.abs_tree.specs.Syntax.{Name, AssignOf, DoOf, Statement, ThisOf}
-use Rattle.abs_tree.specs.SyntaxViews.{phrase, side_tree, target_tree}
+use Rattle.abs_tree.specs.SyntaxViews.{expr_tree, side_tree, target_tree}
 use Rattle.abs_tree.specs.declared.place.Place.{Place}
 use Rattle.abs_tree.specs.declared.symbol.Symbol as code_symbol
 use Rattle.abs_tree.specs.declared.syntax.expression.Expr as code_expr
@@ -21,10 +21,10 @@ use Rattle.abs_lexer.specs.declared.lexeme.Lexeme.TheVariants as lexeme
 use Rattle.abs_lexer.specs.declared.lexeme.Punctuator.TheVariants as punctuator
 use Rattle.abs_lexer.specs.Tokens.{Lexed}
 use Rattle.abs_parser.specs.TokenKinds.{Mark, Token, TokenKind, LowerName, LocalName, KeywordKind, PunctuatorKind, place_of_mark, token_kind_of, fits, next}
-use Rattle.abs_parser.specs.Firsts.{place_of_first, target_of, phrase_of, after_first}
+use Rattle.abs_parser.specs.Firsts.{place_of_first, target_of, expr_of, after_first}
 use Rattle.abs_parser.specs.Productions.{Stmt, AfterName, AfterThis, Rest, Arguments, Rhs, begins, begins_within, chosen}
 use Rattle.abs_parser.specs.Readings.{Goal, One, Optional, Terminal, Subgoal, opened, Forest, Empty, Leaf, Node}
-use Rattle.abs_parser.specs.ReaderAnswers.{left_at, maybe_phrases, TakesKind, FoundAs, IsRefused}
+use Rattle.abs_parser.specs.ReaderAnswers.{left_at, maybe_exprs, TakesKind, FoundAs, IsRefused}
 use Rattle.abs_parser.specs.Stops.{limit}
 use Rattle.abs_parser.specs.Tokens.{Spot}
 use Rattle.abs_parser.specs.TreesOf.{written, arguments_maybe, rhs_in, rest_in, after_variable, after_field, after_this, statement_in, statement_by}
@@ -53,7 +53,7 @@ assign_tree index names (first.Field place name_place symbol) equals at part sid
 do_tree : (index : ℕ) (names : List Name) (start : First) (part last : Goal) (arguments rest others : Forest)
     → after_first index names start (Node part arguments (Node last rest others))
     ≡ DoOf index (place_of_first start)
-    (rest_in (place_of_first start) (phrase_of names start (arguments_maybe arguments)) rest)
+    (rest_in (place_of_first start) (expr_of names start (arguments_maybe arguments)) rest)
 do_tree index names (first.Variable place symbol) part last arguments rest others = refl
 do_tree index names (first.Field place name_place symbol) part last arguments rest others = refl
 
@@ -160,11 +160,11 @@ pub side_found : {from after to : Spot} {depth : ℕ} {old now new : List (List 
     (place : Place) (given : Option (Vec code_expr.Expr Global))
     (expr : code_expr.Expr) (side : RightSide) → fits (PunctuatorKind punctuator.Assign) (next (left_at from)) ≡ false
     → place ≡ place_of_first start
-    → ((names : List Name) → phrase names expr ≡ phrase_of names start (maybe_phrases names given))
+    → ((names : List Name) → expr_tree names expr ≡ expr_of names start (maybe_exprs names given))
     → FoundAs (Optional Arguments) (depth + 2) old now from after
-    (λ names inside. maybe_phrases names given ≡ arguments_maybe inside)
+    (λ names inside. maybe_exprs names given ≡ arguments_maybe inside)
     → FoundAs (One Rest) depth now new after to
-    (λ names inside. side_tree names side ≡ rest_in place (phrase names expr) inside)
+    (λ names inside. side_tree names side ≡ rest_in place (expr_tree names expr) inside)
     → FoundAs (One AfterName) depth old new from to
     (λ names inside. DoOf index place (side_tree names side) ≡ after_first index names start inside)
 side_found {from} {depth = depth} index start place given expr side no_equals at is arguments rest =
@@ -297,9 +297,9 @@ pub alone_found : {this : Lexed} {from after to : Spot} {depth : ℕ} {old new :
     (place : Place) (start : code_expr.Expr) (side : RightSide)
     → TakesKind (lexeme.Keyword keyword.This) this from after → depth + 1 + 2 ≤ limit
     → fits (PunctuatorKind punctuator.Dot) (next (left_at after)) ≡ false → place ≡ this.place
-    → ((names : List Name) → phrase names start ≡ ThisOf place)
+    → ((names : List Name) → expr_tree names start ≡ ThisOf place)
     → FoundAs (One Rest) (depth + 1) old new after to
-    (λ names inside. side_tree names side ≡ rest_in place (phrase names start) inside)
+    (λ names inside. side_tree names side ≡ rest_in place (expr_tree names start) inside)
     → FoundAs (One Stmt) depth old new from to
     (λ names inside. DoOf index place (side_tree names side) ≡ statement_in index inside)
 alone_found {this} {after = after} {depth = depth} {old} index place start side takes within no_dot at is rest =

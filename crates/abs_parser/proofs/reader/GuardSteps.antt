@@ -4,8 +4,8 @@ use Rattle.std.proofs.Common.{◌≡◌, ◌≤◌, ℕ, Bool, true, false, List
 use Rattle.abs_lexer.specs.declared.lexeme.Lexeme.TheVariants as lexeme
 use Rattle.abs_lexer.specs.declared.lexeme.Punctuator.TheVariants as punctuator
 use Rattle.abs_lexer.specs.Tokens.{Lexed}
-use Rattle.abs_tree.specs.Syntax.{Phrase, Tests, NoTest, NextTest}
-use Rattle.abs_tree.specs.SyntaxViews.{phrase}
+use Rattle.abs_tree.specs.Syntax.{ExprTree, Tests, NoTest, NextTest}
+use Rattle.abs_tree.specs.SyntaxViews.{expr_tree}
 use Rattle.abs_tree.specs.declared.place.Place.{Place}
 use Rattle.abs_tree.specs.declared.syntax.expression.Expr.{Expr}
 use Rattle.abs_tree.specs.declared.syntax.statement.Test as code_test
@@ -59,21 +59,21 @@ question_left_out depth table from other =
 -- this test was read, and its tree comes before any others
 abbrev IsTest : code_test.Test → List (List ℕ) → Forest → Type 0
 IsTest test names inside = (others : Tests)
-    → NextTest test.place (phrase names test.value.value) test.asks others ≡ test_in inside others
+    → NextTest test.place (expr_tree names test.value.value) test.asks others ≡ test_in inside others
 
 -- a test is found with its value and an optional `?`
 pub test_found : {depth : ℕ} {old now new : List (List ℕ)} {from here to : Spot} {value : Expr} (test : code_test.Test)
     → test.place ≡ place_of from → test.value.value ≡ value
-    → FoundAs (One Equal) depth old now from here (λ names inside. phrase names value ≡ equal_in inside)
+    → FoundAs (One Equal) depth old now from here (λ names inside. expr_tree names value ≡ equal_in inside)
     → FoundAs (Optional Question) depth now new here to (λ names inside. is_asked inside ≡ test.asks)
     → FoundAs (One Test) depth old new from to (IsTest test)
 test_found {depth} {old} {from = from} test at held found question =
     all_read (over_part (over_part (opens (One Test) depth old from _
     (test_opened _ depth (part_begun Equal _ depth found.rule_is))) found) question) (λ names more others.
-    ap (λ (place : Place). NextTest place (phrase names test.value.value) test.asks others)
+    ap (λ (place : Place). NextTest place (expr_tree names test.value.value) test.asks others)
     (at ∙ sym (first_place_found found))
-    ∙ (ap (λ (tree : Phrase). NextTest (place_in found.inside) tree test.asks others)
-    (ap (phrase names) held ∙ found.is names (goes_on_further (found_goes_on question) more))
+    ∙ (ap (λ (tree : ExprTree). NextTest (place_in found.inside) tree test.asks others)
+    (ap (expr_tree names) held ∙ found.is names (goes_on_further (found_goes_on question) more))
     ∙ ap (λ (asks : Bool). NextTest (place_in found.inside) (equal_in found.inside) asks others)
     (sym (question.is names more))))
 
@@ -81,5 +81,5 @@ test_found {depth} {old} {from = from} test at held found question =
 pub one_test : {depth : ℕ} {old new : List (List ℕ)} {from to : Spot} (test : code_test.Test)
     → FoundAs (One Test) depth old new from to (IsTest test)
     → FoundAs (One Test) depth old new from to
-    (λ names inside. NextTest test.place (phrase names test.value.value) test.asks NoTest ≡ test_in inside NoTest)
+    (λ names inside. NextTest test.place (expr_tree names test.value.value) test.asks NoTest ≡ test_in inside NoTest)
 one_test test found = found_weaker found (λ names more is. is NoTest)

@@ -7,7 +7,7 @@ use Rattle.std.specs.declared.sync.Arc.{Arc}
 use Rattle.abs_tree.specs.declared.syntax.expression.Expr.{Expr as CodeExpr}
 use Rattle.abs_tree.specs.declared.syntax.statement.Stmt.{Stmt as CodeStmt}
 use Rattle.abs_tree.specs.Syntax.{Name, Statement, Tests, SkipOf, SuspendOf, AwaitOf, ReturnOf, PrintOf}
-use Rattle.abs_tree.specs.SyntaxViews.{phrase, statement}
+use Rattle.abs_tree.specs.SyntaxViews.{expr_tree, statement}
 use Rattle.abs_lexer.specs.declared.lexeme.Keyword.{Keyword}
 use Rattle.abs_lexer.specs.declared.lexeme.Keyword.TheVariants as keyword
 use Rattle.abs_lexer.specs.declared.lexeme.Lexeme.{Lexeme}
@@ -147,14 +147,14 @@ pub return_read : {which : Keyword} {token : Lexed} {from after here : Spot} {de
     {value : CodeExpr} (index : ℕ) (held : Arc CodeExpr Global) → which ≡ keyword.Return → held.value ≡ value
     → TakesKind (lexeme.Keyword which) token from after
     → FoundAs (One Expr) (depth + 1) old now after here (IsExpression value) → depth + 1 ≤ limit
-    → ReadsSimple index depth old now from here (λ names. ReturnOf index token.place (phrase names held.value))
+    → ReadsSimple index depth old now from here (λ names. ReturnOf index token.place (expr_tree names held.value))
 return_read {token = token} {depth = depth} {old} index held is same takes found within =
     let takes_return = rw is at takes in
     record {
       make = λ rest. Leaf (Token token) (depth + 1) (Node (One Expr) found.inside rest);
       read = over_part (simple_begins depth old refl takes_return within) found;
       is = λ names more rest.
-          ap (ReturnOf index token.place) (ap (phrase names) same ∙ found.is names more)
+          ap (ReturnOf index token.place) (ap (expr_tree names) same ∙ found.is names more)
           ∙ sym (statement_by_keyword index (depth + 1) (Node (One Expr) found.inside rest) takes_return);
     }
 
@@ -163,7 +163,7 @@ pub println_read : {which : Keyword} {token : Lexed} {from after here : Spot} {d
     {value : CodeExpr} (index : ℕ) (held : Arc CodeExpr Global) → which ≡ keyword.Println → held.value ≡ value
     → TakesKind (lexeme.Keyword which) token from after
     → FoundInParentheses (depth + 1) old now after here (IsExpression value) → depth + 1 ≤ limit
-    → ReadsSimple index depth old now from here (λ names. PrintOf index token.place (phrase names held.value))
+    → ReadsSimple index depth old now from here (λ names. PrintOf index token.place (expr_tree names held.value))
 println_read {token = token} {depth = depth} {old} index held is same takes found within =
     let takes_println = rw is at takes in
     record {
@@ -172,7 +172,7 @@ println_read {token = token} {depth = depth} {old} index held is same takes foun
           (Node (One Expr) found.expr.inside (Leaf (Token found.closing) (depth + 1) rest)));
       read = over_parentheses (simple_begins depth old refl takes_println within) found;
       is = λ names more rest.
-          ap (PrintOf index token.place) (ap (phrase names) same ∙ found.expr.is names more)
+          ap (PrintOf index token.place) (ap (expr_tree names) same ∙ found.expr.is names more)
           ∙ sym (statement_by_keyword index (depth + 1)
           (Leaf (Token found.opening) (depth + 1)
           (Node (One Expr) found.expr.inside (Leaf (Token found.closing) (depth + 1) rest))) takes_println);

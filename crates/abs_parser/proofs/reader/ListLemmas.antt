@@ -2,8 +2,8 @@
 -- parentheses.
 use Rattle.std.proofs.Common.{◌≡◌, false, refl}
 use Rattle.abs_lexer.specs.declared.lexeme.Punctuator.TheVariants as punctuator
-use Rattle.abs_tree.specs.Syntax.{TypeTree, TypeTrees, NoType, NextType, PatternTree, PatternTrees, NoPattern, NextPattern, Phrase, Phrases, NoPhrase, NextPhrase, Tests, NoTest, NextTest}
-use Rattle.abs_tree.specs.SyntaxViews.{type_tree, type_trees, pattern_tree, pattern_trees, phrase, phrases, tests}
+use Rattle.abs_tree.specs.Syntax.{TypeTree, TypeTrees, NoType, NextType, PatternTree, PatternTrees, NoPattern, NextPattern, ExprTree, ExprTrees, NoExpr, NextExpr, Tests, NoTest, NextTest}
+use Rattle.abs_tree.specs.SyntaxViews.{type_tree, type_trees, pattern_tree, pattern_trees, expr_tree, expr_trees, tests}
 use Rattle.abs_tree.specs.declared.syntax.expression.Expr as code_expr
 use Rattle.abs_tree.specs.declared.syntax.pattern.Pattern as code_pattern
 use Rattle.abs_tree.specs.declared.syntax.statement.Test as code_test
@@ -109,12 +109,12 @@ list_of_expressions = record {
 }
 
 -- the trees of a list of expressions
-abbrev pub trees_of_expressions : ListTrees code_expr.Expr Phrase Phrases
+abbrev pub trees_of_expressions : ListTrees code_expr.Expr ExprTree ExprTrees
 trees_of_expressions = record {
-  tree = phrase;
-  trees = phrases;
-  none = NoPhrase;
-  more = NextPhrase;
+  tree = expr_tree;
+  trees = expr_trees;
+  none = NoExpr;
+  more = NextExpr;
   trees_none = λ names. refl;
   trees_more = λ names first others. refl;
   one_in = expr_in;
@@ -172,7 +172,7 @@ test_in_front (Node equal inside (Node question asks after)) others = refl
 -- the trees of a list of tests
 abbrev pub trees_of_tests : ListTrees code_test.Test Tests Tests
 trees_of_tests = record {
-  tree = λ names test. NextTest test.place (phrase names test.value.value) test.asks NoTest;
+  tree = λ names test. NextTest test.place (expr_tree names test.value.value) test.asks NoTest;
   trees = tests;
   none = NoTest;
   more = test_before;

@@ -12,8 +12,8 @@ use Rattle.abs_tree.specs.declared.syntax.declaration.Member.TheVariants as memb
 use Rattle.abs_tree.specs.declared.syntax.declaration.Signature.{Signature as CodeSignature}
 use Rattle.abs_tree.specs.declared.syntax.expression.Expr.{Expr as CodeExpr}
 use Rattle.abs_tree.specs.declared.syntax.types.TypeTerm.{TypeTerm}
-use Rattle.abs_tree.specs.Syntax.{TypeTree, Phrase, Statements, ParamTree, DeclaredTree, MemberTree, FieldTree, MethodTree, Value}
-use Rattle.abs_tree.specs.SyntaxViews.{declared as declared_tree, type_tree, phrase, param_tree, member_tree}
+use Rattle.abs_tree.specs.Syntax.{TypeTree, ExprTree, Statements, ParamTree, DeclaredTree, MemberTree, FieldTree, MethodTree, Value}
+use Rattle.abs_tree.specs.SyntaxViews.{declared as declared_tree, type_tree, expr_tree, param_tree, member_tree}
 use Rattle.abs_tree.specs.declared.place.Place.{Place}
 use Rattle.abs_lexer.specs.declared.lexeme.Lexeme.TheVariants as lexeme
 use Rattle.abs_lexer.specs.declared.lexeme.Punctuator.{Punctuator}
@@ -115,7 +115,7 @@ pub field_with_value_found : {equals semicolon : Lexed} {from value_at last_at e
     {old new : List (List ℕ)} {value : CodeExpr}
     (index : ℕ) (type_of : TypeTerm) (name : Declared) (held : Arc CodeExpr Global) → held.value ≡ value
     → TakesKind (lexeme.Punctuator punctuator.Assign) equals from value_at
-    → FoundAs (One Expr) depth old new value_at last_at (λ names inside. phrase names value ≡ expr_in inside)
+    → FoundAs (One Expr) depth old new value_at last_at (λ names inside. expr_tree names value ≡ expr_in inside)
     → TakesKind (lexeme.Punctuator punctuator.Semicolon) semicolon last_at end → depth ≤ limit
     → FoundAs (One MemberTail) depth old new from end
     (λ names inside. member_tree names (member.Field type_of name (Some held))
@@ -124,8 +124,8 @@ field_with_value_found {depth = depth} {old} index type_of name held same equals
     all_read (over_token {kind = lexeme.Punctuator punctuator.Semicolon}
     (over_part (tail_begun depth old (value_opened depth) equals within) found) semicolon refl refl within)
     (λ names more.
-    ap (λ (phrase : Phrase). FieldTree (type_tree names type_of) (declared_tree names name) (Value phrase))
-    (ap (phrase names) same ∙ found.is names more))
+    ap (λ (expr_tree : ExprTree). FieldTree (type_tree names type_of) (declared_tree names name) (Value expr_tree))
+    (ap (expr_tree names) same ∙ found.is names more))
 
 -- parameters in parentheses were read
 pub method_read : {opening closing : Lexed} {from inside_at close_at after : Spot} {depth : ℕ} {old new : List (List ℕ)}

@@ -39,21 +39,21 @@ unless_another (PunctuatorKind punctuator.OpenBrace) depth = refl
 unless_another _ depth = refl
 
 -- the same, given that the token begins no other statement
-plain_told : (kind : TokenKind) (depth : ℕ) → begins_another kind ≡ false
+plain_reported : (kind : TokenKind) (depth : ℕ) → begins_another kind ≡ false
     → opened (One Stmt) kind depth ≡ cond (begins Rhs kind) (Some (side_alone (depth + 1))) None
-plain_told kind depth no_other =
+plain_reported kind depth no_other =
     sym (cond-false (begins_another kind) None _ no_other)
     ∙ (unless_another kind depth ∙ cond-false (begins_another kind) None _ no_other)
 
 -- a token that begins a right side, and no other statement, opens the statement
 plain_opened : (kind : TokenKind) (depth : ℕ) → begins_another kind ≡ false → begins Rhs kind ≡ true
     → opened (One Stmt) kind depth ≡ Some (side_alone (depth + 1))
-plain_opened kind depth no_other may = plain_told kind depth no_other ∙ cond-true (begins Rhs kind) _ None may
+plain_opened kind depth no_other may = plain_reported kind depth no_other ∙ cond-true (begins Rhs kind) _ None may
 
 -- a token that begins neither opens no statement
 plain_shut : (kind : TokenKind) (depth : ℕ) → begins_another kind ≡ false → begins Rhs kind ≡ false
     → opened (One Stmt) kind depth ≡ None
-plain_shut kind depth no_other none = plain_told kind depth no_other ∙ cond-false (begins Rhs kind) _ None none
+plain_shut kind depth no_other none = plain_reported kind depth no_other ∙ cond-false (begins Rhs kind) _ None none
 
 -- the statement is refused where the right side is
 pub plain_refused : (depth : ℕ) (from : Spot) (error : SourceError) → begins_another (next (left_at from)) ≡ false

@@ -12,12 +12,12 @@ use Rattle.abs_tree.specs.declared.symbol.Symbol.{Symbol}
 use Rattle.abs_tree.specs.declared.syntax.expression.Expr.{Expr}
 use Rattle.abs_tree.specs.declared.syntax.expression.Prefix.{Prefix}
 use Rattle.abs_tree.specs.Names.{with_name, number_of_name, name_of}
-use Rattle.abs_tree.specs.SyntaxViews.{phrase}
+use Rattle.abs_tree.specs.SyntaxViews.{expr_tree}
 use Rattle.abs_parser.specs.TokenKinds.{Token, TokenKind, token_kind_of, LowerName, UpperName, KeywordKind, PunctuatorKind, fits, next}
 use Rattle.abs_parser.specs.Precedences.{prefix_punctuator}
 use Rattle.abs_parser.specs.Productions.{begins, Unary, Primary, ThisTail, Arguments}
 use Rattle.abs_parser.specs.Readings.{One, Optional, Terminal, Subgoal, opened, Forest, Empty, Leaf, Node}
-use Rattle.abs_parser.specs.ReaderAnswers.{left_at, asked, maybe_phrases, wrong_at, TakesKind, FoundAs, IsRefused}
+use Rattle.abs_parser.specs.ReaderAnswers.{left_at, asked, maybe_exprs, wrong_at, TakesKind, FoundAs, IsRefused}
 use Rattle.abs_parser.specs.Stops.{limit}
 use Rattle.abs_parser.specs.Tokens.{Spot, TakesToken}
 use Rattle.abs_parser.specs.TreesOf.{unary_in, primary_in, arguments_maybe}
@@ -88,10 +88,10 @@ pub call_found : {depth : ℕ} {old table new : List (List ℕ)} {from here to :
     → HasRead (One Primary) depth old table from make (Subgoal (Optional Arguments) depth ∷ []) here
     → symbol.0 ≡ number_of_name now name → table ≡ with_name now name
     → (found : FoundAs (Optional Arguments) depth table new here to
-    (λ names inside. maybe_phrases names given ≡ arguments_maybe inside))
-    → ((names : List (List ℕ)) → name_of names symbol ≡ name → maybe_phrases names given ≡ arguments_maybe found.inside
-    → phrase names expr ≡ primary_in (make (Node (Optional Arguments) found.inside Empty)))
-    → FoundAs (One Primary) depth old new from to (λ names inside. phrase names expr ≡ primary_in inside)
+    (λ names inside. maybe_exprs names given ≡ arguments_maybe inside))
+    → ((names : List (List ℕ)) → name_of names symbol ≡ name → maybe_exprs names given ≡ arguments_maybe found.inside
+    → expr_tree names expr ≡ primary_in (make (Node (Optional Arguments) found.inside Empty)))
+    → FoundAs (One Primary) depth old new from to (λ names inside. expr_tree names expr ≡ primary_in inside)
 call_found now symbol given expr so number more found is =
     all_read (over_part so found) (λ names further.
     is names (symbol_kept now symbol number more names (goes_on_further (found_goes_on found) further))
@@ -120,8 +120,8 @@ prefix_refused {from = from} operation depth error takes is refused =
 
 -- a primary that was found is a unary
 pub operand_found : {from to : Spot} {old new : List (List ℕ)} (depth : ℕ) (expr : Expr)
-    → FoundAs (One Primary) (depth + 1) old new from to (λ names inside. phrase names expr ≡ primary_in inside)
-    → FoundAs (One Unary) depth old new from to (λ names inside. phrase names expr ≡ unary_in inside)
+    → FoundAs (One Primary) (depth + 1) old new from to (λ names inside. expr_tree names expr ≡ primary_in inside)
+    → FoundAs (One Unary) depth old new from to (λ names inside. expr_tree names expr ≡ unary_in inside)
 operand_found {from} {old = old} depth expr found =
     all_read (over_part (opens (One Unary) depth old from _
     (operand_opened _ depth (part_begun Primary _ (depth + 1) found.rule_is))) found) found.is

@@ -4,7 +4,7 @@
 use Rattle.std.proofs.Common.{◌≡◌, ◌≤◌, ℕ, ◌+◌, Bool, true, false, List, [], ◌∷◌, ◌++◌, Some, None, refl, sym, ap, subst, ◌∙◌}
 use Rattle.std.proofs.lemmas.Bool.{or_parts}
 use Rattle.std.proofs.lemmas.Option.{same_Some}
-use Rattle.abs_tree.specs.SyntaxViews.{phrase, side_tree}
+use Rattle.abs_tree.specs.SyntaxViews.{expr_tree, side_tree}
 use Rattle.abs_tree.specs.declared.place.Place.{Place}
 use Rattle.abs_tree.specs.declared.syntax.expression.Expr.{Expr}
 use Rattle.abs_tree.specs.declared.syntax.statement.RightSide.{RightSide}
@@ -337,7 +337,7 @@ semicolon_read so semicolon within =
 abbrev pub PrecedenceFound : Precedence → ℕ → List (List ℕ) → List (List ℕ) → Spot → Spot → Place → Expr → Expr → Type 0
 PrecedenceFound precedence depth old new from to place first expr =
     FoundAs (rest_of precedence) (depth + 1) old new from to
-    (λ names inside. phrase names expr ≡ with_operators place (phrase names first) (operands_in precedence inside))
+    (λ names inside. expr_tree names expr ≡ with_operators place (expr_tree names first) (operands_in precedence inside))
 
 -- `Rest` is found with the operators of each precedence, what may follow them, and `;`
 pub rest_found : {token : Lexed} {depth : ℕ} {old a b c d e f new : List (List ℕ)}
@@ -350,10 +350,10 @@ pub rest_found : {token : Lexed} {depth : ℕ} {old a b c d e f new : List (List
     → PrecedenceFound precedence.And depth d e at_and at_or place equality conjunction
     → PrecedenceFound precedence.Or depth e f at_or at_tail place conjunction disjunction
     → FoundAs (Optional RhsTail) depth f new at_tail at_end
-    (λ names inside. side_tree names side ≡ tail_in place (phrase names disjunction) inside)
+    (λ names inside. side_tree names side ≡ tail_in place (expr_tree names disjunction) inside)
     → TakesKind (lexeme.Punctuator punctuator.Semicolon) token at_end end → depth ≤ limit
     → FoundAs (One Rest) depth old new from end
-    (λ names inside. side_tree names side ≡ rest_in place (phrase names first) inside)
+    (λ names inside. side_tree names side ≡ rest_in place (expr_tree names first) inside)
 rest_found {depth = depth} {old} {from = from} first product sum comparison equality conjunction disjunction side muls
     sums compares equals ands ors tail semicolon within =
     let up_to_mul = over_precedence precedence.Mul (rest_begins depth old from) muls in

@@ -5,8 +5,8 @@ use Rattle.std.proofs.Common.{◌≡◌, ◌≤◌, ℕ, true, false, List, [], 
 use Rattle.std.specs.declared.alloc.Global.{Global}
 use Rattle.std.specs.declared.vec.Vec.{Vec}
 use Rattle.abs_tree.specs.Names.{with_name, number_of_name, name_of}
-use Rattle.abs_tree.specs.Syntax.{Name, Phrase, Phrases, SideTree, ValueOf, GetOf}
-use Rattle.abs_tree.specs.SyntaxViews.{phrase, phrases, side_tree}
+use Rattle.abs_tree.specs.Syntax.{Name, ExprTree, ExprTrees, SideTree, ValueOf, GetOf}
+use Rattle.abs_tree.specs.SyntaxViews.{expr_tree, expr_trees, side_tree}
 use Rattle.abs_tree.specs.declared.place.Place.{Place}
 use Rattle.abs_tree.specs.declared.symbol.Symbol as code_symbol
 use Rattle.abs_tree.specs.declared.syntax.expression.Expr as code_expr
@@ -46,14 +46,14 @@ maybe_read {nonterminal} {depth} {old} {from = from} so =
 pub named_call_found : {goal : Goal} {depth at : ℕ} {old table new : List (List ℕ)} {from here to : Spot}
     {make : Forest → Forest} {name : List ℕ}
     (now : List (List ℕ)) (symbol : code_symbol.Symbol) (arguments : Vec code_expr.Expr Global)
-    (made : List Name → Name → Phrases → SideTree) (in_tree : List Name → Forest → SideTree)
+    (made : List Name → Name → ExprTrees → SideTree) (in_tree : List Name → Forest → SideTree)
     → HasRead goal depth old table from make (Subgoal (One Arguments) at ∷ []) here → symbol.0 ≡ number_of_name now name
     → table ≡ with_name now name
-    → FoundAs (One Arguments) at table new here to (λ names inside. phrases names arguments.items ≡ arguments_in inside)
+    → FoundAs (One Arguments) at table new here to (λ names inside. expr_trees names arguments.items ≡ arguments_in inside)
     → ((names : List Name) (inside : Forest)
     → made names name (arguments_in inside) ≡ in_tree names (make (Node (One Arguments) inside Empty)))
     → FoundAs goal depth old new from to
-    (λ names inside. made names (name_of names symbol) (phrases names arguments.items) ≡ in_tree names inside)
+    (λ names inside. made names (name_of names symbol) (expr_trees names arguments.items) ≡ in_tree names inside)
 named_call_found now symbol arguments made in_tree so number is found made_is =
     all_read (over_part so found) (λ names more.
     rw (symbol_kept now symbol number is names (goes_on_further (found_goes_on found) more), found.is names more)
@@ -93,7 +93,7 @@ selected_shut kind depth no_get no_name = rw (no_get, no_name) refl
 pub get_found : {get : Lexed} {from end : Spot} (depth : ℕ) (table : List (List ℕ)) (place : Place)
     (first : code_expr.Expr) → TakesKind (lexeme.Keyword keyword.Get) get from end → depth ≤ limit
     → FoundAs (One Selected) depth table table from end
-    (λ names inside. GetOf place get.place (phrase names first) ≡ selected_in place (phrase names first) inside)
+    (λ names inside. GetOf place get.place (expr_tree names first) ≡ selected_in place (expr_tree names first) inside)
 get_found {from = from} depth table place first get within =
     all_read (over_token (opens (One Selected) depth table from _
     (ap (λ (k : TokenKind). opened (One Selected) k depth) (next_taken get) ∙ get_opened depth)) get refl refl within)
@@ -170,20 +170,20 @@ pub value_found : (depth : ℕ) (table : List (List ℕ)) (from : Spot) (place :
     → held ≡ first → fits (PunctuatorKind punctuator.Not) (next (left_at from)) ≡ false
     → fits (PunctuatorKind punctuator.Dot) (next (left_at from)) ≡ false
     → FoundAs (Optional RhsTail) depth table table from from
-    (λ names inside. ValueOf place (phrase names held) ≡ tail_in place (phrase names first) inside)
+    (λ names inside. ValueOf place (expr_tree names held) ≡ tail_in place (expr_tree names first) inside)
 value_found depth table from place first held same no_bang no_dot =
     all_read (opens (Optional RhsTail) depth table from []
     (optional_left_out RhsTail _ depth (no_tail _ no_bang no_dot)))
-    (λ names more. ap (λ (expr : code_expr.Expr). ValueOf place (phrase names expr)) same)
+    (λ names more. ap (λ (expr : code_expr.Expr). ValueOf place (expr_tree names expr)) same)
 
 -- what was found after a dot is found, with the dot, as what follows the expression
 pub selected_found : {dot : Lexed} {from after to : Spot} {depth : ℕ} {old new : List (List ℕ)} (place : Place)
     (first : code_expr.Expr) (side : RightSide)
     → TakesKind (lexeme.Punctuator punctuator.Dot) dot from after → depth ≤ limit
     → FoundAs (One Selected) depth old new after to
-    (λ names inside. side_tree names side ≡ selected_in place (phrase names first) inside)
+    (λ names inside. side_tree names side ≡ selected_in place (expr_tree names first) inside)
     → FoundAs (Optional RhsTail) depth old new from to
-    (λ names inside. side_tree names side ≡ tail_in place (phrase names first) inside)
+    (λ names inside. side_tree names side ≡ tail_in place (expr_tree names first) inside)
 selected_found {depth = depth} {old} place first side dot within found =
     all_read (over_part (dot_begins depth old dot within) found) found.is
 
@@ -300,7 +300,7 @@ rhs_begins {from} {depth = depth} {old} no_new expr =
     over_part (opens (One Rhs) depth old from _ (rhs_opened _ depth no_new (part_begun Expr _ depth expr.rule_is))) expr
 
 -- the trees of what follows two equal expressions at equal places are equal
-same_tail : {place other_place : Place} {first other_first : Phrase} (inside : Forest) → place ≡ other_place
+same_tail : {place other_place : Place} {first other_first : ExprTree} (inside : Forest) → place ≡ other_place
     → first ≡ other_first → tail_in place first inside ≡ tail_in other_place other_first inside
 same_tail inside place first = rw (place, first) refl
 
@@ -308,9 +308,9 @@ same_tail inside place first = rw (place, first) refl
 pub rhs_found : {from after to : Spot} {depth : ℕ} {old now new : List (List ℕ)} {place : Place}
     (first : code_expr.Expr) (side : RightSide) → fits (KeywordKind keyword.New) (next (left_at from)) ≡ false
     → place ≡ place_of from → FoundAs (One Expr) depth old now from after
-    (λ names inside. phrase names first ≡ expr_in inside)
+    (λ names inside. expr_tree names first ≡ expr_in inside)
     → FoundAs (Optional RhsTail) depth now new after to
-    (λ names inside. side_tree names side ≡ tail_in place (phrase names first) inside)
+    (λ names inside. side_tree names side ≡ tail_in place (expr_tree names first) inside)
     → FoundAs (One Rhs) depth old new from to (λ names inside. side_tree names side ≡ rhs_in inside)
 rhs_found first side no_new at expr tail =
     all_read (over_part (rhs_begins no_new expr) tail)

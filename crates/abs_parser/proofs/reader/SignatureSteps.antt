@@ -13,8 +13,8 @@ use Rattle.abs_tree.specs.declared.syntax.declaration.Param.{Param}
 use Rattle.abs_tree.specs.declared.syntax.declaration.Signature.{Signature as CodeSignature}
 use Rattle.abs_tree.specs.declared.syntax.expression.Expr.{Expr as CodeExpr}
 use Rattle.abs_tree.specs.declared.syntax.types.TypeTerm.{TypeTerm}
-use Rattle.abs_tree.specs.Syntax.{Name, TypeTree, Phrase, ParamTree, DeclaredTree, SignatureTree, DeclTree, FunctionTree, InterfaceTree}
-use Rattle.abs_tree.specs.SyntaxViews.{declared as declared_tree, type_tree, phrase, param_tree, signature_tree, decl_tree}
+use Rattle.abs_tree.specs.Syntax.{Name, TypeTree, ExprTree, ParamTree, DeclaredTree, SignatureTree, DeclTree, FunctionTree, InterfaceTree}
+use Rattle.abs_tree.specs.SyntaxViews.{declared as declared_tree, type_tree, expr_tree, param_tree, signature_tree, decl_tree}
 use Rattle.abs_lexer.specs.declared.lexeme.Keyword.TheVariants as keyword
 use Rattle.abs_lexer.specs.declared.lexeme.Lexeme.TheVariants as lexeme
 use Rattle.abs_lexer.specs.declared.lexeme.Punctuator.TheVariants as punctuator
@@ -260,7 +260,7 @@ function_assigned so parameters opening params closing equals within =
 
 -- the trees of two functions with equal parts are equal
 function_made : {result held_result : TypeTree} {name held_name : DeclaredTree}
-    {parameters held_parameters : List DeclaredTree} {params held_params : List ParamTree} {value held_value : Phrase}
+    {parameters held_parameters : List DeclaredTree} {params held_params : List ParamTree} {value held_value : ExprTree}
     (place : Place)
     (others : List DeclTree) → held_result ≡ result → held_name ≡ name → held_parameters ≡ parameters
     → held_params ≡ params → held_value ≡ value
@@ -285,7 +285,7 @@ pub function_found : {token name opening closing equals semicolon : Lexed}
     (λ names inside. map (param_tree names) params.items ≡ params_maybe inside)
     → TakesKind (lexeme.Punctuator punctuator.CloseParen) closing close_at equals_at
     → TakesKind (lexeme.Punctuator punctuator.Assign) equals equals_at value_at
-    → FoundAs (One Expr) depth three new value_at last_at (λ names inside. phrase names value ≡ expr_in inside)
+    → FoundAs (One Expr) depth three new value_at last_at (λ names inside. expr_tree names value ≡ expr_in inside)
     → TakesKind (lexeme.Punctuator punctuator.Semicolon) semicolon last_at end → depth ≤ limit
     → FoundAs (One Decl) depth old new from end
     (λ names inside. (index : ℕ) (others : List DeclTree)
@@ -301,5 +301,5 @@ function_found {token = token} {name} {depth = depth} {one = one} result symbol 
     let from_parameters = goes_on_further (found_goes_on listed) from_params in
     function_made token.place others (type.is names (goes_on_further (goes_on_name _ _ is) from_parameters))
     (declared_kept one name symbol number is names from_parameters) (listed.is names from_params) (found.is names since)
-    (ap (phrase names) same ∙ value.is names more)
+    (ap (expr_tree names) same ∙ value.is names more)
     ∙ sym (by_keyword index depth _ others takes))

@@ -10,9 +10,9 @@ use Rattle.abs_tree.specs.declared.syntax.declaration.Body.{Body}
 use Rattle.abs_tree.specs.declared.syntax.expression.Expr.{Expr as CodeExpr}
 use Rattle.abs_tree.specs.declared.syntax.statement.Stmt as code_stmt
 use Rattle.abs_tree.specs.declared.syntax.statement.Stmt.{Stmt as CodeStmt}
-use Rattle.abs_tree.specs.Syntax.{Name, Phrase, BlockOf, IfOf, WhileOf, MaybeStatements, Else as ElseTree, Statements}
+use Rattle.abs_tree.specs.Syntax.{Name, ExprTree, BlockOf, IfOf, WhileOf, MaybeStatements, Else as ElseTree, Statements}
 use Rattle.abs_tree.specs.SyntaxSizes.{statement_count}
-use Rattle.abs_tree.specs.SyntaxViews.{phrase, statement, statements, maybe_statements}
+use Rattle.abs_tree.specs.SyntaxViews.{expr_tree, statement, statements, maybe_statements}
 use Rattle.abs_tree.proofs.StatementLemmas.{statement-block, statement-if, statement-while}
 use Rattle.abs_lexer.specs.declared.lexeme.Keyword.{Keyword}
 use Rattle.abs_lexer.specs.declared.lexeme.Keyword.TheVariants as keyword
@@ -121,7 +121,7 @@ unfolding begins chosen begins_within
 while_opened depth = refl
 
 -- the trees of two `while` statements with equal parts are equal
-while_made : {test held_test : Phrase} {body held_body : Statements} (index : ℕ) (place : Place) → held_test ≡ test
+while_made : {test held_test : ExprTree} {body held_body : Statements} (index : ℕ) (place : Place) → held_test ≡ test
     → held_body ≡ body → WhileOf index place held_test held_body ≡ WhileOf index place test body
 while_made index place test body = rw (test, body) refl
 
@@ -138,7 +138,7 @@ while_found {token} {depth = depth} index held stmt body same are takes test fou
     all_read (over_part (test_read (while_opened depth) takes test within) found) (λ names more.
     statement-while names index token.place held body
     ∙ (while_made index token.place
-    (ap (phrase names) same ∙ test.expr.is names (goes_on_further (found_goes_on found) more))
+    (ap (expr_tree names) same ∙ test.expr.is names (goes_on_further (found_goes_on found) more))
     (are names ∙ ap branch_of (found.is names more))
     ∙ sym (statement_by_keyword index (depth + 1)
     (Leaf (Token test.opening) (depth + 1)
@@ -155,7 +155,7 @@ unfolding begins chosen begins_within
 if_opened depth = refl
 
 -- the trees of two `if` statements with equal parts are equal
-if_made : {test held_test : Phrase} {first held_first : Statements} {other held_other : MaybeStatements} (index : ℕ)
+if_made : {test held_test : ExprTree} {first held_first : Statements} {other held_other : MaybeStatements} (index : ℕ)
     (place : Place) → held_test ≡ test → held_first ≡ first → held_other ≡ other
     → IfOf index place held_test held_first held_other ≡ IfOf index place test first other
 if_made index place test first other = rw (test, first, other) refl
@@ -191,7 +191,7 @@ if_found {token} {depth = depth} index middle held stmt first other same are is_
     let since = goes_on_further (found_goes_on after) more in
     let branch = are names ∙ ap branch_of (found.is names since) in
     statement-if names index token.place held first other
-    ∙ (if_made index token.place (ap (phrase names) same
+    ∙ (if_made index token.place (ap (expr_tree names) same
     ∙ test.expr.is names (goes_on_further (found_goes_on found) since)) branch
     (after.is names more ∙ (ap (λ (n : ℕ). else_in n after.inside) (is_middle names)
     ∙ ap (λ (trees : Statements). else_in (index + 1 + statement_count trees) after.inside) branch))

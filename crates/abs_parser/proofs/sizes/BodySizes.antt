@@ -3,7 +3,7 @@ use Rattle.std.proofs.Common.{◌≤◌, ℕ, ◌+◌, List, [], ◌∷◌, ◌+
 use Rattle.std.proofs.lemmas.List.Elements.{All-nil, All-cons, All-append}
 use Rattle.std.specs.List.{All}
 use Rattle.abs_tree.specs.Syntax.{NoValue, Value, MemberTree, FieldTree, MethodTree, DeclTree, DataTree, FunctionTree, InterfaceTree, ClassTree, SourceTree}
-use Rattle.abs_tree.specs.SyntaxSizes.{phrase_variables, statements_variables, field_variables, method_sizes, decl_sizes, body_sizes}
+use Rattle.abs_tree.specs.SyntaxSizes.{expr_variables, statements_variables, field_variables, method_sizes, decl_sizes, body_sizes}
 use Rattle.abs_tree.specs.SourceSizes.{member_variables, decl_variables, all_variables}
 
 -- the numbers of a list are within a bound if the first is and the others are
@@ -34,7 +34,7 @@ decls_within : (bound : ℕ) (decls : List DeclTree) → decl_variables decls �
 decls_within bound [] few = All-nil _
 decls_within bound (DataTree place name parameters constructors ∷ others) few = decls_within bound others few
 decls_within bound (FunctionTree place type name parameters params value ∷ others) few =
-    within_cons bound (length params + phrase_variables value) (decl_sizes others) (omega (arith, few))
+    within_cons bound (length params + expr_variables value) (decl_sizes others) (omega (arith, few))
     (decls_within bound others (omega (arith, few)))
 decls_within bound (InterfaceTree place name extended signatures ∷ others) few =
     decls_within bound others (omega (arith, few))

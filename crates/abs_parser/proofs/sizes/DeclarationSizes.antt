@@ -12,7 +12,7 @@ use Rattle.abs_parser.specs.TokenKinds.{TokenKind, KeywordKind, place_of_mark, t
 use Rattle.abs_parser.specs.Readings.{Forest, Leaf, Node}
 use Rattle.abs_parser.specs.TreesOf.{type_in, declared, param_in, more_params, params_in, params_maybe, class_params_maybe, signature_in, signatures_in, member_by, member_in, members_in, decl_by, decl_in, decls_in, text_in, tree_of}
 use Rattle.abs_parser.proofs.sizes.LeafLemmas.{leaves}
-use Rattle.abs_parser.proofs.sizes.PhraseSizes.{expr_few}
+use Rattle.abs_parser.proofs.sizes.ExprSizes.{expr_few}
 use Rattle.abs_parser.proofs.sizes.StatementSizes.{block_few}
 use Rattle.abs_parser.proofs.sizes.BodySizes.{within_cons, bodies_within}
 

@@ -2,14 +2,14 @@
 -- own, whose name is a leaf.
 use Rattle.std.proofs.Common.{◌≡◌, ◌≤◌, ℕ, ◌+◌, refl, arith}
 use Rattle.abs_tree.specs.declared.place.Place.{Place}
-use Rattle.abs_tree.specs.Syntax.{Name, Unresolved, Phrase, ThisOf, TypeTree, VariableTree, MaybeSide, NoSide, SomeSide, Statement, BlockOf, IfOf, DeclareOf, MaybeStatements, NoElse, Else, Statements}
-use Rattle.abs_tree.specs.SyntaxSizes.{count_of, statement_count, phrase_variables, side_variables, statement_variables, statements_variables}
+use Rattle.abs_tree.specs.Syntax.{Name, Unresolved, ExprTree, ThisOf, TypeTree, VariableTree, MaybeSide, NoSide, SomeSide, Statement, BlockOf, IfOf, DeclareOf, MaybeStatements, NoElse, Else, Statements}
+use Rattle.abs_tree.specs.SyntaxSizes.{count_of, statement_count, expr_variables, side_variables, statement_variables, statements_variables}
 use Rattle.abs_lexer.specs.declared.lexeme.Keyword.TheVariants as keyword
 use Rattle.abs_parser.specs.TokenKinds.{Mark, TokenKind, LowerName, LocalName, KeywordKind, place_of_mark, token_kind}
 use Rattle.abs_parser.specs.Readings.{Forest, Empty, Leaf, Node}
 use Rattle.abs_parser.specs.TreesOf.{written, place_in, type_in, expr_in, named, member, arguments_maybe, initial_in, after_variable, after_field, after_this, branch_of, statement_in, statement_by, else_in, block_in, statements_in}
 use Rattle.abs_parser.proofs.sizes.LeafLemmas.{leaves}
-use Rattle.abs_parser.proofs.sizes.PhraseSizes.{named_variables, member_variables_are, arguments_maybe_few, expr_few, rhs_few, rest_few, guard_few}
+use Rattle.abs_parser.proofs.sizes.ExprSizes.{named_variables, member_variables_are, arguments_maybe_few, expr_few, rhs_few, rest_few, guard_few}
 
 -- the variables of an initial value that may be missing
 abbrev initial_variables : MaybeSide → ℕ
@@ -74,9 +74,9 @@ else_variables NoElse = 0
 else_variables (Else statements) = statements_variables statements
 
 -- an "if" has the variables of its condition and of its branches
-if_variables : (index : ℕ) (place : Place) (test : Phrase) (first : Statements) (second : MaybeStatements)
+if_variables : (index : ℕ) (place : Place) (test : ExprTree) (first : Statements) (second : MaybeStatements)
     → statement_variables (IfOf index place test first second)
-    ≡ phrase_variables test + statements_variables first + else_variables second
+    ≡ expr_variables test + statements_variables first + else_variables second
 if_variables index place test first NoElse = omega arith
 if_variables index place test first (Else second) = refl
 

@@ -8,7 +8,7 @@ ghost use Rattle.abs_tree.specs.Limits.{table_limit};
 ghost use Rattle.abs_program.specs.SlotViews.{BodyHasSlots, DeclHasSlots};
 ghost use Rattle.abs_tree.specs.Syntax.{Name};
 ghost use Rattle.abs_tree.specs.SyntaxSizes.{all_statements};
-ghost use Rattle.abs_tree.specs.SyntaxViews.{phrases, tree_of_parts};
+ghost use Rattle.abs_tree.specs.SyntaxViews.{expr_trees, tree_of_parts};
 
 use crate::tables::entries::{body_entries, class_entries};
 use crate::tables::instructions::instructions;
@@ -24,22 +24,22 @@ pub enum Exprs {
     None,
     /// One expression.
     One(Arc<Expr>),
-    /// All expressions of a row.
-    Row(Arc<Vec<Expr>>),
-    /// The expressions of a row after the first one: the arguments of a call on `this`.
+    /// All operands of a call or of a creation.
+    Several(Arc<Vec<Expr>>),
+    /// The operands after the first one: the arguments of a call on `this`.
     Arguments(Arc<Vec<Expr>>),
 }
 
 impl Exprs {
     /// The expressions in order.
     pub fn as_slice(&self) -> &[Expr]
-        ensures { (names : List Name) → phrases names result.now ≡ exprs_tree names self.now }
+        ensures { (names : List Name) → expr_trees names result.now ≡ exprs_tree names self.now }
     {
         match self {
             Exprs::None => &[],
             Exprs::One(expr) => std::slice::from_ref(&**expr),
-            Exprs::Row(row) => row.as_slice(),
-            Exprs::Arguments(row) => row.as_slice().get(1..).unwrap_or(&[]),
+            Exprs::Several(operands) => operands.as_slice(),
+            Exprs::Arguments(operands) => operands.as_slice().get(1..).unwrap_or(&[]),
         }
     }
 
@@ -53,8 +53,8 @@ impl Exprs {
         match self {
             Exprs::None => Ok(Exprs::None),
             Exprs::One(expr) => Ok(Exprs::One(expr.clone()?)),
-            Exprs::Row(row) => Ok(Exprs::Row(row.clone()?)),
-            Exprs::Arguments(row) => Ok(Exprs::Arguments(row.clone()?)),
+            Exprs::Several(operands) => Ok(Exprs::Several(operands.clone()?)),
+            Exprs::Arguments(operands) => Ok(Exprs::Arguments(operands.clone()?)),
         }
     }
 }

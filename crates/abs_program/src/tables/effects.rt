@@ -2,10 +2,10 @@
 ghost use Rattle.std.specs.Prelude.{◌≡◌, List, Some, IfOk};
 ghost use Rattle.std.specs.Option.{option_map};
 ghost use Rattle.abs_program.specs.InstructionViews.{exprs_tree, effect_tree};
-ghost use Rattle.abs_program.specs.Instructions.{slot_of as slot_of_phrase, waits_of, target_variable as variable_of_target, side_phrases, side_effect as effect_of_side, phrases_of, effect_of as effect_of_statement};
+ghost use Rattle.abs_program.specs.Instructions.{slot_of as slot_of_expr, waits_of, target_variable as variable_of_target, side_expr_trees, side_effect as effect_of_side, expr_trees_of, effect_of as effect_of_statement};
 ghost use Rattle.abs_program.specs.MadeInstructions.{begins_with_this};
 ghost use Rattle.abs_tree.specs.Syntax.{Name, ValueOf};
-ghost use Rattle.abs_tree.specs.SyntaxViews.{variable_tree, phrase, phrases, side_tree, tests, target_tree, statement};
+ghost use Rattle.abs_tree.specs.SyntaxViews.{variable_tree, expr_tree, expr_trees, side_tree, tests, target_tree, statement};
 ghost use Rattle.abs_tree.specs.declared.place.Place.{Place as PlaceTree};
 
 use crate::tables::control::{Effect, Exprs};
@@ -15,7 +15,7 @@ use std::sync::Arc;
 
 /// The slot that an expression is, if it is one.
 fn slot_of(expr: &Expr) -> Option<u32>
-    ensures { (names : List Name) → result ≡ slot_of_phrase (phrase names expr.now) }
+    ensures { (names : List Name) → result ≡ slot_of_expr (expr_tree names expr.now) }
 {
     match expr {
         Expr::Variable(_, Variable::Slot(slot)) => Some(*slot),
@@ -49,23 +49,23 @@ fn variable_of(target: Target) -> Variable
     }
 }
 
-/// Whether the receiver of a call, the first one of a row, is `this`.
-fn is_own(row: &[Expr]) -> bool
-    ensures { (names : List Name) → result ≡ begins_with_this (phrases names row.now) }
+/// Whether the receiver of a call, the first one of its operands, is `this`.
+fn is_own(operands: &[Expr]) -> bool
+    ensures { (names : List Name) → result ≡ begins_with_this (expr_trees names operands.now) }
 {
-    matches!(row.first(), Some(Expr::This(_)))
+    matches!(operands.first(), Some(Expr::This(_)))
 }
 
-/// The expressions of a right side that is an expression: those in the row of a call on `this`, or else itself.
+/// The expressions of a right side that is an expression: the operands of a call on `this`, or else itself.
 ///
 /// # Errors
 /// [`AllocError`] if there are as many copies already as can be counted.
 fn value_exprs(value: &Arc<Expr>) -> Result<Exprs, AllocError>
     ensures { (names : List Name) (place : PlaceTree) → IfOk result (λ exprs. exprs_tree names exprs
-        ≡ side_phrases (ValueOf place (phrase names value.now.value))) }
+        ≡ side_expr_trees (ValueOf place (expr_tree names value.now.value))) }
 {
     match &**value {
-        Expr::OwnCall { arguments, .. } => Ok(Exprs::Row(arguments.clone()?)),
+        Expr::OwnCall { arguments, .. } => Ok(Exprs::Several(arguments.clone()?)),
         _ => Ok(Exprs::One(value.clone()?)),
     }
 }
@@ -76,16 +76,18 @@ fn value_exprs(value: &Arc<Expr>) -> Result<Exprs, AllocError>
 /// [`AllocError`] if there are as many copies already as can be counted.
 fn side_exprs(side: &RightSide) -> Result<Exprs, AllocError>
     ensures { (names : List Name) → IfOk result (λ exprs. exprs_tree names exprs
-        ≡ side_phrases (side_tree names side.now)) }
+        ≡ side_expr_trees (side_tree names side.now)) }
 {
     match side {
-        RightSide::New { arguments, .. } => Ok(Exprs::Row(arguments.clone()?)),
+        RightSide::New { arguments, .. } => Ok(Exprs::Several(arguments.clone()?)),
         RightSide::Value(_, value) => value_exprs(value),
         RightSide::Get { .. } => Ok(Exprs::None),
-        RightSide::Call { row, .. } if is_own(row.as_slice()) => {
-            Ok(Exprs::Arguments(row.clone()?))
+        RightSide::Call { operands, .. } if is_own(operands.as_slice()) => {
+            Ok(Exprs::Arguments(operands.clone()?))
         }
-        RightSide::Send { row, .. } | RightSide::Call { row, .. } => Ok(Exprs::Row(row.clone()?)),
+        RightSide::Send { operands, .. } | RightSide::Call { operands, .. } => Ok(Exprs::Several(
+            operands.clone()?,
+        )),
     }
 }
 
@@ -95,7 +97,7 @@ fn side_exprs(side: &RightSide) -> Result<Exprs, AllocError>
 /// [`AllocError`] if there are as many copies already as can be counted.
 pub(crate) fn exprs_of(stmt: &Stmt) -> Result<Exprs, AllocError>
     ensures { (names : List Name) → IfOk result (λ exprs. exprs_tree names exprs
-        ≡ phrases_of (statement names stmt.now)) }
+        ≡ expr_trees_of (statement names stmt.now)) }
 {
     match stmt {
         Stmt::Return { value, .. } | Stmt::Print { value, .. } => Ok(Exprs::One(value.clone()?)),
@@ -119,7 +121,7 @@ pub(crate) fn exprs_of(stmt: &Stmt) -> Result<Exprs, AllocError>
 /// What happens with the value of a right side that is an expression.
 fn value_effect(value: &Expr, target: Option<Variable>) -> Effect
     ensures { (names : List Name) (place : PlaceTree) → effect_tree names result
-        ≡ effect_of_side (ValueOf place (phrase names value.now)) (option_map (variable_tree names) target) }
+        ≡ effect_of_side (ValueOf place (expr_tree names value.now)) (option_map (variable_tree names) target) }
 {
     match value {
         Expr::OwnCall { method, .. } => Effect::CallOwn {
@@ -150,7 +152,11 @@ fn side_effect(side: &RightSide, target: Option<Variable>) -> Effect
             slot: slot_of(future),
             target,
         },
-        RightSide::Call { method, row, .. } if is_own(row.as_slice()) => Effect::CallOwn {
+        RightSide::Call {
+            method,
+            operands,
+            ..
+        } if is_own(operands.as_slice()) => Effect::CallOwn {
             method: *method,
             target,
         },

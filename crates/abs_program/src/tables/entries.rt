@@ -3,13 +3,13 @@ ghost use Rattle.std.specs.Prelude.{◌≡◌, ◌≤◌, ℕ, All, List, codes,
 ghost use Rattle.std.specs.Option.{option_map};
 ghost use Rattle.abs_program.specs.Bodies.{class_entry, entry_of_class, initial_of, initials_among, is_unit, main_entry, method_entry, run_among, starts_alone};
 ghost use Rattle.abs_program.specs.BodyRows.{entry_of_member, entry_with, is_called, row_of_declaration, statements_of_declaration, statements_of_member, ArePassed, IsPassed};
-ghost use Rattle.abs_program.specs.InstructionViews.{class_entry_tree, shared_phrases};
+ghost use Rattle.abs_program.specs.InstructionViews.{class_entry_tree, shared_expr_trees};
 ghost use Rattle.abs_program.specs.KeptControl.{method_in, class_in};
 ghost use Rattle.abs_tree.specs.Limits.{table_limit};
 ghost use Rattle.abs_program.specs.SlotViews.{BodyHasSlots, DeclHasSlots, MemberHasSlots};
 ghost use Rattle.abs_tree.specs.Syntax.{Name};
 ghost use Rattle.abs_tree.specs.SyntaxSizes.{all_statements, statement_count};
-ghost use Rattle.abs_tree.specs.SyntaxViews.{decl_tree, declared, maybe_phrase, member_tree, phrase, statements, tree_of_parts, type_tree};
+ghost use Rattle.abs_tree.specs.SyntaxViews.{decl_tree, declared, maybe_expr, member_tree, expr_tree, statements, tree_of_parts, type_tree};
 
 use crate::tables::control::{BodyEntry, ClassEntry};
 use crate::tables::indices::after_statements;
@@ -171,7 +171,7 @@ fn new_object(
 /// [`AllocError`] if an allocation fails, or if there are as many copies of a value already as can be counted.
 fn initial_values(alloc: Global, members: &[Member]) -> Result<Vec<Arc<Expr>>, AllocError>
     ensures { (names : List Name) → IfOk result (λ found.
-        shared_phrases names found.items ≡ initials_among (map (member_tree names) members.now)) }
+        shared_expr_trees names found.items ≡ initials_among (map (member_tree names) members.now)) }
 {
     let mut values = Vec::new(alloc);
     for member in members {
@@ -196,7 +196,7 @@ fn initial_value(
     initial: &Option<Arc<Expr>>,
 ) -> Result<Arc<Expr>, AllocError>
     ensures { (names : List Name) → IfOk result (λ found.
-        phrase names found.value ≡ initial_of (declared names name) (maybe_phrase names initial.now)) }
+        expr_tree names found.value ≡ initial_of (declared names name) (maybe_expr names initial.now)) }
 {
     match initial {
         Some(value) => value.clone(),

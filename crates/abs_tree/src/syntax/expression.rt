@@ -1,8 +1,8 @@
 //! Expressions.
 ghost use Rattle.std.specs.Prelude.{◌≡◌, List};
 ghost use Rattle.abs_tree.specs.Syntax.{Name};
-ghost use Rattle.abs_tree.specs.SyntaxPlaces.{phrase_place};
-ghost use Rattle.abs_tree.specs.SyntaxViews.{phrase};
+ghost use Rattle.abs_tree.specs.SyntaxPlaces.{expr_place};
+ghost use Rattle.abs_tree.specs.SyntaxViews.{expr_tree};
 
 use crate::syntax::{Pattern, TypeTerm, Variable};
 use crate::{Place, Symbol, Text};
@@ -131,7 +131,7 @@ pub enum Expr {
 impl Expr {
     /// Where it begins. Parentheses around it do not count.
     pub fn place(&self) -> Place
-        ensures { (names : List Name) → result ≡ phrase_place (phrase names self.now) }
+        ensures { (names : List Name) → result ≡ expr_place (expr_tree names self.now) }
     {
         match self {
             Expr::Let { place, .. }

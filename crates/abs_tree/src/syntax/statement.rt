@@ -19,8 +19,8 @@ pub enum Mode {
     Local(Place),
 }
 
-/// The right side of `=`, which may also be a statement of its own. A call on an object has one row: its receiver, and
-/// after it its arguments.
+/// The right side of `=`, which may also be a statement of its own. The operands of a call on an object are its
+/// receiver, and after it its arguments.
 #[derive(Drop)]
 pub enum RightSide {
     /// `new C(es)`, with the place of the class.
@@ -37,7 +37,7 @@ pub enum RightSide {
     Send {
         place: Place,
         method: Symbol,
-        row: Arc<Vec<Expr>>,
+        operands: Arc<Vec<Expr>>,
     },
     /// `e.get`, with the place of `get`.
     Get {
@@ -49,7 +49,7 @@ pub enum RightSide {
     Call {
         place: Place,
         method: Symbol,
-        row: Arc<Vec<Expr>>,
+        operands: Arc<Vec<Expr>>,
         slot: Option<u32>,
     },
 }

@@ -2,7 +2,7 @@ use Rattle.std.proofs.Common.{ap, subst, arith, []}
 use Rattle.std.specs.Prelude.{Some}
 use Rattle.abs_tree.specs.SourceErrors.{HasCause}
 use Rattle.abs_tree.specs.declared.source_error.SourceError.{SourceError}
-use Rattle.abs_command.specs.Promises.CameTo.{oversized}
+use Rattle.abs_command.specs.Ways.CameTo.{oversized}
 use Rattle.abs_command.specs.Sources.{FirstOffence}
 use Rattle.abs_command.proofs.AnswerLemmas.{appends_nothing, delivered}
 use Rattle.abs_command.proofs.ResultLemmas.{ok_follows, error_follows}

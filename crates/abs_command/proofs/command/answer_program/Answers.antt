@@ -4,7 +4,7 @@ use Rattle.std.specs.Prelude.{Some, None}
 use Rattle.abs_program.specs.NamedViews.{program_tree}
 use Rattle.abs_tree.specs.Limits.{event_limit}
 use Rattle.abs_command.specs.Promises.Answer.{prefix}
-use Rattle.abs_command.specs.Promises.CameTo.{reported, ran}
+use Rattle.abs_command.specs.Ways.CameTo.{reported, ran}
 use Rattle.abs_command.specs.Promises.WrittenBefore.{report}
 use Rattle.config_state.specs.ConfigViews.{configuration}
 use Rattle.run_history.specs.Recorded.{Recorded}

@@ -1,6 +1,6 @@
 use Rattle.std.proofs.Common.{◌∙◌, ap, []}
 use Rattle.std.specs.Prelude.{Some}
-use Rattle.abs_command.specs.Promises.CameTo.{refused}
+use Rattle.abs_command.specs.Ways.CameTo.{refused}
 use Rattle.abs_command.proofs.AnswerLemmas.{appends_nothing, delivered}
 use Rattle.abs_command.proofs.command.refuse.Goals as goal
 

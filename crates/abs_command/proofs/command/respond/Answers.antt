@@ -1,7 +1,7 @@
 use Rattle.std.proofs.Common.{ap, sym, subst, refl, List, [], ℕ}
 use Rattle.std.specs.Prelude.{Some, Err}
 use Rattle.abs_command.specs.Promises.Answer.{whole, exhausted}
-use Rattle.abs_command.specs.Promises.CameTo.{misused, unread}
+use Rattle.abs_command.specs.Ways.CameTo.{misused, unread}
 use Rattle.abs_command.specs.Statuses.{WasRead}
 use Rattle.abs_command.specs.Taking.{TookWhole}
 use Rattle.abs_command.proofs.AnswerLemmas.{appends_nothing, delivered}

@@ -8,8 +8,8 @@ use Rattle.abs_graph.proofs.CertificateLemmas.{row_successors}
 use Rattle.abs_graph.proofs.TableLemmas.{filled_more, node_inside, nodes_have_rows}
 use Rattle.abs_graph.proofs.closure.fill.Goals as goal
 
-pub row_over-requires-clause-nodes : goal.row_over-requires-clause-nodes
-row_over-requires-clause-nodes c =
+pub bits_over-requires-clause-nodes : goal.bits_over-requires-clause-nodes
+bits_over-requires-clause-nodes c =
     let is : c.as_slice.result.now ≡ successors (graph_of c.args.graph.now) c.args.node =
     c.as_slice.ensures.value
     ∙ sym (row_successors c.args.graph.now c.args.node c.index-graph-node.result c.requires.node
@@ -17,8 +17,8 @@ row_over-requires-clause-nodes c =
     nodes_have_rows (graph_of c.args.graph.now) c.as_slice.result.now (length c.args.rows.now) c.args.node
     c.requires.nodes (node_inside c.args.graph.now c.args.node c.requires.node) is c.requires.filled.count
 
-pub row_over-requires-clause-columns : goal.row_over-requires-clause-columns
-row_over-requires-clause-columns c =
+pub bits_over-requires-clause-columns : goal.bits_over-requires-clause-columns
+bits_over-requires-clause-columns c =
     let is : c.as_slice.result.now ≡ successors (graph_of c.args.graph.now) c.args.node =
     c.as_slice.ensures.value
     ∙ sym (row_successors c.args.graph.now c.args.node c.index-graph-node.result c.requires.node
@@ -33,6 +33,6 @@ returns c =
     c.as_slice.ensures.value
     ∙ sym (row_successors c.args.graph.now c.args.node c.index-graph-node.result c.requires.node
     c.index-graph-node.is) in
-    filled_more graph c.args.columns.now c.args.rows.now c.args.filled.now c.in_ok-row.row c.args.node c.requires.filled
+    filled_more graph c.args.columns.now c.args.rows.now c.args.filled.now c.in_ok-bits.bits c.args.node c.requires.filled
     (node_inside c.args.graph.now c.args.node c.requires.node)
-    (subst (λ (nodes : List ℕ). IsUnion c.args.columns.now c.args.rows.now c.args.filled.now nodes c.in_ok-row.row) is c.in_ok-row.ensures)
+    (subst (λ (nodes : List ℕ). IsUnion c.args.columns.now c.args.rows.now c.args.filled.now nodes c.in_ok-bits.bits) is c.in_ok-bits.ensures)

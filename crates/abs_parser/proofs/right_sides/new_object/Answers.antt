@@ -1,8 +1,8 @@
 use Rattle.std.proofs.Common.{List, refl, ap, arith}
 use Rattle.std.specs.declared.alloc.Global.{Global}
 use Rattle.std.specs.declared.vec.Vec.{Vec}
-use Rattle.abs_tree.specs.Syntax.{Name, Phrases, SideTree, NewOf}
-use Rattle.abs_tree.specs.SyntaxViews.{phrases}
+use Rattle.abs_tree.specs.Syntax.{Name, ExprTrees, SideTree, NewOf}
+use Rattle.abs_tree.specs.SyntaxViews.{expr_trees}
 use Rattle.abs_tree.specs.Names.{name_of}
 use Rattle.abs_tree.specs.declared.syntax.expression.Expr.{Expr}
 use Rattle.abs_parser.specs.Productions.{Rhs}
@@ -52,10 +52,10 @@ pub returns : goal.returns
 returns c =
     let placed = c.in_ok-mode.ensures.found c.args.depth c.in_ok-token.ensures.within in
     let class = c.in_ok-class.ensures in
-    let made : List Name → Name → Phrases
+    let made : List Name → Name → ExprTrees
     → SideTree = λ names. NewOf c.in_ok-token.token.place c.in_ok-mode.mode c.in_ok-name.name.place in
     found_same (λ names. ap (λ (arguments : Vec Expr Global).
-    made names (name_of names c.in_ok-class.class) (phrases names arguments.items)) c.in_ok-new.ensures.ok)
+    made names (name_of names c.in_ok-class.class) (expr_trees names arguments.items)) c.in_ok-new.ensures.ok)
     (named_call_found c.mode.new.symbols c.in_ok-class.class c.in_ok-arguments.arguments made (λ names. rhs_in)
     (new_named c.in_ok-token.ensures.found placed c.in_ok-name.ensures.found c.in_ok-token.ensures.within class.names)
     class.symbol class.names c.in_ok-arguments.ensures

@@ -1,7 +1,7 @@
 use Rattle.std.proofs.Common.{List, refl, ap, arith}
-use Rattle.abs_tree.specs.Syntax.{Name, Phrases, NextPhrase, SideTree, SendOf}
+use Rattle.abs_tree.specs.Syntax.{Name, ExprTrees, NextExpr, SideTree, SendOf}
 use Rattle.abs_tree.specs.Names.{name_of}
-use Rattle.abs_tree.specs.SyntaxViews.{phrase}
+use Rattle.abs_tree.specs.SyntaxViews.{expr_tree}
 use Rattle.abs_parser.specs.TreesOf.{tail_in}
 use Rattle.abs_parser.specs.Views.{spot}
 use Rattle.abs_parser.proofs.reader.RightSideSteps.{named_call_found, found_same, dot_begins, selected_found, send_begins, send_named, value_found}
@@ -31,12 +31,12 @@ returns-in_err-arguments c =
 pub returns-in-Some : goal.returns-in-Some
 returns-in-Some c =
     let method = c.in_ok-method.ensures in
-    let made : List Name → Name → Phrases
-    → SideTree = λ names name arguments. SendOf c.args.place name (NextPhrase (phrase names c.args.first) arguments) in
-    found_same (λ names. ap (λ (row : Phrases). SendOf c.args.place (name_of names c.in_ok-method.method) row)
-    (c.in_ok-row.ensures names))
+    let made : List Name → Name → ExprTrees
+    → SideTree = λ names name arguments. SendOf c.args.place name (NextExpr (expr_tree names c.args.first) arguments) in
+    found_same (λ names. ap (λ (operands : ExprTrees). SendOf c.args.place (name_of names c.in_ok-method.method) operands)
+    (c.in_ok-operands.ensures names))
     (named_call_found c.args.symbols.now c.in_ok-method.method c.in_ok-arguments.arguments made
-    (λ names. tail_in c.args.place (phrase names c.args.first))
+    (λ names. tail_in c.args.place (expr_tree names c.args.first))
     (send_named c.args.depth c.args.symbols.now c.in-Some.ensures.found c.in_ok-name.ensures.found c.requires.depth
     method.names) method.symbol method.names c.in_ok-arguments.ensures (λ names inside. refl))
 

@@ -1,12 +1,12 @@
 use Rattle.std.proofs.Common.{◌+◌, ◌*◌, List, max}
 use denote.Param.Weighed.{most}
 use Rattle.abs_tree.specs.Syntax.{Name}
-use Rattle.abs_tree.specs.SyntaxViews.{phrases, operand_trees, branches}
+use Rattle.abs_tree.specs.SyntaxViews.{expr_trees, operand_trees, branches}
 use Rattle.abs_tree.specs.declared.syntax.expression.Branch.{size-Branch}
 use Rattle.abs_tree.specs.declared.syntax.expression.Expr.{size-Expr}
 use Rattle.abs_tree.specs.declared.syntax.expression.Operand.{size-Operand}
 use Rattle.abs_profile.proofs.NotedLemmas.{NotedSoFar}
-use Rattle.abs_profile.specs.Profile.{phrases_offences, operands_offences, branches_offences}
+use Rattle.abs_profile.specs.Profile.{exprs_offences, operands_offences, branches_offences}
 use Rattle.abs_profile.proofs.expressions.+expressions.Given as goal
 
 -- The measure of each function is twice the depth of what it goes over, and one more for a function which passes all of
@@ -30,7 +30,7 @@ decreases-note_in_case l = 2 * max (size-Expr l.subject.now) (most (λ x. size-B
 abbrev pub invariant-note_in_expressions-loop-expr : goal.invariant-note_in_expressions-loop-expr
 invariant-note_in_expressions-loop-expr l =
     (names : List Name)
-    → NotedSoFar (λ items. phrases_offences (phrases names items)) l.exprs l.expr-index l.fn.first l.first
+    → NotedSoFar (λ items. exprs_offences (expr_trees names items)) l.exprs l.expr-index l.fn.first l.first
 
 -- those of the operands so far are
 abbrev pub invariant-note_in_operators-loop-operand : goal.invariant-note_in_operators-loop-operand

@@ -7,10 +7,10 @@ use Rattle.abs_values.specs.Evaluation.{evaluate, initial_outcomes}
 
 pub returns : goal.returns
 returns c = record {
-  expression = λ library scope left phrase made value reference gives. IfGives-at
-      (evaluate library scope left phrase made).result (AllComeFrom scope phrase) value gives
-      (evaluate-reads library left scope phrase made) reference;
-  initial = λ library phrases arguments values made gives index phrase there. IfAllGive-at
-      (initial_outcomes library phrases arguments made).results (AllComeFromEarlier (length arguments) phrases) values
-      gives (initial_outcomes-read library phrases arguments made) index phrase there (length arguments + index) refl;
+  expression = λ library scope left expr_tree made value reference gives. IfGives-at
+      (evaluate library scope left expr_tree made).result (AllComeFrom scope expr_tree) value gives
+      (evaluate-reads library left scope expr_tree made) reference;
+  initial = λ library expr_trees arguments values made gives index expr_tree there. IfAllGive-at
+      (initial_outcomes library expr_trees arguments made).results (AllComeFromEarlier (length arguments) expr_trees) values
+      gives (initial_outcomes-read library expr_trees arguments made) index expr_tree there (length arguments + index) refl;
 }

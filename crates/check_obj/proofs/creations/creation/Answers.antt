@@ -2,7 +2,7 @@ use Rattle.std.proofs.Common.{refl}
 use Rattle.abs_tree.specs.Names.{name_of}
 use Rattle.abs_types.specs.SideTypes.{new_type}
 use Rattle.check_fun.proofs.ContextLemmas.{finds_stays, knows_stays, stays_transitive}
-use Rattle.check_obj.proofs.CreationLemmas.{given_found, given_own, given_noted, given_silent, none_given}
+use Rattle.check_obj.proofs.CreationLemmas.{given_found, given_own, given_noted, given_unoffending, none_given}
 use Rattle.check_obj.proofs.creations.creation.Goals as goal
 
 pub returns-in_default-clause-found : goal.returns-in_default-clause-found
@@ -11,7 +11,7 @@ returns-in_default-clause-found c context knows =
 
 pub returns-in_default-clause-noted : goal.returns-in_default-clause-noted
 returns-in_default-clause-noted c context knows =
-    given_silent _ _ c.args.place (rw c.in_default.is at c.in_ok-given.ensures.found _ knows)
+    given_unoffending _ _ c.args.place (rw c.in_default.is at c.in_ok-given.ensures.found _ knows)
     (c.in_ok-given.ensures.noted _ knows)
 
 pub new_object-requires : goal.new_object-requires

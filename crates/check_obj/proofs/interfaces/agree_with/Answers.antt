@@ -46,5 +46,5 @@ returns-clause-agree c =
     agree_ends c.loop-name.invariant (rest_all deref_pair _ _ _ c.in-None.is c.next.ensures.steps)
 
 pub returns-clause-met : goal.returns-clause-met
-returns-clause-met c told =
+returns-clause-met c reported =
     met_ends c.loop-name.invariant (rest_all deref_pair _ _ _ c.in-None.is c.next.ensures.steps)

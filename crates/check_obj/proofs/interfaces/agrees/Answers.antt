@@ -36,8 +36,8 @@ agree_with-requires-2-clause-met c = c.loop-other.invariant.among
 pub returns : goal.returns
 returns c place name extended signatures there =
     IfOk-weaker _ _
-    (λ (told : Bool). told ≡ agree_in (declarations_of c.args.table.now) c.args.interface signatures)
-    (λ told tells. agreed_all c.args.interface c.deref-other-items.result.now c.loop-other.other-index told
+    (λ (reported : Bool). reported ≡ agree_in (declarations_of c.args.table.now) c.args.interface signatures)
+    (λ reported tells. agreed_all c.args.interface c.deref-other-items.result.now c.loop-other.other-index reported
     c.loop-other.invariant c.loop-other-test.false tells
     (same_list (declarations_of c.args.table.now) c.args.interface c.deref-other-items.result.now _
     c.deref-other-items.ensures.value c.in_ok-above.ensures)

@@ -5,7 +5,7 @@ use Rattle.check_obj.proofs.methods.ends_well.Goals as goal
 pub are_same-requires-clause-one : goal.are_same-requires-clause-one
 are_same-requires-clause-one c = (found_stays c.in_ok-unit.ensures.stays c.requires).among
 
-pub returns-else-are_same-clause-told : goal.returns-else-are_same-clause-told
-returns-else-are_same-clause-told c names type finds =
+pub returns-else-are_same-clause-reported : goal.returns-else-are_same-clause-reported
+returns-else-are_same-clause-reported c names type finds =
     ends_otherwise names c.args.stmts.now (finds_stays c.in_ok-unit.ensures.stays finds) c.in_ok-unit.ensures.found
     c.are_same.ensures c.if-are_same.false (c.ends_with_return.ensures names)

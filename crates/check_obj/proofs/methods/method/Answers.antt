@@ -40,7 +40,7 @@ returns-clause-noted c context class fields inside =
     (c.enter_method.ensures.first ∙ (c.in_ok-slots.ensures.first ∙ c.in_ok-gives.ensures.first))
     c.as_slice-2.ensures.value (c.in_ok-statements.ensures.noted (in_method context class fields signature body)
     (entered c context class fields inside)) c.in_ok-ends_well.ensures.first c.as_slice-3.ensures.value
-    (c.in_ok-ends_well.ensures.told context.names _
+    (c.in_ok-ends_well.ensures.reported context.names _
     (finds_kept keeps (gives_found signature.result c.in_ok-gives.ensures.found inside)))
     c.note_if.ensures.noted
 

@@ -16,8 +16,8 @@ class_members-requires c =
 
 pub returns-clause-noted : goal.returns-clause-noted
 returns-clause-noted c =
-    let told = c.in_ok-meets.ensures _ _ _ _ _ (rw c.in-Class.is at c.requires.there) in
-    let missing = rw told at c.note_if.ensures.noted in
+    let reported = c.in_ok-meets.ensures _ _ _ _ _ (rw c.in-Class.is at c.requires.there) in
+    let missing = rw reported at c.note_if.ensures.noted in
     let members = noted_own c.args.checker.now c.note_if.new.self _ c.class_members.result
     (λ names declarations. members_offences declarations (name_of names c.in-Class.name.name)
     (param_types (map (param_tree names) c.as_slice.result.now)

@@ -2,14 +2,14 @@ use Rattle.std.proofs.Common.{length, sym, ap, ◌∙◌, arith}
 use Rattle.abs_tree.specs.Names.{name_of}
 use Rattle.check_fun.proofs.ContextLemmas.{finds_all_stays, finds_stays, found_all_stays, knows_stays, stays_transitive}
 use Rattle.check_fun.specs.Contexts.{items_of}
-use Rattle.check_obj.proofs.CalledLemmas.{call_found, call_noted, call_silent, given_count, has_told, methods_known, taking_known}
+use Rattle.check_obj.proofs.CalledLemmas.{call_found, call_noted, call_unoffending, given_count, has_reported, methods_known, taking_known}
 use Rattle.check_obj.proofs.right_sides.call.Goals as goal
 
 pub returns-in_default-given-clause-noted : goal.returns-in_default-given-clause-noted
 returns-in_default-given-clause-noted c context object types knows of_object of_types =
-    call_silent context.declarations (name_of context.names c.args.method) c.args.count c.args.place
+    call_unoffending context.declarations (name_of context.names c.args.method) c.args.count c.args.place
     c.in-Some.receiver c.is_empty.result (rw c.in-Some.is at of_object) (rw c.in_default-given.is at of_types)
-    (λ type finds. has_told c.is_empty.result c.in_ok-methods.methods.len
+    (λ type finds. has_reported c.is_empty.result c.in_ok-methods.methods.len
     (methods_known c.head_at.result c.args.method c.args.count knows (c.head_at.ensures context type knows finds)
     c.in_ok-methods.ensures) (omega (arith, c.in_ok-methods.methods.ok.0)) c.is_empty.ensures)
     c.note_if.ensures.noted
@@ -40,7 +40,7 @@ returns-clause-noted c context object types knows of_object of_types =
     call_noted context.declarations (name_of context.names c.args.method) c.args.count c.args.place
     c.in-Some.receiver c.as_slice.result.now c.is_empty.result (rw c.in-Some.is at of_object)
     (rw c.as_slice.ensures.value given)
-    (λ type finds. has_told c.is_empty.result c.in_ok-methods.methods.len
+    (λ type finds. has_reported c.is_empty.result c.in_ok-methods.methods.len
     (methods_known c.head_at.result c.args.method c.args.count knows (c.head_at.ensures context type knows finds)
     c.in_ok-methods.ensures) (omega (arith, c.in_ok-methods.methods.ok.0)) c.is_empty.ensures)
     c.note_if.ensures.noted

@@ -3,7 +3,7 @@ use Rattle.std.proofs.lemmas.Result.{on_ok_weaker, IfOk-weaker}
 use Rattle.abs_tree.specs.Names.{name_of}
 use Rattle.abs_tree.specs.declared.refusal.Code.TheVariants.{T2}
 use Rattle.check_fun.proofs.ContextLemmas.{finds_all_stays, finds_stays, found_all_stays, found_stays, knows_stays, stays_transitive}
-use Rattle.check_fun.proofs.PhraseLemmas.{phrases_counted}
+use Rattle.check_fun.proofs.ExprLemmas.{exprs_counted}
 use Rattle.check_fun.specs.Contexts.{Stays}
 use Rattle.check_obj.proofs.SideLemmas.{found_count, found_there, noted_missing, own_noted}
 use Rattle.check_obj.proofs.right_sides.own_call.Goals as goal
@@ -39,7 +39,7 @@ returns-clause-noted c context knows =
     (finds_all_stays c.in_ok-receiver.ensures.stays (c.in_ok-given.ensures.found _ knows))) in
     let missing = noted_missing c.in_ok-receiver.receiver c.is_none.result T2 c.args.place c.is_none.ensures receiver
     c.note_if.ensures.noted in
-    rw (phrases_counted context.names c.args.arguments.now)
+    rw (exprs_counted context.names c.args.arguments.now)
     (on_ok_weaker c.call.result
     (λ noted. own_noted context.declarations context.frame.this (name_of context.names c.args.method)
     (length c.args.arguments.now) _ c.args.place _ (c.in_ok-given.ensures.noted _ knows)

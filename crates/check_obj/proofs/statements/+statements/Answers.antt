@@ -1,7 +1,7 @@
 use Rattle.std.proofs.Common.{◌≡◌, ◌&&◌, ◌+◌, ◌++◌, ◌∙◌, true, false, nat_le, sym, subst, true≢false}
 use Rattle.std.proofs.lemmas.Result.{on_ok_weaker}
-use Rattle.abs_tree.specs.SyntaxPlaces.{phrase_place}
-use Rattle.abs_tree.specs.SyntaxViews.{phrase}
+use Rattle.abs_tree.specs.SyntaxPlaces.{expr_place}
+use Rattle.abs_tree.specs.SyntaxViews.{expr_tree}
 use Rattle.abs_types.proofs.KeepLemmas.{keeps_transitive}
 use Rattle.abs_types.specs.OperatorTypes.{bool_type}
 use Rattle.abs_types.specs.StatementOffences.{asked_offences}
@@ -19,9 +19,9 @@ use Rattle.check_obj.proofs.statements.+statements.Goals.{statements-then-is_las
 
 pub if_else-returns-in-Some-clause-noted : goal.if_else-returns-in-Some-clause-noted
 if_else-returns-in-Some-clause-noted t c context knows =
-    let condition = phrase context.names c.args.condition.now in
+    let condition = expr_tree context.names c.args.condition.now in
     let final = c.statements-in-Some.new.checker.first in
-    let asked = asked_offences context.declarations context.frame condition bool_type (phrase_place condition) in
+    let asked = asked_offences context.declarations context.frame condition bool_type (expr_place condition) in
     let first = statements_offend context false c.args.first.now in
     let second = statements_offend context false c.deref.result.now in
     let between = knows_stays c.in_ok-check_condition.ensures.stays knows in
@@ -42,9 +42,9 @@ if_else-returns-in-None-clause-stays t c =
 
 pub while_do-returns-clause-noted : goal.while_do-returns-clause-noted
 while_do-returns-clause-noted t c context knows =
-    let condition = phrase context.names c.args.condition.now in
+    let condition = expr_tree context.names c.args.condition.now in
     passed_noted c.statements.result c.statements.new.checker.first
-    (asked_offences context.declarations context.frame condition bool_type (phrase_place condition))
+    (asked_offences context.declarations context.frame condition bool_type (expr_place condition))
     (statements_offend context false c.args.body.now) (c.in_ok-check_condition.ensures.noted context knows)
     (c.statements.ensures.noted context (knows_stays c.in_ok-check_condition.ensures.stays knows))
 
@@ -122,13 +122,13 @@ statements-loop-index-preserved t c =
       | statements-then-is_last w ↦ λ is. rw w.filled-is w.filled-filled.ensures
       | statements-else-is_last w ↦ λ is. absurd (true≢false (sym is ∙ w.if-is_last.false))
     ] in
-    let told : c.if-is_last-2.statement ≡ (c.args.is_last && nat_le c.if-is_last.filled (c.loop-index.index + 1)) =
+    let reported : c.if-is_last-2.statement ≡ (c.args.is_last && nat_le c.if-is_last.filled (c.loop-index.index + 1)) =
     elim c.if-is_last-2.branch [
       | statements-then-is_last-2 w ↦ rw w.if-is_last-2.true w.statement-is
       | statements-else-is_last-2 w ↦ rw w.if-is_last-2.false (w.statement-is ∙ w.if-is_last-2.false)
     ] in
     block_step c.index-stmts-index.result c.loop-index.invariant c.loop-index-test.true c.index-stmts-index.is
-    (λ names. told ∙ is_end names c.args.stmts.now c.args.is_last c.if-is_last.filled c.loop-index.index filled)
+    (λ names. reported ∙ is_end names c.args.stmts.now c.args.is_last c.if-is_last.filled c.loop-index.index filled)
     c.in_ok-statement.ensures.noted c.in_ok-statement.ensures.knows c.in_ok-statement.ensures.undoes
     c.in_ok-statement.ensures.keeps
 

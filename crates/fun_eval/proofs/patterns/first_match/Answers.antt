@@ -2,7 +2,7 @@ use Rattle.std.proofs.Common.{ap, ◌∙◌, map, refl, subst, List}
 use Rattle.abs_values.specs.Evaluation.{branches_outcome}
 use Rattle.abs_values.specs.Operations.{matched}
 use Rattle.abs_tree.specs.Syntax.{Branches}
-use Rattle.abs_tree.specs.SyntaxViews.{pattern_tree, phrase}
+use Rattle.abs_tree.specs.SyntaxViews.{pattern_tree, expr_tree}
 use Rattle.abs_values.specs.ValueTrees.{ValueTree}
 use Rattle.abs_values.specs.ValueViews.{value_tree}
 use Rattle.fun_eval.specs.Matching.{Matches}
@@ -25,7 +25,7 @@ returns-then-branch c =
           c.loop-branch.invariant.1 give made
           ∙ (ap (λ (trees : Branches). branches_outcome names give trees value made)
           (branches_at names c.args.branches.now c.loop-branch.branch-index item c.loop-branch-test.true c.branch-item.is)
-          ∙ first_matches names give (pattern_tree names item.pattern) (phrase names item.value) _ value made before now
+          ∙ first_matches names give (pattern_tree names item.pattern) (expr_tree names item.value) _ value made before now
           c.in_ok-matches.field-0 c.if-branch.true matches),
     )
 
@@ -47,7 +47,7 @@ loop-branch-preserved c =
           c.loop-branch.invariant.1 give made
           ∙ (ap (λ (trees : Branches). branches_outcome names give trees value made)
           (branches_at names c.args.branches.now c.loop-branch.branch-index item c.loop-branch-test.true c.branch-item.is)
-          ∙ none_matches names give (pattern_tree names item.pattern) (phrase names item.value) _ value made before now
+          ∙ none_matches names give (pattern_tree names item.pattern) (expr_tree names item.value) _ value made before now
           c.in_ok-matches.field-0 c.if-branch.false matches),
     )
 

@@ -3,7 +3,7 @@ use Rattle.config_state.specs.ConfigViews.{configuration}
 use Rattle.step_rules.proofs.BlockedLemmas.{each_more}
 use Rattle.step_rules.proofs.enabled.none_unresolved.Goals as goal
 use Rattle.step_rules.specs.Lookups.{named_value}
-use Rattle.step_rules.specs.WaitRows.{Unresolved, guard_by_value}
+use Rattle.step_rules.specs.WaitRules.{Unresolved, guard_by_value}
 
 pub returns-then-is_unresolved : goal.returns-then-is_unresolved
 returns-then-is_unresolved c = λ symbols all.

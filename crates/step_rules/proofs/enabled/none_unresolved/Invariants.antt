@@ -2,7 +2,7 @@ use Rattle.std.proofs.Common.{◌≢◌, ◌<◌, ℕ, List, Option, get_or}
 use Rattle.abs_tree.specs.Syntax.{Name}
 use Rattle.config_state.specs.ConfigViews.{configuration}
 use Rattle.step_rules.specs.Lookups.{named_value}
-use Rattle.step_rules.specs.WaitRows.{Unresolved, guard_by_value}
+use Rattle.step_rules.specs.WaitRules.{Unresolved, guard_by_value}
 use Rattle.step_rules.proofs.enabled.none_unresolved.Given as goal
 
 abbrev pub invariant-loop-name : goal.invariant-loop-name

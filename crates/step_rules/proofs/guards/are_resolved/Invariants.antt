@@ -3,7 +3,7 @@ use Rattle.std.specs.Prelude.{Ok}
 use Rattle.abs_tree.specs.Syntax.{Name}
 use Rattle.config_state.specs.ConfigViews.{configuration}
 use Rattle.step_rules.specs.Plans.{guard_tree}
-use Rattle.step_rules.specs.WaitRows.{guard_before, guard_of}
+use Rattle.step_rules.specs.WaitRules.{guard_before, guard_of}
 use Rattle.step_rules.proofs.guards.are_resolved.Given as goal
 
 -- the part of the guard before the index, joined with the rest, is the whole guard

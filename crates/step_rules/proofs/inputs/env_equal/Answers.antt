@@ -11,18 +11,18 @@ pub returns-then-values_equal : goal.returns-then-values_equal
 returns-then-values_equal c =
     let left = c.args.left.now in
     let right = c.args.right.now in
-    let told : c.values_equal-then-values_equal.result ≡ (option_eq nat_eq left.this right.this
+    let reported : c.values_equal-then-values_equal.result ≡ (option_eq nat_eq left.this right.this
     && (pointwise same_value left.slots right.slots && pointwise same_value left.fields right.fields)) =
     grind (arith, common_steps) in
-    Decides-at _ _ told
+    Decides-at _ _ reported
     (scope_equal-Decides left.this right.this left.slots right.slots left.fields right.fields)
 
 pub returns-else-values_equal : goal.returns-else-values_equal
 returns-else-values_equal c =
     let left = c.args.left.now in
     let right = c.args.right.now in
-    let told : c.values_equal.result ≡ (option_eq nat_eq left.this right.this
+    let reported : c.values_equal.result ≡ (option_eq nat_eq left.this right.this
     && (pointwise same_value left.slots right.slots && pointwise same_value left.fields right.fields)) =
     grind (arith, common_steps) in
-    Decides-at _ _ told
+    Decides-at _ _ reported
     (scope_equal-Decides left.this right.this left.slots right.slots left.fields right.fields)

@@ -1,10 +1,10 @@
 use Rattle.std.proofs.Common.{sym, ◌∙◌}
 use Rattle.step_rules.proofs.EqualNameLemmas.{decided}
-use Rattle.step_rules.proofs.EqualPhraseLemmas.{phrases_equal-Decides}
+use Rattle.step_rules.proofs.EqualExprLemmas.{exprs_equal-Decides}
 use Rattle.step_rules.proofs.inputs.exprs_equal.Goals as goal
 
 pub returns : goal.returns
 returns c =
-    decided c.eq.ensures (phrases_equal-Decides _ _)
+    decided c.eq.ensures (exprs_equal-Decides _ _)
     (λ same names. sym (c.as_slice.ensures names) ∙ (same names ∙ c.as_slice-2.ensures names))
     (λ same names. c.as_slice.ensures names ∙ (same names ∙ sym (c.as_slice-2.ensures names)))

@@ -1,6 +1,6 @@
 use Rattle.std.proofs.Common.{sym, ◌∙◌}
 use Rattle.step_rules.proofs.EqualNameLemmas.{decided}
-use Rattle.step_rules.proofs.EqualPhraseLemmas.{shared_equal-Decides}
+use Rattle.step_rules.proofs.EqualExprLemmas.{shared_equal-Decides}
 use Rattle.step_rules.proofs.inputs.initials_equal.Goals as goal
 
 pub returns : goal.returns

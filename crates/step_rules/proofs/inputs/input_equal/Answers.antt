@@ -5,6 +5,6 @@ use Rattle.step_rules.proofs.inputs.input_equal.Goals as goal
 
 pub returns-then-not-env_equal : goal.returns-then-not-env_equal
 returns-then-not-env_equal c = (
-  λ told. absurd (false≢true told),
+  λ reported. absurd (false≢true reported),
   λ same. sym c.if-not-env_equal.true ∙ c.env_equal.ensures.1 (ap (λ (input : Input). input.scope) (same [])),
 )

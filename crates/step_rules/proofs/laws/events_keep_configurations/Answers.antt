@@ -1,4 +1,4 @@
-use Rattle.step_rules.proofs.FormedRowLemmas.{event-formed}
+use Rattle.step_rules.proofs.FormedRuleLemmas.{event-formed}
 use Rattle.step_rules.proofs.HouseLemmas.{event_keeps_houses}
 use Rattle.step_rules.proofs.KeepLemmas.{event_keeps_program}
 use Rattle.step_rules.proofs.ReachLemmas.{reachable_keeps}

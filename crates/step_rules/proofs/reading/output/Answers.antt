@@ -1,8 +1,8 @@
 use Rattle.std.proofs.Common.{option_map, ◌∙◌}
 use Rattle.std.proofs.lemmas.Result.{IfOk-weaker}
-use Rattle.abs_program.specs.InstructionViews.{class_entry_tree, instruction_tree, shared_phrases}
+use Rattle.abs_program.specs.InstructionViews.{class_entry_tree, instruction_tree, shared_expr_trees}
 use Rattle.abs_program.specs.NamedViews.{program_tree}
-use Rattle.abs_tree.specs.SyntaxViews.{phrases}
+use Rattle.abs_tree.specs.SyntaxViews.{expr_trees}
 use Rattle.config_state.specs.ConfigViews.{configuration}
 use Rattle.config_state.specs.Views.{frame_state, task_state}
 use Rattle.fun_eval.specs.Reading.{scope_tree}
@@ -30,7 +30,7 @@ returns c =
     (task_found names c.args.config.now c.args.task c.at-cell.result.now c.at-cell.ensures)
     (c.in-Some.ensures names) c.next_instruction-instruction.ensures c.made_class.ensures (record {
       scope = scope_tree c.scope.result;
-      phrases = phrases names c.exprs.result.now;
-      initials = shared_phrases names c.initials.result.now;
+      expr_trees = expr_trees names c.exprs.result.now;
+      initials = shared_expr_trees names c.initials.result.now;
     }) input (c.scope.ensures names) (c.exprs.ensures names) (c.initials.ensures names) found)
     c.eval_all_in.ensures

@@ -6,12 +6,12 @@ use Rattle.abs_tree.specs.Names.{name_of}
 use Rattle.abs_tree.specs.SyntaxViews.{pattern_tree, variable_tree}
 use Rattle.abs_names.specs.TypeNames.{function_taking, constructor_taking}
 use Rattle.abs_names.specs.Visible.{Visible}
-use Rattle.abs_names.proofs.FormLemmas.{operators_tree, operators_found, case_tree, case_found, own_call_tree, own_call_found, apply_tree, apply_found, build_tree, build_found, phrases_noted, in_scope, kept_in}
+use Rattle.abs_names.proofs.FormLemmas.{operators_tree, operators_found, case_tree, case_found, own_call_tree, own_call_found, apply_tree, apply_found, build_tree, build_found, exprs_noted, in_scope, kept_in}
 use Rattle.abs_names.specs.Scopes.{next_bound}
 use Rattle.abs_names.proofs.LeaveLemmas.{Within, within_variable, within_pattern, left_is}
 use Rattle.abs_names.proofs.LoopLemmas.{all_done}
 use Rattle.abs_names.proofs.RowLemmas.{exprs_step, operands_step, branches_step}
-use Rattle.abs_names.proofs.TreeLemmas.{phrases_all, operands_all, branches_all}
+use Rattle.abs_names.proofs.TreeLemmas.{exprs_all, operands_all, branches_all}
 use Rattle.abs_names.proofs.walk.Walk.+expressions.Goals as goal
 
 pub expressions-loop-expr-preserved : goal.expressions-loop-expr-preserved
@@ -22,12 +22,12 @@ expressions-loop-expr-preserved t c =
 
 pub expressions-returns-clause-found : goal.expressions-returns-clause-found
 expressions-returns-clause-found t c =
-    (all_done c.loop-expr.invariant.so_far c.loop-expr-test.false (sym (phrases_all _ c.loop-expr.found.items)) refl
+    (all_done c.loop-expr.invariant.so_far c.loop-expr-test.false (sym (exprs_all _ c.loop-expr.found.items)) refl
     refl).resolved
 
 pub expressions-returns-clause-noted : goal.expressions-returns-clause-noted
 expressions-returns-clause-noted t c =
-    (all_done c.loop-expr.invariant.so_far c.loop-expr-test.false (sym (phrases_all _ c.loop-expr.found.items)) refl
+    (all_done c.loop-expr.invariant.so_far c.loop-expr-test.false (sym (exprs_all _ c.loop-expr.found.items)) refl
     refl).offences
 
 pub expressions-returns-clause-scope : goal.expressions-returns-clause-scope
@@ -128,7 +128,7 @@ apply-returns-clause-found t c =
 pub apply-returns-clause-noted : goal.apply-returns-clause-noted
 apply-returns-clause-noted t c =
     let start = c.args.self.now.scope in
-    phrases_noted start c.note_applied.new.self.scope c.args.place c.args.arguments.now c.function_taking-taken.result
+    exprs_noted start c.note_applied.new.self.scope c.args.place c.args.arguments.now c.function_taking-taken.result
     (function_taking start.scope.around (name_of start.names.before c.args.function)) c.args.self.now.first
     c.note_applied.new.self.first c.expressions.new.self.first c.note_applied.ensures.scope
     (c.function_taking-taken.ensures
@@ -149,7 +149,7 @@ build-returns-clause-found t c =
 pub build-returns-clause-noted : goal.build-returns-clause-noted
 build-returns-clause-noted t c =
     let start = c.args.self.now.scope in
-    phrases_noted start c.note_applied.new.self.scope c.args.place c.args.arguments.now
+    exprs_noted start c.note_applied.new.self.scope c.args.place c.args.arguments.now
     c.constructor_taking-taken.result
     (constructor_taking start.scope.around (name_of start.names.before c.args.constructor)) c.args.self.now.first
     c.note_applied.new.self.first c.expressions.new.self.first c.note_applied.ensures.scope

@@ -1,9 +1,9 @@
 use Rattle.std.proofs.Common.{◌∙◌, refl, sym, ap, fold}
 use Rattle.abs_tree.specs.Offences.{earlier}
 use Rattle.abs_tree.specs.declared.syntax.expression.Expr.{Expr}
-use Rattle.abs_tree.specs.SyntaxViews.{phrase}
-use Rattle.abs_names.specs.NameOffences.{phrase_offences}
-use Rattle.abs_names.specs.Resolution.{resolved_phrase}
+use Rattle.abs_tree.specs.SyntaxViews.{expr_tree}
+use Rattle.abs_names.specs.NameOffences.{expr_offences}
+use Rattle.abs_names.specs.Resolution.{resolved_expr}
 use Rattle.abs_names.proofs.LoopLemmas.{all_done}
 use Rattle.abs_names.proofs.RowLemmas.{tests_step}
 use Rattle.abs_names.proofs.TreeLemmas.{tests_all}
@@ -16,9 +16,9 @@ loop-test-preserved c =
     tests_step item (record { place = item.place; value = c.in_ok-value.value; asks = item.asks })
     c.loop-test.invariant c.loop-test-test.true c.test-item.is refl refl
     (c.in_ok-value.ensures.found
-    ∙ ap (λ (e : Expr). resolved_phrase now.scope (phrase now.names.before e)) c.deref.ensures)
+    ∙ ap (λ (e : Expr). resolved_expr now.scope (expr_tree now.names.before e)) c.deref.ensures)
     (c.in_ok-value.ensures.noted
-    ∙ ap (λ (e : Expr). fold earlier c.loop-test.self.first (phrase_offences now.scope (phrase now.names.before e)))
+    ∙ ap (λ (e : Expr). fold earlier c.loop-test.self.first (expr_offences now.scope (expr_tree now.names.before e)))
     c.deref.ensures)
     c.in_ok-value.ensures.scope c.in_ok-push.ensures.items
 

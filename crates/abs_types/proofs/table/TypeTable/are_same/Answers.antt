@@ -10,8 +10,8 @@ returns c =
     let one = c.args.one in
     let other = c.args.other in
     let types = types_in c.args.self.now in (
-      λ told. ap (λ number. type_at types (record { 0 = number }))
-          (eqb-true one.0 other.0 (sym c.eq.ensures ∙ told)),
+      λ reported. ap (λ number. type_at types (record { 0 = number }))
+          (eqb-true one.0 other.0 (sym c.eq.ensures ∙ reported)),
       λ same. c.eq.ensures
           ∙ eq-eqb one.0 other.0 (ap (λ (index : TypeIndex). index.0)
           (one_index_in c.args.self.now one other c.len-count.ensures.unique c.requires.one c.requires.other same)),

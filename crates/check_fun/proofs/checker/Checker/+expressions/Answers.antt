@@ -8,7 +8,7 @@ use Rattle.abs_tree.specs.declared.syntax.expression.Expr.{Expr}
 use Rattle.check_fun.proofs.ContextLemmas.{finds_stays, finds_all_stays, finds_kept, found_stays, found_all_stays, knows_stays, noted_after, noted_same, stays_transitive}
 use Rattle.check_fun.proofs.FoundLemmas.{finds_none, finds_own, keeps_same, bound_stays}
 use Rattle.check_fun.proofs.OperandLemmas.{operands_are, rights_count, rights_untyped}
-use Rattle.check_fun.proofs.PhraseLemmas.{let_tree, if_tree, prefixed_tree, operators_tree, case_tree, own_call_tree, apply_tree, build_tree, phrases_counted}
+use Rattle.check_fun.proofs.ExprLemmas.{let_tree, if_tree, prefixed_tree, operators_tree, case_tree, own_call_tree, apply_tree, build_tree, exprs_counted}
 use Rattle.check_fun.proofs.SoFarLemmas.{exprs_row, operands_row, branches_row, row_begins, row_step, row_found, row_noted}
 use Rattle.check_fun.proofs.StepLemmas.{noted_since, noted_between, scheme_there}
 use Rattle.abs_tree.specs.SyntaxViews.{variable_tree}
@@ -221,7 +221,7 @@ pub own_call-returns-clause-noted : goal.own_call-returns-clause-noted
 own_call-returns-clause-noted t c context knows =
     let given = c.in_ok-given.ensures in
     noted_after _ _ (given.noted context knows)
-    (rw (phrases_counted context.names c.args.arguments.now)
+    (rw (exprs_counted context.names c.args.arguments.now)
     (c.note_own_call.ensures.noted context _ (knows_stays given.stays knows) (given.found context knows)))
 
 pub own_call-returns-clause-stays : goal.own_call-returns-clause-stays

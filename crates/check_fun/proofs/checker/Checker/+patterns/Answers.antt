@@ -7,7 +7,7 @@ use Rattle.abs_tree.specs.declared.refusal.Code.TheVariants.{T1}
 use Rattle.abs_tree.specs.declared.refusal.Offence.{Offence}
 use Rattle.abs_tree.specs.declared.syntax.pattern.Pattern.{size-Pattern}
 use Rattle.abs_types.proofs.KeepLemmas.{keeps_transitive}
-use Rattle.abs_types.specs.Mistyped.{offence_if}
+use Rattle.abs_tree.specs.Offences.{offence_if}
 use Rattle.abs_types.specs.PlainTypes.{PlainType}
 use Rattle.abs_types.specs.declared.table.shape.TypeIndex.{TypeIndex}
 use Rattle.check_fun.specs.Contexts.{context_in, items_of, Context, Finds, FindsAll, Knows, Noted}
@@ -41,9 +41,9 @@ met {t} c context type knows finds =
     })
 
 -- the result of the code that tests both
-told : {t : ℕ} (c : goal.built-Joined-parts-2 t)
+reported : {t : ℕ} (c : goal.built-Joined-parts-2 t)
     → (c.if-not-is_foreign.result ≡ not c.is_foreign-is_foreign.result && c.in_ok-fit.fit)
-told c = elim c.if-not-is_foreign.branch [
+reported c = elim c.if-not-is_foreign.branch [
   | built-then-not-is_foreign w ↦
       w.result-is ∙ ap (λ (foreign : Bool). not foreign && c.in_ok-fit.fit) (sym w.if-not-is_foreign.true)
   | built-else-not-is_foreign w ↦
@@ -61,7 +61,7 @@ built-patterns-requires t c =
     )
 
 pub built-returns-clause-fits : goal.built-returns-clause-fits
-built-returns-clause-fits t c context type knows finds = told c ∙ (met c context type knows finds).fits_is
+built-returns-clause-fits t c context type knows finds = reported c ∙ (met c context type knows finds).fits_is
 
 pub built-returns-clause-noted : goal.built-returns-clause-noted
 built-returns-clause-noted t c context type knows finds = (met c context type knows finds).noted

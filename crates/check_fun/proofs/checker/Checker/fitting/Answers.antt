@@ -1,6 +1,6 @@
 use Rattle.std.proofs.Common.{sym}
 use Rattle.check_fun.proofs.FoundLemmas.{finds_none}
-use Rattle.check_fun.proofs.RowLemmas.{fit_found}
+use Rattle.check_fun.proofs.RuleLemmas.{fit_found}
 use Rattle.check_fun.proofs.checker.Checker.fitting.Goals as goal
 
 pub returns-then-fits : goal.returns-then-fits

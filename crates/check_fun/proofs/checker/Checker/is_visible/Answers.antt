@@ -1,5 +1,5 @@
 use Rattle.std.proofs.Common.{◌∙◌}
-use Rattle.check_fun.proofs.RowLemmas.{bound_is_there}
+use Rattle.check_fun.proofs.RuleLemmas.{bound_is_there}
 use Rattle.check_fun.proofs.checker.Checker.is_visible.Goals as goal
 
 pub returns-in-Bound : goal.returns-in-Bound

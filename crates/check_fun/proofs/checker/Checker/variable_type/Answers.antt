@@ -1,5 +1,5 @@
 use Rattle.abs_tree.specs.declared.syntax.variable.Variable.TheVariants as variable
-use Rattle.check_fun.proofs.RowLemmas.{variable_found}
+use Rattle.check_fun.proofs.RuleLemmas.{variable_found}
 use Rattle.check_fun.proofs.checker.Checker.variable_type.Goals as goal
 
 pub returns-in-Slot : goal.returns-in-Slot

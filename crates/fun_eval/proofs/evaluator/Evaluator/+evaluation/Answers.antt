@@ -9,8 +9,8 @@ use Rattle.abs_values.specs.Evaluation.{Outcome, ends_with, evaluate}
 use Rattle.abs_tree.specs.Names.{name_of}
 use Rattle.abs_values.specs.Operations.{operation_result}
 use Rattle.abs_values.specs.Scopes.{Scope, own_scope}
-use Rattle.abs_tree.specs.Syntax.{Name, Phrase}
-use Rattle.abs_tree.specs.SyntaxViews.{decl_tree, operand_trees, phrase}
+use Rattle.abs_tree.specs.Syntax.{Name, ExprTree}
+use Rattle.abs_tree.specs.SyntaxViews.{decl_tree, operand_trees, expr_tree}
 use Rattle.abs_values.specs.ValueTrees.{ValueTree}
 use Rattle.abs_values.specs.ValueViews.{value_tree}
 use Rattle.fun_eval.proofs.ApplicationLemmas.{applied, body_entered, body_other, built_given, built_large, counted, defined_named, left_counted, to_string_named}
@@ -22,7 +22,7 @@ use Rattle.fun_eval.proofs.OutcomeLemmas.{after_value, after_values, if_succeeds
 use Rattle.fun_eval.proofs.SoFarLemmas.{names_stay, operators_step, operators_stopped}
 use Rattle.fun_eval.proofs.StackLemmas.{begins_more, restored}
 use Rattle.fun_eval.proofs.ValueLemmas.{arguments_step, arguments_stopped, values_step, values_stopped}
-use Rattle.fun_eval.specs.Evaluating.{arguments_in, bound_in, declarations_in, gives_in, library_in, names_in, scope_in, scope_of, AreStopped, IsStopped}
+use Rattle.fun_eval.specs.Evaluating.{arguments_in, bound_in, declarations_in, gives_in, library_in, names_in, scope_in, evaluator_scope, AreStopped, IsStopped}
 use Rattle.fun_eval.specs.Matching.{Begins}
 use Rattle.fun_eval.specs.Reading.{value_of_function}
 use Rattle.fun_eval.specs.declared.scope.Frame.TheVariants as frame
@@ -44,40 +44,40 @@ add_arguments-loop-argument-preserved t c =
 
 pub evaluate-returns-then-left-eq0-clause-outcome : goal.evaluate-returns-then-left-eq0-clause-outcome
 evaluate-returns-then-left-eq0-clause-outcome t c =
-    rw (no_level (library_in c.args.self.now) (scope_of c.args.frame.now c.args.self.now) c.args.left _ c.args.self.now.applications c.if-left-eq0.true) refl
+    rw (no_level (library_in c.args.self.now) (evaluator_scope c.args.frame.now c.args.self.now) c.args.left _ c.args.self.now.applications c.if-left-eq0.true) refl
 
 pub evaluate-returns-in-Number-clause-outcome : goal.evaluate-returns-in-Number-clause-outcome
 evaluate-returns-in-Number-clause-outcome t c =
     let n = c.in-Number in
     let fits : FitsSigned w128 n.number = search rules in
     rw (to_z-of_z w128 n.number fits)
-    (number_form (library_in c.args.self.now) (scope_of c.args.frame.now c.args.self.now) (names_in c.args.self.now) c.args.left
+    (number_form (library_in c.args.self.now) (evaluator_scope c.args.frame.now c.args.self.now) (names_in c.args.self.now) c.args.left
     c.args.expr.now n.field-0 n.number c.args.self.now.applications c.if-left-eq0.false n.is)
 
 pub evaluate-returns-in-Variable-clause-outcome : goal.evaluate-returns-in-Variable-clause-outcome
 evaluate-returns-in-Variable-clause-outcome t c =
     same_outcome _ _ c.variable.result c.args.self.now
-    (variable_form (library_in c.args.self.now) (scope_of c.args.frame.now c.args.self.now) (names_in c.args.self.now) c.args.left
+    (variable_form (library_in c.args.self.now) (evaluator_scope c.args.frame.now c.args.self.now) (names_in c.args.self.now) c.args.left
     c.args.expr.now c.in-Variable.field-0 c.in-Variable.variable c.args.self.now.applications c.if-left-eq0.false c.in-Variable.is)
     (result_outcome _ c.variable.result c.args.self.now.applications c.args.self.now refl c.variable.ensures)
 
 pub evaluate-returns-in-Text-clause-outcome : goal.evaluate-returns-in-Text-clause-outcome
 evaluate-returns-in-Text-clause-outcome t c =
     same_outcome _ _ c.string.result c.args.self.now
-    (string_form (library_in c.args.self.now) (scope_of c.args.frame.now c.args.self.now) (names_in c.args.self.now) c.args.left
+    (string_form (library_in c.args.self.now) (evaluator_scope c.args.frame.now c.args.self.now) (names_in c.args.self.now) c.args.left
     c.args.expr.now c.in-Text.field-0 c.in-Text.text c.args.self.now.applications c.if-left-eq0.false c.in-Text.is)
     (result_outcome _ c.string.result c.args.self.now.applications c.args.self.now refl c.string.ensures)
 
 pub evaluate-returns-in-This-clause-outcome : goal.evaluate-returns-in-This-clause-outcome
 evaluate-returns-in-This-clause-outcome t c =
     same_outcome _ _ c.this.result c.args.self.now
-    (this_form (library_in c.args.self.now) (scope_of c.args.frame.now c.args.self.now) (names_in c.args.self.now) c.args.left
+    (this_form (library_in c.args.self.now) (evaluator_scope c.args.frame.now c.args.self.now) (names_in c.args.self.now) c.args.left
     c.args.expr.now c.in-This.field-0 c.args.self.now.applications c.if-left-eq0.false c.in-This.is)
     (result_outcome _ c.this.result c.args.self.now.applications c.args.self.now refl (c.this.ensures _ _))
 
 pub evaluate-returns-in-Null-clause-outcome : goal.evaluate-returns-in-Null-clause-outcome
 evaluate-returns-in-Null-clause-outcome t c =
-    null_form (library_in c.args.self.now) (scope_of c.args.frame.now c.args.self.now) (names_in c.args.self.now) c.args.left c.args.expr.now
+    null_form (library_in c.args.self.now) (evaluator_scope c.args.frame.now c.args.self.now) (names_in c.args.self.now) c.args.left c.args.expr.now
     c.in-Null.field-0 c.args.self.now.applications c.if-left-eq0.false c.in-Null.is
 
 pub part-returns-in-Number-clause-outcome : goal.part-returns-in-Number-clause-outcome
@@ -85,13 +85,13 @@ part-returns-in-Number-clause-outcome t c =
     let n = c.in-Number in
     let fits : FitsSigned w128 n.number = search rules in
     rw (to_z-of_z w128 n.number fits)
-    (number_form (library_in c.args.self.now) (scope_of c.args.frame.now c.args.self.now) (names_in c.args.self.now) c.args.left
+    (number_form (library_in c.args.self.now) (evaluator_scope c.args.frame.now c.args.self.now) (names_in c.args.self.now) c.args.left
     c.args.expr.now n.field-0 n.number c.args.self.now.applications (λ none. omega (arith, none, c.if-left-gt0.true)) n.is)
 
 pub part-returns-in-Variable-clause-outcome : goal.part-returns-in-Variable-clause-outcome
 part-returns-in-Variable-clause-outcome t c =
     same_outcome _ _ c.variable.result c.args.self.now
-    (variable_form (library_in c.args.self.now) (scope_of c.args.frame.now c.args.self.now) (names_in c.args.self.now) c.args.left
+    (variable_form (library_in c.args.self.now) (evaluator_scope c.args.frame.now c.args.self.now) (names_in c.args.self.now) c.args.left
     c.args.expr.now c.in-Variable.field-0 c.in-Variable.variable c.args.self.now.applications (λ none. omega (arith, none, c.if-left-gt0-2.true)) c.in-Variable.is)
     (result_outcome _ c.variable.result c.args.self.now.applications c.args.self.now refl c.variable.ensures)
 
@@ -99,7 +99,7 @@ pub evaluate-returns-in-Operators-clause-outcome : goal.evaluate-returns-in-Oper
 evaluate-returns-in-Operators-clause-outcome t c =
     let o = c.in-Operators in
     same_outcome _ _ c.operators.result c.operators.new.self
-    (operators_form (library_in c.args.self.now) (scope_of c.args.frame.now c.args.self.now) (names_in c.args.self.now) c.args.left
+    (operators_form (library_in c.args.self.now) (evaluator_scope c.args.frame.now c.args.self.now) (names_in c.args.self.now) c.args.left
     c.args.expr.now o.place o.first o.operands c.args.self.now.applications
     c.deref.result.now c.deref-in-Operators.result.now c.if-left-eq0.false o.is
     c.deref.ensures c.deref-in-Operators.ensures.value) c.operators.ensures.outcome
@@ -108,7 +108,7 @@ pub evaluate-returns-in-If-clause-outcome : goal.evaluate-returns-in-If-clause-o
 evaluate-returns-in-If-clause-outcome t c =
     let o = c.in-If in
     same_outcome _ _ c.if_else.result c.if_else.new.self
-    (if_form (library_in c.args.self.now) (scope_of c.args.frame.now c.args.self.now) (names_in c.args.self.now) c.args.left
+    (if_form (library_in c.args.self.now) (evaluator_scope c.args.frame.now c.args.self.now) (names_in c.args.self.now) c.args.left
     c.args.expr.now o.place o.condition o.first o.second c.args.self.now.applications
     c.deref-in-If.result.now c.deref-in-If-2.result.now c.deref-in-If-3.result.now c.if-left-eq0.false o.is
     c.deref-in-If.ensures c.deref-in-If-2.ensures c.deref-in-If-3.ensures) c.if_else.ensures.outcome
@@ -117,7 +117,7 @@ pub evaluate-returns-in-Case-clause-outcome : goal.evaluate-returns-in-Case-clau
 evaluate-returns-in-Case-clause-outcome t c =
     let o = c.in-Case in
     same_outcome _ _ c.case.result c.case.new.self
-    (case_form (library_in c.args.self.now) (scope_of c.args.frame.now c.args.self.now) (names_in c.args.self.now) c.args.left
+    (case_form (library_in c.args.self.now) (evaluator_scope c.args.frame.now c.args.self.now) (names_in c.args.self.now) c.args.left
     c.args.expr.now o.place o.subject o.branches c.args.self.now.applications
     c.deref-in-Case.result.now c.deref-in-Case-2.result.now c.if-left-eq0.false o.is
     c.deref-in-Case.ensures c.deref-in-Case-2.ensures.value) c.case.ensures.outcome
@@ -126,7 +126,7 @@ pub evaluate-returns-in-Apply-clause-outcome : goal.evaluate-returns-in-Apply-cl
 evaluate-returns-in-Apply-clause-outcome t c =
     let o = c.in-Apply in
     same_outcome _ _ c.apply.result c.apply.new.self
-    (apply_form (library_in c.args.self.now) (scope_of c.args.frame.now c.args.self.now) (names_in c.args.self.now) c.args.left
+    (apply_form (library_in c.args.self.now) (evaluator_scope c.args.frame.now c.args.self.now) (names_in c.args.self.now) c.args.left
     c.args.expr.now o.place o.function o.arguments c.args.self.now.applications
     c.deref-in-Apply.result.now c.if-left-eq0.false o.is
     c.deref-in-Apply.ensures.value) c.apply.ensures.outcome
@@ -135,7 +135,7 @@ pub evaluate-returns-in-Build-clause-outcome : goal.evaluate-returns-in-Build-cl
 evaluate-returns-in-Build-clause-outcome t c =
     let o = c.in-Build in
     same_outcome _ _ c.build.result c.build.new.self
-    (build_form (library_in c.args.self.now) (scope_of c.args.frame.now c.args.self.now) (names_in c.args.self.now) c.args.left
+    (build_form (library_in c.args.self.now) (evaluator_scope c.args.frame.now c.args.self.now) (names_in c.args.self.now) c.args.left
     c.args.expr.now o.place o.constructor o.arguments c.args.self.now.applications
     c.deref-in-Build.result.now c.if-left-eq0.false o.is
     c.deref-in-Build.ensures.value) c.build.ensures.outcome
@@ -144,7 +144,7 @@ pub evaluate-returns-in-Let-clause-outcome : goal.evaluate-returns-in-Let-clause
 evaluate-returns-in-Let-clause-outcome t c =
     let o = c.in-Let in
     same_outcome _ _ c.let_in.result c.let_in.new.self
-    (let_form (library_in c.args.self.now) (scope_of c.args.frame.now c.args.self.now) (names_in c.args.self.now) c.args.left
+    (let_form (library_in c.args.self.now) (evaluator_scope c.args.frame.now c.args.self.now) (names_in c.args.self.now) c.args.left
     c.args.expr.now o.place o.variable_place o.type_of o.variable o.value o.body c.args.self.now.applications
     c.deref-in-Let.result.now c.deref-in-Let-2.result.now c.if-left-eq0.false o.is
     c.deref-in-Let.ensures c.deref-in-Let-2.ensures) c.let_in.ensures.outcome
@@ -153,7 +153,7 @@ pub evaluate-returns-in-Prefixed-clause-outcome : goal.evaluate-returns-in-Prefi
 evaluate-returns-in-Prefixed-clause-outcome t c =
     let o = c.in-Prefixed in
     same_outcome _ _ c.prefixed.result c.prefixed.new.self
-    (prefixed_form (library_in c.args.self.now) (scope_of c.args.frame.now c.args.self.now) (names_in c.args.self.now) c.args.left
+    (prefixed_form (library_in c.args.self.now) (evaluator_scope c.args.frame.now c.args.self.now) (names_in c.args.self.now) c.args.left
     c.args.expr.now o.place o.prefix o.operand c.args.self.now.applications
     c.deref-in-Prefixed.result.now c.if-left-eq0.false o.is
     c.deref-in-Prefixed.ensures) c.prefixed.ensures.outcome
@@ -161,12 +161,12 @@ evaluate-returns-in-Prefixed-clause-outcome t c =
 pub evaluate-returns-in-Destiny-clause-outcome : goal.evaluate-returns-in-Destiny-clause-outcome
 evaluate-returns-in-Destiny-clause-outcome t c =
     ⊎_elim
-    (λ here. ap (λ (o : Outcome). o.result) (destiny_form (library_in c.args.self.now) (scope_of c.args.frame.now c.args.self.now) (names_in c.args.self.now)
+    (λ here. ap (λ (o : Outcome). o.result) (destiny_form (library_in c.args.self.now) (evaluator_scope c.args.frame.now c.args.self.now) (names_in c.args.self.now)
     c.args.left c.args.expr.now here.0 c.args.self.now.applications c.if-left-eq0.false here.1))
     (λ others. ⊎_elim
-    (λ here. ap (λ (o : Outcome). o.result) (field_form (library_in c.args.self.now) (scope_of c.args.frame.now c.args.self.now) (names_in c.args.self.now)
+    (λ here. ap (λ (o : Outcome). o.result) (field_form (library_in c.args.self.now) (evaluator_scope c.args.frame.now c.args.self.now) (names_in c.args.self.now)
     c.args.left c.args.expr.now here.0 here.1 here.2 c.args.self.now.applications c.if-left-eq0.false here.3))
-    (λ here. ap (λ (o : Outcome). o.result) (own_call_form (library_in c.args.self.now) (scope_of c.args.frame.now c.args.self.now)
+    (λ here. ap (λ (o : Outcome). o.result) (own_call_form (library_in c.args.self.now) (evaluator_scope c.args.frame.now c.args.self.now)
     (names_in c.args.self.now) c.args.left c.args.expr.now here.0 here.1 here.2 c.args.self.now.applications c.if-left-eq0.false here.3)) others)
     c.in-Destiny.is
 
@@ -252,10 +252,10 @@ body-returns-in-Some-clause-outcome t c name means =
     let shown : value_of_function (slice_get (map (decl_tree (names_in c.args.self.now)) c.deref.result.now)
     c.args.taking.declaration) ≡ Some function.value =
     rw c.deref.ensures.value (ap value_of_function function.there) in
-    let same : Some (phrase (names_in c.args.self.now) c.in-Some.value.now) ≡ Some function.value =
-    ap (option_map (λ found. phrase (names_in c.args.self.now) found.now)) (sym c.in-Some.is)
+    let same : Some (expr_tree (names_in c.args.self.now) c.in-Some.value.now) ≡ Some function.value =
+    ap (option_map (λ found. expr_tree (names_in c.args.self.now) found.now)) (sym c.in-Some.is)
     ∙ (c.function_value.ensures (names_in c.args.self.now) ∙ shown) in
-    let value : phrase (names_in c.args.self.now) c.in-Some.value.now ≡ function.value = cc in
+    let value : expr_tree (names_in c.args.self.now) c.in-Some.value.now ≡ function.value = cc in
     let counted_first : length (drop c.args.first arguments) ≡ length function.params =
     omega (
       arith,
@@ -272,7 +272,7 @@ body-returns-in-Some-clause-outcome t c name means =
     (sym (scope_call c.args.first (c.len.result - c.args.first) c.len-in-Some.result arguments (bound_in c.args.self.now)
     (ap (λ (n : ℕ). n - c.args.first) (c.len.ensures ∙ (c.args.self.now.arguments.ok.0 ∙ sym (arguments_counted c.args.self.now))))
     (c.len-in-Some.ensures ∙ (c.args.self.now.bound.ok.0 ∙ sym (bound_counted c.args.self.now)))))
-    ∙ ap (λ (tree : Phrase). evaluate library
+    ∙ ap (λ (tree : ExprTree). evaluate library
     (scope_in (frame.Function c.args.first (c.len.result - c.args.first) c.len-in-Some.result) arguments (bound_in c.args.self.now))
     c.args.left tree made) (sym value))) c.evaluate.ensures.outcome
 
@@ -282,7 +282,7 @@ body-returns-in-None-clause-outcome t c name means =
     let shown : value_of_function (slice_get (map (decl_tree (names_in c.args.self.now)) c.deref.result.now)
     c.args.taking.declaration) ≡ Some function.value =
     rw c.deref.ensures.value (ap value_of_function function.there) in
-    absurd (none-some function.value (ap (option_map (λ found. phrase (names_in c.args.self.now) found.now)) (sym c.in-None.is)
+    absurd (none-some function.value (ap (option_map (λ found. expr_tree (names_in c.args.self.now) found.now)) (sym c.in-None.is)
     ∙ (c.function_value.ensures (names_in c.args.self.now) ∙ shown)))
 
 pub build-returns-in-Some-clause-outcome : goal.build-returns-in-Some-clause-outcome
@@ -395,7 +395,7 @@ operand-returns-in_ok-right-in_default t c =
       outcome =
           same_outcome _ _ c.operate.result c.part.new.self
           (other_operand names (gives_in c.args.self.now c.args.frame.now c.args.left) operation
-          (phrase names c.args.operand.now.right) left c.args.self.now.applications c.in_default.not-And
+          (expr_tree names c.args.operand.now.right) left c.args.self.now.applications c.in_default.not-And
           c.in_default.not-Or
           ∙ (after_value _ other made _ right.outcome
           ∙ ap (λ (known : List Name). ends_with (operation_result known operation left other) made)

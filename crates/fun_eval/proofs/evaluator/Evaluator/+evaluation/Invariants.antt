@@ -1,6 +1,6 @@
 use Rattle.std.proofs.Common.{◌+◌, ◌*◌, drop}
 use Rattle.abs_values.specs.Evaluation.{operators_outcome, outcomes_of}
-use Rattle.abs_tree.specs.SyntaxViews.{operand_trees, phrase, phrases}
+use Rattle.abs_tree.specs.SyntaxViews.{operand_trees, expr_tree, expr_trees}
 use Rattle.fun_eval.specs.Evaluating.{gives_in, names_in, outcome_in}
 use Rattle.fun_eval.proofs.SoFarLemmas.{OperatorsSoFar}
 use Rattle.fun_eval.proofs.ValueLemmas.{ArgumentsSoFar, ValuesSoFar}
@@ -59,15 +59,15 @@ decreases-values l = 5 * l.left + 2
 abbrev pub invariant-operators-loop-operand : goal.invariant-operators-loop-operand
 invariant-operators-loop-operand l =
     OperatorsSoFar (operators_outcome (names_in l.fn.self) (gives_in l.fn.self l.frame l.left)
-    (outcome_in l.fn.self l.frame l.left (phrase (names_in l.fn.self) l.first)) (operand_trees (names_in l.fn.self) l.operands))
+    (outcome_in l.fn.self l.frame l.left (expr_tree (names_in l.fn.self) l.first)) (operand_trees (names_in l.fn.self) l.operands))
     l.frame l.left l.so_far (drop l.operand-index l.operands) l.fn.self l.self
 
 abbrev pub invariant-add_arguments-loop-argument : goal.invariant-add_arguments-loop-argument
 invariant-add_arguments-loop-argument l =
-    ArgumentsSoFar (outcomes_of (gives_in l.fn.self l.frame l.left) (phrases (names_in l.fn.self) l.arguments)
+    ArgumentsSoFar (outcomes_of (gives_in l.fn.self l.frame l.left) (expr_trees (names_in l.fn.self) l.arguments)
     l.fn.self.applications) l.frame l.left (drop l.argument-index l.arguments) l.fn.self l.self
 
 abbrev pub invariant-values-loop-expr : goal.invariant-values-loop-expr
 invariant-values-loop-expr l =
-    ValuesSoFar (outcomes_of (gives_in l.fn.self l.frame l.left) (phrases (names_in l.fn.self) l.exprs)
+    ValuesSoFar (outcomes_of (gives_in l.fn.self l.frame l.left) (expr_trees (names_in l.fn.self) l.exprs)
     l.fn.self.applications) l.frame l.left l.values.items (drop l.expr-index l.exprs) l.fn.self l.self

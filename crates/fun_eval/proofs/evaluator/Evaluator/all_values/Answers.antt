@@ -1,8 +1,8 @@
 use Rattle.std.proofs.Common.{ap, ◌∙◌, map, subst, sym}
 use Rattle.std.proofs.lemmas.Result.{err_from_is_err_and}
 use Rattle.abs_values.specs.Evaluation.{Outcome, Outcomes}
-use Rattle.abs_program.specs.InstructionViews.{shared_phrases}
-use Rattle.abs_tree.specs.SyntaxViews.{phrases}
+use Rattle.abs_program.specs.InstructionViews.{shared_expr_trees}
+use Rattle.abs_tree.specs.SyntaxViews.{expr_trees}
 use Rattle.abs_values.specs.ValueViews.{value_tree}
 use Rattle.fun_eval.proofs.InitialLemmas.{initial_outcome, initials_end, initials_step, initials_stopped, own_outcomes, own_stopped, own_values}
 use Rattle.fun_eval.specs.Evaluating.{library_in, names_in, AreStopped, IsStopped}
@@ -12,8 +12,8 @@ use Rattle.fun_eval.proofs.evaluator.Evaluator.all_values.Goals as goal
 pub returns-in_err-values : goal.returns-in_err-values
 returns-in_err-values c =
     let error = err_from_is_err_and c.from_residual.result c.from_residual.ensures.1 in
-    let exprs = phrases (names_in c.args.self.now) c.args.exprs.now in
-    let inits = shared_phrases (names_in c.args.self.now) c.args.inits.now in
+    let exprs = expr_trees (names_in c.args.self.now) c.args.exprs.now in
+    let inits = shared_expr_trees (names_in c.args.self.now) c.args.inits.now in
     let own = own_outcomes c.args.scope c.args.self.now exprs (ap (map value_tree) c.requires.bound) c.requires.applications in
     rw error.1
     (subst (AreStopped _) (sym error.2)
@@ -23,8 +23,8 @@ returns-in_err-values c =
 
 pub loop-initial-init : goal.loop-initial-init
 loop-initial-init c =
-    let exprs = phrases (names_in c.args.self.now) c.args.exprs.now in
-    let inits = shared_phrases (names_in c.args.self.now) c.args.inits.now in
+    let exprs = expr_trees (names_in c.args.self.now) c.args.exprs.now in
+    let inits = shared_expr_trees (names_in c.args.self.now) c.args.inits.now in
     let own = own_outcomes c.args.scope c.args.self.now exprs (ap (map value_tree) c.requires.bound) c.requires.applications in record {
       stays = c.in_ok-values.ensures.stays;
       is =

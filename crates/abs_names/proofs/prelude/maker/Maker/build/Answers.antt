@@ -1,7 +1,7 @@
 use Rattle.std.proofs.Common.{◌∙◌}
-use Rattle.abs_tree.proofs.SyntaxLemmas.{phrase-build}
+use Rattle.abs_tree.proofs.SyntaxLemmas.{expr_tree-build}
 use Rattle.abs_tree.specs.Syntax.{Name, BuildOf}
-use Rattle.abs_tree.specs.SyntaxViews.{phrases}
+use Rattle.abs_tree.specs.SyntaxViews.{expr_trees}
 use Rattle.abs_tree.specs.declared.place.Place.{Place}
 use Rattle.abs_names.proofs.PreludeLemmas.{both}
 use Rattle.abs_names.proofs.prelude.maker.Maker.build.Goals as goal
@@ -9,6 +9,6 @@ use Rattle.abs_names.proofs.prelude.maker.Maker.build.Goals as goal
 pub returns : goal.returns
 returns c =
     let names = c.args.self.now.symbols.now in
-    phrase-build names c.at.result c.in_ok-constructor.constructor c.args.arguments
-    ∙ both (λ (place : Place) (name : Name). BuildOf place name (phrases names c.args.arguments.items)) c.at.ensures
+    expr_tree-build names c.at.result c.in_ok-constructor.constructor c.args.arguments
+    ∙ both (λ (place : Place) (name : Name). BuildOf place name (expr_trees names c.args.arguments.items)) c.at.ensures
     c.in_ok-constructor.ensures

@@ -1,0 +1,141 @@
+-- Each way that a call can go, with its cause, the fields that it hands back, the status that is due and its whole
+-- output.
+--
+--   `CameTo`                        a call went one of these ways:
+--     `IsMisused`                   the words are not a valid command line
+--     `IsUnread`                    the source failed
+--     `IsOversized`                 the source has too many bytes
+--     `IsRefused`                   the source is refused, for its first offence
+--     `IsReported`                  the program was analysed and not run
+--     `HasRun`                      the program was analysed and run
+--   `IsAccepted`, `IsAnalysed`      the program of a source, with its report, and the headline of the project
+--   `SourceView`                    what a source says of itself
+use Rattle.std.specs.Prelude.{◌≡◌, ◌<◌, ◌≤◌, ◌+◌, ◌⊎◌, ℕ, List, [], ◌++◌, length, Option, Some, None}
+use Rattle.abs_outside.specs.Counts.{Rose}
+use Rattle.abs_outside.specs.Names.{Under, IsNotHeld}
+use Rattle.abs_tree.specs.Syntax.{ProgramTree}
+use Rattle.abs_tree.specs.declared.refusal.Refusal.{Refusal}
+use Rattle.abs_command.specs.declared.command.Ended.{Ended}
+use Rattle.abs_command.specs.declared.command.Status.{Status}
+use Rattle.abs_command.specs.declared.command.Status.TheVariants as status
+use Rattle.abs_command.specs.Analysis.{report_of}
+use Rattle.abs_tree.specs.Limits.{event_limit, source_limit}
+use Rattle.abs_command.specs.Headline.{NeverAwaits, NeverStuck}
+use Rattle.abs_command.specs.Sources.{IsProgramOf, FirstOffence}
+use Rattle.abs_command.specs.Statuses.{status_of}
+use Rattle.abs_command.specs.Texts.{usage_line, too_large_line, refusal_line, report_lines, end_text}
+use Rattle.abs_command.specs.Words.{Names, AreCommandWords}
+use Rattle.run_history.specs.Turns.{IsInTurn}
+use Rattle.step_rules.specs.Runs.{Ran, run_of, EndsAs}
+use Rattle.step_rules.specs.declared.kind.End.{End}
+
+-- What a source tells of itself at one moment: what each name holds, what is left to read, its counts of missing names
+-- and of faults.
+pub record SourceView : Type 0 where
+  pub under : List ℕ → Under
+  pub left : Option (List ℕ)
+  pub missing : ℕ
+  pub faults : ℕ
+
+abbrev pub source_view : (List ℕ → Under) → Option (List ℕ) → ℕ → ℕ → SourceView
+source_view under left missing faults = record { under = under; left = left; missing = missing; faults = faults }
+
+-- The fields of a call that analysed nothing and ran nothing.
+pub record HoldsOnly (ended : Ended) (refusal : Option Refusal) : Type 0 where
+  pub refusal_is : ended.refusal ≡ refusal
+  pub facts : ended.facts ≡ 0
+  pub pairs : ended.pairs ≡ 0
+  pub report : ended.report ≡ []
+  pub history : ended.history.tasks ≡ []
+  pub end : ended.end ≡ None
+
+-- The words are not a valid command line.
+pub record IsMisused (words : List (List ℕ)) (ended : Ended) (due : Option Status) (output : List ℕ) : Type 0 where
+  pub cause : AreCommandWords words → ⊥
+  pub fields : HoldsOnly ended None
+  pub status : due ≡ Some status.Usage
+  pub printed : output ≡ usage_line
+
+-- The source failed: its count of faults rose, or its count of missing names rose and it does not tell that it holds
+-- the file of the words.
+pub record IsUnread (words : List (List ℕ)) (source source' : SourceView) (ended : Ended) (due : Option Status)
+    (output : List ℕ) : Type 0 where
+  pub file : List ℕ
+  pub named : Names words file
+  pub cause : Rose source.faults source'.faults ⊎ (Rose source.missing source'.missing × IsNotHeld (source.under file))
+  pub fields : HoldsOnly ended None
+  pub status : due ≡ Some status.ReadFault
+  pub printed : output ≡ []
+
+-- The source has too many bytes.
+pub record IsOversized (words : List (List ℕ)) (bytes : List ℕ) (ended : Ended) (due : Option Status) (output : List ℕ)
+    : Type 0 where
+  pub named : AreCommandWords words
+  pub cause : source_limit < length bytes
+  pub fields : HoldsOnly ended None
+  pub status : due ≡ Some status.TooLarge
+  pub printed : output ≡ too_large_line
+
+-- The source is refused, for its first offence.
+pub record IsRefused (words : List (List ℕ)) (bytes : List ℕ) (ended : Ended) (due : Option Status) (output : List ℕ)
+    : Type 0 where
+  pub named : AreCommandWords words
+  pub small : length bytes ≤ source_limit
+  pub first : Refusal
+  pub refusal : FirstOffence bytes first
+  pub fields : HoldsOnly ended (Some first)
+  pub status : due ≡ Some status.Refused
+  pub printed : output ≡ refusal_line first
+
+-- The source is accepted, and this is its program.
+pub record IsAccepted (bytes : List ℕ) (program : ProgramTree) : Type 0 where
+  pub small : length bytes ≤ source_limit
+  pub read : IsProgramOf bytes program
+
+-- The program was analysed. If its report names no circular chain, and no statement of it is an `await`, every
+-- configuration that a legal history reaches has a step while a task in it is unfinished. Nothing is said of facts and
+-- pairs yet.
+pub record IsAnalysed (bytes : List ℕ) (ended : Ended) (program : ProgramTree) : Type 0 where
+  pub accepted : IsAccepted bytes program
+  pub refusal : ended.refusal ≡ None
+  pub report : ended.report ≡ report_of program
+  pub headline : ended.report ≡ [] → NeverAwaits program → NeverStuck program
+
+-- The program was analysed and nothing was run. No status is due yet: a fault of the sink leaves a call like this.
+pub record IsReported (words : List (List ℕ)) (bytes : List ℕ) (ended : Ended) (due : Option Status) (output : List ℕ)
+    : Type 0 where
+  pub named : AreCommandWords words
+  pub program : ProgramTree
+  pub analysed : IsAnalysed bytes ended program
+  pub history : ended.history.tasks ≡ []
+  pub end : ended.end ≡ None
+  pub status : due ≡ None
+  pub printed : output ≡ report_lines ended.report
+
+-- The program was analysed and run. Its recorded history is legal, in the order of one worker, and has at most the
+-- permitted events. The run ended in this way, and printed this.
+pub record HasRun (words : List (List ℕ)) (bytes : List ℕ) (ended : Ended) (due : Option Status) (output : List ℕ)
+    : Type 0 where
+  pub named : AreCommandWords words
+  pub program : ProgramTree
+  pub analysed : IsAnalysed bytes ended program
+  pub ran : Ran
+  pub legal : run_of program ended.history.tasks ≡ Some ran
+  pub in_turn : IsInTurn program ended.history.tasks
+  pub few : length ended.history.tasks ≤ event_limit
+  pub end : End
+  pub end_is : ended.end ≡ Some end
+  pub ends : EndsAs program event_limit ended.history.tasks ran.config end
+  pub status : due ≡ Some (status_of end ran.config)
+  pub printed : output ≡ report_lines ended.report
+      ++ end_text ran.lines end (length ended.history.tasks) ran.config.tasks
+
+-- A call went one of these ways; this status is due for it, and this is its whole output.
+pub data CameTo (words : List (List ℕ)) (bytes : List ℕ) (source source' : SourceView) (ended : Ended)
+    (due : Option Status) (output : List ℕ) : Type 0 where
+  misused : IsMisused words ended due output → CameTo words bytes source source' ended due output
+  unread : IsUnread words source source' ended due output → CameTo words bytes source source' ended due output
+  oversized : IsOversized words bytes ended due output → CameTo words bytes source source' ended due output
+  refused : IsRefused words bytes ended due output → CameTo words bytes source source' ended due output
+  reported : IsReported words bytes ended due output → CameTo words bytes source source' ended due output
+  ran : HasRun words bytes ended due output → CameTo words bytes source source' ended due output

@@ -1,9 +1,0 @@
-use Rattle.abs_types.proofs.AgreementLemmas.{typed_found, typed_whole}
-use Rattle.abs_types.proofs.SilenceLemmas.{silent_exactly_typed}
-use Rattle.abs_types.proofs.typing_laws.expressions_are_typed.Goals as goal
-
-pub returns-clause-agree : goal.returns-clause-agree
-returns-clause-agree c = λ declarations frame bound phrase type. (typed_whole, typed_found declarations frame bound phrase type)
-
-pub returns-clause-no_offence : goal.returns-clause-no_offence
-returns-clause-no_offence c = silent_exactly_typed
