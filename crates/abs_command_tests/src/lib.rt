@@ -1,7 +1,9 @@
-//! Tests of what no clause of the command says and no call of the built program shows: that calls succeed where memory
-//! is ample, what the command hands back, and sources and sinks that fail midway. They are a crate above the command,
-//! since a crate with tests is proved once more with them.
+//! Tests of what no call of the built programs shows: a source and a sink over memory whose calls fail midway, and
+//! questions about types that the programs do not ask yet. They are a crate of their own, since a crate with tests is
+//! proved once more with them.
 #![tactic(auto)]
 
 #[cfg(test)]
-mod command;
+mod failing;
+#[cfg(test)]
+mod types;

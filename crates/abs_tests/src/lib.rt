@@ -1,17 +1,8 @@
-//! Tests of what no clause of the crates below the parser says and no call of the built program shows: sources and
-//! sinks that fail, real files, graphs and values where memory is ample, and what type and what result an expression
-//! has by the definitions. They are a crate above those, since a crate with tests is proved once more with them, and
-//! need not wait for the parser and the command.
+//! Examples of definitions: what type and what result an expression has by them, where a program offends, how values
+//! are printed. A proof shows that the code does what a definition says; an example shows what the definition says.
+//! What the programs do is tested from outside, by the files of `tests/`.
 #![tactic(auto)]
 
-#[cfg(test)]
-mod graph;
-#[cfg(test)]
-mod lexer;
-#[cfg(test)]
-mod outside;
-#[cfg(test)]
-mod tree;
 #[cfg(test)]
 mod typing;
 #[cfg(test)]

@@ -1,6 +1,0 @@
-use Rattle.std.proofs.Common.{◌≤◌, ◌+◌, length}
-use Rattle.abs_show.proofs.replays.history_of.Given as goal
-
--- there is room for the tasks that are left
-abbrev pub invariant-loop-task : goal.invariant-loop-task
-invariant-loop-task l = length l.tasks ≤ l.task-index + l.history.spare

@@ -1,0 +1,60 @@
+//! What is shown of the run of a source, as whole lines: its history, its events, or what becomes of a given history.
+ghost use Rattle.std.specs.Prelude.{◌≤◌, length};
+ghost use Rattle.abs_tree.specs.Limits.{source_limit};
+
+use crate::failure::Failure;
+use crate::history::history_line;
+use crate::replays::replay_lines;
+use crate::steps::{Way, step_lines};
+use abs_lexer::lexer::tokens;
+use abs_names::resolve;
+use abs_parser::parse;
+use std::alloc::Global;
+
+/// What is shown of the run of a source.
+#[derive(Clone, Copy, PartialEq, Eq)]
+pub(crate) enum What {
+    /// Its history.
+    History,
+    /// Its events one by one, with each configuration.
+    Steps,
+    /// The same, with each event made from the output of its input.
+    Outputs,
+    /// What becomes of a given history of the source.
+    Replay,
+}
+
+impl What {
+    /// What a word of the command line names.
+    pub(crate) fn named(word: &str) -> Option<What> {
+        match word {
+            "history" => Some(What::History),
+            "steps" => Some(What::Steps),
+            "outputs" => Some(What::Outputs),
+            "replay" => Some(What::Replay),
+            _ => None,
+        }
+    }
+}
+
+/// What is asked for of a source. The tasks are those of the history of a replay.
+///
+/// # Errors
+/// [`Failure::Refused`] where the lexer, the parser or the resolver refuses the source; for a history, where the
+/// command does. [`Failure::Usage`] where a task of a replay is no number. [`Failure::Changed`] and
+/// [`Failure::Differs`] where a run event by event shows that, as [`step_lines`] says. [`Failure::Memory`] where memory
+/// runs out.
+pub(crate) fn show(alloc: Global, what: What, source: &[u8], tasks: &str) -> Result<String, Failure>
+    requires { length source.now ≤ source_limit }
+{
+    if what == What::History {
+        return history_line(alloc, source);
+    }
+    let list = tokens(alloc, source)?;
+    let program = resolve(alloc, parse(alloc, &list)?)?;
+    match what {
+        What::Steps => step_lines(alloc, &program, Way::InPlace),
+        What::Outputs => step_lines(alloc, &program, Way::Apart),
+        What::Replay | What::History => replay_lines(alloc, &program, tasks),
+    }
+}
