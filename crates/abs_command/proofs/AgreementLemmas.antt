@@ -14,7 +14,6 @@ use Rattle.abs_tree.specs.Limits.{event_limit}
 use Rattle.abs_values.specs.Results.{Result}
 use Rattle.abs_tree.specs.Syntax.{ProgramTree}
 use Rattle.abs_tree.specs.declared.refusal.Refusal.{Refusal}
-use Rattle.config_state.proofs.BodyLemmas.{get-there}
 use Rattle.config_state.specs.Configurations.{TaskState, Configuration}
 use Rattle.run_history.proofs.RunLemmas.{has_event_there}
 use Rattle.run_history.proofs.TurnLemmas.{turns_agree}
@@ -33,12 +32,13 @@ use Rattle.abs_command.specs.Ways.CameTo.{misused, unread, oversized, refused, r
 use Rattle.abs_command.specs.Statuses.{status_of, WasRead}
 use Rattle.abs_command.specs.Texts.{refusal_line, report_lines, end_text}
 use Rattle.abs_command.specs.declared.command.Ended.{Ended}
+use Rattle.list_facts.proofs.EntryLemmas.{slice_get-there}
 
 module _ (program : ProgramTree) where
   -- where every task has a result, none has an event
   done_stays : (config : Configuration) (index : ℕ) → IsDone config → HasEvent program config index → ⊥
   done_stays config index done has =
-      let at = get-there config.tasks index (has_event_there program config index has) in
+      let at = slice_get-there config.tasks index (has_event_there program config index has) in
       by_outcome at.0 at.1 at.0.outcome refl
     where
       by_outcome : (task : TaskState) → slice_get config.tasks index ≡ Some task → (outcome : Option Result)

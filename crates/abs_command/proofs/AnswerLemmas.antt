@@ -2,7 +2,6 @@
 use Rattle.std.proofs.Common.{◌≡◌, ℕ, List, [], ◌∷◌, ◌++◌, sym, ap, subst, ◌∙◌, inl, inr, refl, append_assoc}
 use Rattle.std.specs.Prelude.{Option, Some, None}
 use Rattle.std.specs.Io.KnownBytes.{Appends}
-use Rattle.std.proofs.lemmas.List.{append-nil}
 use Rattle.abs_outside.specs.Counts.{Rose}
 use Rattle.abs_tree.specs.Syntax.{ProgramTree}
 use Rattle.abs_tree.specs.declared.refusal.Refusal.{Refusal}
@@ -17,13 +16,8 @@ use Rattle.abs_command.specs.Ways.CameTo.{misused, unread, oversized, refused, r
 use Rattle.abs_command.specs.Promises.Answer.{whole, prefix}
 use Rattle.abs_command.specs.Taking.{Delivers}
 use Rattle.abs_command.specs.Words.{Names}
-use Rattle.abs_command.proofs.ByteLemmas.{Appends-then}
 use Rattle.abs_command.proofs.HeadlineLemmas.{accepted_never_stuck}
-
--- nothing was written
-pub appends_nothing : (known : Option (List ℕ)) → Appends known known []
-appends_nothing None = tt
-appends_nothing (Some bytes) = sym (append-nil bytes)
+use Rattle.list_facts.proofs.StreamLemmas.{Appends-then}
 
 -- a call with another status, and the same otherwise
 abbrev pub as_status : Ended → Status → Ended

@@ -3,14 +3,12 @@
 --   `no_get`                   in a source without a statement that gets a future no statement has that effect
 --   `accepted_never_stuck`     such a program without `await` is never stuck
 --   `no_stall`                 and no run of it stalls
-use Rattle.std.proofs.Common.{◌≡◌, ℕ, zero, suc, ◌+◌, Bool, true, false, if◌then◌else◌, List, [], ◌∷◌, Option, Some, None, ⊎_elim, refl, sym, subst, slice_get}
+use Rattle.std.proofs.Common.{◌≡◌, ℕ, zero, suc, ◌+◌, Bool, true, false, List, [], ◌∷◌, Option, Some, None, ⊎_elim, refl, sym, subst, slice_get}
 use Rattle.std.proofs.lemmas.Option.{none-some, same_Some}
 use Rattle.std.specs.List.{flat_map}
-use Rattle.abs_names.proofs.ThereTypeLemmas.{both_empty}
 use Rattle.abs_names.proofs.WholeLemmas.{resolved_is_whole}
-use Rattle.abs_tree.proofs.IndexLemmas.{slice_get-append}
 use Rattle.abs_program.specs.Control.{Point, entry, points, points_of, else_points, member_points, decl_points, program_points}
-use Rattle.abs_program.specs.Instructions.{EffectTree, CallsOwn, CallsOther, Gets, side_effect, effect_of}
+use Rattle.abs_program.specs.Instructions.{CallsOwn, CallsOther, Gets, side_effect, effect_of}
 use Rattle.abs_tree.specs.Limits.{event_limit}
 use Rattle.abs_program.specs.Slots.{is_this}
 use Rattle.abs_tree.specs.Syntax.{VariableTree, OwnCallOf, NoExpr, NextExpr, SideTree, NewOf, ValueOf, SendOf, GetOf, CallOf, NoSide, SomeSide, Statement, BlockOf, IfOf, WhileOf, DeclareOf, AssignOf, DoOf, MaybeStatements, NoElse, Else, Statements, NoStatement, NextStatement, MemberTree, FieldTree, MethodTree, DeclTree, ClassTree, SourceTree, ProgramTree}
@@ -28,6 +26,9 @@ use Rattle.abs_command.specs.Statuses.{status_by, main_failed}
 use Rattle.abs_command.specs.Unsupported.{side_gets, statement_gets, statements_gets, else_gets, member_gets, decl_gets, get_offences}
 use Rattle.abs_command.specs.declared.command.Ended.{Ended}
 use Rattle.abs_command.specs.declared.command.Status.TheVariants as status
+use Rattle.list_facts.proofs.AppendLemmas.{both_empty}
+use Rattle.list_facts.proofs.EntryLemmas.{slice_get-append}
+use Rattle.abs_program.proofs.InstructionLemmas.{neither_gets}
 
 mutual
   unfolding points
@@ -100,13 +101,6 @@ declarations_none index (ClassTree at name params implemented members ∷ others
     (slice_get-append (member_points index members) (decl_points next others) place point is)
 declarations_none index (declaration ∷ others) none place point is =
     declarations_none index others none place point is
-
--- a choice between two effects that are no `get`
-neither_gets : (chosen : Bool) (first second : EffectTree) (slot : Option ℕ) (target : Option VariableTree)
-    → (first ≡ Gets slot target → ⊥) → (second ≡ Gets slot target → ⊥)
-    → (if chosen then first else second) ≡ Gets slot target → ⊥
-neither_gets true first second slot target one other is = one is
-neither_gets false first second slot target one other is = other is
 
 -- a right side that does not get a future does not have that effect
 side_never_gets : (side : SideTree) (goal : Option VariableTree) (slot : Option ℕ) (target : Option VariableTree)

@@ -1,10 +1,9 @@
-pub mod ByteLemmas
-pub mod HeadlineLemmas
-pub mod AnswerLemmas
-pub mod SourceLemmas
-pub mod PromiseLemmas
-pub mod AgreementLemmas
-pub mod ResultLemmas
+mod HeadlineLemmas
+mod AnswerLemmas
+mod SourceLemmas
+mod PromiseLemmas
+mod AgreementLemmas
+mod ResultLemmas
 pub mod RunLemmas
-pub mod TakingLemmas
-pub mod TaskLemmas
+mod TakingLemmas
+mod TaskLemmas

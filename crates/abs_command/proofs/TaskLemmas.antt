@@ -14,12 +14,9 @@ use Rattle.config_state.specs.Views.{task_state}
 use Rattle.config_state.specs.declared.config.Config.{Config}
 use Rattle.config_state.specs.declared.task.TaskCell.{TaskCell}
 use Rattle.step_rules.specs.Runs.{IsDone, IsOpen}
+use Rattle.list_facts.proofs.OptionLemmas.{option_map-none}
 
--- a result that is missing is missing in the configuration too, and one that is there is there
-missing_kept : (outcome : Option Evaluated) → is_some outcome ≡ false → option_map result_tree outcome ≡ None
-missing_kept None is = refl
-missing_kept (Some result) is = absurd cc
-
+-- a result that is there is there in the configuration too
 there_kept : (outcome : Option Evaluated) → is_some outcome ≡ true → option_map result_tree outcome ≡ None → ⊥
 there_kept None is none = absurd cc
 there_kept (Some result) is none = absurd cc
@@ -63,7 +60,7 @@ all_done names (task ∷ others) = by (is_some task.outcome) refl (list_all (λ 
       index = 0;
       task = task_state names task;
       there = refl;
-      open_still = missing_kept task.outcome is;
+      open_still = option_map-none result_tree task.outcome is;
     }
     by true is true known = λ one_open. none is known one_open.index one_open.task one_open.there one_open.open_still
     by true is false known = later known

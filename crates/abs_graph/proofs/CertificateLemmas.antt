@@ -1,28 +1,18 @@
 -- What a certificate of components says of a graph, and that a node then reaches itself where an edge stays inside.
-use Rattle.std.proofs.Common.{◌≡◌, ℕ, zero, suc, ◌+◌, ◌<◌, ◌≤◌, ◌⊎◌, Bool, true, false, List, [], ◌∷◌, ◌++◌, refl, sym, ap, ◌∙◌, subst, inl, inr, length, get_or, map, nat_eq, arith}
+use Rattle.std.proofs.Common.{◌≡◌, ℕ, zero, suc, ◌+◌, ◌<◌, ◌≤◌, ◌⊎◌, Bool, true, List, [], ◌∷◌, ◌++◌, refl, sym, ap, ◌∙◌, subst, inl, inr, length, get_or, map, nat_eq, arith}
 use Rattle.std.specs.List.{All, list_any, range_with_len}
 use Rattle.std.specs.declared.alloc.Global.{Global}
 use Rattle.std.specs.declared.vec.Vec.{Vec}
-use Rattle.std.proofs.lemmas.Bool.{cases_lt, cases_eq, eqb-true, eq-eqb}
-use Rattle.std.proofs.lemmas.List.{get_or-map, length-map, get_or_default, get_or_past}
+use Rattle.std.proofs.lemmas.Bool.{cases_eq, eqb-true, eq-eqb}
+use Rattle.std.proofs.lemmas.List.{get_or-map, length-map, get_or_default}
 use Rattle.std.proofs.lemmas.List.Folds.{Any-from_list_any, list_any-from_Any, list_any_at}
 use Rattle.std.proofs.lemmas.List.FromFn.{map-range_with_len_more}
 use Rattle.abs_graph.specs.Graphs.{Graph, HasNodes, successors, leads, Reaches, in_one, in_more, reaches}
 use Rattle.abs_graph.specs.Views.{graph_of}
 use Rattle.abs_graph.specs.Certificates.{place_of, IsRise, Rises, HasWays}
 use Rattle.abs_graph.specs.declared.certificate.Place.{Place}
-use Rattle.abs_graph.proofs.ReachLemmas.{reaches_found, reaches_whole, same_test}
-
--- a node from which an edge leads is one of the graph
-pub lead_node : (graph : Graph) (node next : ℕ) → leads graph node next ≡ true → node < length graph
-lead_node graph node next h = elim (cases_lt node (length graph)) [
-  | inl less ↦ less
-  | inr over ↦
-      let none : successors graph node ≡ [] = get_or_past graph node [] over in
-      let never : leads graph node next ≡ false =
-      ap (λ (row : List ℕ). list_any (λ other. nat_eq other next) row) none in
-      absurd (cc)
-]
+use Rattle.abs_graph.proofs.ReachLemmas.{reaches_found, reaches_whole, leads_below}
+use Rattle.std.specs.Cmp.{both_ways}
 
 -- an edge has an index among those of its node
 lead_index : (graph : Graph) (node next : ℕ) → leads graph node next ≡ true
@@ -36,10 +26,10 @@ lead_index graph node next h =
 pub lead_end : (graph : Graph) (node next : ℕ) → HasNodes graph → leads graph node next ≡ true → next < length graph
 lead_end graph node next nodes h =
     let k = lead_index graph node next h in
-    subst (λ (n : ℕ). n < length graph) k.2 (nodes node [] (lead_node graph node next h) k.0 0 k.1)
+    subst (λ (n : ℕ). n < length graph) k.2 (nodes node [] (leads_below graph node next h) k.0 0 k.1)
 
 -- a node reaches what a node that it reaches does
-reaches_along : (graph : Graph) (goal middle node : ℕ) → Reaches graph goal middle → Reaches graph middle node
+pub reaches_along : (graph : Graph) (goal middle node : ℕ) → Reaches graph goal middle → Reaches graph middle node
     → Reaches graph goal node
 reaches_along graph goal middle node on (in_one _ edge) = in_more node middle edge on
 reaches_along graph goal middle node on (in_more _ next edge far) =
@@ -75,7 +65,7 @@ from_root graph places ways (suc bound) node there less = elim (ways.from node t
       let before = step.0 in
       let from = step.1 in
       let root = (place_of places node).root in
-      let inside = lead_node graph before node from.edge in
+      let inside = leads_below graph before node from.edge in
       let lower : (place_of places before).from_rank < bound = omega (arith, from.falls) in
       elim (from_root graph places ways bound before inside lower) [
         | inl is ↦ inr (in_one root (subst (λ (n : ℕ). leads graph n node ≡ true) (sym is ∙ from.root) from.edge))
@@ -105,7 +95,7 @@ back_again : (graph : Graph) (places : List Place) (node next : ℕ) → HasNode
 back_again graph places node next nodes ways edge same =
     let root = (place_of places node).root in
     let inside = lead_end graph node next nodes edge in
-    let there = lead_node graph node next edge in
+    let there = leads_below graph node next edge in
     let to = to_root graph places nodes ways (suc (place_of places next).toward_rank) next inside (omega arith) in
     let from = from_root graph places ways (suc (place_of places node).from_rank) node there (omega arith) in
     elim to [
@@ -166,7 +156,7 @@ stays_is_reaches : (graph : Graph) (places : List Place) (node : ℕ) → HasNod
     → HasWays graph places → stays places graph node ≡ reaches graph node node
 stays_is_reaches graph places node nodes rises ways =
     let low : (place_of places node).component ≤ (place_of places node).component = omega arith in
-    same_test (stays places graph node) (reaches graph node node) (stays_found graph places node nodes ways)
+    both_ways (stays places graph node) (reaches graph node node) (stays_found graph places node nodes ways)
     (λ h. path_stays graph places node node rises low (reaches_found graph node node h))
 
 -- the nodes to which an edge leads are those of a row
@@ -209,7 +199,7 @@ pub rises_all : (rows : List (Vec ℕ Global)) (places : List Place) (bound : �
     → length rows ≤ bound → Rises (graph_of rows) places
 rises_all rows places bound below over = record {
   rises = λ node next edge.
-      let there = lead_node (graph_of rows) node next edge in
+      let there = leads_below (graph_of rows) node next edge in
       let short = length-map rows (λ (r : Vec ℕ Global). r.items) in
       below.rises node next (omega (arith, there, short)) edge;
 }

@@ -8,7 +8,7 @@ use Rattle.abs_graph.specs.BitSets.{has}
 use Rattle.abs_graph.specs.Graphs.{Graph, successors}
 use Rattle.abs_graph.specs.Columns.{HasColumns, IsExtended, count_of, column_of, has_column, has_node}
 use Rattle.abs_graph.specs.declared.columns.Columns.{Columns}
-use Rattle.abs_graph.proofs.ReachLemmas.{same_test}
+use Rattle.std.specs.Cmp.{both_ways}
 
 -- A node has a column: that column is there, and its node is this one.
 record Owned (columns : Columns) (node : ℕ) : Type 0 where
@@ -47,7 +47,7 @@ column_same : (columns : Columns) (node other : ℕ) → has_column columns node
     → has_column columns other ≡ true
     → nat_eq (column_of columns node) (column_of columns other) ≡ nat_eq node other
 column_same columns node other reported tells =
-    same_test (nat_eq (column_of columns node) (column_of columns other)) (nat_eq node other)
+    both_ways (nat_eq (column_of columns node) (column_of columns other)) (nat_eq node other)
     (λ same. eq-eqb node other (column_distinct columns node other reported tells
     (eqb-true (column_of columns node) (column_of columns other) same)))
     (λ same. eq-eqb (column_of columns node) (column_of columns other)

@@ -1,7 +1,7 @@
-pub mod BitSetLemmas
+mod BitSetLemmas
 pub mod CertificateLemmas
-pub mod ColumnLemmas
+mod ColumnLemmas
 pub mod ListedLemmas
 pub mod ReachLemmas
-pub mod ReachingLemmas
-pub mod TableLemmas
+mod ReachingLemmas
+mod TableLemmas

@@ -20,24 +20,8 @@ use Rattle.abs_graph.specs.Columns.{column_of, count_of, has_column}
 use Rattle.abs_graph.specs.declared.columns.Columns.{Columns}
 use Rattle.abs_graph.proofs.BitSetLemmas.{word_has-past}
 use Rattle.abs_graph.proofs.ColumnLemmas.{column_inside, column_owner, has_owned}
-use Rattle.abs_graph.proofs.ReachLemmas.{same_test}
-
--- tests that are made of others
-or-false : (one : Bool) → (one || false) ≡ one
-or-false true = refl
-or-false false = refl
-
-and-true : (one : Bool) → (one && true) ≡ one
-and-true true = refl
-and-true false = refl
-
-or_assoc : (one other third : Bool) → (one || (other || third)) ≡ ((one || other) || third)
-or_assoc true other third = refl
-or_assoc false other third = refl
-
-and_or : (one other third : Bool) → ((one && other) || (one && third)) ≡ (one && (other || third))
-and_or true other third = refl
-and_or false other third = refl
+use Rattle.std.specs.Cmp.{both_ways}
+use Rattle.std.proofs.Math.Bool.{or-false, and-true, or_assoc, and-or_distrib_left}
 
 -- a list with one more number
 pub listed_push : (numbers : List ℕ) (last number : ℕ)
@@ -110,7 +94,7 @@ word_has-zero words number is =
     ∙ ap (λ (bit : ℕ). nat_eq bit 1) (bit_at-zero (number % 64))
 
 nat_eq_comm : (one other : ℕ) → nat_eq one other ≡ nat_eq other one
-nat_eq_comm one other = same_test (nat_eq one other) (nat_eq other one)
+nat_eq_comm one other = both_ways (nat_eq one other) (nat_eq other one)
     (λ reported. eq-eqb other one (sym (eqb-true one other reported))) (λ reported. eq-eqb one other (sym (eqb-true other one reported)))
 
 -- one more bit
@@ -120,7 +104,7 @@ bit_more : (words : List ℕ) (index bits place number : ℕ) → place ≡ 64 *
 bit_more words index bits place number is low =
     let before : Bool = word_bit words index bits number in
     let here : Bool = nat_eq number place && word_has words place in
-    same_test (before || here) (word_bit words index (bits + 1) number)
+    both_ways (before || here) (word_bit words index (bits + 1) number)
     (λ reported. ⊎_elim
     (λ earlier.
     let bit = is_bit words index bits number earlier in
@@ -173,7 +157,7 @@ bit_taken words index bits place number before old is low has so =
     let bit : Bool = word_bit words index bits number in
     listed_push old place number
     ∙ (ap (λ (b : Bool). b || nat_eq number place) so
-    ∙ (sym (or_assoc before bit (nat_eq number place))
+    ∙ (or_assoc before bit (nat_eq number place)
     ∙ ap (λ (b : Bool). before || b)
     (ap (λ (b : Bool). bit || b)
     (sym (and-true (nat_eq number place)) ∙ ap (λ (b : Bool). nat_eq number place && b) has)
@@ -205,7 +189,7 @@ pub words_more : (words : List ℕ) (index number : ℕ)
 words_more words index number =
     let had : Bool = word_has words number in
     let before : Bool = nat_lt (number / 64) index && had in
-    same_test (before || word_bit words index 64 number) (nat_lt (number / 64) (index + 1) && had)
+    both_ways (before || word_bit words index 64 number) (nat_lt (number / 64) (index + 1) && had)
     (λ reported. ⊎_elim
     (λ earlier.
     let both = and_parts (nat_lt (number / 64) index) had earlier in
@@ -286,7 +270,7 @@ column_taken columns column node other old is inside owns =
     (ap (λ (c : ℕ). get_or columns.nodes.items c 0) owns ∙ is) in
     listed_push old node other
     ∙ ap (λ (b : Bool). is_listed old other || b)
-    (same_test (nat_eq other node) (has_column columns other && nat_eq column (column_of columns other))
+    (both_ways (nat_eq other node) (has_column columns other && nat_eq column (column_of columns other))
     (λ reported.
     let here : other ≡ node = eqb-true other node reported in
     and_from (has_column columns other) (nat_eq column (column_of columns other))
@@ -312,7 +296,7 @@ pub columns_listed : (columns : Columns) (numbers : List ℕ) (index node : ℕ)
     ≡ (has_column columns node && is_listed (take (index + 1) numbers) (column_of columns node))
 columns_listed columns numbers index node inside =
     let column : ℕ = column_of columns node in
-    and_or (has_column columns node) (is_listed (take index numbers) column)
-    (nat_eq (get_or numbers index 0) column) ∙ ap (λ (b : Bool). has_column columns node && b)
+    sym (and-or_distrib_left (has_column columns node) (is_listed (take index numbers) column)
+    (nat_eq (get_or numbers index 0) column)) ∙ ap (λ (b : Bool). has_column columns node && b)
     (ap (λ (b : Bool). is_listed (take index numbers) column || b) (nat_eq_comm (get_or numbers index 0) column)
     ∙ sym (listed_more numbers index column inside))

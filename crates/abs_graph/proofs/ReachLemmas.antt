@@ -7,6 +7,7 @@ use Rattle.std.proofs.lemmas.List.{get_or_past}
 use Rattle.std.proofs.lemmas.Map.Steps.{length-le_from_distinct_below}
 use Rattle.abs_graph.specs.Graphs.{Graph, successors, leads, Reaches, reaches_within, reaches}
 use Rattle.abs_graph.specs.Graphs.Reaches.{in_one, in_more}
+use Rattle.std.specs.Cmp.{both_ways}
 
 -- a number of a list that passes a test
 pub record Passing (test : ℕ → Bool) (xs : List ℕ) : Type 0 where
@@ -113,7 +114,7 @@ path_of (in_one node led) = record { others = []; leading = led; distinct = (tt,
 path_of {graph} {goal} (in_more node next led later) = path_before graph goal node next led (path_of later)
 
 -- only a node has edges
-leads_below : (graph : Graph) (node next : ℕ) → leads graph node next ≡ true → node < length graph
+pub leads_below : (graph : Graph) (node next : ℕ) → leads graph node next ≡ true → node < length graph
 leads_below graph node next led = ⊎_elim
     (λ below. below)
     (λ past. absurd (true≢false (sym led
@@ -159,12 +160,6 @@ reaches_whole graph node goal reached =
     (each_below graph goal node path.others path.leading) in
     path_within (length graph) graph goal node path.others path.leading (omega (arith, count))
 
--- two tests are the same where each passes if the other does
-pub same_test : (b c : Bool) → (b ≡ true → c ≡ true) → (c ≡ true → b ≡ true) → b ≡ c
-same_test true c there back = sym (there refl)
-same_test false true there back = back refl
-same_test false false there back = refl
-
 -- what a node reaches in one step is the node to which an edge leads, or what that node reaches
 whole_step : (graph : Graph) (goal node : ℕ) → Reaches graph goal node
     → list_any (λ next. nat_eq next goal || reaches graph next goal) (successors graph node) ≡ true
@@ -189,6 +184,6 @@ found_step graph goal node reported =
 pub reaches_step : (graph : Graph) (node goal : ℕ)
     → list_any (λ next. nat_eq next goal || reaches graph next goal) (successors graph node) ≡ reaches graph node goal
 reaches_step graph node goal =
-    same_test (list_any (λ next. nat_eq next goal || reaches graph next goal) (successors graph node))
+    both_ways (list_any (λ next. nat_eq next goal || reaches graph next goal) (successors graph node))
     (reaches graph node goal) (λ reported. reaches_whole graph node goal (found_step graph goal node reported))
     (λ reported. whole_step graph goal node (reaches_found graph node goal reported))

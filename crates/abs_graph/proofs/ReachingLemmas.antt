@@ -1,9 +1,9 @@
 -- That a search finds the nodes that reach a marked one: those that it finds do, and none is missing.
-use Rattle.std.proofs.Common.{◌≡◌, ℕ, ◌+◌, ◌<◌, ◌≤◌, Bool, true, false, ◌&&◌, ◌⊎◌, List, [], ◌∷◌, ◌++◌, refl, sym, ap, ◌∙◌, subst, inl, inr, ⊎_elim, length, get_or, set, map, nat_eq, arith, true≢false}
+use Rattle.std.proofs.Common.{◌≡◌, ℕ, ◌+◌, ◌<◌, ◌≤◌, Bool, true, false, ◌&&◌, ◌⊎◌, List, [], ◌∷◌, ◌++◌, sym, ap, ◌∙◌, subst, inl, inr, ⊎_elim, length, get_or, set, map, nat_eq, arith, true≢false}
 use Rattle.std.specs.List.{list_any, range_with_len}
 use Rattle.std.specs.declared.alloc.Global.{Global}
 use Rattle.std.specs.declared.vec.Vec.{Vec}
-use Rattle.std.proofs.lemmas.Bool.{cases_lt, cases_eq, or_left, or_right, or_cases}
+use Rattle.std.proofs.lemmas.Bool.{cases_lt, cases_eq, or_left, or_right, or_cases, and_from}
 use Rattle.std.proofs.lemmas.List.{get_or_past, get_or-set_other, length-map}
 use Rattle.std.proofs.lemmas.List.Folds.{list_any_at}
 use Rattle.std.proofs.lemmas.List.FromFn.{length-range_with_len, get_or-range_with_len, fill_by_all, length-map-range_with_len, get_or-map-range_with_len, map-range_with_len_more}
@@ -11,27 +11,15 @@ use Rattle.abs_graph.specs.Graphs.{Graph, HasNodes, successors, leads, Reaches, 
 use Rattle.abs_graph.specs.Graphs.Reaches.{in_one, in_more}
 use Rattle.abs_graph.specs.Reaching.{IsSound, KeepsSound, IsClosedAt, IsClosed}
 use Rattle.abs_graph.specs.Views.{graph_of}
-use Rattle.abs_graph.proofs.CertificateLemmas.{lead_node, lead_end, row_successors}
-use Rattle.abs_graph.proofs.ReachLemmas.{reaches_found, reaches_whole, same_test, some_passes, passing}
+use Rattle.abs_graph.proofs.CertificateLemmas.{lead_end, row_successors}
+use Rattle.abs_graph.proofs.ReachLemmas.{reaches_found, reaches_whole, some_passes, passing, leads_below}
+use Rattle.std.specs.Cmp.{both_ways, first_so, second_so}
 
 -- a node that reaches a marked one
 record ToMarked (graph : Graph) (marked : List Bool) (node : ℕ) : Type 0 where
   goal : ℕ
   marks : is_marked marked goal ≡ true
   reached : Reaches graph goal node
-
--- both of two tests pass
-both_pass : (a b : Bool) → a ≡ true → b ≡ true → (a && b) ≡ true
-both_pass true b _ passes = passes
-both_pass false b passes _ = absurd (true≢false (sym passes))
-
-first_passes : (a b : Bool) → (a && b) ≡ true → a ≡ true
-first_passes true b both = refl
-first_passes false b both = both
-
-second_passes : (a b : Bool) → (a && b) ≡ true → b ≡ true
-second_passes true b both = both
-second_passes false b both = absurd (true≢false (sym both))
 
 -- a path ends at a node
 reached_node : (graph : Graph) (goal node : ℕ) → HasNodes graph → Reaches graph goal node → goal < length graph
@@ -57,7 +45,7 @@ reported_reaching graph marked node nodes to =
     let at : get_or (range_with_len 0 (length graph)) to.goal 0 ≡ to.goal =
     get_or-range_with_len 0 (length graph) to.goal 0 inside ∙ omega arith in
     let passes : test to.goal ≡ true =
-    both_pass (is_marked marked to.goal) (reaches graph node to.goal) to.marks
+    and_from (is_marked marked to.goal) (reaches graph node to.goal) to.marks
     (reaches_whole graph node to.goal to.reached) in
     or_right (is_marked marked node) (list_any test (range_with_len 0 (length graph)))
     (list_any_at test (range_with_len 0 (length graph)) to.goal 0 (omega (arith, inside, count))
@@ -74,9 +62,9 @@ reported_cases graph marked node reported = ⊎_elim
     in
     inr (record {
       goal = some.item;
-      marks = first_passes (is_marked marked some.item) (reaches graph node some.item) some.passes;
+      marks = first_so (is_marked marked some.item) (reaches graph node some.item) some.passes;
       reached = reaches_found graph node some.item
-          (second_passes (is_marked marked some.item) (reaches graph node some.item) some.passes);
+          (second_so (is_marked marked some.item) (reaches graph node some.item) some.passes);
     }))
     (or_cases (is_marked marked node)
     (list_any (λ goal. is_marked marked goal && reaches graph node goal) (range_with_len 0 (length graph))) reported)
@@ -166,10 +154,10 @@ closed_more rows marked found node row items before inside is at closed =
 closed_path : (graph : Graph) (marked found : List Bool) (bound goal node : ℕ) → IsClosed graph marked found bound
     → length graph ≤ bound → is_marked found goal ≡ true → Reaches graph goal node → is_marked found node ≡ true
 closed_path graph marked found bound goal node closed whole has (in_one _ led) =
-    let inside = lead_node graph node goal led in
+    let inside = leads_below graph node goal led in
     closed.steps node goal (omega (arith, inside, whole)) led has
 closed_path graph marked found bound goal node closed whole has (in_more _ next led far) =
-    let inside = lead_node graph node next led in
+    let inside = leads_below graph node next led in
     closed.steps node next (omega (arith, inside, whole)) led
     (closed_path graph marked found bound goal next closed whole has far)
 
@@ -191,7 +179,7 @@ found_all : (graph : Graph) (marked found : List Bool) (bound : ℕ) → HasNode
     → length graph ≤ bound → found ≡ reach_marked graph marked
 found_all graph marked found bound nodes count sound closed whole =
     fill_by_all (reaches_marked graph marked) found (length graph) false count
-    (λ node inside. same_test (is_marked found node) (reaches_marked graph marked node) (sound.tells node)
+    (λ node inside. both_ways (is_marked found node) (reaches_marked graph marked node) (sound.tells node)
     (closed_reported graph marked found bound node nodes closed whole inside))
 
 -- what a search finds that begins with the marks, once it was checked

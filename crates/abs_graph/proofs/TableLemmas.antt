@@ -1,5 +1,5 @@
 -- How the rows of a table come to have what the nodes of a graph reach.
-use Rattle.std.proofs.Common.{◌≡◌, ℕ, suc, ◌+◌, ◌<◌, ◌≤◌, Bool, true, false, ◌||◌, List, [], ◌∷◌, ◌++◌, refl, sym, ap, ◌∙◌, subst, inl, inr, length, get_or, set, take, nat_eq, arith}
+use Rattle.std.proofs.Common.{◌≡◌, ℕ, ◌+◌, ◌<◌, ◌≤◌, Bool, true, false, ◌||◌, List, [], ◌∷◌, ◌++◌, refl, sym, ap, ◌∙◌, subst, inl, inr, length, get_or, set, take, nat_eq, arith}
 use Rattle.std.specs.List.{All, list_any}
 use Rattle.std.specs.declared.alloc.Global.{Global}
 use Rattle.std.specs.declared.vec.Vec.{Vec}
@@ -15,6 +15,7 @@ use Rattle.abs_graph.specs.Views.{graph_of}
 use Rattle.abs_graph.specs.declared.columns.Columns.{Columns}
 use Rattle.abs_graph.proofs.ColumnLemmas.{column_inside, has_node_none, has_node_added, has_node_joined}
 use Rattle.abs_graph.proofs.ReachLemmas.{reaches_step}
+use Rattle.list_facts.proofs.MapLemmas.{list_any-same}
 
 -- new bits are the union for no node
 pub union_none : (columns : Columns) (rows : List (List Bool)) (filled bits : List Bool) (bound : ℕ)
@@ -82,20 +83,13 @@ union_more columns rows filled nodes index next column bits added joined other u
           ∙ sym (list_any_more (member goal) nodes index 0 less))))));
     }
 
--- tests that agree on each element of a list
-any_same : (p q : ℕ → Bool) (xs : List ℕ) → All (λ x. p x ≡ q x) xs → list_any p xs ≡ list_any q xs
-any_same p q [] same = refl
-any_same p q (x ∷ xs) same =
-    ap (λ (b : Bool). b || list_any p xs) (same 0 0 (omega arith))
-    ∙ ap (λ (b : Bool). q x || b) (any_same p q xs (λ k d less. same (suc k) d (omega (arith, less))))
-
 -- a union over the nodes to which the edges of a node lead tells what the node reaches
 union_reaches : (graph : Graph) (columns : Columns) (rows : List (List Bool)) (filled bits : List Bool) (node goal : ℕ)
     → IsFilled graph columns rows filled → IsUnion columns rows filled (successors graph node) bits
     → has_node columns bits goal ≡ reaches graph node goal
 union_reaches graph columns rows filled bits node goal known union =
     union.tells goal
-    ∙ (any_same (λ next. nat_eq next goal || has_node columns (bits_at rows next) goal)
+    ∙ (list_any-same (λ next. nat_eq next goal || has_node columns (bits_at rows next) goal)
     (λ next. nat_eq next goal || reaches graph next goal) (successors graph node)
     (λ k d less. ap (λ (b : Bool). nat_eq (get_or (successors graph node) k d) goal || b)
     (known.tells (get_or (successors graph node) k d) goal (union.all_filled k d less)))

@@ -13,8 +13,9 @@ use Rattle.abs_lexer.specs.declared.piece.Piece.TheVariants.{Blank}
 use Rattle.abs_lexer.specs.Words.{word_kind, punctuator_bytes}
 use Rattle.abs_lexer.specs.Forms.{is_white, is_on_line, IsName, IsNumber, IsQuoted, IsForm, opens_comment}
 use Rattle.abs_lexer.specs.Forms.IsForm.{word as form_word, upper as form_upper, number as form_number, text as form_text, sign as form_sign}
-use Rattle.abs_lexer.proofs.EndLemmas.{true_or_false, two_in_front}
+use Rattle.abs_lexer.proofs.EndLemmas.{two_in_front}
 use Rattle.abs_lexer.specs.Scans.{string_at, number_at, word_at, upper_at, opens_line, line_at, opens_block, block_at, punctuator_at, piece_at}
+use Rattle.std.proofs.lemmas.Bool.{false_from_ne_true}
 
 -- white space, the quote of a string, a digit, a letter of either case, and all other bytes, called marks
 pub data Class : Type 0 where
@@ -232,4 +233,4 @@ first_of_comment bytes h =
 
 -- so bytes that do not begin with a mark open no comment
 pub no_comment_opens : (bytes : List ℕ) → (class_of (slice_index bytes 0) ≡ Mark → ⊥) → opens_comment bytes ≡ false
-no_comment_opens bytes h = true_or_false (opens_comment bytes) (λ e. h (ap class_of (first_of_comment bytes e)))
+no_comment_opens bytes h = false_from_ne_true (opens_comment bytes) (λ e. h (ap class_of (first_of_comment bytes e)))

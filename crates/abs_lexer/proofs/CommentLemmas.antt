@@ -18,11 +18,12 @@ use Rattle.abs_lexer.specs.Forms.IsComment.{line, block}
 use Rattle.abs_lexer.specs.Offences.{OffendsAt}
 use Rattle.abs_lexer.specs.Offences.OffendsAt.{open_comment, broken_comment}
 use Rattle.abs_lexer.specs.Scans.{block_end, checked_piece, comment_checked, opens_line, line_at, opens_block, block_at}
-use Rattle.abs_lexer.proofs.RunLemmas.{run_passes, run_ends, run_is}
-use Rattle.abs_lexer.proofs.EndLemmas.{unbroken, two_in_front, block_ends, block_reads}
+use Rattle.abs_lexer.proofs.EndLemmas.{two_in_front, block_ends, block_reads}
 use Rattle.abs_lexer.proofs.QuotedLemmas.{checked_offence, checked_sound, front_of_piece, broken_at}
 use Rattle.abs_lexer.proofs.ScanLemmas.{Describes}
 use Rattle.abs_lexer.proofs.ScanLemmas.Describes.{comment, offence}
+use Rattle.list_facts.proofs.PrefixLemmas.{run_passes, run_ends, run_is}
+use Rattle.list_facts.proofs.Utf8Lemmas.{unbroken}
 
 -- where a line ends, no further byte is on it
 pub line_stops : (after : List ℕ) → EndsLine after → prefix_len is_on_line after ≡ 0

@@ -1,6 +1,6 @@
 -- The result of the scanner describes the bytes. Where they begin with white space, a comment or a token, the scanner
 -- finds just that.
-use Rattle.std.proofs.Common.{◌≡◌, ℕ, ◌^◌, ◌<◌, ◌≤◌, ◌||◌, Bool, true, false, cond, List, [], ◌∷◌, ◌++◌, length, take, drop, refl, sym, ap, subst, ◌∙◌, arith}
+use Rattle.std.proofs.Common.{◌≡◌, ℕ, ◌^◌, ◌<◌, ◌≤◌, Bool, true, false, cond, List, [], ◌∷◌, ◌++◌, length, take, drop, refl, sym, ap, subst, ◌∙◌, arith, length-take-le}
 use Rattle.std.proofs.Math.Seq.{take-append_seam}
 use Rattle.std.proofs.lemmas.List.{take-append-drop}
 use Rattle.std.proofs.lemmas.Bool.Decides.{nat_tests, Decides-eqb}
@@ -21,7 +21,6 @@ use Rattle.abs_lexer.specs.Forms.IsComment.{line, block}
 use Rattle.abs_lexer.specs.Tokens.{Lexed, IsLongest, IsSound, Begins}
 use Rattle.abs_lexer.specs.Tokens.Begins.{white, comment, lexeme}
 use Rattle.abs_lexer.specs.Scans.{comment_checked, string_at, line_at, block_at, number_at, word_at, upper_at, opens_line, opens_block, punctuator_at, piece_at}
-use Rattle.abs_lexer.proofs.RunLemmas.{run_within, run_over, length_front}
 use Rattle.abs_lexer.proofs.ClassLemmas.{Class, White, Quote, Digit, Lower, Upper, Mark, class_of, piece_by, piece_of_class, test_of_class, FormOf, formed_in, class_white, mark_at}
 use Rattle.abs_lexer.proofs.ClassLemmas.FormOf.{word, upper, number, text, sign}
 use Rattle.abs_lexer.proofs.QuotedLemmas.{text_found, text_is_token, describe_text}
@@ -29,6 +28,9 @@ use Rattle.abs_lexer.proofs.CommentLemmas.{line_found, block_found, comment_soun
 use Rattle.abs_lexer.proofs.SignLemmas.{sign_is_found, describe_sign}
 use Rattle.abs_lexer.proofs.ScanLemmas.{Describes, name_in_front, name_passes, lower_is_word, upper_is_word, number_in_front, describe_word, describe_upper, describe_number}
 use Rattle.abs_lexer.proofs.ScanLemmas.Describes.{white as describes_white}
+use Rattle.std.proofs.lemmas.List.Sums.{prefix_len-le-length}
+use Rattle.list_facts.proofs.PrefixLemmas.{run_over}
+use Rattle.std.proofs.lemmas.Bool.{or_parts}
 
 -- the result of the scanner describes the bytes
 pub describe : (bytes : List ℕ) → 0 < length bytes → Describes bytes (piece_at bytes)
@@ -93,8 +95,8 @@ run_is_piece p {bytes} piece after is h few =
       few,
       ap (prefix_len p) is,
       run_over p piece after h,
-      length_front (prefix_len p bytes) bytes
-          (run_within p bytes),
+      length-take-le (prefix_len p bytes) bytes
+          (prefix_len-le-length p bytes),
     )
 
 -- and then it is the piece
@@ -134,12 +136,6 @@ digits_found {bytes} piece after is y x =
     run_is_piece is_ascii_digit piece after is y.digits
     (no_longer is x Number (prefix_len is_ascii_digit bytes) (form_number (number_of piece after is y) refl))
 
--- if a disjunction is false, both of its parts are
-pub neither : (a b : Bool) → (a || b) ≡ false → (a ≡ false) × (b ≡ false)
-neither true b h = cc
-neither false true h = cc
-neither false false h = (refl, refl)
-
 -- the scanner finds a token, by cases of its form
 token_found : {kind : Lexeme} {bytes : List ℕ} (piece after : List ℕ) → bytes ≡ piece ++ after
     → opens_comment bytes ≡ false → IsLongest kind piece after → IsSound kind piece
@@ -172,7 +168,7 @@ token_found {kind} {bytes} piece after is unopened x sound Quote class (text y e
     piece_of_class Quote bytes class
     ∙ (text_found after is y ∙ (text_is_token parts.0 parts.1 ∙ ap (λ (k : Lexeme). Token k (length piece)) (sym e)))
 token_found {kind} {bytes} piece after is unopened x sound Mark class (sign p spelled e) =
-    let opens = neither (opens_line bytes) (opens_block bytes) unopened in
+    let opens = or_parts (opens_line bytes) (opens_block bytes) unopened in
     let marks : mark_at bytes ≡ punctuator_at bytes = rw (opens.0, opens.1) refl in
     piece_of_class Mark bytes class
     ∙ (marks

@@ -1,17 +1,15 @@
-pub mod NumberLemmas
-pub mod SpanLemmas
-pub mod WordLemmas
-pub mod RunLemmas
-pub mod TextLemmas
-pub mod EndLemmas
-pub mod ClassLemmas
+mod SpanLemmas
+mod WordLemmas
+mod TextLemmas
+mod EndLemmas
+mod ClassLemmas
 pub mod ScanLemmas
-pub mod QuotedLemmas
-pub mod CommentLemmas
-pub mod SignLemmas
-pub mod FoundLemmas
-pub mod OffenceLemmas
-pub mod StepLemmas
+mod QuotedLemmas
+mod CommentLemmas
+mod SignLemmas
+mod FoundLemmas
+mod OffenceLemmas
+mod StepLemmas
 pub mod LawLemmas
-pub mod LeadLemmas
-pub mod TakenLemmas
+mod LeadLemmas
+mod TakenLemmas

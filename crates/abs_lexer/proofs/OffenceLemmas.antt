@@ -1,6 +1,6 @@
 -- For each offence of the first piece, the scanner finds one with the same code, and no later.
 use Rattle.std.proofs.Common.{◌≡◌, ℕ, ◌^◌, ◌<◌, ◌≤◌, true, false, cond, List, [], ◌∷◌, ◌++◌, length, take, drop, refl, sym, ap, ◌∙◌, arith, append_assoc, length-append}
-use Rattle.std.proofs.lemmas.Bool.{false≢true}
+use Rattle.std.proofs.lemmas.Bool.{false≢true, or_parts}
 use Rattle.std.proofs.lemmas.Bool.Decides.{nat_tests, Decides-eqb}
 use Rattle.std.proofs.lemmas.List.{take-append-drop}
 use Rattle.std.specs.Char.{is_ascii_digit, is_ascii_lowercase, is_ascii_uppercase}
@@ -30,7 +30,7 @@ use Rattle.abs_lexer.proofs.ClassLemmas.FormOf.{word, upper, number, text, sign}
 use Rattle.abs_lexer.proofs.QuotedLemmas.{text_found, checked_offence, bad_found, broken_found, front_in_piece}
 use Rattle.abs_lexer.proofs.SignLemmas.{no_sign_found}
 use Rattle.abs_lexer.proofs.ScanLemmas.{name_in_front, lower_is_word, upper_is_word, number_in_front, word_is_no_number}
-use Rattle.abs_lexer.proofs.FoundLemmas.{neither, comment_found, run_takes_piece, digits_found}
+use Rattle.abs_lexer.proofs.FoundLemmas.{comment_found, run_takes_piece, digits_found}
 
 -- an offence with the code of this one was found, and this one is no earlier
 pub record IsStopped (place : Place) (bytes : List ℕ) (offence : Offence) : Type 0 where
@@ -94,7 +94,7 @@ stray_found bytes x = by (class_of x.byte) refl
         absurd (x.no_token UpperName (take words (x.byte ∷ x.others)) (drop words (x.byte ∷ x.others)) (in_front words)
         (form_upper (name_in_front is_ascii_uppercase x.byte x.others letter (upper_is_word x.byte letter)) refl))
     by Mark e =
-        let opens = neither (opens_line bytes) (opens_block bytes) x.no_comment in
+        let opens = or_parts (opens_line bytes) (opens_block bytes) x.no_comment in
         let marks : mark_at bytes ≡ punctuator_at bytes = rw (opens.0, opens.1) refl in
         piece_of_class Mark bytes (first Mark e)
         ∙ (marks ∙ no_sign_found bytes (λ p after is.

@@ -1,5 +1,5 @@
 -- Bytes that begin with a quote: a string that does not end on its line, one with an offence in it, or a token.
-use Rattle.std.proofs.Common.{◌≡◌, ℕ, ◌+◌, ◌<◌, ◌≤◌, Bool, true, false, List, [], ◌∷◌, ◌++◌, length, take, drop, refl, sym, ap, subst, ◌∙◌, arith, append_assoc, length-append, ◌⊎◌, inl, inr}
+use Rattle.std.proofs.Common.{◌≡◌, ℕ, ◌+◌, ◌<◌, ◌≤◌, Bool, true, false, List, [], ◌∷◌, ◌++◌, length, take, drop, refl, sym, ap, subst, ◌∙◌, arith, append_assoc, length-append, ◌⊎◌, inl, inr, length-take-le}
 use Rattle.std.proofs.Math.Seq.{take-append_seam}
 use Rattle.std.proofs.lemmas.Bool.{cases_lt}
 use Rattle.std.proofs.lemmas.Bool.Decides.{nat_tests}
@@ -20,14 +20,14 @@ use Rattle.abs_lexer.specs.Forms.IsForm.{text as form_text}
 use Rattle.abs_lexer.specs.Offences.{IsBadEscape, IsBroken, OffendsAt}
 use Rattle.abs_lexer.specs.Offences.OffendsAt.{open_string, bad_escape as offends_bad_escape, broken_string}
 use Rattle.abs_lexer.specs.Scans.{closing_quote, bad_escape, checked_piece, string_checked, string_at}
-use Rattle.abs_lexer.proofs.RunLemmas.{length_front}
 use Rattle.abs_lexer.proofs.TextLemmas.{closing_inside, closing_reads, Judged, judged, bad_step, bad_least, bad_nowhere}
 use Rattle.abs_lexer.proofs.TextLemmas.Judged.{good, bad}
-use Rattle.abs_lexer.proofs.EndLemmas.{broken, unbroken}
 use Rattle.abs_lexer.proofs.ClassLemmas.{Quote, Mark, class_of, FormOf, formed_in, no_comment_opens}
 use Rattle.abs_lexer.proofs.ClassLemmas.FormOf.{text}
 use Rattle.abs_lexer.proofs.ScanLemmas.{Describes, longest_in}
 use Rattle.abs_lexer.proofs.ScanLemmas.Describes.{token, offence}
+use Rattle.list_facts.proofs.Utf8Lemmas.{broken, unbroken}
+use Rattle.std.proofs.lemmas.Option.{same_Some}
 
 -- a string is two bytes longer than the bytes between its quotes
 length_quoted : {passes : ℕ → Bool} {piece : List ℕ} (x : IsQuoted passes piece) → length piece ≡ length x.inside + 2
@@ -51,15 +51,12 @@ text_found {bytes} {piece} after is x =
     ∙ (ap (λ (bs : List ℕ). take (length piece) bs) is ∙ take-append_seam piece after) in
     rw (quoted_closes after is x) (ap string_checked front)
 
-some_same : (m n : ℕ) → Some m ≡ Some n → m ≡ n
-some_same m n h = cc
-
 -- two strings that the same bytes begin with have the same length
 pub quoted_once : {bytes piece other : List ℕ} (after more : List ℕ) → bytes ≡ piece ++ after → bytes ≡ other ++ more
     → IsQuoted is_on_line piece → IsQuoted is_on_line other
     → length piece ≡ length other
 quoted_once after more is e x y =
-    let same = some_same (length x.inside) (length y.inside) (sym (quoted_closes after is x) ∙ quoted_closes more e y)
+    let same = same_Some (length x.inside) (length y.inside) (sym (quoted_closes after is x) ∙ quoted_closes more e y)
     in
     omega (arith, same, length_quoted x, length_quoted y)
 
@@ -114,7 +111,7 @@ pub broken_at : (piece : List ℕ) → utf8_valid_len piece < length piece
     → IsBroken piece (take (utf8_valid_len piece) piece)
 broken_at piece h =
     let long : length (take (utf8_valid_len piece) piece) ≡ utf8_valid_len piece =
-    length_front (utf8_valid_len piece) piece (omega arith) in
+    length-take-le (utf8_valid_len piece) piece (omega arith) in
     record {
       after = drop (utf8_valid_len piece) piece;
       is =

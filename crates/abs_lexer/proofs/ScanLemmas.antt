@@ -1,5 +1,5 @@
 -- What it means that a result of the scanner describes the bytes, and that it does so for words, names and numbers.
-use Rattle.std.proofs.Common.{◌≡◌, ℕ, suc, ◌^◌, ◌<◌, ◌≤◌, Bool, true, false, cond, List, ◌∷◌, ◌++◌, length, take, drop, refl, sym, ap, subst, ◌∙◌, arith}
+use Rattle.std.proofs.Common.{◌≡◌, ℕ, suc, ◌^◌, ◌≤◌, Bool, true, false, cond, List, ◌∷◌, ◌++◌, length, take, drop, refl, sym, ap, subst, ◌∙◌, arith, length-take-le}
 use Rattle.std.proofs.lemmas.Bool.Decides.{nat_tests}
 use Rattle.std.proofs.lemmas.List.{take-append-drop}
 use Rattle.std.proofs.lemmas.List.Elements.{All-cons, All-same}
@@ -23,9 +23,11 @@ use Rattle.abs_lexer.specs.Tokens.{IsLongest, IsSound}
 use Rattle.abs_lexer.specs.Offences.{OffendsAt}
 use Rattle.abs_lexer.specs.Offences.OffendsAt.{large_number}
 use Rattle.abs_lexer.specs.Scans.{word_at, upper_at, number_at}
-use Rattle.abs_lexer.proofs.RunLemmas.{run_passes, run_within, run_over, length_front}
 use Rattle.abs_lexer.proofs.ClassLemmas.{Class, Digit, Lower, Upper, Mark, class_of, test_of_class, FormOf, formed_in, no_comment_opens}
 use Rattle.abs_lexer.proofs.ClassLemmas.FormOf.{word, upper, number}
+use Rattle.list_facts.proofs.PrefixLemmas.{run_passes, run_over}
+use Rattle.std.proofs.lemmas.List.Sums.{prefix_len-le-length}
+use Rattle.std.proofs.lemmas.Bool.{ltb-true, ltb-false}
 
 -- a result of the scanner describes what the bytes begin with
 pub data Describes (bytes : List ℕ) : Piece → Type 0 where
@@ -108,7 +110,7 @@ pub run_longest : (p : ℕ → Bool) (class : Class) (byte : ℕ) (others : List
 run_longest p class byte others h passes form =
     let bytes : List ℕ = byte ∷ others in
     let count = prefix_len p bytes in
-    let long : length (take count bytes) ≡ count = length_front count bytes (run_within p bytes) in
+    let long : length (take count bytes) ≡ count = length-take-le count bytes (prefix_len-le-length p bytes) in
     longest_in (sym (take-append-drop count bytes)) form
     (λ other longer more is x. omega
     (arith, long, longest_run p longer more is (passes other longer (formed_in longer more is h x))))
@@ -125,7 +127,7 @@ run_token p class byte others kind h other longest sound =
     let count = prefix_len p bytes in
     token kind (take count bytes) (drop count bytes) count (sym (take-append-drop count bytes))
     (no_comment_opens bytes (λ e. other (sym h ∙ e))) longest sound
-    (sym (length_front count bytes (run_within p bytes)))
+    (sym (length-take-le count bytes (prefix_len-le-length p bytes)))
 
 -- the result for bytes that begin with a lower-case letter describes them
 pub describe_word : (byte : ℕ) (others : List ℕ) → class_of byte ≡ Lower
@@ -164,8 +166,8 @@ number_in_front byte others digit =
     record {
       some = omega (
         arith,
-        length_front (prefix_len is_ascii_digit bytes) bytes
-            (run_within is_ascii_digit bytes),
+        length-take-le (prefix_len is_ascii_digit bytes) bytes
+            (prefix_len-le-length is_ascii_digit bytes),
         count,
       );
       digits = run_passes is_ascii_digit bytes;
@@ -180,13 +182,6 @@ number_longest byte others h = run_longest is_ascii_digit Digit byte others h pa
   where
     passes : (other : Lexeme) (longer : List ℕ) → FormOf other longer Digit → AllPass is_ascii_digit longer
     passes other longer (number x e) = x.digits
-
--- the order of two numbers, by the test for it
-below : (m n : ℕ) → nat_lt m n ≡ true → m < n
-below m n h = grind (arith, nat_tests)
-
-not_below : (m n : ℕ) → nat_lt m n ≡ false → n ≤ m
-not_below m n h = grind (arith, nat_tests)
 
 -- the result for bytes that begin with a digit describes them
 pub describe_number : (byte : ℕ) (others : List ℕ) → class_of byte ≡ Digit
@@ -206,8 +201,8 @@ describe_number byte others h = by (nat_lt (digits_value 10 (take count bytes)) 
     by : (small : Bool) → nat_lt (digits_value 10 (take count bytes)) (2 ^ 127) ≡ small
         → Describes bytes (cond small (Token Number count) (Offence L4 0))
     by true e = run_token is_ascii_digit Digit byte others Number h (λ e. cc) (number_longest byte others h)
-        (below (digits_value 10 (take count bytes)) (2 ^ 127) e)
+        (ltb-true (digits_value 10 (take count bytes)) (2 ^ 127) e)
     by false e =
         offence L4 0 (λ place. large_number (take count bytes) (drop count bytes) is (number_longest byte others h)
-        (not_below (digits_value 10 (take count bytes)) (2 ^ 127) e))
+        (ltb-false (digits_value 10 (take count bytes)) (2 ^ 127) e))
         (omega arith)

@@ -1,5 +1,5 @@
 -- Bytes begin in exactly one way: with white space, a comment or a token, or else with an offence.
-use Rattle.std.proofs.Common.{◌≡◌, ℕ, ◌+◌, ◌<◌, ◌≤◌, List, [], ◌∷◌, ◌++◌, length, take, refl, sym, ap, ◌∙◌, arith}
+use Rattle.std.proofs.Common.{◌≡◌, ℕ, ◌+◌, ◌<◌, ◌≤◌, List, [], ◌∷◌, ◌++◌, length, take, refl, sym, ap, ◌∙◌, arith, length-take-le}
 use Rattle.std.proofs.Math.Seq.{take-append_seam}
 use Rattle.std.proofs.lemmas.List.{append_cancel_left}
 use Rattle.std.proofs.lemmas.List.Sums.{fold-append}
@@ -17,7 +17,6 @@ use Rattle.abs_lexer.specs.Tokens.{Lexed, Begins}
 use Rattle.abs_lexer.specs.Tokens.Begins.{white, comment, lexeme}
 use Rattle.abs_lexer.specs.Offences.{OffendsAt}
 use Rattle.abs_lexer.specs.Scans.{piece_at}
-use Rattle.abs_lexer.proofs.RunLemmas.{length_front}
 use Rattle.abs_lexer.proofs.SignLemmas.{sign_some}
 use Rattle.abs_lexer.proofs.ScanLemmas.{Describes}
 use Rattle.abs_lexer.proofs.ScanLemmas.Describes.{white as describes_white, comment as describes_comment, token as describes_token, offence as describes_offence}
@@ -151,7 +150,7 @@ stopped_offset {place} {bytes} x =
       arith,
       ap (λ (p : Place). p.offset) x.place_is,
       offset_after place (take x.front bytes),
-      length_front x.front
+      length-take-le x.front
           bytes x.within,
     )
 
@@ -163,7 +162,7 @@ stops_first {place} {bytes} code count {other} found few y =
     let x = offends_found y in
     let same = stop_parts code other.code count x.count (sym found ∙ x.found) in
     let here = offset_after place (take count bytes) in
-    let long = length_front count bytes few in
+    let long = length-take-le count bytes few in
     omega (arith, here, long, stopped_offset x, same.1, x.least)
 
 -- two offences of the first piece at the same offset are equal

@@ -1,10 +1,10 @@
 -- Strings as the scanner finds them: where a string closes, and which `\` in it begins no escape.
 use Rattle.std.proofs.Common.{◌≡◌, ℕ, suc, ◌+◌, ◌≤◌, ◌==◌, ◌||◌, not, Bool, true, false, List, [], ◌∷◌, ◌++◌, length, refl, ap, cond, ◌∙◌, arith}
-use Rattle.std.proofs.lemmas.Bool.Decides.{Decides-eqb}
 use Rattle.std.specs.Prelude.{Option, Some, None}
 use Rattle.abs_lexer.specs.Forms.{is_escape, is_on_line, is_plain, IsInside}
 use Rattle.abs_lexer.specs.Forms.IsInside.{nothing, plain, escaped}
 use Rattle.abs_lexer.specs.Scans.{increased_by, closing_quote, closing_after_escape, bad_escape}
+use Rattle.std.proofs.lemmas.Bool.{not-true, not_from_false, eqb-true}
 
 -- A byte that denotes itself in a string is no quote, no `\` and no line feed.
 record IsOther (byte : ℕ) : Type 0 where
@@ -26,17 +26,6 @@ is_other byte h = let parts = none_of (byte == 34) (byte == 92) (byte == 10) h i
 other_is : (byte : ℕ) → (byte == 34) ≡ false → (byte == 92) ≡ false → (byte == 10) ≡ false → is_plain byte ≡ true
 other_is byte q e f = rw (q, e, f) refl
 
-not_true : (b : Bool) → not b ≡ true → b ≡ false
-not_true true h = cc
-not_true false h = refl
-
-not_false : (b : Bool) → b ≡ false → not b ≡ true
-not_false true h = cc
-not_false false h = refl
-
-byte_is : (byte other : ℕ) → (byte == other) ≡ true → byte ≡ other
-byte_is byte other h = (Decides-eqb byte other).0 h
-
 -- the scan finds the closing quote of a string after the bytes inside it
 pub closing_inside : {inside : List ℕ} (after : List ℕ) → IsInside is_on_line inside
     → closing_quote (inside ++ 34 ∷ after) ≡ Some (length inside)
@@ -47,7 +36,7 @@ closing_inside after (plain byte others p h) =
     let rest = closing_inside after h in
     rw (other.quote, other.escape, other.feed, rest) (ap (λ (n : ℕ). Some n) (omega arith))
 closing_inside after (escaped byte others p h) =
-    let feed = not_true (byte == 10) p in
+    let feed = not-true (byte == 10) p in
     let rest = closing_inside after h in
     rw (feed, rest) (ap (λ (n : ℕ). Some n) (omega arith))
 
@@ -80,7 +69,7 @@ closes_quote byte others n q h =
     record {
       inside = [];
       after = others;
-      is = ap (λ (b : ℕ). b ∷ others) (byte_is byte 34 q);
+      is = ap (λ (b : ℕ). b ∷ others) (eqb-true byte 34 q);
       reads =
           nothing;
       count_is = cc;
@@ -101,7 +90,7 @@ closes_escaped : (byte : ℕ) (others : List ℕ) (n : ℕ) → (byte == 92) ≡
 closes_escaped byte others n e x = record {
   inside = 92 ∷ x.byte ∷ x.closes.inside;
   after = x.closes.after;
-  is = ap (λ (b : ℕ). b ∷ others) (byte_is byte 92 e)
+  is = ap (λ (b : ℕ). b ∷ others) (eqb-true byte 92 e)
       ∙ ap (λ (bytes : List ℕ). 92 ∷ bytes) (x.is ∙ ap (λ (bytes : List ℕ). x.byte ∷ bytes) x.closes.is);
   reads = escaped x.byte x.closes.inside x.line x.closes.reads;
   count_is = omega (arith, x.closes.count_is, x.count_is);
@@ -132,7 +121,7 @@ after_by false byte others n a h reads =
       byte = byte;
       others = others;
       is = refl;
-      line = not_false (byte == 10) a;
+      line = not_from_false (byte == 10) a;
       rest = more.0;
       closes =
           reads more.0 more.1;

@@ -1,30 +1,22 @@
 -- Statements of which a prefix was resolved, each in the scope and from the slot after the ones before it.
 use Rattle.std.proofs.Common.{◌≡◌, ℕ, ◌+◌, ◌<◌, ◌≤◌, List, [], ◌∷◌, ◌++◌, refl, sym, ap, ◌∙◌, subst, length, get_or, drop, fold, append_assoc}
-use Rattle.std.specs.Prelude.{Option, Some, None}
-use Rattle.std.specs.declared.alloc.Global.{Global}
-use Rattle.std.specs.declared.vec.Vec.{Vec}
-use denote.Param.Weighed.{most}
+use Rattle.std.specs.Prelude.{Option}
 use Rattle.std.proofs.lemmas.List.{length-append, append-nil, drop_all}
-use Rattle.abs_tree.proofs.EntryLemmas.{drop_item}
 use Rattle.abs_tree.specs.Offences.{earlier}
 use Rattle.abs_program.specs.Slots.{statement_slots, statements_slots}
 use Rattle.abs_tree.specs.Syntax.{Statement, BlockOf, SkipOf, SuspendOf, AwaitOf, ReturnOf, PrintOf, IfOf, WhileOf, DeclareOf, AssignOf, DoOf, Statements, NoStatement, NextStatement}
 use Rattle.abs_tree.specs.SyntaxViews.{statement, statements}
 use Rattle.abs_tree.specs.declared.refusal.Offence.{Offence}
 use Rattle.abs_tree.specs.declared.syntax.slot.Slot.{Slot}
-use Rattle.abs_tree.specs.declared.syntax.statement.Stmt.{Stmt, size-Stmt}
+use Rattle.abs_tree.specs.declared.syntax.statement.Stmt.{Stmt}
 use Rattle.abs_names.specs.NameOffences.{statement_offences, statements_offences}
 use Rattle.abs_names.specs.Resolution.{resolved_statement, resolved_statements}
 use Rattle.abs_names.specs.Scopes.{Scope, statement_scope, local_slot}
 use Rattle.abs_names.specs.Visible.{Names, Visible}
 use Rattle.abs_names.proofs.LeaveLemmas.{Within, within_itself, within_both, within_variable}
 use Rattle.abs_names.proofs.LoopLemmas.{SoFar, one_more, Done, all_done}
-use Rattle.abs_names.proofs.TreeLemmas.{statements_before, statements_more, statements_all}
-
--- the size of a branch that may be missing, by which the resolving of one ends
-abbrev pub branch_size : Option (Vec Stmt Global) → ℕ
-branch_size None = 0
-branch_size (Some branch) = most (λ (stmt : Stmt). size-Stmt stmt) branch.items
+use Rattle.list_facts.proofs.EntryLemmas.{drop_item}
+use Rattle.abs_tree.proofs.TreeLemmas.{statements_before, statements_more, statements_all}
 
 -- a scope, and the first free slot
 abbrev pub Spot : Type 0

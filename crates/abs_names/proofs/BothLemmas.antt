@@ -17,18 +17,9 @@ use Rattle.abs_names.specs.Scopes.{Scope}
 use Rattle.abs_names.specs.TypeNames.{Around, around_of}
 use Rattle.abs_names.proofs.FormLemmas.{both_noted}
 use Rattle.abs_names.specs.Spaces.{space_offences, spaces_offences}
+use Rattle.list_facts.proofs.AppendLemmas.{each_of_both}
 
--- what is made of items one by one is, for two lists, that of the first and then that of the second
-each_of_both : {A B : Type 0} (all : List A → List B) (one : A → List B) → all [] ≡ []
-    → ((item : A) (others : List A) → all (item ∷ others) ≡ one item ++ all others) → (first second : List A)
-    → all (first ++ second) ≡ all first ++ all second
-each_of_both {A} {B} all one none more [] second = ap (λ (xs : List B). xs ++ all second) (sym none)
-each_of_both {A} {B} all one none more (item ∷ first) second =
-    more item (first ++ second)
-    ∙ (ap (λ (xs : List B). one item ++ xs) (each_of_both all one none more first second)
-    ∙ (sym (append_assoc (one item) (all first) (all second))
-    ∙ ap (λ (xs : List B). xs ++ all second) (sym (more item first))))
-
+-- what two lists have is that of the first and then that of the second
 pub repeats_of_both : (first second : List DeclTree)
     → declarations_repeats (first ++ second) ≡ declarations_repeats first ++ declarations_repeats second
 repeats_of_both = each_of_both declarations_repeats declaration_repeats refl (λ item others. refl)

@@ -5,7 +5,6 @@ use Rattle.std.proofs.lemmas.List.{drop_all}
 use Rattle.std.proofs.lemmas.List.Elements.{All-nil, All-cons}
 use Rattle.std.proofs.lemmas.List.Sums.{fold-append}
 use Rattle.abs_graph.specs.Graphs.{Graph}
-use Rattle.abs_tree.proofs.EntryLemmas.{drop_item}
 use Rattle.abs_program.specs.Supertypes.{supertypes_in}
 use Rattle.abs_tree.specs.Offences.{earlier}
 use Rattle.abs_tree.specs.Syntax.{Name, DeclTree}
@@ -17,6 +16,7 @@ use Rattle.abs_names.specs.Extension.{extension_offences, name_place}
 use Rattle.abs_names.specs.Single.{cyclic}
 use Rattle.abs_names.specs.TypeNames.{Around}
 use Rattle.abs_names.specs.Visible.{Names, Visible}
+use Rattle.list_facts.proofs.EntryLemmas.{drop_item}
 
 -- the offences of declarations from an index on are that of the first one, followed by those of the others
 offences_next : (cycles : List Bool) (index : ℕ) (declaration : DeclTree) (others : List DeclTree)

@@ -1,5 +1,5 @@
--- Expressions that hold a list: the tree of one from its parts, and the resolved one from theirs.
-use Rattle.std.proofs.Common.{◌≡◌, ℕ, List, [], ◌∷◌, ◌++◌, arith, refl, sym, ap, ◌∙◌, subst, length, fold}
+-- Expressions that hold a list: the resolved one from its resolved parts, and its offences.
+use Rattle.std.proofs.Common.{◌≡◌, ℕ, List, ◌++◌, sym, ap, ◌∙◌, subst, length, fold}
 use Rattle.std.specs.Prelude.{Option}
 use Rattle.std.specs.declared.alloc.Global.{Global}
 use Rattle.std.specs.declared.boxed.Box.{Box}
@@ -23,6 +23,7 @@ use Rattle.abs_names.specs.NameOffences.{exprs_offences}
 use Rattle.abs_names.specs.Resolution.{resolved_exprs, resolved_operands, resolved_branches}
 use Rattle.abs_names.specs.TypeNames.{Around, applied}
 use Rattle.abs_names.specs.Visible.{Names, Known, Visible}
+use Rattle.abs_tree.proofs.FormLemmas.{exprs_counted}
 
 -- offences that were noted one list after the other were noted together
 pub both_noted : (first between after : Option Offence) (one other : List Offence) → between ≡ fold earlier first one
@@ -53,17 +54,7 @@ pub kept_in : (known : Known) (names : Names) (kept name : Symbol)
 kept_in known names kept name is same =
     subst (λ (ns : Names). name_of ns.after kept ≡ name_of ns.before name) same is
 
--- the tree of operators of one precedence
-pub operators_tree : (names : List Name) (expr : Expr) (place : Place) (first : Box Expr Global)
-    (operands : Vec Operand Global) (value : Expr) (items : List Operand) → expr ≡ code.Operators place first operands
-    → value ≡ first.value → items ≡ operands.items
-    → expr_tree names expr ≡ OperatorsOf place (expr_tree names value) (operand_trees names items)
-operators_tree names expr place first operands value items is value_is items_are =
-    ap (expr_tree names) is
-    ∙ (expr_tree-operators names place first operands
-    ∙ (ap (λ (e : Expr). OperatorsOf place (expr_tree names e) (operand_trees names operands.items)) (sym value_is)
-    ∙ ap (λ (os : List Operand). OperatorsOf place (expr_tree names value) (operand_trees names os)) (sym items_are)))
-
+-- resolved operators of one precedence
 pub operators_found : (start now : Visible) (place : Place) (made : Box Expr Global) (found : Vec Operand Global)
     (first : ExprTree) (items : List Operand) → now ≡ start → expr_tree start.names.after made.value ≡ first
     → operand_trees now.names.after found.items ≡ resolved_operands now.scope (operand_trees now.names.before items)
@@ -76,16 +67,7 @@ operators_found start now place made found first items same one others =
     operand_trees v.names.after found.items ≡ resolved_operands v.scope (operand_trees v.names.before items))
     same others))
 
--- the tree of a `case`
-pub case_tree : (names : List Name) (expr : Expr) (place : Place) (subject : Box Expr Global) (arms : Vec Branch Global)
-    (value : Expr) (items : List Branch) → expr ≡ code.Case place subject arms → value ≡ subject.value
-    → items ≡ arms.items → expr_tree names expr ≡ CaseOf place (expr_tree names value) (branches names items)
-case_tree names expr place subject arms value items is value_is items_are =
-    ap (expr_tree names) is
-    ∙ (expr_tree-case names place subject arms
-    ∙ (ap (λ (e : Expr). CaseOf place (expr_tree names e) (branches names arms.items)) (sym value_is)
-    ∙ ap (λ (bs : List Branch). CaseOf place (expr_tree names value) (branches names bs)) (sym items_are)))
-
+-- a resolved `case`
 pub case_found : (start now : Visible) (place : Place) (made : Box Expr Global) (found : Vec Branch Global)
     (subject : ExprTree) (items : List Branch) → now ≡ start → expr_tree start.names.after made.value ≡ subject
     → branches now.names.after found.items ≡ resolved_branches now.scope (branches now.names.before items)
@@ -96,31 +78,6 @@ case_found start now place made found subject items same one others =
     ∙ (ap (λ (p : ExprTree). CaseOf place p (branches start.names.after found.items)) one
     ∙ ap (CaseOf place subject) (subst (λ (v : Visible).
     branches v.names.after found.items ≡ resolved_branches v.scope (branches v.names.before items)) same others))
-
--- the trees of a call on `this`, of a function and of a constructor
-pub own_call_tree : (names : List Name) (expr : Expr) (place : Place) (method : Symbol)
-    (arguments : Arc (Vec Expr Global) Global) (items : List Expr) → expr ≡ code.OwnCall place method arguments
-    → items ≡ arguments.value.items → expr_tree names expr ≡ OwnCallOf place (name_of names method) (expr_trees names items)
-own_call_tree names expr place method arguments items is items_are =
-    ap (expr_tree names) is
-    ∙ (expr_tree-own_call names place method arguments
-    ∙ ap (λ (es : List Expr). OwnCallOf place (name_of names method) (expr_trees names es)) (sym items_are))
-
-pub apply_tree : (names : List Name) (expr : Expr) (place : Place) (function : Symbol) (arguments : Vec Expr Global)
-    (items : List Expr) → expr ≡ code.Apply place function arguments → items ≡ arguments.items
-    → expr_tree names expr ≡ ApplyOf place (name_of names function) (expr_trees names items)
-apply_tree names expr place function arguments items is items_are =
-    ap (expr_tree names) is
-    ∙ (expr_tree-apply names place function arguments
-    ∙ ap (λ (es : List Expr). ApplyOf place (name_of names function) (expr_trees names es)) (sym items_are))
-
-pub build_tree : (names : List Name) (expr : Expr) (place : Place) (constructor : Symbol)
-    (arguments : Vec Expr Global) (items : List Expr) → expr ≡ code.Build place constructor arguments
-    → items ≡ arguments.items → expr_tree names expr ≡ BuildOf place (name_of names constructor) (expr_trees names items)
-build_tree names expr place constructor arguments items is items_are =
-    ap (expr_tree names) is
-    ∙ (expr_tree-build names place constructor arguments
-    ∙ ap (λ (es : List Expr). BuildOf place (name_of names constructor) (expr_trees names es)) (sym items_are))
 
 -- a resolved call on `this`, of a function and of a constructor
 pub own_call_found : (start now : Visible) (place : Place) (method : Name) (kept : Symbol)
@@ -158,11 +115,6 @@ build_found start now place constructor kept found items same name resolved =
     ∙ (ap (λ (n : Name). BuildOf place n (expr_trees start.names.after found.items)) name
     ∙ ap (BuildOf place constructor) (subst (λ (v : Visible).
     expr_trees v.names.after found.items ≡ resolved_exprs v.scope (expr_trees v.names.before items)) same resolved))
-
--- a list has as many expressions as trees
-pub exprs_counted : (names : List Name) (exprs : List Expr) → count_exprs (expr_trees names exprs) ≡ length exprs
-exprs_counted names [] = refl
-exprs_counted names (one ∷ others) = omega (arith, exprs_counted names others)
 
 -- the offences of a name with its arguments, which are expressions
 pub exprs_noted : (start now : Visible) (place : Place) (items : List Expr) (taken known : Option ℕ)

@@ -1,38 +1,11 @@
 -- A list whose items are changed one by one, from the first on: each has a tree, what that becomes, and its offences.
 use Rattle.std.proofs.Common.{◌≡◌, ℕ, ◌+◌, ◌<◌, ◌≤◌, List, [], ◌∷◌, ◌++◌, sym, ap, ◌∙◌, subst, length, get_or, take, drop, set, map, fold, append_assoc, arith}
-use Rattle.std.specs.Prelude.{Option, All}
-use Rattle.std.proofs.lemmas.List.{length-set, take_more_set, drop-set-lt, drop-drop, map-append, append-nil, take_all, drop_all}
-use Rattle.std.proofs.lemmas.List.Elements.{All-nil, All-cons, All-append}
+use Rattle.std.specs.Prelude.{Option}
+use Rattle.std.proofs.lemmas.List.{map-append, append-nil, take_all, drop_all}
 use Rattle.std.proofs.lemmas.List.Sums.{fold-append}
-use Rattle.abs_tree.proofs.EntryLemmas.{drop_item}
 use Rattle.abs_tree.specs.Offences.{earlier}
 use Rattle.abs_tree.specs.declared.refusal.Offence.{Offence}
-
--- The items from an index on are as before.
-pub record InPlace {A : Type 0} (items : List A) (index : ℕ) (now : List A) : Type 0 where
-  pub same_length : length now ≡ length items
-  pub rest : drop index now ≡ drop index items
-
--- One more item was changed. Those before it stay, it follows them, and the others are as before.
-pub record OneChanged {A : Type 0} (items : List A) (index : ℕ) (now after : List A) (item one : A) : Type 0 where
-  pub in_place : InPlace items (index + 1) after
-  pub changed : take (index + 1) after ≡ take index now ++ one ∷ []
-  pub split : drop index items ≡ item ∷ drop (index + 1) items
-
-one_changed : {A : Type 0} {items now after : List A} {index : ℕ} (item one : A) → InPlace items index now
-    → index < length now → item ≡ get_or now index item → after ≡ set now index one
-    → OneChanged items index now after item one
-one_changed {A} {items} {now} {after} {index} item one h there is added =
-    let later : drop (index + 1) now ≡ drop (index + 1) items =
-    sym (drop-drop 1 index now) ∙ (ap (drop 1) h.rest ∙ drop-drop 1 index items) in
-    record {
-      in_place = record {
-        same_length = ap length added ∙ (length-set now index one ∙ h.same_length);
-        rest = ap (drop (index + 1)) added ∙ (drop-set-lt (index + 1) now index one (omega arith) ∙ later);
-      };
-      changed = ap (take (index + 1)) added ∙ take_more_set now index one there;
-      split = sym h.rest ∙ (drop_item now index item there is ∙ ap (λ (xs : List A). item ∷ xs) later);
-    }
+use Rattle.list_facts.proofs.InPlaceLemmas.{InPlace, one_changed}
 
 -- How the items of a list are resolved, in a context that stays the same. A count may go on from one item to the next.
 -- An item has a tree before and after. One tree, and all trees, have their resolved trees and their offences. The laws
@@ -131,19 +104,3 @@ changed_done {A} {T} {C} {how} {start} {begin} {first} {items} {index} {now} {co
           ∙ (ap (λ (xs : List A). fold earlier noted (how.all_offences start count (map (how.before start) xs))) none
           ∙ h.offences);
     }
-
--- Each item before an index has a property.
-pub record HaveSoFar {A : Type 0} (P : A → Type 0) (index : ℕ) (now : List A) : Type 0 where
-  pub each : All P (take index now)
-
-pub have_step : {A : Type 0} {P : A → Type 0} {index : ℕ} {now later : List A} (one : A) → HaveSoFar P index now
-    → index < length now → later ≡ set now index one → P one → HaveSoFar P (index + 1) later
-have_step {A} {P} {index} {now} {later} one h there added has = record {
-  each = subst (All P) (sym (ap (take (index + 1)) added ∙ take_more_set now index one there))
-      (All-append P (take index now) (one ∷ []) h.each (All-cons P one [] has (All-nil P)));
-}
-
--- all items have it
-pub have_done : {A : Type 0} {P : A → Type 0} {index : ℕ} {now : List A} → HaveSoFar P index now → length now ≤ index
-    → All P now
-have_done {A} {P} {index} {now} h over = subst (All P) (take_all index now over) h.each

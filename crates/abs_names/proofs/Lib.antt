@@ -1,32 +1,31 @@
-pub mod ScopeLemmas
-pub mod PreludeLemmas
-pub mod SpaceLemmas
-pub mod RepeatLemmas
-pub mod TreeLemmas
-pub mod LoopLemmas
-pub mod PatternLemmas
-pub mod LeaveLemmas
-pub mod RowLemmas
-pub mod TypeLemmas
-pub mod FormLemmas
-pub mod BlockLemmas
-pub mod ControlLemmas
-pub mod ParamLemmas
-pub mod SlotLemmas
-pub mod SizeLemmas
-pub mod InPlaceLemmas
-pub mod MemberLemmas
-pub mod DeclarationLemmas
-pub mod SourceSizeLemmas
-pub mod ExtensionLemmas
-pub mod ResolvedLemmas
-pub mod BothLemmas
-pub mod OwnSlotLemmas
-pub mod NewestLemmas
-pub mod ThereTypeLemmas
-pub mod ThereScopeLemmas
-pub mod ThereExpressionLemmas
-pub mod ThereStatementLemmas
-pub mod ThereBodyLemmas
-pub mod ThereLemmas
+mod ScopeLemmas
+mod PreludeLemmas
+mod SpaceLemmas
+mod RepeatLemmas
+mod LoopLemmas
+mod PatternLemmas
+mod LeaveLemmas
+mod RowLemmas
+mod TypeLemmas
+mod FormLemmas
+mod BlockLemmas
+mod ControlLemmas
+mod ParamLemmas
+mod SlotLemmas
+mod SizeLemmas
+mod InPlaceLemmas
+mod MemberLemmas
+mod DeclarationLemmas
+mod SourceSizeLemmas
+mod ExtensionLemmas
+mod ResolvedLemmas
+mod BothLemmas
+mod OwnSlotLemmas
+mod NewestLemmas
+mod ThereTypeLemmas
+mod ThereScopeLemmas
+mod ThereExpressionLemmas
+mod ThereStatementLemmas
+mod ThereBodyLemmas
+mod ThereLemmas
 pub mod WholeLemmas

@@ -4,9 +4,9 @@ use Rattle.std.proofs.Common.{◌≡◌, ℕ, ◌+◌, ◌<◌, ◌≤◌, List,
 use Rattle.std.specs.Prelude.{Option}
 use Rattle.std.proofs.lemmas.List.{drop_all}
 use Rattle.std.proofs.lemmas.List.Sums.{fold-append}
-use Rattle.abs_tree.proofs.EntryLemmas.{drop_item}
 use Rattle.abs_tree.specs.Offences.{earlier}
 use Rattle.abs_tree.specs.declared.refusal.Offence.{Offence}
+use Rattle.list_facts.proofs.EntryLemmas.{drop_item}
 
 -- The items before an index were resolved, from a start on; this is the state now, and the first offence so far.
 -- `trees` are the trees of items, `before` puts them before other trees, `made` and `met` are the resolved trees and

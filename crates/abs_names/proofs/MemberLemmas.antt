@@ -1,6 +1,5 @@
 -- How the members of a class are resolved, and members of which a prefix are known as fields.
 use Rattle.std.proofs.Common.{◌≡◌, ℕ, ◌+◌, ◌<◌, List, refl, sym, ap, ◌∙◌, subst, length, get_or, drop, map}
-use Rattle.abs_tree.proofs.EntryLemmas.{drop_item}
 use Rattle.abs_tree.specs.Syntax.{MemberTree}
 use Rattle.abs_tree.specs.SyntaxViews.{member_tree}
 use Rattle.abs_tree.specs.declared.syntax.declaration.Member.{Member}
@@ -10,6 +9,7 @@ use Rattle.abs_names.specs.Scopes.{Meanings, fields_after, with_member, with_mem
 use Rattle.abs_names.specs.TypeNames.{Around}
 use Rattle.abs_names.specs.Visible.{Names, Visible}
 use Rattle.abs_names.proofs.InPlaceLemmas.{ItemResolution}
+use Rattle.list_facts.proofs.EntryLemmas.{drop_item}
 
 -- What stays the same from one member of a class to the next: the names, what is around, and the fields.
 pub record InClass : Type 0 where

@@ -3,7 +3,6 @@ use Rattle.std.proofs.Common.{◌≡◌, ℕ, ◌+◌, ◌<◌, List, [], ◌∷
 use Rattle.std.specs.List.{range_with_len}
 use Rattle.std.proofs.lemmas.List.{length-append, length-map}
 use Rattle.std.proofs.lemmas.List.FromFn.{length-map-range_with_len}
-use Rattle.abs_tree.proofs.EntryLemmas.{drop_item}
 use Rattle.abs_program.specs.Slots.{param_slots}
 use Rattle.abs_tree.specs.Syntax.{Name, VariableTree, AtSlot, ParamTree}
 use Rattle.abs_tree.specs.SyntaxViews.{variable_tree, param_tree}
@@ -17,6 +16,7 @@ use Rattle.abs_names.specs.TypeNames.{Around, resolved_type, type_offences}
 use Rattle.abs_names.specs.Visible.{Names, Visible}
 use Rattle.abs_names.specs.declared.scope.Routine.{Routine}
 use Rattle.abs_names.proofs.InPlaceLemmas.{ItemResolution}
+use Rattle.list_facts.proofs.EntryLemmas.{drop_item}
 
 -- there are as many parameters as before
 pub params_length : (around : Around) (make : ℕ → VariableTree) (index : ℕ) (params : List ParamTree)

@@ -1,5 +1,5 @@
 -- Patterns of which a prefix was resolved, each in the scope after the ones before it; patterns with a constructor.
-use Rattle.std.proofs.Common.{◌≡◌, ℕ, ◌+◌, ◌<◌, ◌≤◌, List, [], ◌∷◌, ◌++◌, arith, refl, sym, ap, ◌∙◌, subst, length, get_or, fold}
+use Rattle.std.proofs.Common.{◌≡◌, ℕ, ◌+◌, ◌<◌, ◌≤◌, List, [], ◌∷◌, ◌++◌, refl, sym, ap, ◌∙◌, subst, length, get_or, fold}
 use Rattle.std.specs.Prelude.{Option}
 use Rattle.std.specs.declared.alloc.Global.{Global}
 use Rattle.std.specs.declared.vec.Vec.{Vec}
@@ -21,7 +21,8 @@ use Rattle.abs_names.specs.TypeNames.{applied, constructor_taking}
 use Rattle.abs_names.specs.Visible.{Names, Visible}
 use Rattle.abs_names.proofs.FormLemmas.{applied_noted}
 use Rattle.abs_names.proofs.LoopLemmas.{SoFar, one_more, Done, all_done}
-use Rattle.abs_names.proofs.TreeLemmas.{patterns_before, patterns_more, patterns_all}
+use Rattle.abs_tree.proofs.TreeLemmas.{patterns_before, patterns_more, patterns_all}
+use Rattle.abs_tree.proofs.FormLemmas.{patterns_counted}
 
 -- The patterns before an index were resolved from a scope on; this is the scope now, and the first offence so far.
 pub record PatternsSoFar (names : Names) (scope : Scope) (first : Option Offence) (parts : List Pattern) (index : ℕ)
@@ -75,22 +76,6 @@ pub patterns_done : {names : Names} {scope : Scope} {first : Option Offence} {pa
     → Done (pattern_trees names.before) resolved_patterns patterns_offences patterns_scope scope first parts
     (pattern_trees names.after found) now.scope noted
 patterns_done {names} {found = found} h over = all_done h.so_far over (sym (patterns_all names.after found)) refl refl
-
--- a list has as many patterns as trees
-pub patterns_counted : (names : List Name) (parts : List Pattern)
-    → count_patterns (pattern_trees names parts) ≡ length parts
-patterns_counted names [] = refl
-patterns_counted names (one ∷ others) = omega (arith, patterns_counted names others)
-
--- the tree of a pattern with a constructor
-pub built_tree : (names : List Name) (pattern : Pattern) (place : Place) (constructor : Symbol)
-    (arguments : Vec Pattern Global) (parts : List Pattern) → pattern ≡ code.Built place constructor arguments
-    → parts ≡ arguments.items
-    → pattern_tree names pattern ≡ Built place (name_of names constructor) (pattern_trees names parts)
-built_tree names pattern place constructor arguments parts is parts_are =
-    ap (pattern_tree names) is
-    ∙ (pattern_tree-built names place constructor arguments
-    ∙ ap (λ (ps : List Pattern). Built place (name_of names constructor) (pattern_trees names ps)) (sym parts_are))
 
 -- a resolved pattern with a constructor, and its offences
 pub built_found : (start now : Visible) (place : Place) (constructor kept : Symbol) (found : Vec Pattern Global)

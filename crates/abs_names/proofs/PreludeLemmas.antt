@@ -119,7 +119,3 @@ next_name first names next index name inside so_far is added =
     ∙ (ap (λ (known : List (List ℕ)). with_name known name) so_far
     ∙ (ap (with_name (fold with_name first (take index prelude_names))) is
     ∙ sym (fold_more with_name first prelude_names index [] there)))
-
--- a function of two equal arguments
-pub both : {A B C : Type 0} (f : A → B → C) {a b : A} {c d : B} → a ≡ b → c ≡ d → f a c ≡ f b d
-both f {a} {b} {c} {d} one other = ap (λ x. f x c) one ∙ ap (f b) other

@@ -9,7 +9,6 @@ use Rattle.std.proofs.lemmas.List.Folds.{list_any-append}
 use Rattle.std.proofs.lemmas.List.Sums.{fold-append}
 use Rattle.std.proofs.lemmas.Slice.Eq.{bytes_eq-Decides}
 use Rattle.indexmap.specs.IndexSet.{insert_key}
-use Rattle.abs_tree.proofs.EntryLemmas.{drop_item}
 use Rattle.abs_tree.proofs.NumberLemmas.{numbers_tell_names}
 use Rattle.abs_tree.specs.Names.{with_name, number_of_name, name_of}
 use Rattle.abs_tree.specs.Offences.{earlier}
@@ -21,7 +20,8 @@ use Rattle.abs_tree.specs.declared.syntax.declaration.Declared.{Declared}
 use Rattle.abs_names.specs.Repeats.{repeated}
 use Rattle.abs_names.specs.Single.{twice}
 use Rattle.abs_names.specs.Visible.{Names, Visible}
-use Rattle.abs_program.proofs.KeptSpaceLemmas.{same_test}
+use Rattle.list_facts.proofs.EntryLemmas.{drop_item}
+use Rattle.std.specs.Cmp.{both_ways}
 
 -- the numbers of two names are the same where the names are
 same_number : (names : List Name) (one other : Symbol)
@@ -30,7 +30,7 @@ same_number : (names : List Name) (one other : Symbol)
 same_number names one other =
     let laws = numbers_tell_names names one other in
     let tells = bytes_eq-Decides (name_of names one) (name_of names other) in
-    same_test (nat_eq (number_of_name names (name_of names one)) (number_of_name names (name_of names other)))
+    both_ways (nat_eq (number_of_name names (name_of names one)) (number_of_name names (name_of names other)))
     (bytes_eq (name_of names one) (name_of names other))
     (λ e. tells.1 (laws.0 (grind (arith, nat_tests))))
     (λ e. let equal = laws.1 (tells.0 e) in grind (arith, nat_tests))

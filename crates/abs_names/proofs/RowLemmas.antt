@@ -14,7 +14,7 @@ use Rattle.abs_names.specs.Resolution.{resolved_pattern, resolved_expr, resolved
 use Rattle.abs_names.specs.Scopes.{Scope, pattern_scope}
 use Rattle.abs_names.specs.Visible.{Visible}
 use Rattle.abs_names.proofs.LoopLemmas.{SoFar, one_more}
-use Rattle.abs_names.proofs.TreeLemmas.{exprs_before, exprs_more, operands_before, operands_more, branches_before, branches_more, tests_before, tests_more}
+use Rattle.abs_tree.proofs.TreeLemmas.{exprs_before, exprs_more, operands_before, operands_more, branches_before, branches_more, tests_before, tests_more}
 
 -- the scope is the same after each tree
 abbrev pub same_scope : {T : Type 0} → Scope → T → Scope

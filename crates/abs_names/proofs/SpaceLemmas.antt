@@ -1,27 +1,21 @@
 -- Name spaces by name and by number are the same, also after more names are declared.
-use Rattle.std.proofs.Common.{◌≡◌, ℕ, Bool, true, false, List, [], ◌∷◌, Ok, Err, refl, sym, ap, ◌∙◌, subst, cond, length, drop, fold, map, arith}
-use Rattle.std.specs.Prelude.{Option, Some, None, is_some, option_map, Result, OnOk, OnErr, IfOk}
+use Rattle.std.proofs.Common.{◌≡◌, ℕ, Bool, true, false, List, ◌∷◌, Ok, Err, refl, sym, ap, ◌∙◌, subst, cond, drop, fold, map}
+use Rattle.std.specs.Prelude.{Option, is_some, option_map, Result, OnOk, OnErr, IfOk}
 use Rattle.abs_tree.proofs.NumberLemmas.{name_of_number}
-use Rattle.abs_program.specs.NameSpaces.{count_types, with_constructors, with_declarations}
+use Rattle.abs_program.specs.NameSpaces.{with_constructors, with_declarations}
 use Rattle.abs_tree.specs.Names.{number_of_name, name_of}
 use Rattle.abs_program.specs.Numbered.{looked_up}
 use Rattle.abs_tree.specs.Offences.{earlier}
 use Rattle.abs_tree.specs.Syntax.{Name, DeclaredTree, ConstructorTree, DeclTree}
-use Rattle.abs_tree.specs.SyntaxViews.{type_trees}
 use Rattle.abs_program.specs.Tables.{meaning_of, with_first}
 use Rattle.abs_tree.specs.declared.refusal.Offence.{Offence}
 use Rattle.abs_tree.specs.declared.symbol.Symbol.{Symbol}
-use Rattle.abs_tree.specs.declared.syntax.types.TypeTerm.{TypeTerm}
 use Rattle.abs_program.proofs.KeptSpaceLemmas.{looked_up-named}
 use Rattle.abs_names.proofs.ScopeLemmas.{proper_number}
 use Rattle.abs_names.specs.TypeNames.{Around, with_type_params}
 use Rattle.abs_program.specs.KeptSpaces.{name_at, named, ProperNumbers}
 use Rattle.abs_names.specs.Visible.{Known, Names}
-
--- a meaning that is mapped is there where it was
-is_some_map : {A B : Type 0} (f : A → B) (one : Option A) → is_some one ≡ is_some (option_map f one)
-is_some_map f None = refl
-is_some_map f (Some x) = refl
+use Rattle.list_facts.proofs.OptionLemmas.{is_some-option_map}
 
 -- a number is known where its name is
 known_name : {A B : Type 0} (names : List Name) (tree : A → B) (known : List (ℕ × A)) (number : ℕ) (symbol : Symbol)
@@ -29,7 +23,7 @@ known_name : {A B : Type 0} (names : List Name) (tree : A → B) (known : List (
     → ProperNumbers names known
     → is_some (looked_up known number) ≡ is_some (meaning_of (named names tree known) name)
 known_name names tree known number symbol name is same proper =
-    is_some_map tree (looked_up known number)
+    is_some-option_map tree (looked_up known number)
     ∙ ap is_some (ap (λ (n : ℕ). option_map tree (looked_up known n)) is
     ∙ (looked_up-named names tree known symbol proper ∙ ap (meaning_of (named names tree known)) same))
 
@@ -85,11 +79,6 @@ named_first names tree known now number symbol name meaning (Ok r) added is same
     (known_name names tree known number symbol name is same proper)
     (ap (name_at names) is ∙ (name_of_number names symbol ∙ same))
 named_first names tree known now number symbol name meaning (Err e) added is same proper = tt
-
--- there are as many trees of types as types
-pub count_of_types : (names : List Name) (types : List TypeTerm) → length types ≡ count_types (type_trees names types)
-count_of_types names [] = refl
-count_of_types names (type ∷ others) = omega (arith, count_of_types names others)
 
 -- what is around with more type parameters, with more constructors, and with more declarations
 abbrev pub and_type_params : ℕ → Around → List DeclaredTree → Around

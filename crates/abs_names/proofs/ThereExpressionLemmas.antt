@@ -16,7 +16,8 @@ use Rattle.abs_names.specs.Scopes.{Scope, has_this, has_task, field_of, with_bou
 use Rattle.abs_names.specs.TypeNames.{applied, function_taking, constructor_taking, type_offences}
 use Rattle.abs_names.proofs.SizeLemmas.{pattern_vars}
 use Rattle.abs_names.proofs.ThereScopeLemmas.{Agrees, still_there, bound_agrees, pattern_agrees, use_there, FieldKnown, field_known}
-use Rattle.abs_names.proofs.ThereTypeLemmas.{both_empty, is_known, takes_given, type_there}
+use Rattle.abs_names.proofs.ThereTypeLemmas.{is_known, takes_given, type_there}
+use Rattle.list_facts.proofs.AppendLemmas.{both_empty}
 
 -- resolving keeps how many patterns, and how many expressions there are
 patterns_kept : (scope : Scope) (patterns : PatternTrees)

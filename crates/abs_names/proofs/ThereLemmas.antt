@@ -19,7 +19,8 @@ use Rattle.abs_names.proofs.ParamLemmas.{params_length}
 use Rattle.abs_names.proofs.SourceSizeLemmas.{members_fields}
 use Rattle.abs_names.proofs.ThereBodyLemmas.{EachIs, surrounds_of, IsField, class_fields_are, main_fields, function_fields, method_fields, initial_fields, body_agrees, body_there}
 use Rattle.abs_names.proofs.ThereExpressionLemmas.{expr_there}
-use Rattle.abs_names.proofs.ThereTypeLemmas.{both_empty, is_known, Surrounds, type_there, types_there}
+use Rattle.abs_names.proofs.ThereTypeLemmas.{is_known, Surrounds, type_there, types_there}
+use Rattle.list_facts.proofs.AppendLemmas.{both_empty}
 
 -- parameters without a name offence
 params_there : (inside : Inside) (around : Around) (make : ℕ → VariableTree) (index : ℕ) (params : List ParamTree)

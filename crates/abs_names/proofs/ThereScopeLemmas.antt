@@ -16,7 +16,8 @@ use Rattle.abs_names.specs.Resolution.{found_or, resolved_use}
 use Rattle.abs_names.specs.Scopes.{Scope, has_this, has_task, field_of, visible_field, or_field, use_of, bound_count, with_bound, pattern_scope, patterns_scope}
 use Rattle.abs_names.specs.Single.{unknown}
 use Rattle.abs_names.specs.TypeNames.{applied, constructor_taking}
-use Rattle.abs_names.proofs.ThereTypeLemmas.{not_empty, both_empty, is_known, Surrounds}
+use Rattle.abs_names.proofs.ThereTypeLemmas.{is_known, Surrounds}
+use Rattle.list_facts.proofs.AppendLemmas.{not_empty, both_empty}
 
 -- A scope shows what a part of a program can use where so many variables are bound.
 pub record Agrees (inside : Inside) (bound : ℕ) (scope : Scope) : Type 0 where

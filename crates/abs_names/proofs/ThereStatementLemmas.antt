@@ -18,7 +18,8 @@ use Rattle.abs_names.specs.Scopes.{Scope, field_of, with_variable, statement_sco
 use Rattle.abs_names.specs.TypeNames.{applied, class_taking, type_offences}
 use Rattle.abs_names.proofs.ThereExpressionLemmas.{exprs_kept, taking_kept, expr_there, exprs_there}
 use Rattle.abs_names.proofs.ThereScopeLemmas.{Agrees, newest_or, use_there, FieldKnown, field_known}
-use Rattle.abs_names.proofs.ThereTypeLemmas.{both_empty, type_there}
+use Rattle.abs_names.proofs.ThereTypeLemmas.{type_there}
+use Rattle.list_facts.proofs.AppendLemmas.{both_empty}
 
 -- the slot of the result of a call is one of those of the body
 own_slot_there : (inside : Inside) (next index : ℕ) (own : Bool)

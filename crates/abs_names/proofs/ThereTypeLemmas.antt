@@ -1,5 +1,5 @@
 -- Where types have no name offence, what they name is there once they are resolved.
-use Rattle.std.proofs.Common.{◌≡◌, ℕ, suc, ◌+◌, ◌<◌, Bool, true, false, List, [], ◌∷◌, ◌++◌, inl, inr, refl, sym, ap, ◌∙◌, length, eqb, arith}
+use Rattle.std.proofs.Common.{◌≡◌, ℕ, ◌+◌, ◌<◌, Bool, true, false, [], ◌∷◌, inl, inr, refl, sym, ap, ◌∙◌, eqb, arith}
 use Rattle.std.specs.Prelude.{Option, Some, None}
 use Rattle.std.proofs.lemmas.Bool.{cases_Bool, eqb-true, cond-false}
 use Rattle.std.proofs.lemmas.Option.{none-some, same_Some}
@@ -14,17 +14,7 @@ use Rattle.abs_tree.specs.declared.refusal.Offence.{Offence}
 use Rattle.abs_tree.specs.declared.refusal.Code.TheVariants.{N3}
 use Rattle.abs_names.specs.Single.{unknown}
 use Rattle.abs_names.specs.TypeNames.{Around, applied, taken_by, type_taking, type_offences, types_offences, future_type, named_type, resolved_type, resolved_types}
-
--- a list with an element is not empty
-pub not_empty : {A P : Type 0} (x : A) (xs : List A) → x ∷ xs ≡ [] → P
-not_empty x xs none =
-    let impossible : suc (length xs) ≡ 0 = ap length none in
-    absurd (omega (arith, impossible))
-
--- lists that have no element together have none each
-pub both_empty : {A : Type 0} (xs ys : List A) → xs ++ ys ≡ [] → (xs ≡ []) × (ys ≡ [])
-both_empty [] ys none = (refl, none)
-both_empty (x ∷ xs) ys none = not_empty x (xs ++ ys) none
+use Rattle.list_facts.proofs.AppendLemmas.{not_empty, both_empty}
 
 -- a name that is not unknown is known
 pub is_known : (known : Bool) (place : Place) → unknown known place ≡ [] → known ≡ true

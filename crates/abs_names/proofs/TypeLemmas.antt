@@ -1,9 +1,9 @@
--- Types: how many there are, the trees of those that hold others, and a list of them of which a prefix was resolved.
+-- Types: how many there are, those that hold others, and a list of them of which a prefix was resolved.
 use Rattle.std.proofs.Common.{◌≡◌, ℕ, ◌+◌, ◌<◌, List, [], ◌∷◌, ◌++◌, arith, refl, sym, ap, ◌∙◌, subst, length, get_or, fold}
 use Rattle.std.specs.Prelude.{Option}
 use Rattle.std.specs.declared.alloc.Global.{Global}
 use Rattle.std.specs.declared.vec.Vec.{Vec}
-use Rattle.abs_tree.proofs.SyntaxLemmas.{type_tree-unresolved, type_tree-data}
+use Rattle.abs_tree.proofs.SyntaxLemmas.{type_tree-data}
 use Rattle.abs_program.specs.NameSpaces.{count_types}
 use Rattle.abs_tree.specs.Names.{name_of}
 use Rattle.abs_tree.specs.Offences.{earlier}
@@ -21,30 +21,12 @@ use Rattle.abs_names.specs.TypeNames.{Around, applied, taken_by, type_taking, ty
 use Rattle.abs_names.specs.Visible.{Known, Visible}
 use Rattle.abs_names.proofs.FormLemmas.{applied_noted, in_scope}
 use Rattle.abs_names.proofs.RowLemmas.{RowSoFar, row_step}
-use Rattle.abs_names.proofs.TreeLemmas.{types_before, types_more}
+use Rattle.abs_tree.proofs.TreeLemmas.{types_before, types_more}
 
 -- a list has as many types as trees
 pub types_counted : (names : List Name) (terms : List TypeTerm) → count_types (type_trees names terms) ≡ length terms
 types_counted names [] = refl
 types_counted names (one ∷ others) = omega (arith, types_counted names others)
-
--- the trees of a type that is written as a name, and of a data type
-pub unresolved_tree : (names : List Name) (term : TypeTerm) (place : Place) (name : Symbol)
-    (arguments : Vec TypeTerm Global) (items : List TypeTerm) → term ≡ code.Unresolved place name arguments
-    → items ≡ arguments.items
-    → type_tree names term ≡ UnresolvedType place (name_of names name) (type_trees names items)
-unresolved_tree names term place name arguments items is items_are =
-    ap (type_tree names) is
-    ∙ (type_tree-unresolved names place name arguments
-    ∙ ap (λ (ts : List TypeTerm). UnresolvedType place (name_of names name) (type_trees names ts)) (sym items_are))
-
-pub data_tree : (names : List Name) (term : TypeTerm) (place : Place) (name : Symbol)
-    (arguments : Vec TypeTerm Global) (items : List TypeTerm) → term ≡ code.Data place name arguments
-    → items ≡ arguments.items → type_tree names term ≡ DataType place (name_of names name) (type_trees names items)
-data_tree names term place name arguments items is items_are =
-    ap (type_tree names) is
-    ∙ (type_tree-data names place name arguments
-    ∙ ap (λ (ts : List TypeTerm). DataType place (name_of names name) (type_trees names ts)) (sym items_are))
 
 -- a resolved data type
 pub data_found : (start now : Visible) (place : Place) (name kept : Symbol) (found : Vec TypeTerm Global)

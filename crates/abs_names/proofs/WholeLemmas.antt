@@ -19,7 +19,7 @@ use Rattle.abs_names.specs.declared.scope.Routine.TheVariants.{Main}
 use Rattle.abs_names.proofs.ExtensionLemmas.{none_extends_itself}
 use Rattle.abs_names.proofs.ResolvedLemmas.{spaces_kept, supertypes_kept}
 use Rattle.abs_names.proofs.ThereLemmas.{declarations_there, main_there}
-use Rattle.abs_names.proofs.ThereTypeLemmas.{both_empty}
+use Rattle.list_facts.proofs.AppendLemmas.{both_empty}
 
 -- no declaration extends itself
 no_cycles : (declarations : List DeclTree)

@@ -1,25 +1,9 @@
 -- What looking for a file by its name finds.
-use Rattle.std.proofs.Common.{◌≡◌, ℕ, zero, suc, ◌<◌, Bool, List, [], ◌∷◌, Some, None, length, find, position, slice_get, arith, refl}
-use Rattle.std.proofs.lemmas.List.Folds.{find_at}
-use Rattle.std.proofs.lemmas.Option.{slice_get_past}
-use Rattle.std.proofs.lemmas.Grind.{common_steps}
+use Rattle.std.proofs.Common.{◌≡◌, ℕ, zero, suc, ◌<◌, List, [], ◌∷◌, Some, None, length, position, slice_get, arith, refl}
 use Rattle.abs_outside.specs.Names.{Selects, IsNotHeld}
 use Rattle.abs_outside.specs.Files.{has_name, found, content, first_named}
 use Rattle.abs_outside.specs.declared.memory_source.NamedBytes.{NamedBytes}
-
--- the first index that passes is an index of the list
-pub position-within : {X : Type 0} (p : X → Bool) (xs : List X) (index : ℕ) → position p xs ≡ Some index
-    → index < length xs
-position-within p xs index at = grind (arith, common_steps)
-
--- the first element that passes stands at the first index that passes
-pub find-at_position : {X : Type 0} (p : X → Bool) (xs : List X) (index : ℕ) → position p xs ≡ Some index
-    → find p xs ≡ slice_get xs index
-find-at_position p xs index at = grind (arith, common_steps, find_at p xs)
-
--- where no index passes, no element does
-pub find-no_position : {X : Type 0} (p : X → Bool) (xs : List X) → position p xs ≡ None → find p xs ≡ None
-find-no_position p xs none = grind (arith, common_steps, find_at p xs, slice_get_past xs)
+use Rattle.list_facts.proofs.FindLemmas.{position-within, find-at_position, find-no_position}
 
 -- what the file at an index holds is what its name selects
 pub Selects-at : (files : List NamedBytes) (index : ℕ) → index < length files

@@ -1,2 +1,2 @@
-pub mod BytesLeft
-pub mod FirstNamed
+mod BytesLeft
+mod FirstNamed

@@ -1,4 +1,4 @@
 pub mod grammar
 pub mod stop
-pub mod sizes
+mod sizes
 mod reader

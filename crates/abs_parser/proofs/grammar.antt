@@ -1,6 +1,5 @@
 -- Consequences of the grammar: the tokens that a nonterminal may begin with, and what it opens to, given the next
--- token. Also the tokens that fit a token kind, and where a parsed part begins.
-pub mod SpotLemmas
+-- token. Also the tokens that fit a token kind.
 pub mod KindLemmas
 pub mod DigitLemmas
 pub mod NameLemmas

@@ -6,9 +6,9 @@ use Rattle.std.proofs.Common.{◌≡◌, ℕ, ◌+◌, ◌<◌, ◌≤◌, List,
 use Rattle.std.proofs.lemmas.List.{drop_all}
 use Rattle.std.proofs.lemmas.List.Sums.{fold-append}
 use Rattle.std.specs.Prelude.{Option}
-use Rattle.abs_tree.proofs.EntryLemmas.{drop_item}
 use Rattle.abs_tree.specs.Offences.{earlier}
 use Rattle.abs_tree.specs.declared.refusal.Offence.{Offence}
+use Rattle.list_facts.proofs.EntryLemmas.{drop_item}
 
 -- The offences of the items before an index are noted: those of the items from there on are all that is left to note.
 pub record NotedSoFar {A : Type 0} (offences : List A → List Offence) (items : List A) (index : ℕ)

@@ -15,8 +15,6 @@ use Rattle.std.specs.declared.vec.Vec.{Vec}
 use Rattle.std.proofs.lemmas.Bool.Decides.{nat_tests}
 use Rattle.std.proofs.lemmas.List.{append-nil, drop_all}
 use Rattle.std.proofs.lemmas.List.Elements.{All-get_or}
-use Rattle.abs_tree.proofs.EntryLemmas.{drop_item}
-use Rattle.abs_tree.proofs.TableLemmas.{look_up-map}
 use Rattle.abs_program.specs.Bodies.{main_entry, member_entry, entry_in_class, method_entry}
 use Rattle.abs_program.specs.BodyRows.{found_at_each, index_after, IsPassed, ArePassed, entry_of_member, statements_of_member, row_of_declaration, statements_of_declaration, entry_with}
 use Rattle.abs_program.specs.Control.{entry, entry_of}
@@ -28,6 +26,8 @@ use Rattle.abs_tree.specs.SyntaxViews.{statements}
 use Rattle.abs_tree.specs.declared.place.Place.{Place}
 use Rattle.abs_tree.specs.declared.syntax.declaration.Body.{Body}
 use Rattle.abs_program.specs.declared.tables.control.BodyEntry.{BodyEntry}
+use Rattle.list_facts.proofs.EntryLemmas.{drop_item}
+use Rattle.list_facts.proofs.MapLemmas.{look_up-map}
 
 -- where control is before so many statements, the first of which has this index: at the first one, if there is one
 abbrev pub begin : ℕ → Option ℕ → ℕ → Option ℕ

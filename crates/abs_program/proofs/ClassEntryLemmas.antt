@@ -17,9 +17,7 @@ use Rattle.std.specs.declared.vec.Vec.{Vec}
 use Rattle.std.proofs.lemmas.Bool.Decides.{nat_tests}
 use Rattle.std.proofs.lemmas.List.{drop_all}
 use Rattle.std.proofs.lemmas.Option.{slice_get-map, slice_get_read}
-use Rattle.abs_tree.proofs.EntryLemmas.{drop_item}
 use Rattle.abs_tree.proofs.SyntaxLemmas.{type_tree-data}
-use Rattle.abs_tree.proofs.TableLemmas.{look_up-map}
 use Rattle.abs_program.specs.Bodies.{initial_of, initials_among, is_unit, starts_alone, if_alone, run_among, entry_of_class, class_entry, ClassEntryTree}
 use Rattle.abs_program.specs.BodyRows.{is_called}
 use Rattle.abs_program.specs.InstructionViews.{shared_expr_trees, class_entry_tree}
@@ -39,6 +37,8 @@ use Rattle.abs_tree.specs.declared.syntax.expression.Expr.{Expr}
 use Rattle.abs_tree.specs.declared.syntax.types.TypeTerm as code_type
 use Rattle.abs_tree.specs.declared.syntax.types.TypeTerm.{TypeTerm}
 use Rattle.abs_program.specs.declared.tables.control.ClassEntry.{ClassEntry}
+use Rattle.list_facts.proofs.EntryLemmas.{drop_item}
+use Rattle.list_facts.proofs.MapLemmas.{look_up-map}
 
 -- a list with a first item is not empty
 not_empty : (count : ℕ) → false ≡ nat_eq (suc count) 0

@@ -2,8 +2,6 @@
 -- one.
 use Rattle.std.proofs.Common.{◌≡◌, ℕ, ◌+◌, ◌<◌, ◌≤◌, List, [], ◌∷◌, ◌++◌, arith, refl, sym, ap, ◌∙◌, length, get_or, drop, map, append_assoc}
 use Rattle.std.proofs.lemmas.List.{append-nil, drop_all}
-use Rattle.abs_tree.proofs.AddedLemmas.{AddedToSoFar, added_to_step, added_to_done}
-use Rattle.abs_tree.proofs.EntryLemmas.{drop_item}
 use Rattle.abs_program.specs.MadeInstructions.{loop_sizes, loop_sizes_of, member_loops, decl_loops, Counts}
 use Rattle.abs_tree.specs.Syntax.{Name, MemberTree, FieldTree, MethodTree, DeclTree, DataTree, FunctionTree, InterfaceTree, ClassTree}
 use Rattle.abs_tree.specs.SyntaxSizes.{count_of, statement_count, member_statements, decl_statements}
@@ -11,6 +9,8 @@ use Rattle.abs_tree.specs.SyntaxViews.{statement, statements, member_tree, decl_
 use Rattle.abs_tree.specs.declared.syntax.declaration.Decl.{Decl}
 use Rattle.abs_tree.specs.declared.syntax.declaration.Member.{Member}
 use Rattle.abs_tree.specs.declared.syntax.statement.Stmt.{Stmt}
+use Rattle.list_facts.proofs.AddedLemmas.{AddedToSoFar, added_to_step, added_to_done}
+use Rattle.list_facts.proofs.EntryLemmas.{drop_item}
 
 -- the counts of two parts, one after the other, are those of both
 pub counts_both : {size other_size count other : ℕ} {sizes other_sizes old between new : List ℕ}

@@ -1,5 +1,5 @@
 -- What name spaces say of a name is declared.
-use Rattle.std.proofs.Common.{◌≡◌, ℕ, ◌+◌, suc, Bool, true, false, List, [], ◌∷◌, arith, refl, sym, ap, ◌∙◌, subst, length}
+use Rattle.std.proofs.Common.{◌≡◌, ℕ, ◌+◌, Bool, true, false, List, [], ◌∷◌, arith, refl, ap, subst, length}
 use Rattle.std.specs.Prelude.{⊤, Option, Some, if◌then◌else◌, is_some, slice_get}
 use Rattle.std.specs.Str.{bytes_eq}
 use Rattle.std.proofs.lemmas.Slice.Eq.{bytes_eq-Decides}
@@ -14,6 +14,7 @@ use Rattle.abs_program.specs.declared.name_spaces.Taking.{Taking}
 use Rattle.abs_program.specs.declared.name_spaces.TypeMeaning.{TypeMeaning}
 use Rattle.abs_program.specs.declared.name_spaces.TypeMeaning.TheVariants as type
 use Rattle.abs_tree.specs.declared.place.Place.{Place}
+use Rattle.list_facts.proofs.RestLemmas.{IsRest, rest_first, rest_others}
 
 -- each entry of a table is so
 abbrev AreSo : {A : Type 0} → (Name → A → Type 0) → Table A → Type 0
@@ -60,23 +61,6 @@ record AreDeclared (declarations : List DeclTree) (spaces : NameSpaces) : Type 0
   constructors : AreSo (IsConstructor declarations) spaces.constructors
   functions : AreSo (IsApplied declarations) spaces.functions
   classes : AreSo (IsClass declarations) spaces.classes
-
--- the items of a list from an index on
-abbrev IsRest : {A : Type 0} → List A → ℕ → List A → Type 0
-IsRest items index rest = (k : ℕ) → slice_get rest k ≡ slice_get items (index + k)
-
--- the first of them, and the others
-rest_first : {A : Type 0} (items : List A) (index : ℕ) (one : A) (others : List A) → IsRest items index (one ∷ others)
-    → slice_get items index ≡ Some one
-rest_first items index one others is =
-    let at : index + 0 ≡ index = omega arith in
-    ap (slice_get items) (sym at) ∙ sym (is 0)
-
-rest_others : {A : Type 0} (items : List A) (index : ℕ) (one : A) (others : List A)
-    → IsRest items index (one ∷ others) → IsRest items (index + 1) others
-rest_others items index one others is = λ k.
-    let at : index + suc k ≡ index + 1 + k = omega arith in
-    is (suc k) ∙ ap (slice_get items) at
 
 -- constructors of data that is declared
 constructors_declared : (declarations : List DeclTree) (place : Place) (declared : DeclaredTree)

@@ -2,8 +2,6 @@
 use Rattle.std.proofs.Common.{◌≡◌, ℕ, ◌+◌, ◌<◌, ◌≤◌, List, [], ◌∷◌, ◌++◌, refl, sym, ap, ◌∙◌, length, get_or, drop, map, append_assoc}
 use Rattle.std.specs.Prelude.{Option, option_and_then, slice_get}
 use Rattle.std.proofs.lemmas.List.{append-nil, drop_all, map-append}
-use Rattle.abs_tree.proofs.EntryLemmas.{drop_item}
-use Rattle.abs_tree.proofs.TableLemmas.{look_up-map}
 use Rattle.abs_program.specs.FieldRows.{own_index, IsFieldRow}
 use Rattle.abs_program.specs.KeptMembers.{field_at}
 use Rattle.abs_program.specs.Members.{field_indices, params_in, fields_in, field_among, field_of}
@@ -16,6 +14,8 @@ use Rattle.abs_tree.specs.declared.syntax.declaration.Member.TheVariants.{Field,
 use Rattle.abs_program.specs.declared.tables.fields.Fields.{Fields}
 use Rattle.abs_program.specs.declared.tables.fields.FieldRow.{FieldRow}
 use Rattle.abs_program.specs.declared.tables.members.FieldAt.{FieldAt}
+use Rattle.list_facts.proofs.EntryLemmas.{drop_item}
+use Rattle.list_facts.proofs.MapLemmas.{look_up-map}
 
 -- The fields among the members before an index were found: those of the rest follow them.
 pub record IndicesSoFar (members : List Member) (index : ℕ) (found : List ℕ) : Type 0 where

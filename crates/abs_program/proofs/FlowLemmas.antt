@@ -5,12 +5,12 @@ use Rattle.std.specs.List.{AllZip}
 use Rattle.std.specs.Prelude.{Option, Some, None, slice_get}
 use Rattle.std.proofs.lemmas.List.{length-append}
 use Rattle.std.proofs.lemmas.Option.{none-some, same_Some}
-use Rattle.abs_tree.proofs.ListPartLemmas.{StandsAt, whole_stands, first_stands, second_stands, others_stand, item_stands, AllZip-append, AllZip-slice_get}
 use Rattle.abs_program.proofs.PointLemmas.{length-points}
 use Rattle.abs_program.specs.Control.{Point, entry, entry_of, else_entry, points, points_of, else_points}
 use Rattle.abs_program.specs.Flows.{Slots, IsWithin, Flow, IsFlow, fact_after, fact_after_one, fact_after_else, facts, facts_of, else_facts, Lands, Follows}
 use Rattle.abs_tree.specs.Syntax.{Statement, BlockOf, IfOf, WhileOf, MaybeStatements, NoElse, Else, Statements, NoStatement, NextStatement}
 use Rattle.abs_tree.specs.SyntaxSizes.{count_of, count_of_else, statement_count}
+use Rattle.list_facts.proofs.PartLemmas.{StandsAt, whole_stands, first_stands, second_stands, others_stand, item_stands, AllZip-append, AllZip-slice_get}
 
 mutual
   unfolding facts

@@ -4,26 +4,17 @@ use Rattle.std.specs.Prelude.{Result, OnOk}
 use Rattle.std.specs.declared.alloc.Global.{Global}
 use Rattle.std.specs.declared.vec.Vec.{Vec}
 use Rattle.abs_graph.specs.Graphs.{Graph, reach_marked}
-use Rattle.abs_tree.proofs.SyntaxLemmas.{type_tree-data}
 use Rattle.abs_program.specs.Holdings.{declaration_of, declarations_in, declarations_in_all, holdings, are_interfaces, holders}
 use Rattle.abs_tree.specs.Names.{name_of}
 use Rattle.abs_program.specs.NameSpaces.{NameSpaces}
-use Rattle.abs_tree.specs.Syntax.{Name, TypeTree, DataType, DeclTree}
+use Rattle.abs_tree.specs.Syntax.{Name, TypeTree, DeclTree}
 use Rattle.abs_tree.specs.SyntaxViews.{type_tree, type_trees}
 use Rattle.abs_program.specs.Tables.{meaning_of}
 use Rattle.abs_tree.specs.declared.place.Place.{Place}
 use Rattle.abs_tree.specs.declared.symbol.Symbol.{Symbol}
 use Rattle.abs_tree.specs.declared.syntax.types.TypeTerm as code
 use Rattle.abs_tree.specs.declared.syntax.types.TypeTerm.{TypeTerm}
-
--- the tree of a type of data
-data_tree : (names : List Name) (term : TypeTerm) (place : Place) (name : Symbol) (arguments : Vec TypeTerm Global)
-    (items : List TypeTerm) → term ≡ code.Data place name arguments → items ≡ arguments.items
-    → type_tree names term ≡ DataType place (name_of names name) (type_trees names items)
-data_tree names term place name arguments items is items_are =
-    ap (type_tree names) is
-    ∙ (type_tree-data names place name arguments
-    ∙ ap (λ (ts : List TypeTerm). DataType place (name_of names name) (type_trees names ts)) (sym items_are))
+use Rattle.abs_tree.proofs.FormLemmas.{data_tree}
 
 -- the declaration of its name, and then those in its arguments, were added to a list
 pub data_added : {E : Type 0} {term : TypeTerm} {between : List ℕ} (spaces : NameSpaces) (names : List Name)

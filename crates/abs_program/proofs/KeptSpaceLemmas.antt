@@ -1,6 +1,6 @@
 -- Meanings by name and by number are the same, where each number is that of its name.
 use Rattle.std.proofs.Common.{◌≡◌, ℕ, Bool, true, false, List, [], ◌∷◌, refl, sym, ap, ◌∙◌, cond, nat_eq, arith}
-use Rattle.std.specs.Prelude.{Option, Some, None, option_map}
+use Rattle.std.specs.Prelude.{Option, Some, option_map}
 use Rattle.std.specs.Str.{bytes_eq}
 use Rattle.std.proofs.lemmas.Bool.Decides.{nat_tests}
 use Rattle.std.proofs.lemmas.Slice.Eq.{bytes_eq-Decides}
@@ -11,12 +11,8 @@ use Rattle.abs_program.specs.Numbered.{looked_up}
 use Rattle.abs_tree.specs.Syntax.{Name}
 use Rattle.abs_program.specs.Tables.{meaning_of}
 use Rattle.abs_tree.specs.declared.symbol.Symbol.{Symbol}
-
--- two tests that imply each other are the same
-pub same_test : (b c : Bool) → (b ≡ true → c ≡ true) → (c ≡ true → b ≡ true) → b ≡ c
-same_test true c there back = sym (there refl)
-same_test false true there back = back refl
-same_test false false there back = refl
+use Rattle.std.specs.Cmp.{both_ways}
+use Rattle.list_facts.proofs.OptionLemmas.{option_map-same}
 
 -- the number of a name is compared where the name is
 number_or_name : (names : List Name) (number : ℕ) (symbol : Symbol)
@@ -26,7 +22,7 @@ number_or_name : (names : List Name) (number : ℕ) (symbol : Symbol)
 number_or_name names number symbol proper =
     let one : Symbol = record { 0 = number } in
     let laws = numbers_tell_names names one symbol in
-    same_test (nat_eq number (number_of_name names (name_of names symbol)))
+    both_ways (nat_eq number (number_of_name names (name_of names symbol)))
     (bytes_eq (name_at names number) (name_of names symbol))
     (λ e. (bytes_eq-Decides (name_at names number) (name_of names symbol)).1 (laws.0 (proper ∙ grind
     (arith, nat_tests))))
@@ -54,15 +50,11 @@ looked_up-named names tree (one ∷ others) symbol proper =
     (looked_up-named names tree others symbol proper.1)
 
 -- the same where a meaning is kept as it is
-same_option : {A : Type 0} (one : Option A) → one ≡ option_map (λ (x : A). x) one
-same_option None = refl
-same_option (Some x) = refl
-
 pub looked_up-known : {A : Type 0} (names : List Name) (known : List (ℕ × A)) (symbol : Symbol) (name : Name)
     → ProperNumbers names known → name_of names symbol ≡ name
     → looked_up known (number_of_name names (name_of names symbol)) ≡ meaning_of (named names (λ (x : A). x) known) name
 looked_up-known {A} names known symbol name proper is =
-    same_option (looked_up known (number_of_name names (name_of names symbol)))
+    option_map-same (looked_up known (number_of_name names (name_of names symbol)))
     ∙ (looked_up-named names (λ (x : A). x) known symbol proper
     ∙ ap (meaning_of (named names (λ (x : A). x) known)) is)
 

@@ -4,11 +4,11 @@ use Rattle.std.proofs.Common.{◌≡◌, ℕ, ◌+◌, List, [], ◌∷◌, arit
 use Rattle.std.specs.List.{AllZip}
 use Rattle.std.specs.Prelude.{Option, Some, None, slice_get}
 use Rattle.std.proofs.lemmas.List.{length-append}
-use Rattle.abs_tree.proofs.ListPartLemmas.{StandsAt, whole_stands, first_stands, second_stands, others_stand, item_stands, AllZip-append, AllZip-slice_get}
 use Rattle.abs_program.specs.Control.{Point, entry, entry_of, else_entry, points, points_of, else_points}
 use Rattle.abs_program.specs.Left.{lefts, lefts_of, else_lefts, opened, first_left, else_branch, IsAt, Steps}
 use Rattle.abs_tree.specs.Syntax.{Statement, BlockOf, IfOf, WhileOf, MaybeStatements, NoElse, Else, Statements, NoStatement, NextStatement}
 use Rattle.abs_tree.specs.SyntaxSizes.{count_of, count_of_else, statement_count}
+use Rattle.list_facts.proofs.PartLemmas.{StandsAt, whole_stands, first_stands, second_stands, others_stand, item_stands, AllZip-append, AllZip-slice_get}
 
 mutual
   unfolding lefts

@@ -1,16 +1,16 @@
-pub mod LinkLemmas
+mod LinkLemmas
 pub mod KeptSpaceLemmas
 pub mod EdgeLemmas
-pub mod HolderLemmas
+mod HolderLemmas
 pub mod DeclaredLemmas
-pub mod FieldLemmas
-pub mod SignatureLemmas
-pub mod MethodLemmas
+mod FieldLemmas
+mod SignatureLemmas
+mod MethodLemmas
 pub mod PointLemmas
-pub mod LeftLemmas
-pub mod FlowLemmas
+mod LeftLemmas
+mod FlowLemmas
 pub mod InstructionLemmas
-pub mod CountLemmas
-pub mod MakerLemmas
-pub mod BodyRowLemmas
-pub mod ClassEntryLemmas
+mod CountLemmas
+mod MakerLemmas
+mod BodyRowLemmas
+mod ClassEntryLemmas

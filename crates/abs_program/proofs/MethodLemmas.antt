@@ -10,7 +10,6 @@ use Rattle.std.proofs.lemmas.Cmp.{nat_eq_equiv}
 use Rattle.std.proofs.lemmas.List.{drop_all}
 use Rattle.std.proofs.lemmas.Option.{slice_get-map, slice_get_past, slice_get_read}
 use Rattle.std.proofs.lemmas.Slice.Eq.{bytes_eq-Decides}
-use Rattle.abs_tree.proofs.EntryLemmas.{drop_item}
 use Rattle.abs_tree.proofs.NumberLemmas.{numbers_tell_names}
 use Rattle.abs_program.specs.KeptMembers.{is_key, method_at}
 use Rattle.abs_program.specs.Members.{method_among, method_in, method_of}
@@ -27,15 +26,8 @@ use Rattle.abs_tree.specs.declared.syntax.declaration.Member.TheVariants.{Method
 use Rattle.abs_tree.specs.declared.syntax.declaration.Signature.{Signature}
 use Rattle.abs_program.specs.declared.tables.methods.MethodKey.{MethodKey}
 use Rattle.abs_program.specs.declared.tables.methods.Methods.{Methods}
-
--- what is found first
-or_none : (found : Option ℕ) → option_or found None ≡ found
-or_none None = refl
-or_none (Some index) = refl
-
-or_assoc : (one two three : Option ℕ) → option_or (option_or one two) three ≡ option_or one (option_or two three)
-or_assoc None two three = refl
-or_assoc (Some index) two three = refl
+use Rattle.list_facts.proofs.EntryLemmas.{drop_item}
+use Rattle.list_facts.proofs.OptionLemmas.{is_some-none, option_or-none, option_or-assoc}
 
 -- what is found, if a test holds
 abbrev when : Bool → Option ℕ → Option ℕ
@@ -70,11 +62,7 @@ same_key key class name entries same =
     ap (λ (c : ℕ). lookup (is_key c name) entries) class_is
     ∙ ap (λ (n : ℕ). lookup (is_key key.class n) entries) name_is
 
--- a key had no entry
-no_entry : (found : Option ℕ) → false ≡ is_some found → found ≡ None
-no_entry None none = refl
-no_entry (Some index) none = absurd (true≢false (sym none))
-
+-- a key that had no entry is found after one is added
 added_at : (key : MethodKey) (index class name : ℕ) (entries : List (MethodKey × ℕ)) (b : Bool)
     → is_key class name key ≡ b → false ≡ is_some (lookup (is_key key.class key.name) entries)
     → cond b (Some index) (lookup (is_key class name) entries)
@@ -82,8 +70,8 @@ added_at : (key : MethodKey) (index class name : ℕ) (entries : List (MethodKey
 added_at key index class name entries true same absent =
     ap (λ (found : Option ℕ). option_or found (Some index))
     (sym (same_key key class name entries same
-    ∙ no_entry (lookup (is_key key.class key.name) entries) absent))
-added_at key index class name entries false same absent = sym (or_none (lookup (is_key class name) entries))
+    ∙ is_some-none (lookup (is_key key.class key.name) entries) (sym absent)))
+added_at key index class name entries false same absent = sym (option_or-none (lookup (is_key class name) entries))
 
 pub entry_added : (key : MethodKey) (index : ℕ) (before now : List (MethodKey × ℕ))
     → false ≡ is_some (lookup (is_key key.class key.name) before)
@@ -184,7 +172,7 @@ members_step {names} {class} {members} {index} {before} {now} {after} member at 
       let test = nat_eq other class in
       ap (λ (f : Option ℕ). option_or f (when test later)) (added.finds other symbol
       ∙ ap (λ (i : ℕ). option_or found (when test (method_among i (tree member ∷ []) name))) same)
-      ∙ (or_assoc found (when test own) (when test later)
+      ∙ (option_or-assoc found (when test own) (when test later)
       ∙ (ap (option_or found) (sym (when_or test own later)
       ∙ ap (when test) (sym (among_next index (tree member) rest name)))
       ∙ (ap (λ (ms : List Member). option_or found (when test (method_among index (map tree ms) name)))
@@ -201,7 +189,7 @@ members_done {names} {class} {members} {index} {before} {now} h over = record {
       let name = name_of names symbol in
       let found = lookup (is_key other (number_of_name names name)) now in
       let test = nat_eq other class in
-      sym (or_none found)
+      sym (option_or-none found)
       ∙ (ap (option_or found) (sym (when_none test))
       ∙ (ap (λ (ms : List Member). option_or found (when test (method_among index (map (member_tree names) ms) name)))
       (sym (drop_all index members over))
@@ -259,7 +247,7 @@ methods_step {names} {declarations} {index} {entries} {after} declaration class 
     λ other symbol apart.
     added.finds other symbol
     ∙ (ap (λ (b : Bool). option_or (lookup (is_key other (number symbol)) entries) (when b (own symbol))) apart
-    ∙ or_none (lookup (is_key other (number symbol)) entries)) in
+    ∙ option_or-none (lookup (is_key other (number symbol)) entries)) in
     record {
       so_far = λ other symbol before. elim (eqb_tells other class) [
         | inl equal ↦ added.finds other symbol

@@ -10,7 +10,6 @@ use Rattle.std.proofs.lemmas.List.{append-nil, drop_all, length-append, length-m
 use Rattle.std.proofs.lemmas.List.Sums.{prefix_len-le-length}
 use Rattle.std.proofs.lemmas.Option.{slice_get-get_or}
 use Rattle.std.proofs.lemmas.Slice.Eq.{bytes_eq-Decides}
-use Rattle.abs_tree.proofs.EntryLemmas.{drop_item}
 use Rattle.abs_tree.proofs.NumberLemmas.{numbers_tell_names}
 use Rattle.abs_program.specs.KeptMembers.{signatures_at}
 use Rattle.abs_program.specs.Members.{signature_among, signature_in, signatures_from, signatures_of}
@@ -24,6 +23,7 @@ use Rattle.abs_tree.specs.declared.syntax.declaration.Decl.{Decl}
 use Rattle.abs_tree.specs.declared.syntax.declaration.Signature.{Signature}
 use Rattle.abs_program.specs.declared.tables.members.SignatureAt.{SignatureAt}
 use Rattle.abs_program.specs.declared.tables.signatures.Signatures.{Signatures}
+use Rattle.list_facts.proofs.EntryLemmas.{drop_item}
 
 -- the entries of a row
 abbrev entries : Vec SignatureAt Global → List SignatureAt

@@ -1,11 +1,7 @@
-pub mod TableLemmas
 pub mod NumberLemmas
 pub mod SyntaxLemmas
 pub mod StatementLemmas
-pub mod EntryLemmas
 pub mod OffenceLemmas
-pub mod AddedLemmas
-pub mod ListPartLemmas
-pub mod IndexLemmas
-pub mod BackwardLemmas
 pub mod StatementCountLemmas
+pub mod TreeLemmas
+pub mod FormLemmas

@@ -1,6 +1,6 @@
 -- The numbers of names in a table.
-use Rattle.std.proofs.Common.{◌≡◌, ℕ, ◌<◌, ◌≤◌, Bool, true, false, List, [], ◌∷◌, Some, None, inl, inr, sym, ap, ◌∙◌, length, map, get_or, arith, true≢false, ◌↔◌}
-use Rattle.std.specs.List.{IsDistinct, AllByRecursion}
+use Rattle.std.proofs.Common.{◌≡◌, ℕ, ◌<◌, ◌≤◌, true, false, List, [], Some, None, inl, inr, sym, ap, ◌∙◌, length, map, get_or, arith, true≢false, ◌↔◌}
+use Rattle.std.specs.List.{IsDistinct}
 use Rattle.std.specs.Str.{bytes_eq}
 use Rattle.std.proofs.lemmas.Bool.Decides.{leb_tells, nat_tests}
 use Rattle.std.proofs.lemmas.Cmp.{nat_list_eq_equiv}
@@ -10,22 +10,8 @@ use Rattle.std.proofs.lemmas.Map.Keys.{apart_from_distinct}
 use Rattle.std.proofs.lemmas.Option.{slice_get_past, unwrap_or-slice_get}
 use Rattle.std.proofs.lemmas.Slice.Eq.{bytes_eq-Decides}
 use Rattle.abs_tree.specs.declared.symbol.Symbol.{Symbol}
-use Rattle.abs_tree.specs.Names.{number_of_name, symbol_in}
-use Rattle.abs_tree.specs.Names.{name_of}
-
--- a fact of the image of each element is a fact of each element of the mapped list
-all-map : {A B : Type 0} (f : A → B) (P : B → Type 0) (xs : List A) → AllByRecursion (λ x. P (f x)) xs
-    → AllByRecursion P (map f xs)
-all-map f P [] all = tt
-all-map f P (x ∷ xs) all = (all.0, all-map f P xs all.1)
-
--- if no two elements have the same image, no two elements of the mapped list are the same
-distinct-map : {A B : Type 0} (f : A → B) (same : B → B → Bool) (xs : List A) → IsDistinct (λ x y. same (f x) (f y)) xs
-    → IsDistinct same (map f xs)
-unfolding IsDistinct
-distinct-map f same [] distinct = tt
-distinct-map f same (x ∷ xs) distinct =
-    (all-map f (λ y. same (f x) y ≡ false) xs distinct.0, distinct-map f same xs distinct.1)
+use Rattle.abs_tree.specs.Names.{number_of_name, symbol_in, name_of}
+use Rattle.list_facts.proofs.AllLemmas.{IsDistinct-map}
 
 -- in a table that has each name once, the number of the name of one of its symbols is the symbol's own
 own_number : (names : List (List ℕ)) (symbol : Symbol) → IsDistinct bytes_eq names → symbol.0 < length names
@@ -43,7 +29,7 @@ pub own_number-map : {A : Type 0} (f : A → List ℕ) (pieces : List A) (symbol
     → IsDistinct (λ x y. bytes_eq (f x) (f y)) pieces → symbol.0 < length pieces
     → number_of_name (map f pieces) (name_of (map f pieces) symbol) ≡ symbol.0
 own_number-map f pieces symbol distinct there =
-    own_number (map f pieces) symbol (distinct-map f bytes_eq pieces distinct) (omega (arith, length-map pieces f))
+    own_number (map f pieces) symbol (IsDistinct-map f bytes_eq pieces distinct) (omega (arith, length-map pieces f))
 
 -- a symbol that the table does not have has the empty name
 pub outside_name : (names : List (List ℕ)) (symbol : Symbol) → length names ≤ symbol.0 → name_of names symbol ≡ []

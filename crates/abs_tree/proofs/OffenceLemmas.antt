@@ -3,10 +3,9 @@
 use Rattle.std.proofs.Common.{◌≡◌, ℕ, Bool, true, false, List, [], ◌∷◌, ◌++◌, refl, sym, ap, ◌∙◌, subst, fold, cond, length, get_or, arith, append_assoc}
 use Rattle.std.specs.Prelude.{◌↔◌, Option, Some, None, All, Contains}
 use Rattle.std.specs.Cmp.{IsTotalOrder}
-use Rattle.std.specs.Ordering.{is_lt, nat_cmp, ordering_then, ordering_reverse}
-use Rattle.std.specs.declared.cmp.Ordering.{Ordering}
-use Rattle.std.specs.declared.cmp.Ordering.TheVariants.{Less, Equal, Greater}
-use Rattle.std.proofs.lemmas.Cmp.{ranked, tied_itself, nat_cmp_total, on_total, then_total}
+use Rattle.std.specs.Ordering.{is_lt}
+use Rattle.std.specs.declared.cmp.Ordering.TheVariants.{Equal}
+use Rattle.std.proofs.lemmas.Cmp.{tied_itself, nat_cmp_total, on_total, then_total}
 use Rattle.std.proofs.lemmas.List.Elements.{All-nil, All-cons, All-append, All-contains, All-weaker, Contains-append_left, Contains-append_right}
 use Rattle.std.proofs.lemmas.List.{append-nil}
 use Rattle.abs_tree.specs.declared.place.Place.{Place}
@@ -14,6 +13,7 @@ use Rattle.abs_tree.specs.declared.refusal.Code.{Code}
 use Rattle.abs_tree.specs.declared.refusal.Code.TheVariants as code
 use Rattle.abs_tree.specs.declared.refusal.Offence.{Offence}
 use Rattle.abs_tree.specs.Offences.{code_index, place_cmp, offence_cmp, earlier, first_offence, IsFirst}
+use Rattle.list_facts.proofs.OrderingLemmas.{before_by, is_less, tied_by, both_equal, nat_cmp-equal}
 
 -- the order of offences is total
 offence_total : IsTotalOrder offence_cmp
@@ -21,45 +21,17 @@ offence_total = then_total (on_total (λ offence. offence.place) (then_total (on
     (then_total (on_total (λ place. place.line) nat_cmp_total) (on_total (λ place. place.column) nat_cmp_total))))
     (on_total (λ offence. code_index offence.code) nat_cmp_total)
 
--- In a total order, what does not come before an element does not come before an earlier one.
-before_by : {K : Type 0} {R : K → K → Ordering} → IsTotalOrder R → (x y z : K) (r : Ordering) → R x y ≡ r
-    → R y z ≡ Less → is_lt (R x z) ≡ false → is_lt r ≡ false
-before_by total x y z Less e less not = sym (ap is_lt (total.trans x y z e less)) ∙ not
-before_by total x y z Equal e less not = refl
-before_by total x y z Greater e less not = refl
-
-is_less : (r : Ordering) → is_lt r ≡ true → r ≡ Less
-is_less Less e = refl
-is_less Equal e = absurd (cc)
-is_less Greater e = absurd (cc)
-
--- Of two elements of which none comes before the other, the order does not tell one from the other.
-tied_by : (r s : Ordering) → r ≡ ordering_reverse s → is_lt r ≡ false → is_lt s ≡ false → r ≡ Equal
-tied_by Less s e not other = absurd (cc)
-tied_by Equal s e not other = refl
-tied_by Greater Less e not other = absurd (cc)
-tied_by Greater Equal e not other = absurd (cc)
-tied_by Greater Greater e not other = absurd (cc)
-
--- two orders one after the other tell nothing, so each of them tells nothing
-both_equal : (r s : Ordering) → ordering_then r s ≡ Equal → (r ≡ Equal) × (s ≡ Equal)
-both_equal Less s e = absurd (cc)
-both_equal Equal s e = (refl, e)
-both_equal Greater s e = absurd (cc)
-
-same_number : (m n : ℕ) → nat_cmp m n ≡ Equal → m ≡ n
-same_number m n e = ranked m n Equal (sym e)
-
+-- places of which the order tells nothing are the same
 same_place : (one other : Place) → place_cmp one other ≡ Equal → one ≡ other
 same_place one other e =
     let offsets = both_equal _ _ e in
     let lines = both_equal _ _ offsets.1 in
     ap (λ (n : ℕ). record { offset = n; line = one.line; column = one.column })
-    (same_number one.offset other.offset offsets.0)
+    (nat_cmp-equal one.offset other.offset offsets.0)
     ∙ (ap (λ (n : ℕ). record { offset = other.offset; line = n; column = one.column })
-    (same_number one.line other.line lines.0)
+    (nat_cmp-equal one.line other.line lines.0)
     ∙ ap (λ (n : ℕ). record { offset = other.offset; line = other.line; column = n })
-    (same_number one.column other.column lines.1))
+    (nat_cmp-equal one.column other.column lines.1))
 
 -- the code of an index
 abbrev code_at : ℕ → Code
@@ -99,10 +71,10 @@ same_offence one other e =
     let parts = both_equal _ _ e in
     ap (λ (place : Place). record { place = place; code = one.code }) (same_place one.place other.place parts.0)
     ∙ ap (λ (c : Code). record { place = other.place; code = c })
-    (same_code one.code other.code (same_number (code_index one.code) (code_index other.code) parts.1))
+    (same_code one.code other.code (nat_cmp-equal (code_index one.code) (code_index other.code) parts.1))
 
 -- no offence comes before this one
-abbrev NotBefore : Offence → Offence → Type 0
+abbrev pub NotBefore : Offence → Offence → Type 0
 NotBefore offence other = is_lt (offence_cmp other offence) ≡ false
 
 -- what was noted of the offences so far: the first of them, if there are any

@@ -9,7 +9,7 @@ use Rattle.abs_tree.specs.declared.syntax.statement.Stmt as code_stmt
 use Rattle.abs_tree.specs.declared.syntax.statement.Stmt.{Stmt, size-Stmt, roll-Stmt, roll-out-Stmt, view-Stmt-If-4, Block', If', While', Row_of-Stmt, end_of-Stmt, more_of-Stmt, items-the_row-Stmt, items_hidden-the_row-Stmt-0, Held-Stmt-If-4, None', Some'}
 use Rattle.abs_tree.specs.declared.syntax.statement.Stmt.TheBlock.{shown-the_row-Stmt-0}
 use Rattle.abs_tree.specs.declared.syntax.statement.Stmt.TheViews.{outs-Block', outs-If', outs-While', rolls-Block, rolls-If, rolls-While}
-use Rattle.abs_tree.specs.Syntax.{Statement, BlockOf, IfOf, WhileOf, NextStatement, Else, NoElse}
+use Rattle.abs_tree.specs.Syntax.{Statement, BlockOf, IfOf, WhileOf, NextStatement, Else, NoElse, Name}
 use Rattle.abs_tree.specs.SyntaxViews.{expr_tree, statement, statement_row, statements, maybe_statements}
 use denote.Param.Weighed.{most, most-append}
 use mathlib.Core.Former.{Count}
@@ -140,3 +140,27 @@ pub size_within : (stmts others : List Stmt) (stmt : Stmt) (done : List Stmt) �
 size_within stmts others stmt done is =
     let size = λ (one : Stmt). size-Stmt one in
     omega (arith, ap (most size) is, most-append size others (stmt ∷ done))
+
+-- the tree of a loop
+pub while_tree-value : (names : List Name) (stmt : Stmt) (index : ℕ) (place : Place) (condition : Arc Expr Global)
+    (body : Vec Stmt Global) (value : Expr) (items : List Stmt) → stmt ≡ code_stmt.While index place condition body
+    → value ≡ condition.value → items ≡ body.items
+    → statement names stmt ≡ WhileOf index place (expr_tree names value) (statements names items)
+while_tree-value names stmt index place condition body value items is value_is items_are =
+    ap (statement names) is
+    ∙ (statement-while names index place condition body
+    ∙ (ap (λ (e : Expr). WhileOf index place (expr_tree names e) (statements names body.items)) (sym value_is)
+    ∙ ap (λ (xs : List Stmt). WhileOf index place (expr_tree names value) (statements names xs)) (sym items_are)))
+
+-- the tree of an `if`
+pub if_tree-value : (names : List Name) (stmt : Stmt) (index : ℕ) (place : Place) (condition : Arc Expr Global)
+    (first : Vec Stmt Global) (second : Option (Vec Stmt Global)) (value : Expr) (items : List Stmt)
+    → stmt ≡ code_stmt.If index place condition first second → value ≡ condition.value → items ≡ first.items
+    → statement names stmt
+    ≡ IfOf index place (expr_tree names value) (statements names items) (maybe_statements names second)
+if_tree-value names stmt index place condition first second value items is value_is items_are =
+    let other = maybe_statements names second in
+    ap (statement names) is
+    ∙ (statement-if names index place condition first second
+    ∙ (ap (λ (e : Expr). IfOf index place (expr_tree names e) (statements names first.items) other) (sym value_is)
+    ∙ ap (λ (xs : List Stmt). IfOf index place (expr_tree names value) (statements names xs) other) (sym items_are)))

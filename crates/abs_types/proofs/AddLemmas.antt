@@ -5,7 +5,7 @@
 --   `kept_same`, `kept_added`          what indices stand for is kept, with the same entries and with one more
 --   `found_present`, `found_added`     an index stands for the type of a shape
 use denote.Bor.{Bor}
-use Rattle.std.proofs.Common.{◌≡◌, ℕ, ◌<◌, ◌^◌, Bool, false, List, [], ◌∷◌, ◌++◌, Result, Ok, Err, Option, Some, None, is_some, ◌⊎◌, inl, inr, ⊎_elim, refl, sym, ap, ap₂, ◌∙◌, subst, length, get_or, arith, true≢false}
+use Rattle.std.proofs.Common.{◌≡◌, ℕ, ◌<◌, ◌^◌, Bool, false, List, [], ◌∷◌, ◌++◌, Result, Ok, Err, Some, is_some, ◌⊎◌, inl, inr, ⊎_elim, sym, ap, ap₂, ◌∙◌, subst, length, get_or, arith}
 use Rattle.std.specs.List.{position}
 use Rattle.std.specs.Prelude.{OnOk, OnErr}
 use Rattle.std.proofs.lemmas.List.{append-nil, map-append, get_or_push, length_push}
@@ -24,6 +24,7 @@ use Rattle.abs_types.specs.TypeShapes.{shape_type, types_of, HasPartsBelow, HasO
 use Rattle.abs_types.specs.TypeTables.{types_in, declarations_of, Keeps, StandsFor}
 use Rattle.abs_types.specs.declared.table.TypeTable.{TypeTable}
 use Rattle.abs_types.specs.declared.table.shape.Shape.{Shape}
+use Rattle.list_facts.proofs.OptionLemmas.{is_some-none}
 
 -- what is known of the entries of a table
 table_known : (table : TypeTable)
@@ -35,17 +36,12 @@ table_known table = record {
   remembered = table.are_remembered;
 }
 
--- there is no value where the test says so
-none_by_test : {X : Type 0} (found : Option X) → false ≡ is_some found → found ≡ None
-none_by_test None reported = refl
-none_by_test (Some one) reported = absurd (true≢false (sym reported))
-
 -- a new shape is inserted behind the others
 pub inserted_last : {S : Type 0} (shapes : IndexMap Shape Bool S) (later : List (Shape × Bool)) (found : Shape)
     (flag : Bool) → false ≡ is_some (get shape_eq shapes found)
     → later ≡ insert_entry shape_eq shapes.entries found flag → later ≡ shapes.entries ++ (found, flag) ∷ []
 inserted_last shapes later found flag absent is =
-    is ∙ insert_entry-new shape_eq shapes found flag (none_by_test (get shape_eq shapes found) absent)
+    is ∙ insert_entry-new shape_eq shapes found flag (is_some-none (get shape_eq shapes found) (sym absent))
 
 -- the entries after that is tried: as before, or with one more
 pub inserted : {T E S : Type 0} (result : Result T E) (shapes : IndexMap Shape Bool S) (later : List (Shape × Bool))

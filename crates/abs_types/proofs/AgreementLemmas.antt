@@ -19,11 +19,11 @@ use Rattle.abs_types.specs.PatternTypes.{pattern_fits, pattern_types}
 use Rattle.abs_types.specs.PlainTypes.{PlainType, PlainInt, PlainString, PlainNull, PlainFut, PlainClass, plain}
 use Rattle.abs_types.specs.Schemes.{scheme_of_function, scheme_of_constructor}
 use Rattle.abs_types.specs.Typing.{Frame, known_at, variable_type, application_type, case_type, both_types, both_operands, operators_type, type_in, types_in, operands_in, branches_in}
-use Rattle.abs_types.proofs.OffenceLemmas.{if_found, if_reported}
 use Rattle.abs_types.proofs.OperatorLemmas.{operator_found, operator_whole, prefix_found, prefix_whole}
 use Rattle.abs_types.proofs.PatternLemmas.{pattern_matched, match_unoffending, match_types, fitting_unoffending, unoffending_fitting}
 use Rattle.abs_types.proofs.RuleLemmas.{let_found, let_reported, if_rule_found, if_rule_reported, application_found, case_found, operators_found, both_types_found, both_operands_found, bound_after}
 use Rattle.abs_types.proofs.SubtypingLemmas.{fits_found, fits_whole}
+use Rattle.list_facts.proofs.OptionLemmas.{if-found, if-reported}
 
 -- a type among others that may be missing
 known_found : (types : List (Option PlainType)) (index : ℕ) (type : PlainType) → known_at types index ≡ Some type
@@ -197,7 +197,7 @@ mutual
       let value_type = type_in declarations frame (map Some bound ++ variables) value in
       let found = both_types_found (if is_fit then value_type else None)
       (branches_in declarations frame (map Some bound) (Some subject) others) types reported in
-      let both = if_found is_fit value_type found.0 found.2 in
+      let both = if-found is_fit value_type found.0 found.2 in
       let matched = pattern_matched declarations subject pattern
       (fitting_unoffending declarations (Some subject) pattern both.0) in
       subst (HaveBranches declarations frame bound subject (NextBranch pattern value others)) found.4
@@ -280,7 +280,7 @@ mutual
       (next_branch bound subject pattern value others variables type types matched has_value have) =
       let known = pattern_types declarations (Some subject) pattern in
       ap₂ both_types
-      (if_reported (pattern_fits declarations (Some subject) pattern)
+      (if-reported (pattern_fits declarations (Some subject) pattern)
       (type_in declarations frame (map Some bound ++ known) value) type
       (unoffending_fitting declarations (Some subject) pattern (match_unoffending matched))
       (ap (λ types. type_in declarations frame types value) (bound_after bound variables known (match_types matched))

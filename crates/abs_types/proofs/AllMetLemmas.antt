@@ -8,16 +8,16 @@ use Rattle.std.proofs.Common.{◌≡◌, ℕ, zero, suc, ◌+◌, ◌<◌, List,
 use Rattle.std.specs.Prelude.{option_map, option_and_then}
 use Rattle.std.proofs.lemmas.List.{drop_more}
 use Rattle.abs_tree.specs.Syntax.{DeclTree}
-use Rattle.abs_types.proofs.KeepLemmas.{type_at_kept, types_at_kept, keeps_transitive}
-use Rattle.abs_types.proofs.MetSoFarLemmas.{declarations_kept, pair_kept}
+use Rattle.abs_types.proofs.KeepLemmas.{type_at_kept, types_at_kept, keeps_transitive, declarations_kept}
+use Rattle.abs_types.proofs.MetSoFarLemmas.{pair_kept}
 use Rattle.abs_types.specs.Applications.{applied_type, meet, meet_all, replaced}
-use Rattle.abs_types.specs.Heads.{}
 use Rattle.abs_types.specs.TypeParts.{ArePairAmong}
 use Rattle.abs_types.specs.PlainTypes.{PlainType, PlainBottom}
 use Rattle.abs_types.specs.TypeShapes.{type_at, types_at, IsAmong}
 use Rattle.abs_types.specs.TypeTables.{declarations_of, types_in, Keeps, StandsFor}
 use Rattle.abs_types.specs.declared.table.TypeTable.{TypeTable}
 use Rattle.abs_types.specs.declared.table.shape.TypeIndex.{TypeIndex}
+use Rattle.list_facts.proofs.OptionLemmas.{option_and_then-none}
 
 -- The arguments from an index on are left. With what has been met so far they give what all arguments give.
 pub record AllMetSoFar (before now : TypeTable) (takes given start met : List TypeIndex) (index : ℕ) : Type 0 where
@@ -28,12 +28,6 @@ pub record AllMetSoFar (before now : TypeTable) (takes given start met : List Ty
       ≡ meet_all (declarations_of before) (types_at (types_in before) takes) (types_at (types_in before) given)
       (types_at (types_in before) start)
 
--- where a step gives nothing whatever it is given, there is nothing after it
-none_then : {A B : Type 0} (given : A → Option B) → ((one : A) → given one ≡ None) → (found : Option A)
-    → option_and_then given found ≡ None
-none_then given none None = refl
-none_then given none (Some one) = none one
-
 -- nothing is met where there are not as many arguments as types
 pub lengths_failed : (declarations : List DeclTree) (types : List PlainType) (takes given : List TypeIndex)
     (met : List PlainType) → (length takes ≡ length given → ⊥)
@@ -42,7 +36,7 @@ lengths_failed declarations types [] [] met apart = absurd (apart refl)
 lengths_failed declarations types [] (one ∷ given) met apart = refl
 lengths_failed declarations types (first ∷ takes) [] met apart = refl
 lengths_failed declarations types (first ∷ takes) (one ∷ given) met apart =
-    sym (none_then (meet_all declarations (types_at types takes) (types_at types given))
+    sym (option_and_then-none (meet_all declarations (types_at types takes) (types_at types given))
     (λ (between : List PlainType). sym (lengths_failed declarations types takes given between
     (λ same. apart (ap suc same))))
     (meet declarations (type_at types first) (type_at types one) met))

@@ -4,7 +4,6 @@ use Rattle.std.specs.Prelude.{option_and_then}
 use Rattle.std.specs.Str.{bytes_eq}
 use Rattle.std.proofs.lemmas.Cmp.{nat_list_eq_equiv}
 use Rattle.std.proofs.lemmas.Slice.Eq.{bytes_eq-Decides}
-use Rattle.abs_tree.proofs.EntryLemmas.{drop_item}
 use Rattle.abs_tree.specs.Syntax.{Name, DeclTree}
 use Rattle.abs_tree.specs.SyntaxViews.{type_tree, type_trees}
 use Rattle.abs_tree.specs.declared.syntax.types.TypeTerm.{TypeTerm}
@@ -15,6 +14,7 @@ use Rattle.abs_types.specs.Arguments.{both_listed, joins_of}
 use Rattle.abs_types.specs.Joins.{both_applied, join_of}
 use Rattle.abs_types.specs.PlainTypes.{PlainType, PlainFut, PlainData, PlainApplied, applied_to, plain, plains}
 use Rattle.abs_types.specs.Subtyping.{fits, NoneExtendsItself}
+use Rattle.list_facts.proofs.EntryLemmas.{drop_item}
 
 -- a type that is applied to arguments, if there are both
 abbrev both_applied_to : Option PlainType → Option (List PlainType) → Option PlainType

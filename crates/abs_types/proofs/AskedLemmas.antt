@@ -8,7 +8,7 @@ use Rattle.std.proofs.Common.{◌≡◌, List, [], Option, Some, ap, ◌∙◌, 
 use Rattle.abs_tree.specs.Syntax.{DeclTree, ExprTree, ExprTrees}
 use Rattle.abs_tree.specs.declared.place.Place.{Place}
 use Rattle.abs_types.proofs.AgreementLemmas.{typed_found, typed_whole, all_typed_found, all_typed_whole}
-use Rattle.abs_types.proofs.OffenceLemmas.{both_unoffending, unoffending_after, unfit_unoffending, unoffending_if_fit}
+use Rattle.abs_types.proofs.OffenceLemmas.{unfit_unoffending, unoffending_if_fit}
 use Rattle.abs_types.proofs.NoOffenceLemmas.{unoffending_typed, typed_unoffending, all_unoffending_typed, all_typed_unoffending}
 use Rattle.abs_types.proofs.SubtypingLemmas.{fits_found, fits_whole}
 use Rattle.abs_types.specs.ExpressionOffences.{expr_offences, exprs_offences}
@@ -19,6 +19,7 @@ use Rattle.abs_types.specs.StatementOffences.{asked_offences}
 use Rattle.abs_types.specs.Subtyping.{Fits}
 use Rattle.abs_types.specs.TypedProgram.{FitsType}
 use Rattle.abs_types.specs.Typing.{Frame, type_in, types_in}
+use Rattle.list_facts.proofs.AppendLemmas.{both_empty, empty_both}
 
 -- An expression has a type, by the relation and by the function.
 pub record TypedExpr (declarations : List DeclTree) (frame : Frame) (expr_tree : ExprTree) : Type 0 where
@@ -62,7 +63,7 @@ unoffending_exprs {declarations} {frame} {expr_trees} {types} have_types =
 pub asked_found : (declarations : List DeclTree) (frame : Frame) (value : ExprTree) (asked : PlainType) (place : Place)
     → asked_offences declarations frame value asked place ≡ [] → FitsType declarations frame value asked
 asked_found declarations frame value asked place none =
-    let parts = both_unoffending (expr_offences declarations frame [] value)
+    let parts = both_empty (expr_offences declarations frame [] value)
     (unfit declarations (type_in declarations frame [] value) asked place) none in
     let typed = typed_expr declarations frame value parts.0 in
     let unoffending = subst (λ (type : Option PlainType). unfit declarations type asked place ≡ []) typed.found parts.1 in
@@ -77,6 +78,6 @@ pub asked_whole : {declarations : List DeclTree} {frame : Frame} {value : ExprTr
     (place : Place) → HasType declarations frame [] value given → Fits declarations given asked
     → asked_offences declarations frame value asked place ≡ []
 asked_whole {declarations} {frame} {value} {given} {asked} place has_type fit =
-    unoffending_after (expr_offences declarations frame [] value) _ (unoffending_expr has_type)
+    empty_both (expr_offences declarations frame [] value) _ (unoffending_expr has_type)
     (ap (λ (type : Option PlainType). unfit declarations type asked place) (typed_whole has_type)
     ∙ unoffending_if_fit declarations given asked place (fits_whole fit))

@@ -17,7 +17,7 @@ use Rattle.abs_tree.specs.declared.place.Place.{Place}
 use Rattle.abs_tree.specs.declared.refusal.Code.TheVariants.{T2}
 use Rattle.abs_types.proofs.AgreementLemmas.{typed_whole, all_typed_whole}
 use Rattle.abs_types.proofs.AskedLemmas.{typed_expr, unoffending_expr, typed_exprs, unoffending_exprs}
-use Rattle.abs_types.proofs.OffenceLemmas.{both_unoffending, unoffending_after, offence_if_unoffending, unoffending_offence_if, untyped_unoffending, unoffending_if_typed}
+use Rattle.abs_types.proofs.OffenceLemmas.{offence_if_unoffending, unoffending_offence_if, untyped_unoffending, unoffending_if_typed}
 use Rattle.abs_types.specs.ExpressionOffences.{lacks_method, expr_offences, exprs_offences}
 use Rattle.abs_types.specs.HasType.{HasType, HaveTypes}
 use Rattle.abs_types.specs.HasType.HaveTypes.{no_expr, next_expr}
@@ -27,6 +27,7 @@ use Rattle.abs_types.specs.Mistyped.{untyped}
 use Rattle.abs_types.specs.PlainTypes.{PlainType, PlainClass}
 use Rattle.abs_types.specs.SideTypes.{called_type, type_by_operands, can_be_called, offences_by_operands}
 use Rattle.abs_types.specs.Typing.{Frame, type_in, types_in}
+use Rattle.list_facts.proofs.AppendLemmas.{both_empty, empty_both}
 
 -- there are as many types as expressions
 pub types_counted : {declarations : List DeclTree} {frame : Frame} {bound : List PlainType} {expr_trees : ExprTrees}
@@ -98,12 +99,12 @@ pub typed_call : (declarations : List DeclTree) (frame : Frame) (place : Place) 
     → TypedCall declarations frame method receiver arguments
 typed_call declarations frame place method receiver arguments none =
     let count = count_exprs arguments in
-    let all = both_unoffending (expr_offences declarations frame [] receiver
+    let all = both_empty (expr_offences declarations frame [] receiver
     ++ exprs_offences declarations frame [] arguments) _ none in
-    let parts = both_unoffending (expr_offences declarations frame [] receiver) _ all.0 in
+    let parts = both_empty (expr_offences declarations frame [] receiver) _ all.0 in
     let object = typed_expr declarations frame receiver parts.0 in
     let given = typed_exprs declarations frame arguments parts.1 in
-    let own = both_unoffending (offence_if (lacks_method declarations (type_in declarations frame [] receiver) method count)
+    let own = both_empty (offence_if (lacks_method declarations (type_in declarations frame [] receiver) method count)
     T2 place) _ all.1 in
     let reported = call_found declarations object.type method count given.types place object.found given.found own.0
     own.1 in
@@ -135,10 +136,10 @@ pub unoffending_call : {declarations : List DeclTree} {frame : Frame} {receiver 
 unoffending_call {declarations} {frame} {receiver} {arguments} {object} {given} {type} place method has_type have_types is =
     let count = count_exprs arguments in
     let receiver_type = type_in declarations frame [] receiver in
-    unoffending_after (expr_offences declarations frame [] receiver ++ exprs_offences declarations frame [] arguments) _
-    (unoffending_after (expr_offences declarations frame [] receiver) _ (unoffending_expr has_type)
+    empty_both (expr_offences declarations frame [] receiver ++ exprs_offences declarations frame [] arguments) _
+    (empty_both (expr_offences declarations frame [] receiver) _ (unoffending_expr has_type)
     (unoffending_exprs have_types))
-    (unoffending_after (offence_if (lacks_method declarations receiver_type method count) T2 place) _
+    (empty_both (offence_if (lacks_method declarations receiver_type method count) T2 place) _
     (call_there declarations object method count given type place (typed_whole has_type) (types_counted have_types) is)
     (unoffending_if_typed (can_be_called declarations receiver_type method count (types_in declarations frame [] arguments))
     (type_by_operands declarations frame method (NextExpr receiver arguments)) place type

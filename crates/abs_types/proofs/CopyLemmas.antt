@@ -1,10 +1,10 @@
 -- Copies of types have the same trees.
 use Rattle.std.proofs.Common.{◌≡◌, ℕ, ◌+◌, ◌<◌, ◌≤◌, List, [], ◌∷◌, ◌++◌, sym, ap, ◌∙◌, length, get_or, drop, append_assoc}
 use Rattle.std.proofs.lemmas.List.{append-nil, drop_all}
-use Rattle.abs_tree.proofs.EntryLemmas.{drop_item}
 use Rattle.abs_tree.specs.Syntax.{Name, TypeTree, TypeTrees, NextType}
 use Rattle.abs_tree.specs.SyntaxViews.{type_tree, type_trees}
 use Rattle.abs_tree.specs.declared.syntax.types.TypeTerm.{TypeTerm}
+use Rattle.list_facts.proofs.EntryLemmas.{drop_item}
 
 -- The types before an index were copied to a list. With the others it has the same trees as all types.
 pub record CopiedSoFar (names : List Name) (terms : List TypeTerm) (index : ℕ) (found : List TypeTerm) : Type 0 where

@@ -3,13 +3,13 @@ use Rattle.std.proofs.Common.{◌≡◌, ℕ, ◌+◌, ◌<◌, ◌≤◌, Bool,
 use Rattle.std.specs.Prelude.{if◌then◌else◌}
 use Rattle.std.proofs.lemmas.Bool.Decides.{nat_tests}
 use Rattle.std.proofs.lemmas.List.{drop_all}
-use Rattle.abs_tree.proofs.EntryLemmas.{drop_item}
 use Rattle.abs_tree.specs.Syntax.{Name, DeclTree}
 use Rattle.abs_tree.specs.SyntaxViews.{type_tree, type_trees}
 use Rattle.abs_tree.specs.declared.syntax.types.TypeTerm.{TypeTerm}
 use Rattle.abs_types.specs.Arguments.{all_fit, fitting_count}
 use Rattle.abs_types.specs.PlainTypes.{PlainType, plain, plains}
 use Rattle.abs_types.specs.Subtyping.{fits}
+use Rattle.list_facts.proofs.EntryLemmas.{drop_item}
 
 -- as many plain types as types
 pub plains_length : (names : List Name) (items : List TypeTerm)

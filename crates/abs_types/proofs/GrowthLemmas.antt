@@ -2,12 +2,12 @@
 --
 --   `AreKnown`                     what is known of the entries
 --   `known_empty`, `known_push`    there are none, or one more
-use Rattle.std.proofs.Common.{◌≡◌, ℕ, ◌<◌, ◌≤◌, ◌^◌, zero, suc, Bool, List, [], ◌∷◌, ◌++◌, Option, Some, None, ◌⊎◌, inl, inr, ⊎_elim, refl, sym, ap, ap₂, ◌∙◌, subst, length, map, slice_get, arith}
+use Rattle.std.proofs.Common.{◌≡◌, ℕ, ◌<◌, ◌≤◌, ◌^◌, Bool, List, [], ◌∷◌, ◌++◌, Option, Some, None, ◌⊎◌, ⊎_elim, refl, sym, ap, ap₂, ◌∙◌, subst, length, map, slice_get, arith}
 use Rattle.std.proofs.Math.Logic.{∥∥₁_map}
 use Rattle.std.proofs.lemmas.Grind.{merely}
 use Rattle.std.proofs.lemmas.List.{map-append, length-map, length_push}
 use Rattle.std.proofs.lemmas.List.Elements.{All-nil, All-weaker}
-use Rattle.std.proofs.lemmas.Option.{none-some, same_Some}
+use Rattle.std.proofs.lemmas.Option.{none-some}
 use Rattle.std.specs.Prelude.{option_map, IfSome}
 use Rattle.abs_tree.specs.Syntax.{Name, DeclTree}
 use Rattle.abs_types.proofs.TypeTableLemmas.{Grow, types_of-grow, types_of-push}
@@ -17,16 +17,7 @@ use Rattle.abs_types.specs.TypeShapes.{type_at, shape_type, types_of, HasPartsBe
 use Rattle.abs_types.specs.declared.table.shape.Shape.{Shape}
 use Rattle.abs_types.specs.declared.table.shape.TypeIndex.{TypeIndex}
 use Rattle.abs_types.specs.declared.table.shape.TypePair.{TypePair}
-
--- what is at an index of a list with one more element
-slice_get-push : {X : Type 0} (list : List X) (last : X) (index : ℕ) (found : X)
-    → slice_get (list ++ last ∷ []) index ≡ Some found
-    → (slice_get list index ≡ Some found) ⊎ ((length list ≡ index) × (last ≡ found))
-slice_get-push [] last zero found is = inr (refl, same_Some last found is)
-slice_get-push [] last (suc index) found is = absurd (none-some found is)
-slice_get-push (first ∷ others) last zero found is = inl is
-slice_get-push (first ∷ others) last (suc index) found is =
-    ⊎_elim inl (λ both. inr (ap suc both.0, both.1)) (slice_get-push others last index found is)
+use Rattle.list_facts.proofs.EntryLemmas.{slice_get-push}
 
 -- what is so of each shape of a list, with its index, is so of those of a list with one more
 each_push : (P : ℕ → Shape → Type 0) (shapes : List Shape) (last : Shape)

@@ -3,7 +3,7 @@
 use Rattle.std.proofs.Common.{◌≡◌, true, false, List, [], ◌∷◌, Option, Some, None, option_map, refl, sym, ap, ap₂, ◌∙◌, subst, ⊎_elim}
 use Rattle.std.proofs.lemmas.Bool.{and_from, and_parts, cases_Bool}
 use Rattle.std.proofs.lemmas.List.Elements.{All-nil, All-cons, All-head, All-tail}
-use Rattle.std.proofs.lemmas.Option.{none-some, option_and_then_some}
+use Rattle.std.proofs.lemmas.Option.{none-some, option_and_then_some, same_Some}
 use Rattle.abs_tree.specs.Syntax.{DeclTree}
 use Rattle.abs_types.specs.Joins.{greater_or, both_applied, join_of, join_all, IsLeastAbove, IsLeastAboveAll}
 use Rattle.abs_types.specs.PlainTypes.{PlainType, PlainFut, PlainApplied}
@@ -59,10 +59,6 @@ join_of_fitted declarations one other none back = ⊎_elim
     (λ not_there. join_of_greater declarations one other not_there back)
     (cases_Bool (fits declarations one other))
 
--- two values are the same, if there are both and the options are the same
-some_is_same : {A : Type 0} {x y : A} → Some x ≡ Some y → x ≡ y
-some_is_same same = cc
-
 -- if a type fits another one, the latter is the least type above both
 least_of_fitting : (declarations : List DeclTree) (one other : PlainType) → fits declarations one other ≡ true
     → IsLeastAbove declarations one other other
@@ -87,10 +83,10 @@ least_by_parts : (declarations : List DeclTree) (one other joined : PlainType)
     → join_of declarations one other ≡ Some joined → IsLeastAbove declarations one other joined
 least_by_parts declarations one other joined by_parts reported = by_fitting declarations one other
     (λ there. subst (IsLeastAbove declarations one other)
-    (some_is_same (sym (join_of_fitting declarations one other there) ∙ reported))
+    (same_Some _ _ (sym (join_of_fitting declarations one other there) ∙ reported))
     (least_of_fitting declarations one other there))
     (λ not_there back. subst (IsLeastAbove declarations one other)
-    (some_is_same (sym (join_of_greater declarations one other not_there back) ∙ reported))
+    (same_Some _ _ (sym (join_of_greater declarations one other not_there back) ∙ reported))
     (least_of_fitted declarations one other back))
     (λ not_there not_back. by_parts (sym (join_of_apart declarations one other not_there not_back) ∙ reported))
 
@@ -112,7 +108,7 @@ unfolding fits
 futures_least declarations one other joined None by_inner reported = absurd (none-some joined reported)
 futures_least declarations one other joined (Some least) by_inner reported =
     let found = by_inner least refl in
-    subst (IsLeastAbove declarations (PlainFut one) (PlainFut other)) (some_is_same reported)
+    subst (IsLeastAbove declarations (PlainFut one) (PlainFut other)) (same_Some _ _ reported)
     (record {
       first = found.first;
       second = found.second;
@@ -151,7 +147,7 @@ applied_least declarations head other_head argument other_argument joined (Some 
     let found = by_heads least_head refl in
     let found_too = by_arguments least_argument refl in
     subst (IsLeastAbove declarations (PlainApplied head argument) (PlainApplied other_head other_argument))
-    (some_is_same reported)
+    (same_Some _ _ reported)
     (record {
       first = and_from (fits declarations head least_head) (fits declarations argument least_argument)
           found.first found_too.first;
@@ -202,7 +198,7 @@ all_least_after declarations one other between least others of_two of_all =
 pub join_all_least : (declarations : List DeclTree) (one joined : PlainType) (others : List PlainType)
     → join_all declarations one others ≡ Some joined → IsLeastAboveAll declarations (one ∷ others) joined
 join_all_least declarations one joined [] reported =
-    subst (IsLeastAboveAll declarations (one ∷ [])) (some_is_same reported)
+    subst (IsLeastAboveAll declarations (one ∷ [])) (same_Some _ _ reported)
     (record {
       above_all = All-cons (λ type. fits declarations type one ≡ true) one [] (fits_reflexive declarations one)
           (All-nil (λ type. fits declarations type one ≡ true));

@@ -3,13 +3,16 @@
 --   `among_kept`, `type_at_kept`           an index is still among the types, and stands for the same type
 --   `all_among_kept`, `types_at_kept`      the same of several indices
 --   `keeps_reflexive`, `keeps_transitive`  a table keeps what it has, also in several steps
-use Rattle.std.proofs.Common.{◌≡◌, List, [], ◌∷◌, All, refl, ap₂, ◌∙◌}
+--   `declarations_kept`                    it is of the same declarations
+use Rattle.std.proofs.Common.{◌≡◌, List, [], ◌∷◌, All, refl, ap₂, ◌∙◌, ap, Bor}
 use Rattle.std.proofs.lemmas.List.Elements.{All-head, All-tail}
 use Rattle.abs_types.specs.PlainTypes.{PlainType}
 use Rattle.abs_types.specs.TypeShapes.{type_at, types_at, IsAmong}
-use Rattle.abs_types.specs.TypeTables.{types_in, Keeps, StandsFor}
+use Rattle.abs_types.specs.TypeTables.{types_in, Keeps, StandsFor, declarations_of}
 use Rattle.abs_types.specs.declared.table.TypeTable.{TypeTable}
 use Rattle.abs_types.specs.declared.table.shape.TypeIndex.{TypeIndex}
+use Rattle.abs_program.specs.declared.named.Named.{Named}
+use Rattle.abs_program.specs.NamedViews.{named_tree}
 
 -- an index among the types stands for its type
 stands : (table : TypeTable) (index : TypeIndex) → IsAmong (types_in table) index
@@ -52,3 +55,7 @@ keeps_transitive {before} {between} {now} first second = record {
   program_is = second.program_is ∙ first.program_is;
   kept = λ index type stands_for. second.kept index type (first.kept index type stands_for);
 }
+
+-- the declarations are the same later
+pub declarations_kept : {before now : TypeTable} → Keeps before now → declarations_of now ≡ declarations_of before
+declarations_kept keeps = ap (λ (program : Bor Named). (named_tree program.now).declarations) keeps.program_is

@@ -1,46 +1,45 @@
-pub mod PassedLemmas
 pub mod TermLemmas
-pub mod SpineLemmas
-pub mod FormLemmas
-pub mod NameLemmas
-pub mod FittingLemmas
-pub mod CopyLemmas
-pub mod JoinLemmas
-pub mod JoinFormLemmas
-pub mod SubtypingLemmas
-pub mod ReplacementLemmas
-pub mod ApplicationLemmas
-pub mod ArgumentLemmas
-pub mod NamedLemmas
-pub mod OffenceLemmas
-pub mod PatternLemmas
-pub mod OperatorLemmas
-pub mod RuleLemmas
-pub mod AgreementLemmas
-pub mod NoOffenceLemmas
-pub mod SchemeLemmas
+mod SpineLemmas
+mod FormLemmas
+mod NameLemmas
+mod FittingLemmas
+mod CopyLemmas
+mod JoinLemmas
+mod JoinFormLemmas
+mod SubtypingLemmas
+mod ReplacementLemmas
+mod ApplicationLemmas
+mod ArgumentLemmas
+mod NamedLemmas
+mod OffenceLemmas
+mod PatternLemmas
+mod OperatorLemmas
+mod RuleLemmas
+mod AgreementLemmas
+mod NoOffenceLemmas
+mod SchemeLemmas
 pub mod ConstructorLemmas
-pub mod AskedLemmas
-pub mod CallLemmas
-pub mod SideLemmas
-pub mod StatementLemmas
-pub mod ProgramLemmas
+mod AskedLemmas
+mod CallLemmas
+mod SideLemmas
+mod StatementLemmas
+mod ProgramLemmas
 pub mod KeepLemmas
-pub mod TypeTableLemmas
-pub mod OwnNameLemmas
-pub mod ShapeLemmas
-pub mod GrowthLemmas
-pub mod TableLemmas
-pub mod AddLemmas
+mod TypeTableLemmas
+mod OwnNameLemmas
+mod ShapeLemmas
+mod GrowthLemmas
+mod TableLemmas
+mod AddLemmas
 pub mod TypeSetLemmas
 pub mod MemoryLemmas
-pub mod TermTableLemmas
-pub mod PartLemmas
-pub mod TableJoinLemmas
-pub mod ShareLemmas
-pub mod OpenLemmas
+mod TermTableLemmas
+mod PartLemmas
+mod TableJoinLemmas
+mod ShareLemmas
+mod OpenLemmas
 pub mod HeadLemmas
-pub mod MeetLemmas
-pub mod MetSoFarLemmas
-pub mod AllMetLemmas
-pub mod ReplacedSoFarLemmas
+mod MeetLemmas
+mod MetSoFarLemmas
+mod AllMetLemmas
+mod ReplacedSoFarLemmas

@@ -41,7 +41,7 @@ found_right declarations types entries pair found is right =
     (right place.0 (place.1, found) (slice_get_within entries place.0 (place.1, found) place.2)))
 
 -- an index that may be there is among types in one way at most
-among-prop : (types : List PlainType) (found : Option TypeIndex) → IsProp (IfSome found (IsAmong types))
+pub among-prop : (types : List PlainType) (found : Option TypeIndex) → IsProp (IfSome found (IsAmong types))
 among-prop types None = Prim.hlevel logic.props
 among-prop types (Some index) = Prim.hlevel logic.props
 

@@ -3,15 +3,13 @@
 --   `MetSoFar`, `MetSoFar-next`        what a loop over pairs of arguments keeps, also after one more pair
 --   `next_among`, `next_below`         the next pair
 --   `heads_failed`, `argument_failed`  nothing is met where heads or arguments cannot be met
---   `declarations_kept`, `pair_kept`   a pair is met by the same later
-use Rattle.std.proofs.Common.{◌≡◌, ◌<◌, List, [], ◌∷◌, ◌++◌, Option, Some, None, All, refl, sym, ap, ap₂, ◌∙◌, Bor}
+--   `pair_kept`                        a pair is met by the same later
+use Rattle.std.proofs.Common.{◌≡◌, ◌<◌, List, [], ◌∷◌, ◌++◌, Option, Some, None, All, refl, sym, ap, ap₂, ◌∙◌}
 use Rattle.std.specs.Prelude.{option_and_then}
 use Rattle.std.proofs.lemmas.List.Elements.{All-pop}
-use Rattle.abs_program.specs.NamedViews.{named_tree}
 use Rattle.abs_tree.specs.Syntax.{DeclTree}
-use Rattle.abs_program.specs.declared.named.Named.{Named}
 use Rattle.abs_types.proofs.HeadLemmas.{met_back-push}
-use Rattle.abs_types.proofs.KeepLemmas.{among_kept, type_at_kept, keeps_transitive}
+use Rattle.abs_types.proofs.KeepLemmas.{among_kept, type_at_kept, keeps_transitive, declarations_kept}
 use Rattle.abs_types.specs.Applications.{meet}
 use Rattle.abs_types.specs.Heads.{met_back, AreMetSpines}
 use Rattle.abs_types.specs.TypeParts.{ArePairAmong}
@@ -51,10 +49,6 @@ heads_failed {declarations} {types} {pair} {heads} {arguments} met spines report
     sym (spines.meets met
     ∙ (ap (λ (first : Option (List PlainType)). met_back declarations types first arguments) (sym reported)
     ∙ none_back declarations types arguments))
-
--- the declarations are the same later
-pub declarations_kept : {before now : TypeTable} → Keeps before now → declarations_of now ≡ declarations_of before
-declarations_kept keeps = ap (λ (program : Bor Named). (named_tree program.now).declarations) keeps.program_is
 
 -- a pair is met by the same later
 pub pair_kept : {before now : TypeTable} {pair : TypePair} (met : List PlainType) → Keeps before now

@@ -21,34 +21,31 @@ use Rattle.abs_types.specs.PlainTypes.{PlainType, PlainInt, PlainString, PlainNu
 use Rattle.abs_types.specs.Schemes.{scheme_of_function, scheme_of_constructor}
 use Rattle.abs_types.specs.Typing.{Frame, known_at, variable_type, let_type, if_type, application_type, case_type, both_types, both_operands, operators_type, type_in, types_in, operands_in, branches_in}
 use Rattle.abs_types.proofs.AgreementLemmas.{bound_found, bound_whole, typed_found, typed_whole}
-use Rattle.abs_types.proofs.OffenceLemmas.{both_unoffending, unoffending_after, offence_if_unoffending, unoffending_offence_if, untyped_unoffending, unoffending_if_typed, rule_typed, pair_rule_typed, rule_unoffending, pair_rule_unoffending, some_found, some_reported, both_reported, if_found, if_reported}
+use Rattle.abs_types.proofs.OffenceLemmas.{offence_if_unoffending, unoffending_offence_if, untyped_unoffending, unoffending_if_typed, rule_typed, pair_rule_typed, rule_unoffending, pair_rule_unoffending}
 use Rattle.abs_types.proofs.PatternLemmas.{pattern_matched, match_types, fitting_unoffending, unoffending_fitting}
 use Rattle.abs_types.proofs.RuleLemmas.{let_found, if_rule_found, application_found, case_found, operators_found, both_types_found, both_operands_found, bound_after}
-
--- an option has a value exactly where what it is mapped to has one
-is_some_mapped : {A B : Type 0} (f : A → B) (found : Option A) → is_some (option_map f found) ≡ is_some found
-is_some_mapped f None = refl
-is_some_mapped f (Some value) = refl
+use Rattle.list_facts.proofs.AppendLemmas.{both_empty, empty_both}
+use Rattle.list_facts.proofs.OptionLemmas.{is_some-found, is_some-reported, is_some-both, if-found, if-reported, is_some-option_map}
 
 -- a variable that is visible has a type
 visible_typed : (frame : Frame) (bound : List PlainType) (variable : VariableTree)
     → is_visible frame (map Some bound) variable ≡ true
     → (type : PlainType) × (variable_type frame (map Some bound) variable ≡ Some type)
-visible_typed frame bound (AtSlot slot) reported = some_found (known_at frame.slots slot) reported
-visible_typed frame bound (AtField field) reported = some_found (slice_get frame.fields field) reported
+visible_typed frame bound (AtSlot slot) reported = is_some-found (known_at frame.slots slot) reported
+visible_typed frame bound (AtField field) reported = is_some-found (slice_get frame.fields field) reported
 visible_typed frame bound (AtBound depth) reported =
-    let found = some_found (slice_get bound depth)
-    (sym (is_some_mapped Some (slice_get bound depth)) ∙ ap is_some (sym (slice_get-map Some bound depth)) ∙ reported) in
+    let found = is_some-found (slice_get bound depth)
+    (is_some-option_map Some (slice_get bound depth) ∙ ap is_some (sym (slice_get-map Some bound depth)) ∙ reported) in
     (found.0, bound_whole bound depth found.0 found.1)
 visible_typed frame bound (Unresolved name) reported = absurd (true≢false (sym reported))
 
 -- a variable with a type is visible
 typed_visible : (frame : Frame) (bound : List PlainType) (variable : VariableTree) (type : PlainType)
     → variable_type frame (map Some bound) variable ≡ Some type → is_visible frame (map Some bound) variable ≡ true
-typed_visible frame bound (AtSlot slot) type reported = some_reported (known_at frame.slots slot) type reported
-typed_visible frame bound (AtField field) type reported = some_reported (slice_get frame.fields field) type reported
+typed_visible frame bound (AtSlot slot) type reported = is_some-reported (known_at frame.slots slot) type reported
+typed_visible frame bound (AtField field) type reported = is_some-reported (slice_get frame.fields field) type reported
 typed_visible frame bound (AtBound depth) type reported =
-    some_reported (slice_get (map Some bound) depth) (Some type)
+    is_some-reported (slice_get (map Some bound) depth) (Some type)
     (slice_get-map Some bound depth ∙ ap (option_map Some) (bound_found bound depth type reported))
 typed_visible frame bound (Unresolved name) type reported = absurd (none-some type reported)
 
@@ -57,9 +54,9 @@ own_call_offends : (declarations : List DeclTree) (frame : Frame) (given : Optio
     (method : Name) (count : ℕ) (types : List PlainType) → given ≡ Some types
     → own_call_offences declarations frame given place method count ≡ [] → ⊥
 own_call_offends declarations frame given place method count types reported none =
-    let both = both_unoffending (offence_if (this_lacks_method declarations frame method count) T2 place)
+    let both = both_empty (offence_if (this_lacks_method declarations frame method count) T2 place)
     (mistyped_if (is_some given) place) none in
-    true≢false (sym (some_reported given types reported) ∙ offence_if_unoffending (is_some given) T1 place both.1)
+    true≢false (sym (is_some-reported given types reported) ∙ offence_if_unoffending (is_some given) T1 place both.1)
 
 mutual
   -- an expression without an offence has a type
@@ -84,7 +81,7 @@ mutual
       pair_rule_typed (expr_offences declarations frame types value)
       (expr_offences declarations frame more body) (is_some one && is_some other)
       (let_type declarations (plain declared) one other) place
-      (λ value_unoffending body_unoffending. both_reported one other
+      (λ value_unoffending body_unoffending. is_some-both one other
       (unoffending_typed declarations frame bound value value_unoffending)
       (let after = bound_after bound (plain declared ∷ []) (Some (plain declared) ∷ []) refl in
       let inner = unoffending_typed declarations frame (bound ++ plain declared ∷ []) body
@@ -99,12 +96,12 @@ mutual
       ++ expr_offences declarations frame types first) (expr_offences declarations frame types second)
       (is_some given && is_some one && is_some other) (if_type declarations given one other) place
       (λ before_unoffending second_unoffending.
-      let both = both_unoffending (expr_offences declarations frame types condition)
+      let both = both_empty (expr_offences declarations frame types condition)
       (expr_offences declarations frame types first) before_unoffending in
       let found = unoffending_typed declarations frame bound second second_unoffending in
       and_from (is_some given && is_some one) (is_some other)
-      (both_reported given one (unoffending_typed declarations frame bound condition both.0)
-      (unoffending_typed declarations frame bound first both.1)) (some_reported other found.0 found.1)) none
+      (is_some-both given one (unoffending_typed declarations frame bound condition both.0)
+      (unoffending_typed declarations frame bound first both.1)) (is_some-reported other found.0 found.1)) none
   unoffending_typed declarations frame bound (OperatorsOf place first operands) none =
       let types = map Some bound in
       let one = type_in declarations frame types first in
@@ -112,7 +109,7 @@ mutual
       pair_rule_typed (expr_offences declarations frame types first)
       (operands_offences declarations frame types operands) (is_some one && is_some other)
       (operators_type declarations one other) place
-      (λ first_unoffending operands_unoffending. both_reported one other
+      (λ first_unoffending operands_unoffending. is_some-both one other
       (unoffending_typed declarations frame bound first first_unoffending)
       (unoffending_operands_typed declarations frame bound operands operands_unoffending)) none
   unoffending_typed declarations frame bound (Prefixed place prefix operand) none =
@@ -121,21 +118,21 @@ mutual
       (option_and_then (prefix_type declarations prefix) given) place
       (λ operand_unoffending.
       let found = unoffending_typed declarations frame bound operand operand_unoffending in
-      some_reported given found.0 found.1) none
+      is_some-reported given found.0 found.1) none
   unoffending_typed declarations frame bound (ApplyOf place function arguments) none =
       let given = types_in declarations frame (map Some bound) arguments in
       rule_typed (exprs_offences declarations frame (map Some bound) arguments) (is_some given)
       (application_type declarations (scheme_of_function declarations function) given) place
       (λ arguments_unoffending.
       let found = all_unoffending_typed declarations frame bound arguments arguments_unoffending in
-      some_reported given found.0 found.1) none
+      is_some-reported given found.0 found.1) none
   unoffending_typed declarations frame bound (BuildOf place constructor arguments) none =
       let given = types_in declarations frame (map Some bound) arguments in
       rule_typed (exprs_offences declarations frame (map Some bound) arguments) (is_some given)
       (application_type declarations (scheme_of_constructor declarations constructor) given) place
       (λ arguments_unoffending.
       let found = all_unoffending_typed declarations frame bound arguments arguments_unoffending in
-      some_reported given found.0 found.1) none
+      is_some-reported given found.0 found.1) none
   unoffending_typed declarations frame bound (CaseOf place subject branches) none =
       let types = map Some bound in
       let one = type_in declarations frame types subject in
@@ -147,11 +144,11 @@ mutual
       let given = unoffending_typed declarations frame bound subject subject_unoffending in
       let found = unoffending_branches_typed declarations frame bound given.0 branches
       (ap (λ known. branches_offences declarations frame types known branches) (sym given.1) ∙ branches_unoffending) in
-      both_reported one other given
+      is_some-both one other given
       (found.0, ap (λ known. branches_in declarations frame types known branches) given.1 ∙ found.1)) none
   unoffending_typed declarations frame bound (OwnCallOf place method arguments) none =
       let given = types_in declarations frame (map Some bound) arguments in
-      let both = both_unoffending (exprs_offences declarations frame (map Some bound) arguments)
+      let both = both_empty (exprs_offences declarations frame (map Some bound) arguments)
       (own_call_offences declarations frame given place method (count_exprs arguments)) none in
       let found = all_unoffending_typed declarations frame bound arguments both.0 in
       absurd (own_call_offends declarations frame given place method (count_exprs arguments) found.0 found.1 both.1)
@@ -164,7 +161,7 @@ mutual
       → (types : List PlainType) × (types_in declarations frame (map Some bound) expr_trees ≡ Some types)
   all_unoffending_typed declarations frame bound NoExpr none = ([], refl)
   all_unoffending_typed declarations frame bound (NextExpr first others) none =
-      let both = both_unoffending (expr_offences declarations frame (map Some bound) first)
+      let both = both_empty (expr_offences declarations frame (map Some bound) first)
       (exprs_offences declarations frame (map Some bound) others) none in
       let one = unoffending_typed declarations frame bound first both.0 in
       let more = all_unoffending_typed declarations frame bound others both.1 in
@@ -177,7 +174,7 @@ mutual
       × (operands_in declarations frame (map Some bound) operands ≡ Some given)
   unoffending_operands_typed declarations frame bound NoOperands none = ([], refl)
   unoffending_operands_typed declarations frame bound (NextOperand operator right others) none =
-      let both = both_unoffending (expr_offences declarations frame (map Some bound) right)
+      let both = both_empty (expr_offences declarations frame (map Some bound) right)
       (operands_offences declarations frame (map Some bound) others) none in
       let one = unoffending_typed declarations frame bound right both.0 in
       let more = unoffending_operands_typed declarations frame bound others both.1 in
@@ -191,10 +188,10 @@ mutual
   unoffending_branches_typed declarations frame bound subject NoBranch none = ([], refl)
   unoffending_branches_typed declarations frame bound subject (NextBranch pattern value others) none =
       let known = map Some bound ++ pattern_types declarations (Some subject) pattern in
-      let apart = both_unoffending (pattern_offences declarations (Some subject) pattern
+      let apart = both_empty (pattern_offences declarations (Some subject) pattern
       ++ expr_offences declarations frame known value)
       (branches_offences declarations frame (map Some bound) (Some subject) others) none in
-      let both = both_unoffending (pattern_offences declarations (Some subject) pattern)
+      let both = both_empty (pattern_offences declarations (Some subject) pattern)
       (expr_offences declarations frame known value) apart.0 in
       let matched = pattern_matched declarations subject pattern both.0 in
       let after = bound_after bound matched.0 (pattern_types declarations (Some subject) pattern)
@@ -204,7 +201,7 @@ mutual
       let more = unoffending_branches_typed declarations frame bound subject others apart.1 in (
         one.0 ∷ more.0,
         ap₂ both_types
-            (if_reported (pattern_fits declarations (Some subject) pattern) (type_in declarations frame known value) one.0
+            (if-reported (pattern_fits declarations (Some subject) pattern) (type_in declarations frame known value) one.0
             (unoffending_fitting declarations (Some subject) pattern both.0)
             (ap (λ types. type_in declarations frame types value) after ∙ one.1)) more.1,
       )
@@ -248,7 +245,7 @@ mutual
       pair_rule_unoffending (expr_offences declarations frame types condition
       ++ expr_offences declarations frame types first) (expr_offences declarations frame types second)
       (is_some given && is_some one && is_some other) (if_type declarations given one other) place type
-      (unoffending_after (expr_offences declarations frame types condition)
+      (empty_both (expr_offences declarations frame types condition)
       (expr_offences declarations frame types first)
       (typed_unoffending declarations frame bound condition found.0 found.3)
       (typed_unoffending declarations frame bound first found.1 found.5))
@@ -306,7 +303,7 @@ mutual
   all_typed_unoffending declarations frame bound (NextExpr first others) types reported =
       let found = both_types_found (type_in declarations frame (map Some bound) first)
       (types_in declarations frame (map Some bound) others) types reported in
-      unoffending_after (expr_offences declarations frame (map Some bound) first)
+      empty_both (expr_offences declarations frame (map Some bound) first)
       (exprs_offences declarations frame (map Some bound) others)
       (typed_unoffending declarations frame bound first found.0 found.2)
       (all_typed_unoffending declarations frame bound others found.1 found.3)
@@ -320,7 +317,7 @@ mutual
   typed_operands_unoffending declarations frame bound (NextOperand operator right others) given reported =
       let found = both_operands_found operator (type_in declarations frame (map Some bound) right)
       (operands_in declarations frame (map Some bound) others) given reported in
-      unoffending_after (expr_offences declarations frame (map Some bound) right)
+      empty_both (expr_offences declarations frame (map Some bound) right)
       (operands_offences declarations frame (map Some bound) others)
       (typed_unoffending declarations frame bound right found.0 found.2)
       (typed_operands_unoffending declarations frame bound others found.1 found.3)
@@ -337,15 +334,15 @@ mutual
       let value_type = type_in declarations frame known value in
       let found = both_types_found (if is_fit then value_type else None)
       (branches_in declarations frame (map Some bound) (Some subject) others) types reported in
-      let both = if_found is_fit value_type found.0 found.2 in
+      let both = if-found is_fit value_type found.0 found.2 in
       let unoffending = fitting_unoffending declarations (Some subject) pattern both.0 in
       let matched = pattern_matched declarations subject pattern unoffending in
       let after = bound_after bound matched.0 (pattern_types declarations (Some subject) pattern)
       (match_types matched.1) in
-      unoffending_after (pattern_offences declarations (Some subject) pattern
+      empty_both (pattern_offences declarations (Some subject) pattern
       ++ expr_offences declarations frame known value)
       (branches_offences declarations frame (map Some bound) (Some subject) others)
-      (unoffending_after (pattern_offences declarations (Some subject) pattern)
+      (empty_both (pattern_offences declarations (Some subject) pattern)
       (expr_offences declarations frame known value) unoffending
       (ap (λ types. expr_offences declarations frame types value) after
       ∙ typed_unoffending declarations frame (bound ++ matched.0) value found.0

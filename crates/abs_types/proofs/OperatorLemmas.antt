@@ -17,14 +17,14 @@ use Rattle.abs_types.specs.OperatorRules.PrefixGives.{negated, tilde, minus}
 use Rattle.abs_types.specs.OperatorTypes.{bool_type, type_if, plus_type, both_are, equality_type, operator_type, prefix_type}
 use Rattle.abs_types.specs.PlainTypes.{PlainType, PlainInt, PlainString, PlainBottom}
 use Rattle.abs_types.specs.Subtyping.{Fits, fits}
-use Rattle.abs_types.proofs.OffenceLemmas.{some_found, some_reported, if_found, if_reported}
 use Rattle.abs_types.proofs.SubtypingLemmas.{fits_found, fits_whole}
+use Rattle.list_facts.proofs.OptionLemmas.{is_some-found, is_some-reported, if-found, if-reported}
 
 -- a type that there is reason for
 type_if_found : (reason : Bool) (given type : PlainType) → type_if reason given ≡ Some type
     → (reason ≡ true) × (given ≡ type)
 type_if_found reason given type reported =
-    let both = if_found reason (Some given) type reported in
+    let both = if-found reason (Some given) type reported in
     (both.0, same_Some given type both.1)
 
 -- where two operands of one type give another one, both fit it
@@ -40,7 +40,7 @@ both_found declarations wanted given left right type reported =
 both_whole : (declarations : List DeclTree) (wanted given left right : PlainType) → Fits declarations left wanted
     → Fits declarations right wanted → both_are declarations wanted given left right ≡ Some given
 both_whole declarations wanted given left right one other =
-    if_reported (fits declarations left wanted && fits declarations right wanted) (Some given) given
+    if-reported (fits declarations left wanted && fits declarations right wanted) (Some given) given
     (and_from (fits declarations left wanted) (fits declarations right wanted) (fits_whole one) (fits_whole other))
     refl
 
@@ -87,7 +87,7 @@ equality_found : (declarations : List DeclTree) (op : Operator) (left right type
     → OperatorGives declarations op left right type
 equality_found declarations op left right type is reported =
     let found = type_if_found (is_some (join_of declarations left right)) bool_type type reported in
-    let joined = some_found (join_of declarations left right) found.0 in
+    let joined = is_some-found (join_of declarations left right) found.0 in
     subst (OperatorGives declarations op left right) found.1 (equality op left right joined.0 is joined.1)
 
 -- so has that of a logical operator
@@ -181,8 +181,8 @@ operator_whole {declarations} (comparison op left right is one other) =
     comparison_rule declarations op left right is ∙ both_whole declarations PlainInt bool_type left right one other
 operator_whole {declarations} (equality op left right joined is reported) =
     equality_rule declarations op left right is
-    ∙ if_reported (is_some (join_of declarations left right)) (Some bool_type) bool_type
-    (some_reported (join_of declarations left right) joined reported) refl
+    ∙ if-reported (is_some (join_of declarations left right)) (Some bool_type) bool_type
+    (is_some-reported (join_of declarations left right) joined reported) refl
 operator_whole {declarations} (logical op left right is one other) =
     logical_rule declarations op left right is ∙ both_whole declarations bool_type bool_type left right one other
 
@@ -208,8 +208,8 @@ pub prefix_whole : {declarations : List DeclTree} {op : Prefix} {operand type : 
     → PrefixGives declarations op operand type → prefix_type declarations op operand ≡ Some type
 unfolding prefix_type
 prefix_whole {declarations} (negated operand fit) =
-    if_reported (fits declarations operand bool_type) (Some bool_type) bool_type (fits_whole fit) refl
+    if-reported (fits declarations operand bool_type) (Some bool_type) bool_type (fits_whole fit) refl
 prefix_whole {declarations} (tilde operand fit) =
-    if_reported (fits declarations operand bool_type) (Some bool_type) bool_type (fits_whole fit) refl
+    if-reported (fits declarations operand bool_type) (Some bool_type) bool_type (fits_whole fit) refl
 prefix_whole {declarations} (minus operand fit) =
-    if_reported (fits declarations operand PlainInt) (Some PlainInt) PlainInt (fits_whole fit) refl
+    if-reported (fits declarations operand PlainInt) (Some PlainInt) PlainInt (fits_whole fit) refl

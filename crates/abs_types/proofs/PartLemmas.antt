@@ -7,10 +7,9 @@
 --   `interface_by_name`                    an interface fits another one that it extends
 --   `futures_fit`, `heads_fit`, ..         parts decide whether the whole fits
 --   `same_fits`                            a type fits one that is the same
-use Rattle.std.proofs.Common.{◌≡◌, ◌≢◌, ℕ, Bool, true, false, ◌&&◌, List, refl, sym, ap, ◌∙◌, arith, nat_eq}
+use Rattle.std.proofs.Common.{◌≡◌, ◌≢◌, ℕ, Bool, true, false, ◌&&◌, List, refl, sym, ap, ◌∙◌, arith}
 use Rattle.std.specs.Str.{bytes_eq}
 use Rattle.std.proofs.Math.Bool.{and-true, and-false}
-use Rattle.std.proofs.lemmas.Bool.Decides.{nat_tests}
 use Rattle.std.proofs.lemmas.Slice.Eq.{bytes_eq-Decides}
 use Rattle.abs_tree.specs.Syntax.{Name, DeclTree}
 use Rattle.abs_types.proofs.SubtypingLemmas.{fits_reflexive}
@@ -22,6 +21,7 @@ use Rattle.abs_types.specs.declared.table.shape.Shape.{Shape}
 use Rattle.abs_types.specs.declared.table.shape.Shape.TheVariants as shape
 use Rattle.abs_types.specs.declared.table.shape.TypeIndex.{TypeIndex}
 use Rattle.abs_types.specs.declared.table.shape.TypePair.{TypePair}
+use Rattle.std.proofs.lemmas.Bool.{ne_eqb}
 
 -- `Fut` and another form have no parts alike
 pub future_unlike : (names : List Name) (types : List PlainType) (value : PlainType) (other : Shape)
@@ -55,10 +55,6 @@ others_unlike names types one other not_future not_applied = refl
 names_differ : (one other : Name) → one ≢ other → bytes_eq one other ≡ false
 names_differ one other differ = grind (arith, bytes_eq-Decides one other)
 
--- numbers that differ fail the test
-numbers_differ : (one other : ℕ) → one ≢ other → nat_eq one other ≡ false
-numbers_differ one other differ = grind (arith, nat_tests)
-
 -- whether a type fits types of its own form alone
 abbrev pub stands_alone : PlainType → Bool
 stands_alone PlainBottom = false
@@ -90,7 +86,7 @@ alone_unfit declarations (PlainData one) (PlainData other) alone differ apart =
     sym (names_differ one other (λ same. differ (ap PlainData same)))
 alone_unfit declarations (PlainApplied head argument) (PlainApplied other_head other_argument) alone differ apart = cc
 alone_unfit declarations (PlainParameter one) (PlainParameter other) alone differ apart =
-    sym (numbers_differ one other (λ same. differ (ap PlainParameter same)))
+    sym (ne_eqb one other (λ same. differ (ap PlainParameter same)))
 alone_unfit declarations PlainBottom other alone differ apart = cc
 alone_unfit declarations PlainNull other alone differ apart = cc
 alone_unfit declarations (PlainInterface name) other alone differ apart = cc

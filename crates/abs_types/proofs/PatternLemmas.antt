@@ -19,8 +19,10 @@ use Rattle.abs_types.specs.Matching.MatchAll.{none as all_none, next as all_next
 use Rattle.abs_types.specs.Mistyped.{mistyped_if}
 use Rattle.abs_types.specs.PatternTypes.{constructor_parts, if_as_many, parts_matched, subjects, pattern_types, patterns_types, pattern_offences, patterns_offences, pattern_fits}
 use Rattle.abs_types.specs.PlainTypes.{PlainType, PlainInt, PlainString}
-use Rattle.abs_types.proofs.OffenceLemmas.{both_unoffending, unoffending_after, offence_if_unoffending, unfit_unoffending, unoffending_if_fit, none_refuted, if_found}
+use Rattle.abs_types.proofs.OffenceLemmas.{offence_if_unoffending, unfit_unoffending, unoffending_if_fit}
 use Rattle.abs_types.proofs.SubtypingLemmas.{fits_found, fits_whole}
+use Rattle.list_facts.proofs.AppendLemmas.{both_empty, empty_both}
+use Rattle.list_facts.proofs.OptionLemmas.{is_none-found, if-found}
 
 -- a pattern without offences fits
 pub unoffending_fitting : (declarations : List DeclTree) (subject : Option PlainType) (pattern : PatternTree)
@@ -38,7 +40,7 @@ fitting_unoffending declarations subject pattern reported =
 as_many_found : (count : ℕ) (parts matched : List PlainType) → if_as_many count parts ≡ Some matched
     → (parts ≡ matched) × (length parts ≡ count)
 as_many_found count parts matched reported =
-    let both = if_found (nat_eq (length parts) count) (Some parts) matched reported in
+    let both = if-found (nat_eq (length parts) count) (Some parts) matched reported in
     (same_Some parts matched both.1, eqb-true (length parts) count both.0)
 
 -- the parts that are matched are those of the constructor, and there is a pattern for each
@@ -80,9 +82,9 @@ mutual
   )
   pattern_matched declarations subject (Built place constructor arguments) none =
       let matched = parts_matched declarations subject constructor arguments in
-      let both = both_unoffending (mistyped_if (is_none matched) place)
+      let both = both_empty (mistyped_if (is_none matched) place)
       (patterns_offences declarations (subjects matched) arguments) none in
-      let found = none_refuted matched (offence_if_unoffending (is_none matched) T1 place both.0) in
+      let found = is_none-found matched (offence_if_unoffending (is_none matched) T1 place both.0) in
       let parts = parts_found declarations subject constructor arguments found.0 found.1 in
       let rest = patterns_matched declarations found.0 arguments parts.1
       (sym (ap (λ one. patterns_offences declarations (subjects one) arguments) found.1) ∙ both.1) in
@@ -96,7 +98,7 @@ mutual
   patterns_matched declarations (part ∷ parts) NoPattern as_many none = absurd (omega (arith, as_many))
   patterns_matched declarations [] (NextPattern first others) as_many none = absurd (omega (arith, as_many))
   patterns_matched declarations (part ∷ parts) (NextPattern first others) as_many none =
-      let both = both_unoffending (pattern_offences declarations (Some part) first)
+      let both = both_empty (pattern_offences declarations (Some part) first)
       (patterns_offences declarations (map Some parts) others) none in
       let one = pattern_matched declarations part first both.0 in
       let more = patterns_matched declarations parts others (omega (arith, as_many)) both.1 in
@@ -130,7 +132,7 @@ mutual
       → patterns_offences declarations (map Some parts) patterns ≡ []
   match_all_unoffending all_none = refl
   match_all_unoffending {declarations} (all_next part parts first others types more one later) =
-      unoffending_after (pattern_offences declarations (Some part) first)
+      empty_both (pattern_offences declarations (Some part) first)
       (patterns_offences declarations (map Some parts) others) (match_unoffending one) (match_all_unoffending later)
 
 mutual

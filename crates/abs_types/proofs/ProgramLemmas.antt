@@ -11,7 +11,7 @@ use Rattle.abs_tree.specs.declared.place.Place.{Place}
 use Rattle.abs_tree.specs.declared.refusal.Code.{Code}
 use Rattle.abs_tree.specs.declared.refusal.Code.TheVariants.{T3, T4, T5}
 use Rattle.abs_types.proofs.AskedLemmas.{asked_found, asked_whole}
-use Rattle.abs_types.proofs.OffenceLemmas.{both_unoffending, unoffending_after, offence_if_unoffending, unoffending_offence_if}
+use Rattle.abs_types.proofs.OffenceLemmas.{offence_if_unoffending, unoffending_offence_if}
 use Rattle.abs_types.proofs.StatementLemmas.{statements_found, statements_whole}
 use Rattle.abs_types.specs.InterfacesMet.{agrees, meets_interfaces}
 use Rattle.abs_tree.specs.Offences.{offence_if}
@@ -20,6 +20,7 @@ use Rattle.abs_types.specs.Schemes.{param_types}
 use Rattle.abs_types.specs.StatementOffences.{can_be_null, statements_offences}
 use Rattle.abs_types.specs.TypedProgram.{IsTypedFunction, IsTypedInterface, IsTypedField, IsTypedMethod, AreTypedMembers, IsTypedClass, AreTypedFunctions, AreTypedInterfaces, AreTypedClasses, IsTypedProgram}
 use Rattle.abs_types.specs.TypeOffences.{value_frame, method_frame, main_frame, function_offences_in, functions_offences, interface_offences_in, interfaces_offences, field_offences, ends_well, method_offences, field_types, members_offences, class_offences_in, classes_offences, function_offences, interface_offences, class_offences, main_offences, type_offences}
+use Rattle.list_facts.proofs.AppendLemmas.{both_empty, empty_both}
 
 -- what is asked for is so, where there is no offence
 asked_so : (is_so : Bool) (code : Code) (place : Place) → offence_if (not is_so) code place ≡ [] → is_so ≡ true
@@ -48,14 +49,14 @@ functions_found : (declarations some : List DeclTree) → functions_offences dec
     → AreTypedFunctions declarations some
 functions_found declarations [] none = tt
 functions_found declarations (first ∷ others) none =
-    let parts = both_unoffending (function_offences_in declarations first) _ none in
+    let parts = both_empty (function_offences_in declarations first) _ none in
     (function_found declarations first parts.0, functions_found declarations others parts.1)
 
 functions_whole : (declarations some : List DeclTree) → AreTypedFunctions declarations some
     → functions_offences declarations some ≡ []
 functions_whole declarations [] typed = refl
 functions_whole declarations (first ∷ others) typed =
-    unoffending_after (function_offences_in declarations first) _ (function_whole declarations first typed.0)
+    empty_both (function_offences_in declarations first) _ (function_whole declarations first typed.0)
     (functions_whole declarations others typed.1)
 
 -- methods of one name in an interface without an offence have the same types
@@ -77,14 +78,14 @@ interfaces_found : (declarations : List DeclTree) (index : ℕ) (some : List Dec
     → interfaces_offences declarations index some ≡ [] → AreTypedInterfaces declarations index some
 interfaces_found declarations index [] none = tt
 interfaces_found declarations index (first ∷ others) none =
-    let parts = both_unoffending (interface_offences_in declarations index first) _ none in
+    let parts = both_empty (interface_offences_in declarations index first) _ none in
     (interface_found declarations index first parts.0, interfaces_found declarations (1 + index) others parts.1)
 
 interfaces_whole : (declarations : List DeclTree) (index : ℕ) (some : List DeclTree)
     → AreTypedInterfaces declarations index some → interfaces_offences declarations index some ≡ []
 interfaces_whole declarations index [] typed = refl
 interfaces_whole declarations index (first ∷ others) typed =
-    unoffending_after (interface_offences_in declarations index first) _
+    empty_both (interface_offences_in declarations index first) _
     (interface_whole declarations index first typed.0) (interfaces_whole declarations (1 + index) others typed.1)
 
 -- the value of a field without an offence fits its type
@@ -109,7 +110,7 @@ method_found : (declarations : List DeclTree) (class : Name) (fields : List Plai
     → IsTypedMethod declarations class fields signature body
 method_found declarations class fields signature end body none =
     let frame = method_frame class fields signature body in
-    let parts = both_unoffending (statements_offences declarations frame true body) _ none in
+    let parts = both_empty (statements_offences declarations frame true body) _ none in
     record {
       body_is = statements_found declarations frame true body parts.0;
       ends = asked_so (ends_well (plain signature.result) body) T5 end parts.1;
@@ -120,7 +121,7 @@ method_whole : (declarations : List DeclTree) (class : Name) (fields : List Plai
     (end : Place) (body : Statements) → IsTypedMethod declarations class fields signature body
     → method_offences declarations class fields signature end body ≡ []
 method_whole declarations class fields signature end body typed =
-    unoffending_after (statements_offences declarations (method_frame class fields signature body) true body) _
+    empty_both (statements_offences declarations (method_frame class fields signature body) true body) _
     (statements_whole typed.body_is) (unoffending_so (ends_well (plain signature.result) body) T5 end typed.ends)
 
 -- members without an offence are well typed
@@ -129,12 +130,12 @@ members_found : (declarations : List DeclTree) (class : Name) (fields known : Li
     → AreTypedMembers declarations class fields known members
 members_found declarations class fields known [] none = tt
 members_found declarations class fields known (FieldTree type name initial ∷ others) none =
-    let parts = both_unoffending (field_offences declarations known (plain type) name.place initial) _ none in (
+    let parts = both_empty (field_offences declarations known (plain type) name.place initial) _ none in (
       field_found declarations known (plain type) name.place initial parts.0,
       members_found declarations class fields (known ++ plain type ∷ []) others parts.1,
     )
 members_found declarations class fields known (MethodTree signature end body ∷ others) none =
-    let parts = both_unoffending (method_offences declarations class fields signature end body) _ none in (
+    let parts = both_empty (method_offences declarations class fields signature end body) _ none in (
       method_found declarations class fields signature end body parts.0,
       members_found declarations class fields known others parts.1,
     )
@@ -145,11 +146,11 @@ members_whole : (declarations : List DeclTree) (class : Name) (fields known : Li
     → members_offences declarations class fields known members ≡ []
 members_whole declarations class fields known [] typed = refl
 members_whole declarations class fields known (FieldTree type name initial ∷ others) typed =
-    unoffending_after (field_offences declarations known (plain type) name.place initial) _
+    empty_both (field_offences declarations known (plain type) name.place initial) _
     (field_whole declarations known (plain type) name.place initial typed.0)
     (members_whole declarations class fields (known ++ plain type ∷ []) others typed.1)
 members_whole declarations class fields known (MethodTree signature end body ∷ others) typed =
-    unoffending_after (method_offences declarations class fields signature end body) _
+    empty_both (method_offences declarations class fields signature end body) _
     (method_whole declarations class fields signature end body typed.0)
     (members_whole declarations class fields known others typed.1)
 
@@ -158,7 +159,7 @@ class_found : (declarations : List DeclTree) (index : ℕ) (declaration : DeclTr
     → class_offences_in declarations index declaration ≡ [] → IsTypedClass declarations index declaration
 class_found declarations index (ClassTree place name params implemented members) none =
     let meets = meets_interfaces declarations index members in
-    let parts = both_unoffending (offence_if (not meets) T4 name.place) _ none in (
+    let parts = both_empty (offence_if (not meets) T4 name.place) _ none in (
       asked_so meets T4 name.place parts.0,
       members_found declarations name.name (param_types params ++ field_types members) (param_types params) members
           parts.1,
@@ -170,7 +171,7 @@ class_whole : (declarations : List DeclTree) (index : ℕ) (declaration : DeclTr
     → IsTypedClass declarations index declaration → class_offences_in declarations index declaration ≡ []
 class_whole declarations index (ClassTree place name params implemented members) typed =
     let meets = meets_interfaces declarations index members in
-    unoffending_after (offence_if (not meets) T4 name.place) _ (unoffending_so meets T4 name.place typed.0)
+    empty_both (offence_if (not meets) T4 name.place) _ (unoffending_so meets T4 name.place typed.0)
     (members_whole declarations name.name (param_types params ++ field_types members) (param_types params) members
     typed.1)
 class_whole declarations index other typed = refl
@@ -180,14 +181,14 @@ classes_found : (declarations : List DeclTree) (index : ℕ) (some : List DeclTr
     → classes_offences declarations index some ≡ [] → AreTypedClasses declarations index some
 classes_found declarations index [] none = tt
 classes_found declarations index (first ∷ others) none =
-    let parts = both_unoffending (class_offences_in declarations index first) _ none in
+    let parts = both_empty (class_offences_in declarations index first) _ none in
     (class_found declarations index first parts.0, classes_found declarations (1 + index) others parts.1)
 
 classes_whole : (declarations : List DeclTree) (index : ℕ) (some : List DeclTree)
     → AreTypedClasses declarations index some → classes_offences declarations index some ≡ []
 classes_whole declarations index [] typed = refl
 classes_whole declarations index (first ∷ others) typed =
-    unoffending_after (class_offences_in declarations index first) _ (class_whole declarations index first typed.0)
+    empty_both (class_offences_in declarations index first) _ (class_whole declarations index first typed.0)
     (classes_whole declarations (1 + index) others typed.1)
 
 -- a program without an offence is well typed
@@ -196,9 +197,9 @@ unfolding function_offences interface_offences class_offences main_offences type
 program_found source none =
     let functions = function_offences source.declarations in
     let interfaces = interface_offences source.declarations in
-    let most = both_unoffending (functions ++ interfaces ++ class_offences source.declarations) _ none in
-    let more = both_unoffending (functions ++ interfaces) _ most.0 in
-    let parts = both_unoffending functions _ more.0 in
+    let most = both_empty (functions ++ interfaces ++ class_offences source.declarations) _ none in
+    let more = both_empty (functions ++ interfaces) _ most.0 in
+    let parts = both_empty functions _ more.0 in
     record {
       functions = functions_found source.declarations source.declarations parts.0;
       interfaces = interfaces_found source.declarations 0 source.declarations parts.1;
@@ -212,9 +213,9 @@ unfolding function_offences interface_offences class_offences main_offences type
 program_whole source typed =
     let functions = function_offences source.declarations in
     let interfaces = interface_offences source.declarations in
-    unoffending_after (functions ++ interfaces ++ class_offences source.declarations) _
-    (unoffending_after (functions ++ interfaces) _
-    (unoffending_after functions _ (functions_whole source.declarations source.declarations typed.functions)
+    empty_both (functions ++ interfaces ++ class_offences source.declarations) _
+    (empty_both (functions ++ interfaces) _
+    (empty_both functions _ (functions_whole source.declarations source.declarations typed.functions)
     (interfaces_whole source.declarations 0 source.declarations typed.interfaces))
     (classes_whole source.declarations 0 source.declarations typed.classes))
     (statements_whole typed.main_is)

@@ -17,14 +17,14 @@ use Rattle.abs_types.specs.PlainTypes.{PlainType}
 use Rattle.abs_types.specs.Schemes.{Scheme}
 use Rattle.abs_types.specs.Subtyping.{fits}
 use Rattle.abs_types.specs.Typing.{let_type, if_type, application_type, join_branches, case_type, both_types, both_operands, operators_type}
-use Rattle.abs_types.proofs.OffenceLemmas.{if_found, if_reported}
+use Rattle.list_facts.proofs.OptionLemmas.{if-found, if-reported}
 
 -- `let`: the value has a type that fits, and the body has the type
 pub let_found : (declarations : List DeclTree) (declared : PlainType) (value body : Option PlainType) (type : PlainType)
     → let_type declarations declared value body ≡ Some type
     → (given : PlainType) × (value ≡ Some given) × (fits declarations given declared ≡ true) × (body ≡ Some type)
 let_found declarations declared (Some given) (Some inner) type reported =
-    let both = if_found (fits declarations given declared) (Some inner) type reported in
+    let both = if-found (fits declarations given declared) (Some inner) type reported in
     (given, refl, both.0, both.1)
 let_found declarations declared value body type reported = absurd (none-some type reported)
 
@@ -33,7 +33,7 @@ pub let_reported : (declarations : List DeclTree) (declared : PlainType) (value 
     (given type : PlainType) → value ≡ Some given → fits declarations given declared ≡ true → body ≡ Some type
     → let_type declarations declared value body ≡ Some type
 let_reported declarations declared value body given type value_is fit body_is =
-    rw (value_is, body_is) (if_reported (fits declarations given declared) (Some type) type fit refl)
+    rw (value_is, body_is) (if-reported (fits declarations given declared) (Some type) type fit refl)
 
 -- `if`: the condition is a Bool, and the branches have types whose join is the type
 pub if_rule_found : (declarations : List DeclTree) (condition first second : Option PlainType) (type : PlainType)
@@ -42,7 +42,7 @@ pub if_rule_found : (declarations : List DeclTree) (condition first second : Opt
     × (fits declarations given bool_type ≡ true) × (first ≡ Some one) × (second ≡ Some other)
     × (join_of declarations one other ≡ Some type)
 if_rule_found declarations (Some given) (Some one) (Some other) type reported =
-    let both = if_found (fits declarations given bool_type) (join_of declarations one other) type reported in
+    let both = if-found (fits declarations given bool_type) (join_of declarations one other) type reported in
     (given, one, other, refl, both.0, refl, refl, both.1)
 if_rule_found declarations condition first second type reported = absurd (none-some type reported)
 
@@ -53,7 +53,7 @@ pub if_rule_reported : (declarations : List DeclTree) (condition first second : 
     → if_type declarations condition first second ≡ Some type
 if_rule_reported declarations condition first second given one other type condition_is fit first_is second_is joined =
     rw (condition_is, first_is, second_is)
-    (if_reported (fits declarations given bool_type) (join_of declarations one other) type fit joined)
+    (if-reported (fits declarations given bool_type) (join_of declarations one other) type fit joined)
 
 -- an application: there is a scheme, and the arguments have types
 pub application_found : (declarations : List DeclTree) (scheme : Option Scheme) (arguments : Option (List PlainType))

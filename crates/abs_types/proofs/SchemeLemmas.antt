@@ -6,9 +6,9 @@
 use Rattle.std.proofs.Common.{◌≡◌, ℕ, ◌+◌, ◌<◌, List, [], ◌∷◌, Option, Some, None, sym, subst, length, map, All, arith}
 use Rattle.std.specs.Prelude.{slice_get}
 use Rattle.std.specs.List.{range_with_len}
-use Rattle.std.proofs.lemmas.List.Elements.{All-nil, All-cons, All-head, All-tail, All-get_or}
+use Rattle.std.proofs.lemmas.List.Elements.{All-nil, All-cons, All-head, All-tail}
 use Rattle.std.proofs.lemmas.List.FromFn.{get_or-map-range_with_len, length-map-range_with_len}
-use Rattle.std.proofs.lemmas.Option.{none-some, same_Some, option_and_then_some, get_or_from_slice_get, slice_get_within}
+use Rattle.std.proofs.lemmas.Option.{none-some, same_Some, option_and_then_some}
 use Rattle.abs_program.specs.NameSpaces.{NameSpaces, spaces_of}
 use Rattle.abs_tree.specs.Syntax.{Name, VariableTree, AtSlot, TypeTree, UnresolvedType, IntType, StringType, FutType, DataType, InterfaceType, ParameterType, BottomType, NullType, ClassType, TypeTrees, NoType, NextType, ParamTree, DeclaredTree, ConstructorTree, DeclTree, DataTree, FunctionTree, SourceTree}
 use Rattle.abs_program.specs.Tables.{meaning_of}
@@ -19,13 +19,7 @@ use Rattle.abs_program.specs.declared.name_spaces.FunctionMeaning.TheVariants as
 use Rattle.abs_tree.specs.declared.place.Place.{Place}
 use Rattle.abs_types.specs.PlainTypes.{PlainType, PlainData, PlainApplied, PlainParameter, applied_to, plain, plains}
 use Rattle.abs_types.specs.Schemes.{Scheme, param_types, declared_scheme, to_string_scheme, function_scheme, scheme_of_function, built_scheme, data_scheme, constructor_scheme, scheme_of_constructor, ParametersBelow, IsClosed}
-
--- what is so of all elements is so of one that is found
-found_holds : {A : Type 0} (P : A → Type 0) (items : List A) (index : ℕ) (item : A) → All P items
-    → slice_get items index ≡ Some item → P item
-found_holds P items index item all is =
-    subst P (get_or_from_slice_get items index item item is)
-    (All-get_or P items index item (slice_get_within items index item is) all)
+use Rattle.list_facts.proofs.AllLemmas.{All-slice_get}
 
 -- a type has its type parameters below a number if it is applied to types that have them there
 applied_below : (count : ℕ) (head : PlainType) (arguments : List PlainType) → ParametersBelow count head
@@ -100,7 +94,8 @@ function_closed source (Some function.ToString) scheme whole is =
 function_closed source (Some (function.Defined taking)) scheme whole is =
     option_and_then_some declared_scheme (slice_get source.declarations taking.declaration) scheme is
     (λ declaration at reported. declared_closed (spaces_of source.declarations) declaration scheme
-    (found_holds (DeclarationIsThere (spaces_of source.declarations)) source.declarations taking.declaration declaration
+    (All-slice_get (DeclarationIsThere (spaces_of source.declarations)) source.declarations taking.declaration
+    declaration
     whole.declarations_are at) reported)
 function_closed source None scheme whole is = absurd (none-some scheme is)
 
@@ -171,9 +166,9 @@ constructor_is_closed source name scheme whole is =
     subst IsClosed from.is
     (record {
       takes_own = types_below inside from.constructor.types
-          (found_holds (λ (constructor : ConstructorTree). TypesAreThere inside constructor.types) from.constructors
+          (All-slice_get (λ (constructor : ConstructorTree). TypesAreThere inside constructor.types) from.constructors
           from.index from.constructor
-          (found_holds (DeclarationIsThere spaces) source.declarations from.declaration
+          (All-slice_get (DeclarationIsThere spaces) source.declarations from.declaration
           (DataTree from.place from.owner from.type_params from.constructors) whole.declarations_are from.declared)
           from.among);
       gives_own = applied_below (length from.type_params) (PlainData from.owner.name)

@@ -18,7 +18,7 @@ use Rattle.abs_tree.specs.declared.syntax.statement.Mode.{Mode}
 use Rattle.abs_types.proofs.AgreementLemmas.{typed_whole, all_typed_whole}
 use Rattle.abs_types.proofs.AskedLemmas.{typed_expr, unoffending_expr, typed_exprs, unoffending_exprs}
 use Rattle.abs_types.proofs.CallLemmas.{types_counted, typed_call, call_reported, unoffending_call, own_found, called_reported, own_there}
-use Rattle.abs_types.proofs.OffenceLemmas.{both_unoffending, unoffending_after, offence_if_unoffending, unoffending_offence_if, untyped_unoffending, unoffending_if_typed, unfit_unoffending, unoffending_if_fit, none_refuted, none_false}
+use Rattle.abs_types.proofs.OffenceLemmas.{offence_if_unoffending, unoffending_offence_if, untyped_unoffending, unoffending_if_typed, unfit_unoffending, unoffending_if_fit}
 use Rattle.abs_types.proofs.SpineLemmas.{all_fit_found, all_fit_whole}
 use Rattle.abs_types.proofs.SubtypingLemmas.{fits_found, fits_whole}
 use Rattle.abs_types.specs.Applications.{AllFit}
@@ -35,6 +35,8 @@ use Rattle.abs_types.specs.SideTypes.{class_takes, new_type, value_type, future_
 use Rattle.abs_types.specs.StatementOffences.{unfit_place, unfit_side}
 use Rattle.abs_types.specs.Subtyping.{Fits}
 use Rattle.abs_types.specs.Typing.{Frame, type_in, types_in}
+use Rattle.list_facts.proofs.AppendLemmas.{both_empty, empty_both}
+use Rattle.list_facts.proofs.OptionLemmas.{is_none-found, is_none-reported}
 
 -- A new object has a type: the arguments fit what the class takes.
 record TypedObject (declarations : List DeclTree) (class : Name) (given : List PlainType) (type : PlainType) : Type 0
@@ -94,8 +96,8 @@ pub future_found : (declarations : List DeclTree) (frame : Frame) (future : Expr
     → expr_offences declarations frame [] future ++ mistyped_if (is_none (future_type frame future)) place ≡ []
     → (type : PlainType) × (future_type frame future ≡ Some type)
 future_found declarations frame future place none =
-    let parts = both_unoffending (expr_offences declarations frame [] future) _ none in
-    none_refuted (future_type frame future)
+    let parts = both_empty (expr_offences declarations frame [] future) _ none in
+    is_none-found (future_type frame future)
     (offence_if_unoffending (is_none (future_type frame future)) T1 place parts.1)
 
 -- a parameter or a local that has it does not offend
@@ -105,11 +107,11 @@ pub unoffending_future : (declarations : List DeclTree) (frame : Frame) (variabl
     ++ mistyped_if (is_none (future_type frame (VariableOf variable_place (AtSlot slot)))) place ≡ []
 unoffending_future declarations frame variable_place slot type place is =
     let future = VariableOf variable_place (AtSlot slot) in
-    unoffending_after (expr_offences declarations frame [] future) _
+    empty_both (expr_offences declarations frame [] future) _
     (unoffending_expr {declarations = declarations} {frame = frame}
     (has_slot [] variable_place slot (PlainFut type) is))
     (unoffending_offence_if (is_none (future_type frame future)) T1 place
-    (none_false (future_type frame future) type (future_whole frame variable_place slot type is)))
+    (is_none-reported (future_type frame future) type (future_whole frame variable_place slot type is)))
 
 -- A right side has a type, by the relation and by the function.
 pub record TypedSide (declarations : List DeclTree) (frame : Frame) (side : SideTree) : Type 0 where
@@ -123,7 +125,7 @@ typed_object : (declarations : List DeclTree) (frame : Frame) (place : Place) (m
     → side_offences declarations frame (NewOf place mode class_place class arguments) ≡ []
     → TypedSide declarations frame (NewOf place mode class_place class arguments)
 typed_object declarations frame place mode class_place class arguments none =
-    let parts = both_unoffending (exprs_offences declarations frame [] arguments) _ none in
+    let parts = both_empty (exprs_offences declarations frame [] arguments) _ none in
     let given = typed_exprs declarations frame arguments parts.0 in
     let reported = untyped_unoffending true (new_type declarations class given.types) place refl
     (rw given.found at parts.1) in
@@ -142,9 +144,9 @@ typed_own_call : (declarations : List DeclTree) (frame : Frame) (place call_plac
     → TypedSide declarations frame (ValueOf place (OwnCallOf call_place method arguments))
 typed_own_call declarations frame place call_place method arguments none =
     let count = count_exprs arguments in
-    let all = both_unoffending (exprs_offences declarations frame [] arguments
+    let all = both_empty (exprs_offences declarations frame [] arguments
     ++ offence_if (this_lacks_method declarations frame method count) T2 call_place) _ none in
-    let parts = both_unoffending (exprs_offences declarations frame [] arguments) _ all.0 in
+    let parts = both_empty (exprs_offences declarations frame [] arguments) _ all.0 in
     let given = typed_exprs declarations frame arguments parts.0 in
     let reported = own_found declarations frame.this method count given.types call_place given.found parts.1 all.1 in
     record {
@@ -221,14 +223,14 @@ pub unoffending_side : {declarations : List DeclTree} {frame : Frame} {side : Si
     → SideHasType declarations frame side type → side_offences declarations frame side ≡ []
 unoffending_side {declarations} {frame}
     (new_object place class_place mode class arguments given takes have_types known fit) =
-    unoffending_after (exprs_offences declarations frame [] arguments) _ (unoffending_exprs have_types)
+    empty_both (exprs_offences declarations frame [] arguments) _ (unoffending_exprs have_types)
     (unoffending_if_typed (is_some (types_in declarations frame [] arguments)) _ place (PlainClass class)
     (side_whole (new_object place class_place mode class arguments given takes have_types known fit)))
 unoffending_side (value place expr_tree type has_type) = (same_whole has_type).1 ∙ unoffending_expr has_type
 unoffending_side {declarations} {frame} (own_call place call_place method class arguments given type this_is have_types is) =
-    unoffending_after (exprs_offences declarations frame [] arguments
+    empty_both (exprs_offences declarations frame [] arguments
     ++ offence_if (this_lacks_method declarations frame method (count_exprs arguments)) T2 call_place) _
-    (unoffending_after (exprs_offences declarations frame [] arguments) _ (unoffending_exprs have_types)
+    (empty_both (exprs_offences declarations frame [] arguments) _ (unoffending_exprs have_types)
     (own_there declarations class method (count_exprs arguments) given type call_place this_is
     (types_counted have_types) is))
     (unoffending_if_typed (can_be_called declarations (option_map PlainClass frame.this) method (count_exprs arguments)

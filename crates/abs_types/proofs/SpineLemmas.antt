@@ -8,6 +8,7 @@ use Rattle.abs_types.specs.Applications.{AllFit}
 use Rattle.abs_types.specs.Arguments.{all_fit}
 use Rattle.abs_types.specs.PlainTypes.{PlainType, PlainData, PlainApplied, applied_to}
 use Rattle.abs_types.specs.Subtyping.{fits}
+use Rattle.std.proofs.Math.Bool.{and_assoc, and-true, and-false}
 
 -- what is so of each applied type is so of one that is applied to more
 more_cases : (P : PlainType → Type 0) → ((head argument : PlainType) → P (PlainApplied head argument))
@@ -70,34 +71,22 @@ depths_apart declarations (PlainApplied head argument) (PlainApplied other_head 
 depths_apart declarations (PlainApplied head argument) other is apart = refl
 depths_apart declarations one other is apart = cc
 
-and_true : (b : Bool) → b ≡ b && true
-and_true true = refl
-and_true false = refl
-
-and_false : (b : Bool) → false ≡ b && false
-and_false true = refl
-and_false false = refl
-
-and_assoc : (a b c : Bool) → (a && b) && c ≡ a && (b && c)
-and_assoc true b c = refl
-and_assoc false b c = refl
-
 -- heads of one depth that are applied to arguments fit if the heads fit, and the arguments one by one
 spines_fit : (declarations : List DeclTree) (head other_head : PlainType) (ones others : List PlainType)
     → has_data_head head ≡ true → depth head ≡ depth other_head
     → fits declarations (applied_to head ones) (applied_to other_head others)
     ≡ fits declarations head other_head && all_fit declarations ones others
 unfolding fits
-spines_fit declarations head other_head [] [] is same = and_true (fits declarations head other_head)
+spines_fit declarations head other_head [] [] is same = sym (and-true (fits declarations head other_head))
 spines_fit declarations head other_head [] (other ∷ others) is same =
     depths_apart declarations head (applied_to (PlainApplied other_head other) others) is
     (λ equal. omega (arith, depth_applied (PlainApplied other_head other) others))
-    ∙ and_false (fits declarations head other_head)
+    ∙ sym (and-false (fits declarations head other_head))
 spines_fit declarations head other_head (one ∷ ones) [] is same =
     depths_apart declarations (applied_to (PlainApplied head one) ones) other_head
     (head_applied (PlainApplied head one) ones ∙ is)
     (λ equal. omega (arith, depth_applied (PlainApplied head one) ones))
-    ∙ and_false (fits declarations head other_head)
+    ∙ sym (and-false (fits declarations head other_head))
 spines_fit declarations head other_head (one ∷ ones) (other ∷ others) is same =
     spines_fit declarations (PlainApplied head one) (PlainApplied other_head other) ones others is (ap suc same)
     ∙ and_assoc (fits declarations head other_head) (fits declarations one other) (all_fit declarations ones others)

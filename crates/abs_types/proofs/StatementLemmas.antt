@@ -10,7 +10,7 @@ use Rattle.abs_tree.specs.SyntaxPlaces.{expr_place}
 use Rattle.abs_tree.specs.declared.place.Place.{Place}
 use Rattle.abs_tree.specs.declared.refusal.Code.TheVariants.{T1, T3}
 use Rattle.abs_types.proofs.AskedLemmas.{asked_found, asked_whole}
-use Rattle.abs_types.proofs.OffenceLemmas.{both_unoffending, unoffending_after, offence_if_unoffending, unoffending_offence_if, none_refuted, none_false}
+use Rattle.abs_types.proofs.OffenceLemmas.{offence_if_unoffending, unoffending_offence_if}
 use Rattle.abs_types.proofs.SideLemmas.{by_future, future_found, unoffending_future, typed_side, unoffending_side, side_fits, unoffending_fitting}
 use Rattle.abs_types.specs.Endings.{are_empty}
 use Rattle.abs_types.specs.IsTyped.{AreTests, IsTyped, IsElseTyped, AreTyped}
@@ -24,19 +24,21 @@ use Rattle.abs_types.specs.PlainTypes.{PlainType, PlainString, plain}
 use Rattle.abs_types.specs.SideTypes.{side_offences}
 use Rattle.abs_types.specs.StatementOffences.{can_be_null, frame_after, target_type, target_place, asked_offences, part_offences, test_offences, initial_offences, result_offences, statement_offences, else_offences, statements_offences}
 use Rattle.abs_types.specs.Typing.{Frame}
+use Rattle.list_facts.proofs.AppendLemmas.{both_empty, empty_both}
+use Rattle.list_facts.proofs.OptionLemmas.{is_none-found, is_none-reported}
 
 -- a guard without an offence is well typed
 tests_found : (declarations : List DeclTree) (frame : Frame) (tests : Tests)
     → test_offences declarations frame tests ≡ [] → AreTests declarations frame tests
 tests_found declarations frame NoTest none = no_test
 tests_found declarations frame (NextTest place value true others) none =
-    let parts = both_unoffending (part_offences declarations frame place value true) _ none in
+    let parts = both_empty (part_offences declarations frame place value true) _ none in
     let reported = future_found declarations frame value place parts.0 in
     let rest = tests_found declarations frame others parts.1 in
     by_future (λ (future : ExprTree). AreTests declarations frame (NextTest place future true others)) frame value
     reported.0 reported.1 (λ variable_place slot is. asked place variable_place slot reported.0 others is rest)
 tests_found declarations frame (NextTest place value false others) none =
-    let parts = both_unoffending (part_offences declarations frame place value false) _ none in
+    let parts = both_empty (part_offences declarations frame place value false) _ none in
     let fit = asked_found declarations frame value bool_type place parts.0 in
     held place value fit.given others fit.has_type fit.fits_it (tests_found declarations frame others parts.1)
 
@@ -45,10 +47,10 @@ tests_whole : {declarations : List DeclTree} {frame : Frame} {tests : Tests} →
     → test_offences declarations frame tests ≡ []
 tests_whole no_test = refl
 tests_whole {declarations} {frame} (asked place variable_place slot type others is rest) =
-    unoffending_after _ (test_offences declarations frame others)
+    empty_both _ (test_offences declarations frame others)
     (unoffending_future declarations frame variable_place slot type place is) (tests_whole rest)
 tests_whole {declarations} {frame} (held place condition given others has_type fit rest) =
-    unoffending_after _ (test_offences declarations frame others) (asked_whole place has_type fit) (tests_whole rest)
+    empty_both _ (test_offences declarations frame others) (asked_whole place has_type fit) (tests_whole rest)
 
 -- a last `return` is well typed, if its value has no offence
 result_found : (declarations : List DeclTree) (frame : Frame) (index : ℕ) (place : Place) (value : ExprTree)
@@ -76,7 +78,7 @@ declare_found declarations frame is_last index place variable_place type variabl
     declare frame is_last index place variable_place type variable
     (not-false (can_be_null (plain type)) (offence_if_unoffending (not (can_be_null (plain type))) T3 variable_place none))
 declare_found declarations frame is_last index place variable_place type variable (SomeSide side) none =
-    let parts = both_unoffending (side_offences declarations frame side) _ none in
+    let parts = both_empty (side_offences declarations frame side) _ none in
     let fit = side_fits declarations frame side (plain type) refl parts.0 parts.1 in
     initialize frame is_last index place variable_place type variable side fit.given fit.has_type fit.fits_it
 
@@ -86,10 +88,10 @@ assign_found : (declarations : List DeclTree) (frame : Frame) (is_last : Bool) (
     → statement_offences declarations frame is_last (AssignOf index place target side) ≡ []
     → IsTyped declarations frame is_last (AssignOf index place target side)
 assign_found declarations frame is_last index place target side none =
-    let all = both_unoffending (mistyped_if (is_none (target_type frame target)) (target_place target)
+    let all = both_empty (mistyped_if (is_none (target_type frame target)) (target_place target)
     ++ side_offences declarations frame side) _ none in
-    let parts = both_unoffending (mistyped_if (is_none (target_type frame target)) (target_place target)) _ all.0 in
-    let reported = none_refuted (target_type frame target)
+    let parts = both_empty (mistyped_if (is_none (target_type frame target)) (target_place target)) _ all.0 in
+    let reported = is_none-found (target_type frame target)
     (offence_if_unoffending (is_none (target_type frame target)) T1 (target_place target) parts.0) in
     let fit = side_fits declarations frame side reported.0 reported.1 parts.1 all.1 in
     assign frame is_last index place target side fit.given reported.0 reported.1 fit.has_type fit.fits_it
@@ -110,15 +112,15 @@ mutual
       let fit = asked_found declarations frame value PlainString place none in
       print frame is_last index place value fit.given fit.has_type fit.fits_it
   statement_found declarations frame is_last (IfOf index place condition first second) none =
-      let all = both_unoffending (asked_offences declarations frame condition bool_type (expr_place condition)
+      let all = both_empty (asked_offences declarations frame condition bool_type (expr_place condition)
       ++ statements_offences declarations frame false first) _ none in
-      let parts = both_unoffending (asked_offences declarations frame condition bool_type (expr_place condition)) _
+      let parts = both_empty (asked_offences declarations frame condition bool_type (expr_place condition)) _
       all.0 in
       let fit = asked_found declarations frame condition bool_type (expr_place condition) parts.0 in
       if_else frame is_last index place condition first second fit.given fit.has_type fit.fits_it
       (statements_found declarations frame false first parts.1) (else_found declarations frame second all.1)
   statement_found declarations frame is_last (WhileOf index place condition body) none =
-      let parts = both_unoffending (asked_offences declarations frame condition bool_type (expr_place condition)) _ none in
+      let parts = both_empty (asked_offences declarations frame condition bool_type (expr_place condition)) _ none in
       let fit = asked_found declarations frame condition bool_type (expr_place condition) parts.0 in
       while frame is_last index place condition body fit.given fit.has_type fit.fits_it
       (statements_found declarations frame false body parts.1)
@@ -142,7 +144,7 @@ mutual
       → statements_offences declarations frame is_last statements ≡ [] → AreTyped declarations frame is_last statements
   statements_found declarations frame is_last NoStatement none = no_statement frame is_last
   statements_found declarations frame is_last (NextStatement first others) none =
-      let parts = both_unoffending (statement_offences declarations frame (is_last && are_empty others) first) _ none in
+      let parts = both_empty (statement_offences declarations frame (is_last && are_empty others) first) _ none in
       next_statement frame is_last first others
       (statement_found declarations frame (is_last && are_empty others) first parts.0)
       (statements_found declarations (frame_after frame first) is_last others parts.1)
@@ -161,25 +163,25 @@ mutual
   statement_whole (print frame is_last index place value given has_type fit) = asked_whole place has_type fit
   statement_whole {declarations}
       (if_else frame is_last index place condition first second given has_type fit typed more) =
-      unoffending_after _ (else_offences declarations frame second)
-      (unoffending_after _ (statements_offences declarations frame false first)
+      empty_both _ (else_offences declarations frame second)
+      (empty_both _ (statements_offences declarations frame false first)
       (asked_whole (expr_place condition) has_type fit) (statements_whole typed))
       (else_whole more)
   statement_whole {declarations} (while frame is_last index place condition body given has_type fit typed) =
-      unoffending_after _ (statements_offences declarations frame false body)
+      empty_both _ (statements_offences declarations frame false body)
       (asked_whole (expr_place condition) has_type fit) (statements_whole typed)
   statement_whole (declare frame is_last index place variable_place type variable null) =
       unoffending_offence_if (not (can_be_null (plain type))) T3 variable_place
       (not_from_true (can_be_null (plain type)) null)
   statement_whole {declarations}
       (initialize frame is_last index place variable_place type variable side given has_type fit) =
-      unoffending_after (side_offences declarations frame side) _ (unoffending_side has_type)
+      empty_both (side_offences declarations frame side) _ (unoffending_side has_type)
       (unoffending_fitting (plain type) refl has_type fit)
   statement_whole {declarations} (assign frame is_last index place target side given type target_is has_type fit) =
       let is_missing = is_none (target_type frame target) in
-      unoffending_after (mistyped_if is_missing (target_place target) ++ side_offences declarations frame side) _
-      (unoffending_after (mistyped_if is_missing (target_place target)) _
-      (unoffending_offence_if is_missing T1 (target_place target) (none_false (target_type frame target) type target_is))
+      empty_both (mistyped_if is_missing (target_place target) ++ side_offences declarations frame side) _
+      (empty_both (mistyped_if is_missing (target_place target)) _
+      (unoffending_offence_if is_missing T1 (target_place target) (is_none-reported (target_type frame target) type target_is))
       (unoffending_side has_type))
       (unoffending_fitting type target_is has_type fit)
   statement_whole (do_side frame is_last index place side given has_type) = unoffending_side has_type
@@ -195,5 +197,5 @@ mutual
       → AreTyped declarations frame is_last statements → statements_offences declarations frame is_last statements ≡ []
   statements_whole (no_statement frame is_last) = refl
   statements_whole {declarations} (next_statement frame is_last first others typed rest) =
-      unoffending_after (statement_offences declarations frame (is_last && are_empty others) first) _ (statement_whole typed)
+      empty_both (statement_offences declarations frame (is_last && are_empty others) first) _ (statement_whole typed)
       (statements_whole rest)

@@ -1,15 +1,14 @@
 -- Fitting is an order. The test and the relation agree; the relation is transitive by its sentences, and antisymmetric
 -- where no interface extends itself.
-use Rattle.std.proofs.Common.{◌≡◌, ℕ, ◌<◌, Bool, true, false, List, [], length, Option, Some, refl, sym, ap, ap₂, ◌∙◌, subst, ◌⊎◌, inl, inr, nat_eq, bytes_eq, arith, ⊎_elim, true≢false, eq-eqb, eqb-true}
-use Rattle.std.specs.List.{list_any, All}
-use Rattle.std.proofs.lemmas.Bool.{and_from, and_parts, cases_lt, or_left, or_right, or_cases}
-use Rattle.std.proofs.lemmas.List.{get_or_past}
+use Rattle.std.proofs.Common.{◌≡◌, ℕ, ◌<◌, Bool, true, false, List, length, Option, Some, refl, sym, ap, ap₂, ◌∙◌, subst, ◌⊎◌, inl, inr, bytes_eq, arith, ⊎_elim, true≢false, eq-eqb, eqb-true}
+use Rattle.std.specs.List.{All}
+use Rattle.std.proofs.lemmas.Bool.{and_from, and_parts, or_left, or_right, or_cases}
 use Rattle.std.proofs.lemmas.List.Elements.{All-get_or}
 use Rattle.std.proofs.lemmas.List.FromFn.{get_or-map-range_with_len, length-map-range_with_len}
 use Rattle.std.proofs.lemmas.Slice.Eq.{bytes_eq-Decides}
-use Rattle.abs_graph.specs.Graphs.{Graph, leads, Reaches, reaches, on_cycles}
+use Rattle.abs_graph.specs.Graphs.{Graph, Reaches, reaches, on_cycles}
 use Rattle.abs_graph.specs.Graphs.Reaches.{in_one, in_more}
-use Rattle.abs_graph.proofs.ReachLemmas.{reaches_found, reaches_whole}
+use Rattle.abs_graph.proofs.ReachLemmas.{reaches_found, reaches_whole, leads_below}
 use Rattle.abs_program.specs.NameSpaces.{spaces_of}
 use Rattle.abs_program.specs.Supertypes.{supertypes, is_below}
 use Rattle.abs_tree.specs.Syntax.{Name, DeclTree}
@@ -20,22 +19,9 @@ use Rattle.abs_program.specs.declared.name_spaces.TypeMeaning.TheVariants as typ
 use Rattle.abs_types.specs.PlainTypes.{PlainType, PlainInt, PlainString, PlainBottom, PlainNull, PlainFut, PlainData, PlainApplied, PlainInterface, PlainClass, PlainParameter}
 use Rattle.abs_types.specs.Subtyping.{interface_below, class_below, extends_name, implements_name, Fits, fits, NoneExtendsItself}
 use Rattle.abs_types.specs.Subtyping.Fits.{equal, bottom, null_interface, null_future, implements, extends, futures, applied}
+use Rattle.abs_graph.proofs.CertificateLemmas.{reaches_along}
 
--- what is reached from a node that is reached is reached
-reaches_after : {graph : Graph} {goal between node : ℕ} → Reaches graph between node → Reaches graph goal between
-    → Reaches graph goal node
-reaches_after {graph} {goal} {between} (in_one node led) far = in_more node between led far
-reaches_after (in_more node next led later) far = in_more node next led (reaches_after later far)
-
--- only a node has edges
-leads_below : (graph : Graph) (node next : ℕ) → leads graph node next ≡ true → node < length graph
-leads_below graph node next led = ⊎_elim
-    (λ below. below)
-    (λ past. absurd (true≢false (sym led
-    ∙ ap (list_any (λ other. nat_eq other next)) (get_or_past graph node [] past))))
-    (cases_lt node (length graph))
-
--- so only a node reaches one
+-- only a node reaches one
 reaches_below : {graph : Graph} {goal node : ℕ} → Reaches graph goal node → node < length graph
 reaches_below {graph} {goal} (in_one node led) = leads_below graph node goal led
 reaches_below {graph} (in_more node next led later) = leads_below graph node next led
@@ -59,8 +45,9 @@ below_transitive : (declarations : List DeclTree) (one between other : ℕ) → 
 unfolding is_below
 below_transitive declarations one between other first second =
     reaches_whole (supertypes declarations) one other
-    (reaches_after (reaches_found (supertypes declarations) one between first)
-    (reaches_found (supertypes declarations) between other second))
+    (reaches_along (supertypes declarations) other between one
+    (reaches_found (supertypes declarations) between other second)
+    (reaches_found (supertypes declarations) one between first))
 
 -- no declaration is below itself, if none is on a cycle
 below_irreflexive : (declarations : List DeclTree) (one : ℕ) → NoneExtendsItself declarations

@@ -9,15 +9,12 @@
 --   `heads_stop`, `applied_stop`       the heads, or a pair, have no join
 --   `next_pair`                        the next pair can be joined
 use Rattle.std.proofs.Common.{◌≡◌, ◌≤◌, max, false, List, [], ◌∷◌, ◌++◌, Option, Some, None, option_map, All, refl, sym, ap, ap₂, ◌∙◌, arith}
-use Rattle.std.specs.Borrow.{Bor}
 use Rattle.std.specs.Prelude.{Result, Ok, Err, IfOk}
 use Rattle.std.specs.declared.alloc.AllocError.{AllocError}
 use Rattle.std.proofs.lemmas.List.Elements.{All-head, All-tail, All-push, All-pop, All-weaker}
-use Rattle.abs_program.specs.NamedViews.{named_tree}
 use Rattle.abs_tree.specs.Syntax.{DeclTree}
-use Rattle.abs_program.specs.declared.named.Named.{Named}
 use Rattle.abs_types.proofs.JoinLemmas.{join_of_fitting, join_of_apart, join_of_applied, join_of_futures}
-use Rattle.abs_types.proofs.KeepLemmas.{among_kept, type_at_kept, keeps_transitive}
+use Rattle.abs_types.proofs.KeepLemmas.{among_kept, type_at_kept, keeps_transitive, declarations_kept}
 use Rattle.abs_types.proofs.PartLemmas.{same_fits}
 use Rattle.abs_types.specs.Joins.{both_applied, join_of}
 use Rattle.abs_types.specs.PlainTypes.{PlainType, PlainFut, PlainApplied}
@@ -91,10 +88,6 @@ pub unlike_join : (declarations : List DeclTree) (one other : PlainType) → hav
 unlike_join declarations (PlainFut one) (PlainFut other) unlike apart back = cc
 unlike_join declarations (PlainApplied head argument) (PlainApplied other_head other_argument) unlike apart back = cc
 unlike_join declarations one other unlike apart back = join_of_apart declarations one other apart back
-
--- the program stays the same
-declarations-kept : {before now : TypeTable} → Keeps before now → declarations_of now ≡ declarations_of before
-declarations-kept keeps = ap (λ (program : Bor Named). (named_tree program.now).declarations) keeps.program_is
 
 -- the joins of pairs stay the same
 pair_join_kept : {before now : TypeTable} {pair : TypePair} (declarations : List DeclTree) → Keeps before now
@@ -207,7 +200,7 @@ next_decides {before} {now} {joined = joined} pair rest so_far whole_is found_is
     ∙ (along_push declarations (types_in now) (Some joined_type) rest pair
     ∙ ap (λ (next : Option PlainType).
     joined_along declarations (types_in now) (both_applied (Some joined_type) next) rest)
-    (sym (found_is ∙ ap (λ program. pair_join program (types_in now) pair) (declarations-kept so_far.keeps)))))
+    (sym (found_is ∙ ap (λ program. pair_join program (types_in now) pair) (declarations_kept so_far.keeps)))))
 
 -- one more pair is joined, and the join is applied to it
 pub applied_step : {before now between later : TypeTable} {heads arguments : TypePair} {joined applied : TypeIndex}
@@ -257,5 +250,5 @@ pub joined_later : {before between : TypeTable} (now : TypeTable) {one other : T
     → IfOk result (λ found. option_map (type_at (types_in now)) found
     ≡ join_of (declarations_of before) (type_at (types_in before) one) (type_at (types_in before) other))
 joined_later now keeps one_among other_among (Ok found) is =
-    rw (← declarations-kept keeps, ← type_at_kept keeps one_among, ← type_at_kept keeps other_among) is
+    rw (← declarations_kept keeps, ← type_at_kept keeps one_among, ← type_at_kept keeps other_among) is
 joined_later now keeps one_among other_among (Err error) is = tt

@@ -11,26 +11,7 @@ use Rattle.abs_tree.specs.declared.symbol.Symbol.{Symbol}
 use Rattle.abs_tree.specs.declared.syntax.types.TypeTerm as code
 use Rattle.abs_tree.specs.declared.syntax.types.TypeTerm.{TypeTerm}
 use Rattle.abs_types.specs.PlainTypes.{PlainType, PlainData, applied_to, plain, plains}
-
--- the tree of a type of data
-pub data_tree : {term : TypeTerm} {place : Place} {name : Symbol} {items : List TypeTerm}
-    (names : List Name) (arguments : Vec TypeTerm Global) → term ≡ code.Data place name arguments
-    → items ≡ arguments.items
-    → type_tree names term ≡ DataType place (name_of names name) (type_trees names items)
-data_tree {term} {place} {name} {items} names arguments is items_are =
-    ap (type_tree names) is
-    ∙ (type_tree-data names place name arguments
-    ∙ ap (λ (ts : List TypeTerm). DataType place (name_of names name) (type_trees names ts)) (sym items_are))
-
--- the same of an unresolved type
-pub unresolved_tree : {term : TypeTerm} {place : Place} {name : Symbol} {items : List TypeTerm}
-    (names : List Name) (arguments : Vec TypeTerm Global) → term ≡ code.Unresolved place name arguments
-    → items ≡ arguments.items
-    → type_tree names term ≡ UnresolvedType place (name_of names name) (type_trees names items)
-unresolved_tree {term} {place} {name} {items} names arguments is items_are =
-    ap (type_tree names) is
-    ∙ (type_tree-unresolved names place name arguments
-    ∙ ap (λ (ts : List TypeTerm). UnresolvedType place (name_of names name) (type_trees names ts)) (sym items_are))
+use Rattle.abs_tree.proofs.FormLemmas.{data_tree, unresolved_tree}
 
 -- the plain type of a type of data, or of an unresolved one
 pub plain_data : {term : TypeTerm} {name : Symbol} {items : List TypeTerm} (names : List Name)
@@ -39,8 +20,8 @@ pub plain_data : {term : TypeTerm} {name : Symbol} {items : List TypeTerm} (name
     ⊎ ((place : Place) × term ≡ code.Data place name arguments)
     → items ≡ arguments.items
     → plain (type_tree names term) ≡ applied_to (PlainData (name_of names name)) (plains (type_trees names items))
-plain_data names arguments (inl (place, is)) items_are = ap plain (unresolved_tree names arguments is items_are)
-plain_data names arguments (inr (place, is)) items_are = ap plain (data_tree names arguments is items_are)
+plain_data names arguments (inl (place, is)) items_are = ap plain (unresolved_tree names _ _ _ arguments _ is items_are)
+plain_data names arguments (inr (place, is)) items_are = ap plain (data_tree names _ _ _ arguments _ is items_are)
 
 -- a copy of a type of data has its tree
 pub data_copied : {term : TypeTerm} {place : Place} {name : Symbol} {items : List TypeTerm} (names : List Name)
@@ -49,7 +30,7 @@ pub data_copied : {term : TypeTerm} {place : Place} {name : Symbol} {items : Lis
     → type_tree names (code.Data place name copies) ≡ type_tree names term
 data_copied {term} {place} {name} {items} names arguments copies is items_are same =
     type_tree-data names place name copies
-    ∙ (ap (DataType place (name_of names name)) same ∙ sym (data_tree names arguments is items_are))
+    ∙ (ap (DataType place (name_of names name)) same ∙ sym (data_tree names _ _ _ arguments _ is items_are))
 
 -- the same of an unresolved type
 pub unresolved_copied : {term : TypeTerm} {place : Place} {name : Symbol} {items : List TypeTerm} (names : List Name)
@@ -58,7 +39,7 @@ pub unresolved_copied : {term : TypeTerm} {place : Place} {name : Symbol} {items
     → type_tree names (code.Unresolved place name copies) ≡ type_tree names term
 unresolved_copied {term} {place} {name} {items} names arguments copies is items_are same =
     type_tree-unresolved names place name copies
-    ∙ (ap (UnresolvedType place (name_of names name)) same ∙ sym (unresolved_tree names arguments is items_are))
+    ∙ (ap (UnresolvedType place (name_of names name)) same ∙ sym (unresolved_tree names _ _ _ arguments _ is items_are))
 
 -- the plain type of new data
 pub plain_new_data : (names : List Name) (place : Place) (name : Symbol) (arguments : Vec TypeTerm Global)
@@ -80,5 +61,5 @@ pub plain_data_at : {term : TypeTerm} {place : Place} {name : Symbol} {items : L
     → (term ≡ code.Unresolved place name arguments) ⊎ (term ≡ code.Data place name arguments)
     → items ≡ arguments.items
     → plain (type_tree names term) ≡ applied_to (PlainData (name_of names name)) (plains (type_trees names items))
-plain_data_at names arguments (inl is) items_are = ap plain (unresolved_tree names arguments is items_are)
-plain_data_at names arguments (inr is) items_are = ap plain (data_tree names arguments is items_are)
+plain_data_at names arguments (inl is) items_are = ap plain (unresolved_tree names _ _ _ arguments _ is items_are)
+plain_data_at names arguments (inr is) items_are = ap plain (data_tree names _ _ _ arguments _ is items_are)

@@ -3,7 +3,6 @@
 --   `AppliedSoFar`     what is known between two arguments
 --   `applied_step`     the same after one more
 use Rattle.std.proofs.Common.{◌≡◌, ℕ, ◌+◌, ◌<◌, List, sym, ap, ap₂, ◌∙◌, length, get_or, drop}
-use Rattle.abs_tree.proofs.EntryLemmas.{drop_item}
 use Rattle.abs_tree.specs.Syntax.{Name}
 use Rattle.abs_tree.specs.SyntaxViews.{type_tree, type_trees}
 use Rattle.abs_tree.specs.declared.symbol.Symbol.{Symbol}
@@ -15,6 +14,7 @@ use Rattle.abs_types.specs.TypeShapes.{type_at, IsAmong}
 use Rattle.abs_types.specs.TypeTables.{types_in, Keeps, StandsFor}
 use Rattle.abs_types.specs.declared.table.TypeTable.{TypeTable}
 use Rattle.abs_types.specs.declared.table.shape.TypeIndex.{TypeIndex}
+use Rattle.list_facts.proofs.EntryLemmas.{drop_item}
 
 -- the plain types of the terms from an index on
 abbrev plains_from : List Name → List TypeTerm → ℕ → List PlainType

@@ -6,7 +6,6 @@
 --   `initial_outcomes-read`            the law
 use Rattle.std.proofs.Common.{◌≡◌, ℕ, ◌+◌, zero, suc, List, [], ◌∷◌, ◌++◌, Some, sym, ap, ◌∙◌, subst, length, slice_get, length-append, arith}
 use Rattle.std.proofs.lemmas.Option.{none-some, same_Some, slice_get_within}
-use Rattle.abs_tree.proofs.IndexLemmas.{slice_get-front, slice_get-next}
 use Rattle.abs_values.proofs.ListOutcomeLemmas.{Keeps, initial_outcomes-keep}
 use Rattle.abs_values.proofs.ReferenceLemmas.{AllComeFrom, own_slot, evaluate-reads}
 use Rattle.abs_values.proofs.ResultLemmas.{IfAllGive, IfGives-at, IfAllGive-at, IfAllGive-all, outcomes_after-gives}
@@ -17,6 +16,7 @@ use Rattle.abs_values.specs.Results.{Gives}
 use Rattle.abs_values.specs.Scopes.{Library, Location, own_scope}
 use Rattle.abs_tree.specs.Syntax.{ExprTree, ExprTrees, NoExpr, NextExpr}
 use Rattle.abs_values.specs.ValueTrees.{ValueTree}
+use Rattle.list_facts.proofs.EntryLemmas.{slice_get-front, slice_get-next}
 
 -- each reference inside the values that follow so many others comes from values before
 abbrev pub AllComeFromEarlier : ℕ → ExprTrees → List ValueTree → Type 0

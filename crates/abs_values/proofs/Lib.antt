@@ -1,10 +1,10 @@
-pub mod AnswerLemmas
+mod AnswerLemmas
 pub mod SameValueLemmas
-pub mod ComparisonLemmas
+mod ComparisonLemmas
 pub mod ResultLemmas
 pub mod ListOutcomeLemmas
-pub mod InsideLemmas
-pub mod MatchingLemmas
-pub mod OperationLemmas
+mod InsideLemmas
+mod MatchingLemmas
+mod OperationLemmas
 pub mod ReferenceLemmas
-pub mod EarlierLemmas
+mod EarlierLemmas

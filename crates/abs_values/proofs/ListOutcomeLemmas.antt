@@ -7,7 +7,6 @@
 --   `initial_outcomes-count`                   an initial value follows for each expression
 use Rattle.std.proofs.Common.{◌≡◌, ℕ, ◌+◌, zero, suc, List, [], ◌∷◌, ◌++◌, Some, refl, ap, ◌∙◌, length, slice_get, length-append, arith}
 use Rattle.std.proofs.lemmas.Option.{none-some, same_Some}
-use Rattle.abs_tree.proofs.IndexLemmas.{slice_get-front}
 use Rattle.abs_values.proofs.ResultLemmas.{IfAllGive, IfAllGive-then, outcomes_after-gives, results_with-gives}
 use Rattle.abs_values.specs.Evaluation.{Outcome, evaluate, outcomes_of, initial_outcomes}
 use Rattle.abs_tree.specs.Limits.{level_limit}
@@ -17,6 +16,7 @@ use Rattle.abs_values.specs.Scopes.{Library, own_scope}
 use Rattle.abs_tree.specs.Syntax.{ExprTree, ExprTrees, NoExpr, NextExpr}
 use Rattle.abs_tree.specs.SyntaxCounts.{count_exprs}
 use Rattle.abs_values.specs.ValueTrees.{ValueTree}
+use Rattle.list_facts.proofs.EntryLemmas.{slice_get-front}
 
 -- each value is what the expression at its index gives
 abbrev pub AreGiven : (ExprTree → ℕ → Outcome) → ExprTrees → List ValueTree → Type 0

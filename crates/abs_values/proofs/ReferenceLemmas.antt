@@ -8,7 +8,6 @@
 use Rattle.std.proofs.Common.{◌≡◌, ℕ, ◌+◌, zero, suc, List, [], ◌∷◌, Option, Some, None, ◌⊎◌, inl, inr, ⊎_elim, refl, sym, subst, length, nat_eq, nat_lt, IfSome, codes, bytes_eq, slice_get}
 use Rattle.std.proofs.lemmas.Bool.{cond_both}
 use Rattle.std.proofs.lemmas.Option.{none-some, same_Some}
-use Rattle.abs_tree.proofs.IndexLemmas.{slice_get-append}
 use Rattle.abs_values.proofs.InsideLemmas.{inside-at, inside-is_at, HoldsNone}
 use Rattle.abs_values.proofs.ListOutcomeLemmas.{AreGiven, outcomes_of-each}
 use Rattle.abs_values.proofs.MatchingLemmas.{TakesFrom, matched-inside}
@@ -25,6 +24,7 @@ use Rattle.abs_values.specs.Scopes.{FunctionBody, function_named, Library, Scope
 use Rattle.abs_tree.specs.Syntax.{Name, ExprTree, LetIn, IfElse, OperatorsOf, Prefixed, NumberOf, StringOf, NullOf, DestinyOf, ThisOf, FieldOf, OwnCallOf, VariableOf, ApplyOf, BuildOf, CaseOf, ExprTrees, NoExpr, NextExpr, Branches, NoBranch, NextBranch}
 use Rattle.abs_values.specs.ValueTrees.{ValueTree, StringValue, parts_of_list}
 use Rattle.abs_values.specs.declared.evaluated.Fault.TheVariants as fault
+use Rattle.list_facts.proofs.EntryLemmas.{slice_get-append}
 
 -- each reference inside the value comes from the expression
 abbrev pub AllComeFrom : Scope → ExprTree → ValueTree → Type 0

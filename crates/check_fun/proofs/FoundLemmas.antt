@@ -1,21 +1,23 @@
 -- What was found where a checker knows a context, and where variables were bound for a while.
 --
 --   `finds_none`, `finds_own`          where no index is found there is no type, and an index stands for its own type
+--   `finds_all_none`, `finds_all_own`  the same of several indices
 --   `knows_own`                        a checker knows its own context
 --   `keeps_same`                       a table keeps what it has, if it is the same
 --   `bound_count`                      how many variables are bound
 --   `bound_stays`                      a checker stays, if the variables that were bound are left
-use Rattle.std.proofs.Common.{◌≡◌, ℕ, List, None, Option, length, refl, sym, ap, ◌∙◌, subst, option_map}
+use Rattle.std.proofs.Common.{◌≡◌, ℕ, List, None, Option, length, refl, sym, ap, ◌∙◌, subst, option_map, Some, []}
 use Rattle.std.proofs.lemmas.List.{length-map}
 use Rattle.abs_types.proofs.KeepLemmas.{keeps_reflexive, keeps_transitive}
 use Rattle.abs_types.specs.PlainTypes.{PlainType}
-use Rattle.abs_types.specs.TypeShapes.{type_at}
+use Rattle.abs_types.specs.TypeShapes.{type_at, types_at, IsAmong}
 use Rattle.abs_types.specs.TypeTables.{types_in, Keeps}
 use Rattle.abs_types.specs.declared.table.TypeTable.{TypeTable}
 use Rattle.abs_types.specs.declared.table.shape.TypeIndex.{TypeIndex}
 use Rattle.check_fun.proofs.ContextLemmas.{knows_stays}
-use Rattle.check_fun.specs.Contexts.{context_in, with_bound, Context, Finds, Found, Knows, Stays}
+use Rattle.check_fun.specs.Contexts.{context_in, with_bound, Context, Finds, Found, Knows, Stays, FoundAll, FindsAll}
 use Rattle.check_fun.specs.declared.checker.Checker.{Checker}
+use Rattle.std.proofs.lemmas.List.Elements.{All-nil}
 
 -- where no index is found, there is no type
 pub finds_none : {checker : Checker} → Finds checker None None
@@ -57,3 +59,15 @@ bound_stays {before} {types = types} counted binds keeps stays leaves same =
           (counted ∙ bound_count knows_own)).is;
       keeps = keeps_transitive keeps (keeps_transitive stays.keeps (keeps_same same));
     }
+
+-- several indices stand for their own types
+pub finds_all_own : {checker : Checker} {items : List TypeIndex} → FoundAll checker (Some items)
+    → FindsAll checker (Some items) (Some (types_at (types_in checker.table) items))
+finds_all_own found = record { found_are = found; are = refl }
+
+-- no indices stand for no types
+pub finds_all_none : {checker : Checker} → FindsAll checker (Some []) (Some [])
+finds_all_none {checker} = record {
+  found_are = record { among = All-nil (IsAmong (types_in checker.table)) };
+  are = refl;
+}

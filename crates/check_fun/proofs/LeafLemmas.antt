@@ -5,30 +5,26 @@
 --   `class_found`, `no_class`          an object of the class of `this`
 use mathlib.Core.Logic.{∥∥₁_elim}
 use Rattle.std.proofs.Common.{◌≡◌, Some, None, Option, refl, sym, ap, ◌∙◌, subst, option_map}
-use Rattle.std.specs.Prelude.{IfSome}
-use Rattle.std.proofs.Props.{props}
 use Rattle.abs_tree.specs.Names.{name_of}
 use Rattle.abs_tree.specs.Syntax.{Name}
 use Rattle.abs_tree.specs.declared.symbol.Symbol.{Symbol}
 use Rattle.abs_types.specs.PlainTypes.{PlainClass, PlainFut, PlainType}
-use Rattle.abs_types.specs.TypeShapes.{type_at, IsAmong}
+use Rattle.abs_types.specs.TypeShapes.{type_at}
 use Rattle.abs_types.specs.TypeTables.{types_in}
 use Rattle.abs_types.specs.declared.table.shape.TypeIndex.{TypeIndex}
 use Rattle.check_fun.proofs.FoundLemmas.{finds_none}
 use Rattle.check_fun.proofs.MethodLemmas.{this_known}
 use Rattle.check_fun.specs.Contexts.{context_in, Context, Finds, Knows}
 use Rattle.check_fun.specs.declared.checker.Checker.{Checker}
-
--- an index that may be there is among types in one way at most
-among-prop : (checker : Checker) (found : Option TypeIndex) → IsProp (IfSome found (IsAmong (types_in checker.table)))
-among-prop checker found = Prim.hlevel props
+use Rattle.abs_types.proofs.MemoryLemmas.{among-prop}
 
 -- the result type of the task, as the checker knows it
 pub task_found : {checker : Checker} {context : Context} → Knows checker context
     → Finds checker checker.task context.frame.task
 unfolding context_in
 task_found {checker} knows = record {
-  found_is = record { among = ∥∥₁_elim checker.task_is (among-prop checker checker.task) (λ among. among) };
+  found_is = record { among = ∥∥₁_elim checker.task_is (among-prop (types_in checker.table) checker.task)
+      (λ among. among) };
   is = ap (λ (known : Context). known.frame.task) knows.is;
 }
 

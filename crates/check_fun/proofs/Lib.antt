@@ -1,23 +1,23 @@
 pub mod ContextLemmas
 pub mod FoundLemmas
 pub mod FrameLemmas
-pub mod FunctionLemmas
-pub mod GrowingLemmas
-pub mod HeadLemmas
-pub mod JoinedSoFarLemmas
-pub mod LeafLemmas
-pub mod ListLemmas
-pub mod MethodLemmas
+mod FunctionLemmas
+mod GrowingLemmas
+mod HeadLemmas
+mod JoinedSoFarLemmas
+mod LeafLemmas
+mod ListLemmas
+mod MethodLemmas
 pub mod OperandLemmas
-pub mod OperatedSoFarLemmas
-pub mod OperatorLemmas
-pub mod OwnCallLemmas
-pub mod PartLemmas
-pub mod PatternLemmas
-pub mod ExprLemmas
+mod OperatedSoFarLemmas
+mod OperatorLemmas
+mod OwnCallLemmas
+mod PartLemmas
+mod PatternLemmas
+mod ExprLemmas
 pub mod RuleLemmas
 pub mod SchemeLemmas
-pub mod SlotLemmas
-pub mod SoFarLemmas
+mod SlotLemmas
+mod SoFarLemmas
 pub mod StepLemmas
-pub mod WiderLemmas
+mod WiderLemmas

@@ -6,7 +6,7 @@
 --   `replaced_all`                         what was found after all
 use Rattle.std.proofs.Common.{◌≡◌, ℕ, ◌+◌, ◌<◌, ◌≤◌, List, [], ◌∷◌, ◌++◌, Some, get_or, length, map, take, take_all, refl, ap, ap₂, ◌∙◌}
 use Rattle.std.proofs.lemmas.List.{take_more, map-append}
-use Rattle.std.proofs.lemmas.List.Elements.{All-nil, All-push, All-get_or}
+use Rattle.std.proofs.lemmas.List.Elements.{All-push, All-get_or}
 use Rattle.std.proofs.lemmas.Option.{same_Some}
 use Rattle.abs_types.specs.Applications.{replaced}
 use Rattle.abs_types.specs.PlainTypes.{PlainType}
@@ -16,29 +16,18 @@ use Rattle.abs_types.specs.declared.table.shape.TypeIndex.{TypeIndex}
 use Rattle.check_fun.proofs.ContextLemmas.{finds_stays, finds_all_stays, stays_reflexive, stays_transitive}
 use Rattle.check_fun.specs.Contexts.{Found, Finds, FoundAll, FindsAll, Stays}
 use Rattle.check_fun.specs.declared.checker.Checker.{Checker}
+use Rattle.check_fun.proofs.FoundLemmas.{finds_all_own, finds_all_none}
 
 -- an index that is found stands for its type
 finds_itself : {checker : Checker} {index : TypeIndex} → Found checker (Some index)
     → Finds checker (Some index) (Some (type_at (types_in checker.table) index))
 finds_itself found = record { found_is = found; is = refl }
 
--- several indices that are found stand for their types
-finds_all_themselves : {checker : Checker} {indices : List TypeIndex} → FoundAll checker (Some indices)
-    → FindsAll checker (Some indices) (Some (types_at (types_in checker.table) indices))
-finds_all_themselves found = record { found_are = found; are = refl }
-
 -- each of several indices that are found is found
 pub found_at : {checker : Checker} {indices : List TypeIndex} (count : ℕ) (default : TypeIndex)
     → count < length indices → FoundAll checker (Some indices) → Found checker (Some (get_or indices count default))
 found_at {checker} {indices} count default below found = record {
   among = All-get_or (IsAmong (types_in checker.table)) indices count default below found.among;
-}
-
--- no indices stand for no types
-finds_none : {checker : Checker} → FindsAll checker (Some []) (Some [])
-finds_none {checker} = record {
-  found_are = record { among = All-nil (IsAmong (types_in checker.table)) };
-  are = refl;
 }
 
 -- indices with one more stand for their types and its type
@@ -63,7 +52,7 @@ pub record ReplacedTypes (before now : Checker) (types indices done : List TypeI
 
 -- it is so before the first of them
 pub replaced_none : {checker : Checker} (types : List TypeIndex) → ReplacedTypes checker checker types [] []
-replaced_none types = record { stays = stays_reflexive; first_is = refl; found = finds_none }
+replaced_none types = record { stays = stays_reflexive; first_is = refl; found = finds_all_none }
 
 -- it is so after one more
 pub replaced_pushed : {before between now : Checker} (types indices done : List TypeIndex) (count : ℕ)
@@ -79,7 +68,7 @@ replaced_pushed {before} {between} {now} types indices done count default found 
     let all = types_in before.table in
     let index = get_or indices count default in
     let one : Finds now (Some found) (Some (replaced (types_at all types) (type_at all index))) =
-    replaces (types_at all types) (type_at all index) (finds_all_stays so.stays (finds_all_themselves types_found))
+    replaces (types_at all types) (type_at all index) (finds_all_stays so.stays (finds_all_own types_found))
     (finds_stays so.stays (finds_itself (found_at count default below indices_found))) in
     record {
       stays = stays_transitive so.stays stays;

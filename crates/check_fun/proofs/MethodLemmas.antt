@@ -26,6 +26,7 @@ use Rattle.abs_types.specs.TypeTables.{declarations_of}
 use Rattle.check_fun.specs.Contexts.{context_in, Context, Knows}
 use Rattle.check_fun.specs.declared.checker.Checker.{Checker}
 use Rattle.check_fun.specs.OwnMethods.{member_takes, declaration_takes, takes_count}
+use Rattle.std.proofs.Math.Bool.{not-not}
 
 -- whether the first method with a name takes this many parameters
 abbrev first_takes : Name → ℕ → List SignatureTree → Bool
@@ -225,11 +226,6 @@ pub this_known : {checker : Checker} (context : Context) → Knows checker conte
 unfolding context_in
 this_known context knows = rw (← knows.is) refl
 
--- what is not denied is so
-not_denied : (reported : Bool) → reported ≡ not (not reported)
-not_denied true = refl
-not_denied false = refl
-
 -- `this` has the methods of its class
 pub this_has : {checker : Checker} (class method : Symbol) (count : ℕ) (reported : Bool) → checker.this ≡ Some class
     → ((context : Context) → Knows checker context → reported ≡ has_method context.declarations
@@ -237,7 +233,7 @@ pub this_has : {checker : Checker} (class method : Symbol) (count : ℕ) (report
     → (context : Context) → Knows checker context
     → reported ≡ not (this_lacks_method context.declarations context.frame (name_of context.names method) count)
 this_has class method count reported this has context knows =
-    rw (this_known context knows, this) (has context knows ∙ not_denied _)
+    rw (this_known context knows, this) (has context knows ∙ sym (not-not _))
 
 -- outside of a class there is none
 pub this_lacks : {checker : Checker} (method : Symbol) (count : ℕ) → checker.this ≡ None → (context : Context)

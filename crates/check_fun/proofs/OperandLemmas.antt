@@ -22,6 +22,7 @@ use Rattle.abs_types.specs.declared.table.shape.TypeIndex.{TypeIndex}
 use Rattle.check_fun.specs.Contexts.{all_typed, items_of, operands_typed, operators_of, typed, Context, FindsAll}
 use Rattle.check_fun.specs.Parts.{rights_of}
 use Rattle.check_fun.specs.declared.checker.Checker.{Checker}
+use Rattle.list_facts.proofs.OptionLemmas.{is_some-option_map}
 
 -- one more operator in front of others
 one_operand : (one : Operand) (others : List Operand) (type : Option PlainType) (types : Option (List PlainType))
@@ -50,7 +51,8 @@ one_more item (Some type) (Some types) others found counted is =
     ap length (sym (same_Some (type ∷ types) found is)) ∙ omega (arith, counted types refl)
 
 -- expressions that all have types have as many
-typed_count : (context : Context) (exprs : List Expr) (types : List PlainType) → all_typed context exprs ≡ Some types
+pub typed_count : (context : Context) (exprs : List Expr) (types : List PlainType)
+    → all_typed context exprs ≡ Some types
     → length types ≡ length exprs
 typed_count context [] types is = ap length (sym (same_Some [] types is))
 typed_count context (first ∷ others) types is =
@@ -67,11 +69,6 @@ rights_count {checker} context operands (Some one) finds =
     ∙ (sym (typed_count context (rights_of operands) (types_at (types_in checker.table) one.items) (sym finds.are))
     ∙ length-map one.items (type_at (types_in checker.table)))
 
--- something is there if what is made of it is there
-still_there : {X Y : Type 0} (of : X → Y) (found : Option X) → is_some found ≡ is_some (option_map of found)
-still_there of None = refl
-still_there of (Some one) = refl
-
 -- the offence of operators by the types of their right operands
 pub rights_untyped : (context : Context) (operands : List Operand) (left : Option PlainType) (place : Place)
     → untyped (is_some left && is_some (all_typed context (rights_of operands)))
@@ -83,6 +80,6 @@ rights_untyped context operands left place =
     let rights = all_typed context (rights_of operands) in
     ap (λ (typed : Bool). untyped (is_some left && typed)
     (operators_type context.declarations left (option_map (operators_of operands) rights)) place)
-    (still_there (operators_of operands) rights)
+    (is_some-option_map (operators_of operands) rights)
     ∙ ap (λ (types : Option (List (Operator × PlainType))). untyped (is_some left && is_some types)
     (operators_type context.declarations left types) place) (operands_are context operands)

@@ -1,7 +1,7 @@
 -- A call on `this` inside an expression.
 --
 --   `own_call_noted`       its offences were noted, those of its method and of its arguments
-use Rattle.std.proofs.Common.{◌≡◌, Bool, true, false, List, ◌++◌, Some, None, Option, refl, ap, ◌∙◌, subst, not, option_map, is_some}
+use Rattle.std.proofs.Common.{◌≡◌, Bool, true, false, List, ◌++◌, Option, refl, ap, ◌∙◌, subst, not, is_some}
 use Rattle.std.specs.declared.alloc.Global.{Global}
 use Rattle.std.specs.declared.vec.Vec.{Vec}
 use Rattle.abs_tree.specs.declared.place.Place.{Place}
@@ -13,17 +13,12 @@ use Rattle.abs_types.specs.declared.table.shape.TypeIndex.{TypeIndex}
 use Rattle.check_fun.proofs.ContextLemmas.{noted_after}
 use Rattle.check_fun.specs.Contexts.{items_of, FindsAll, Noted}
 use Rattle.check_fun.specs.declared.checker.Checker.{Checker}
+use Rattle.list_facts.proofs.OptionLemmas.{is_some-mapped}
 
 -- what is not missing is there
 not_lacking : {has : Bool} (lacks : Bool) → has ≡ not lacks → not has ≡ lacks
 not_lacking true is = ap not is
 not_lacking false is = ap not is
-
--- there are types where indices were found
-are_there : {X Y : Type 0} (found : Option X) (of : X → Y) {types : Option Y} → option_map of found ≡ types
-    → is_some found ≡ is_some types
-are_there None of is = ap is_some is
-are_there (Some indices) of is = ap is_some is
 
 -- the offences of the method and of the arguments were noted
 pub own_call_noted : {checker : Checker} {before between now : Option Offence} {has given : Bool}
@@ -35,5 +30,6 @@ own_call_noted {before = before} {between} {now} {types = types} arguments lacks
     noted_after (offence_if lacks T2 place) (offence_if (is_some types) T1 place)
     (subst (λ (missing : Bool). Noted before (offence_if missing T2 place) between) (not_lacking lacks method) first)
     (subst (λ (typed : Bool). Noted between (offence_if typed T1 place) now)
-    (given ∙ are_there arguments (λ (one : Vec TypeIndex Global). one.items) refl ∙ are_there (items_of arguments) _ finds.are)
+    (given ∙ is_some-mapped arguments (λ (one : Vec TypeIndex Global). one.items) refl
+    ∙ is_some-mapped (items_of arguments) _ finds.are)
     second)

@@ -6,14 +6,13 @@
 --   `no_parts`, `bottom_parts`             the parts where there is no constructor, and in the type of no value
 --   `parts_replaced`                       the parts in another type, by its arguments
 --   `parts_matched`                        the parts, if there are as many
---   `finds_all_own`                        indices of the table have the types for which they stand
 --   `takes_found`                          what a constructor takes is of the table
-use Rattle.std.proofs.Common.{◌≡◌, ◌≢◌, ℕ, ◌-◌, Bool, true, false, List, [], ◌∷◌, ◌++◌, All, Option, Some, None, option_map, refl, sym, subst, ap, ap₂, ◌∙◌, length, map, reverse, replicate, arith}
+use Rattle.std.proofs.Common.{◌≡◌, ◌≢◌, ℕ, ◌-◌, Bool, true, false, List, [], ◌∷◌, ◌++◌, Option, Some, None, option_map, refl, sym, subst, ap, ap₂, ◌∙◌, length, map, reverse, replicate, arith}
 use Rattle.std.specs.Prelude.{option_and_then, if◌then◌else◌, nat_eq}
 use Rattle.std.specs.List.{range_with_len}
 use Rattle.std.specs.Str.{bytes_eq}
 use Rattle.std.proofs.lemmas.Bool.{false_from_ne_true}
-use Rattle.std.proofs.lemmas.List.{append-nil, append_assoc, get_or-reverse, length-map, length-reverse, map-append, reverse-append}
+use Rattle.std.proofs.lemmas.List.{append-nil, append_assoc, length-map, reverse-append}
 use Rattle.std.proofs.lemmas.List.Elements.{All-replicate}
 use Rattle.std.proofs.lemmas.Option.{same_Some}
 use Rattle.std.proofs.lemmas.Simd.{map-map, splat_is_map}
@@ -34,6 +33,8 @@ use Rattle.abs_types.specs.declared.table.shape.TypeIndex.{TypeIndex}
 use Rattle.check_fun.specs.Contexts.{Context, built_at, Finds, FindsAll, FindsConstructor, FoundAll}
 use Rattle.check_fun.specs.declared.checker.Checker.{Checker}
 use Rattle.check_fun.specs.declared.schemes.ConstructorTakes.{ConstructorTakes}
+use Rattle.list_facts.proofs.AllLemmas.{All-reverse}
+use Rattle.list_facts.proofs.MapLemmas.{reverse-map}
 
 -- the arguments of data, if it has this name
 abbrev pub given_to : Name → Option DataOf → Option (List PlainType)
@@ -113,21 +114,6 @@ given_none name (PlainData other) apart differ =
     (false_from_ne_true (bytes_eq name other) (λ reported. differ (ap PlainData (sym ((bytes_eq-Decides name other).0 reported)))))
 given_none name head apart differ = refl
 
--- what is so of each item of a list is so of each item of the list from its end on
-All-reverse : {A : Type 0} (P : A → Type 0) (items : List A) → All P items → All P (reverse items)
-All-reverse P items all index default below =
-    let counts = length-reverse items in
-    subst P (sym (get_or-reverse items index default (omega arith)))
-    (all (length items - 1 - index) default (omega arith))
-
--- the images of a list from its end on
-map-reverse : {A B : Type 0} (f : A → B) (items : List A) → map f (reverse items) ≡ reverse (map f items)
-map-reverse f [] = refl
-map-reverse f (first ∷ others) =
-    ap (map f) (reverse-append (first ∷ []) others)
-    ∙ (map-append f (reverse others) (first ∷ [])
-    ∙ (ap (λ images. images ++ f first ∷ []) (map-reverse f others) ∙ sym (reverse-append (f first ∷ []) (map f others))))
-
 -- the type of a subject, walked down its heads
 walked : {checker : Checker} {subject head : TypeIndex} {arguments : List TypeIndex} {type : PlainType}
     → Finds checker (Some subject) (Some type) → IsSpine (types_in checker.table) subject head arguments
@@ -154,7 +140,7 @@ arguments_found {checker} {subject} {head} {owner} {arguments} {after} {type} {n
         among = rw is (All-reverse (IsAmong types) arguments
             (λ index default below. let argument = spine.arguments_below index default below in omega arith));
       };
-      are = ap Some (ap (types_at types) is ∙ map-reverse (type_at types) arguments)
+      are = ap Some (ap (types_at types) is ∙ sym (reverse-map (type_at types) arguments))
           ∙ sym (ap (λ (one : PlainType). given_to name (arguments_of one)) is_data
           ∙ (given_back name (PlainData name) given
           ∙ ap (option_map (λ (one : List PlainType). one ++ reverse given)) (given_itself name)));
@@ -285,11 +271,6 @@ parts_matched {before} {now} {subject} {type} {items} {result} count parts found
     FindsAll now result (option_and_then (if_as_many count) (option_and_then parts one)))
     found.is
     (parts_if_as_many count (parts_found at (record { found_is = found.found_is; is = refl })) is)
-
--- several indices stand for their own types
-pub finds_all_own : {checker : Checker} {items : List TypeIndex} → FoundAll checker (Some items)
-    → FindsAll checker (Some items) (Some (types_at (types_in checker.table) items))
-finds_all_own found = record { found_are = found; are = refl }
 
 -- what a constructor takes is of the table
 pub takes_found : {checker : Checker} {context : Context} {found : ConstructorTakes} {scheme : Option Scheme}

@@ -9,24 +9,19 @@
 --   `PatternMet`, `built_met`            what is known once a pattern with a constructor was met
 --   `matched`, `foreign_found`           the types of the parts that match, and whether there are none
 --   `found_listed`, `finds_listed`       the subjects of the patterns in a pattern
---   `built_tree`                         the tree of a pattern with a constructor
-use Rattle.std.proofs.Common.{◌≡◌, ℕ, ◌+◌, ◌<◌, ◌≤◌, zero, suc, Bool, true, false, not, nat_eq, ◌&&◌, List, [], ◌∷◌, ◌++◌, Option, Some, None, All, IfSome, is_some, is_none, option_map, option_and_then, unwrap_or, slice_get, get_or, take, length, map, refl, sym, ap, ap₂, ◌∙◌, subst, arith, append_assoc}
+use Rattle.std.proofs.Common.{◌≡◌, ℕ, ◌+◌, ◌<◌, ◌≤◌, zero, suc, Bool, true, false, not, nat_eq, ◌&&◌, List, [], ◌∷◌, ◌++◌, Option, Some, None, is_some, is_none, option_map, option_and_then, unwrap_or, slice_get, get_or, take, length, map, refl, sym, ap, ap₂, ◌∙◌, subst, arith, append_assoc}
 use Rattle.std.proofs.Math.Dec.{eqb-suc-zero}
 use Rattle.std.proofs.lemmas.List.{append-nil, take_more, take_all, length-take-le}
-use Rattle.std.proofs.lemmas.List.Elements.{All-nil, All-head, All-tail}
+use Rattle.std.proofs.lemmas.List.Elements.{All-nil}
 use Rattle.std.proofs.lemmas.Option.{slice_get-map, same_Some}
 use Rattle.std.specs.declared.alloc.Global.{Global}
 use Rattle.std.specs.declared.vec.Vec.{Vec}
-use Rattle.abs_tree.proofs.SyntaxLemmas.{pattern_tree-built}
-use Rattle.abs_tree.specs.Names.{name_of}
 use Rattle.abs_tree.specs.Syntax.{Name, DeclTree, PatternTree, Built, PatternTrees, NoPattern, NextPattern}
 use Rattle.abs_tree.specs.SyntaxCounts.{count_patterns}
 use Rattle.abs_tree.specs.SyntaxViews.{pattern_tree, pattern_trees}
 use Rattle.abs_tree.specs.declared.place.Place.{Place}
 use Rattle.abs_tree.specs.declared.refusal.Code.TheVariants.{T1}
 use Rattle.abs_tree.specs.declared.refusal.Offence.{Offence}
-use Rattle.abs_tree.specs.declared.symbol.Symbol.{Symbol}
-use Rattle.abs_tree.specs.declared.syntax.pattern.Pattern as code
 use Rattle.abs_tree.specs.declared.syntax.pattern.Pattern.{Pattern}
 use Rattle.abs_types.proofs.KeepLemmas.{keeps_reflexive, keeps_transitive}
 use Rattle.abs_tree.specs.Offences.{offence_if}
@@ -37,15 +32,14 @@ use Rattle.abs_types.specs.Subtyping.{fits}
 use Rattle.abs_types.specs.TypeShapes.{type_at, types_at, IsAmong}
 use Rattle.abs_types.specs.TypeTables.{types_in, declarations_of, Keeps}
 use Rattle.abs_types.specs.declared.table.shape.TypeIndex.{TypeIndex}
-use Rattle.check_fun.specs.Contexts.{context_in, items_of, with_bound, Context, Found, Finds, FoundAll, FindsAll, Knows, Noted}
+use Rattle.check_fun.specs.Contexts.{items_of, with_bound, Context, Found, Finds, FoundAll, FindsAll, Knows, Noted}
 use Rattle.check_fun.specs.declared.checker.Checker.{Checker}
 use Rattle.check_fun.proofs.ContextLemmas.{finds_all_kept, noted_nothing, noted_after}
-
--- the declarations of the program are those of the context
-declarations_known : {checker : Checker} {context : Context} → Knows checker context
-    → declarations_of checker.table ≡ context.declarations
-unfolding context_in
-declarations_known knows = ap (λ (one : Context). one.declarations) knows.is
+use Rattle.list_facts.proofs.AllLemmas.{IfSome-slice_get}
+use Rattle.list_facts.proofs.OptionLemmas.{is_some-option_map, is_none-option_map}
+use Rattle.std.proofs.Math.Bool.{not-not}
+use Rattle.check_fun.proofs.RuleLemmas.{declarations_are}
+use Rattle.abs_tree.proofs.FormLemmas.{patterns_counted}
 
 -- a subject with a type fits another one exactly where the table says so
 pub unfit_found : {checker : Checker} {context : Context} {found : Option TypeIndex} {asked : TypeIndex}
@@ -60,7 +54,7 @@ unfit_found {checker} {context} {found} {asked} {given} {wanted} subject reporte
     (sym one.is ∙ ap (option_map type) found_is)
     ∙ ap not (ap (fits context.declarations (type subject)) (sym (same_Some (type asked) wanted other.is))
     ∙ ap (λ (declarations : List DeclTree). fits declarations (type subject) (type asked))
-    (sym (declarations_known knows))
+    (sym (declarations_are knows))
     ∙ sym is)
 
 -- a subject without a type fits
@@ -85,18 +79,11 @@ none_after (first ∷ others) ys =
     ap (λ (none : Bool). none && nat_eq (length ys) 0) (eqb-suc-zero (length others))
     ∙ sym (eqb-suc-zero (length (others ++ ys)))
 
--- what holds of all holds of the one at an index
-some_of_all : {A : Type 0} (P : A → Type 0) (items : List A) (index : ℕ) → All P items
-    → IfSome (slice_get items index) P
-some_of_all P [] index all = tt
-some_of_all P (first ∷ others) zero all = All-head P first others all
-some_of_all P (first ∷ others) (suc index) all = some_of_all P others index (All-tail P first others all)
-
 -- the subject at an index is found
 pub found_at : {checker : Checker} {indices : List TypeIndex} (index : ℕ) → FoundAll checker (Some indices)
     → Found checker (slice_get indices index)
 found_at {checker} {indices} index found =
-    record { among = some_of_all (IsAmong (types_in checker.table)) indices index found.among }
+    record { among = IfSome-slice_get (IsAmong (types_in checker.table)) indices index found.among }
 
 -- it stands for the type at that index
 finds_at : {checker : Checker} {indices : List TypeIndex} {types : List PlainType} (index : ℕ)
@@ -285,12 +272,6 @@ abbrev pub matched : List DeclTree → Option PlainType → Name → ℕ → Opt
 matched declarations type constructor count = option_and_then (if_as_many count)
     (option_and_then (λ (given : PlainType). constructor_parts declarations given constructor) type)
 
--- there are as many trees as patterns
-patterns_counted : (names : List Name) (patterns : List Pattern)
-    → count_patterns (pattern_trees names patterns) ≡ length patterns
-patterns_counted names [] = refl
-patterns_counted names (first ∷ others) = omega (arith, patterns_counted names others)
-
 -- parts that may be missing, as a list of subjects
 subjects_listed : (found : Option (List PlainType)) → subjects found ≡ map Some (unwrap_or found [])
 subjects_listed (Some types) = refl
@@ -311,24 +292,14 @@ foreign_matched : (declarations : List DeclTree) (type : Option PlainType) (cons
 foreign_matched declarations (Some subject) constructor arguments = refl
 foreign_matched declarations None constructor arguments = refl
 
--- there is a value exactly where there is one of which it is made
-is_some_mapped : {A B : Type 0} (f : A → B) (found : Option A) → is_some found ≡ is_some (option_map f found)
-is_some_mapped f (Some one) = refl
-is_some_mapped f None = refl
-
--- there is none exactly where there is none of which it is made
-is_none_mapped : {A B : Type 0} (f : A → B) (found : Option A) → is_none found ≡ is_none (option_map f found)
-is_none_mapped f (Some one) = refl
-is_none_mapped f None = refl
-
 -- A checker finds whether a constructor is not one of the subject's type.
 pub foreign_found : {before now : Checker} {subject : Option TypeIndex} {type : Option PlainType}
     {types : Option (List PlainType)} (parts : Option (Vec TypeIndex Global)) → Finds before subject type
     → FindsAll now (items_of parts) types → is_some subject && is_none parts ≡ is_some type && is_none types
 foreign_found {before} {now} {subject} parts one all =
-    ap₂ ◌&&◌ (is_some_mapped (type_at (types_in before.table)) subject ∙ ap is_some one.is)
-    (is_none_mapped (λ (found : Vec TypeIndex Global). found.items) parts
-    ∙ is_none_mapped (types_at (types_in now.table)) (items_of parts)
+    ap₂ ◌&&◌ (is_some-option_map (type_at (types_in before.table)) subject ∙ ap is_some one.is)
+    (is_none-option_map (λ (found : Vec TypeIndex Global). found.items) parts
+    ∙ is_none-option_map (types_at (types_in now.table)) (items_of parts)
     ∙ ap is_none all.are)
 
 -- the parts that were found are found, of which there are none if no parts were
@@ -348,11 +319,6 @@ finds_listed {checker} None {types} known = record {
   found_are = found_listed None known.found_are;
   are = ap (λ (some : Option (List PlainType)). Some (unwrap_or some [])) known.are;
 }
-
--- what is refuted twice is reported
-refuted_twice : (reported : Bool) → not (not reported) ≡ reported
-refuted_twice true = refl
-refuted_twice false = refl
 
 -- a constructor with the patterns of its arguments was met, after its parts
 pub built_met : {context : Context} {type : Option PlainType} {first between : Option Offence} {now : Checker}
@@ -377,7 +343,7 @@ built_met {context} {type} {first} {between} {now} {count} place constructor pat
     offence_if one T1 place ++ patterns_offences context.declarations parts arguments) foreign_is parts_are in
     let more = patterns_offences context.declarations (map Some types) arguments in
     record {
-      fits_is = ap₂ ◌&&◌ (none_if foreign (not foreign) place (sym (refuted_twice foreign))) met.fits_are
+      fits_is = ap₂ ◌&&◌ (none_if foreign (not foreign) place (sym (not-not foreign))) met.fits_are
           ∙ none_after (offence_if foreign T1 place) more
           ∙ ap (λ (offences : List Offence). nat_eq (length offences) 0) (sym offends);
       noted = subst (λ (offences : List Offence). Noted first offences now.first) (sym offends)
@@ -386,13 +352,3 @@ built_met {context} {type} {first} {between} {now} {count} place constructor pat
           Knows now (with_bound context (patterns_types context.declarations parts arguments))) (sym parts_are)
           met.bound;
     }
-
--- the tree of a constructor with the patterns of its arguments
-pub built_tree : (names : List Name) (pattern : Pattern) (place : Place) (constructor : Symbol)
-    (arguments : Vec Pattern Global) (parts : List Pattern) → pattern ≡ code.Built place constructor arguments
-    → parts ≡ arguments.items
-    → pattern_tree names pattern ≡ Built place (name_of names constructor) (pattern_trees names parts)
-built_tree names pattern place constructor arguments parts is parts_are =
-    ap (pattern_tree names) is
-    ∙ pattern_tree-built names place constructor arguments
-    ∙ ap (λ (list : List Pattern). Built place (name_of names constructor) (pattern_trees names list)) (sym parts_are)

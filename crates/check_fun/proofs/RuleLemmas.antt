@@ -7,12 +7,10 @@
 --   `fit_found`                                whether a type fits another one
 --   `let_found`, `if_found`                    the rules of `let` and `if`
 use mathlib.Core.Logic.{∥∥₁_elim}
-use Rattle.std.proofs.Common.{◌≡◌, ℕ, zero, suc, Bool, true, false, List, [], ◌∷◌, All, Option, Some, None, length, refl, sym, ap, ◌∙◌, subst, arith}
+use Rattle.std.proofs.Common.{◌≡◌, ℕ, zero, suc, Bool, true, false, List, [], ◌∷◌, All, Option, Some, None, length, refl, sym, ap, ◌∙◌, subst}
 use Rattle.std.proofs.lemmas.Option.{none-some, same_Some, slice_get-map}
-use Rattle.std.proofs.lemmas.Bool.Decides.{nat_tests}
 use Rattle.std.proofs.lemmas.List.{length-map}
 use Rattle.std.proofs.lemmas.List.Elements.{All-head, All-tail}
-use Rattle.std.proofs.Props.{props}
 use Rattle.std.specs.Prelude.{slice_get, option_map, option_and_then, is_some, nat_lt, IfSome, if◌then◌else◌}
 use Rattle.abs_tree.specs.SyntaxViews.{variable_tree}
 use Rattle.abs_tree.specs.Syntax.{DeclTree}
@@ -30,6 +28,8 @@ use Rattle.check_fun.proofs.ContextLemmas.{finds_stays, knows_stays}
 use Rattle.check_fun.proofs.FoundLemmas.{finds_none}
 use Rattle.check_fun.specs.Contexts.{context_in, types_known, Context, Finds, Knows, Stays}
 use Rattle.check_fun.specs.declared.checker.Checker.{Checker}
+use Rattle.list_facts.proofs.EntryLemmas.{is_some-slice_get}
+use Rattle.abs_types.proofs.MemoryLemmas.{among-prop}
 
 -- the index of a type with a place among these, if there is one
 abbrev pub index_at : List (Option TypeIndex) → ℕ → Option TypeIndex
@@ -49,10 +49,6 @@ known_at_is types [] place = refl
 known_at_is types (None ∷ others) zero = refl
 known_at_is types (Some index ∷ others) zero = refl
 known_at_is types (first ∷ others) (suc place) = known_at_is types others place
-
--- an index that may be there is among types in one way at most
-among-prop : (types : List PlainType) (found : Option TypeIndex) → IsProp (IfSome found (IsAmong types))
-among-prop types found = Prim.hlevel props
 
 -- an index with a place among indices of types is that of a type
 index_at_among : (types : List PlainType) (indices : List (Option TypeIndex)) (place : ℕ)
@@ -109,17 +105,6 @@ variable_found {checker} name knows =
     subst (λ (now : Context). Finds checker (index_of checker name) (variable_type now.frame now.bound
     (variable_tree now.names name))) knows.is (variable_in checker name)
 
--- one number is below another one if it is so of those after them
-nat_lt_suc : (one other : ℕ) → nat_lt (suc one) (suc other) ≡ nat_lt one other
-nat_lt_suc one other = grind (arith, nat_tests)
-
--- there is an item with a place if it is below the count
-within_is_there : {X : Type 0} (items : List X) (place : ℕ)
-    → nat_lt place (length items) ≡ is_some (slice_get items place)
-within_is_there [] place = grind (arith, nat_tests)
-within_is_there (first ∷ others) zero = grind (arith, nat_tests)
-within_is_there (first ∷ others) (suc place) = nat_lt_suc place (length others) ∙ within_is_there others place
-
 -- a bound variable is there if its depth is below the count of those that are bound
 pub bound_is_there : {checker : Checker} {context : Context} (depth : ℕ) → Knows checker context
     → nat_lt depth (length checker.bound.items) ≡ is_some (slice_get context.bound depth)
@@ -127,7 +112,7 @@ unfolding context_in
 bound_is_there {checker} depth knows =
     subst (λ (now : Context). nat_lt depth (length checker.bound.items) ≡ is_some (slice_get now.bound depth)) knows.is
     (rw (← length-map checker.bound.items (option_map (type_at (types_in checker.table))))
-    (within_is_there (types_known (types_in checker.table) checker.bound.items) depth))
+    (is_some-slice_get (types_known (types_in checker.table) checker.bound.items) depth))
 
 -- a test decides whether an index is found, and whether there is a type
 if_finds : {checker : Checker} {found : Option TypeIndex} {type : Option PlainType} (reported : Bool)

@@ -3,19 +3,18 @@
 --   `SoFar`                            what a checker knew so far, and what is found in it
 --   `so_far_next`                      the same after one more step
 --   `found_so_far`                     an index that is found is one of the table
---   `none_found`, `one_more_found`     no types are found yet, and one more after others
+--   `one_more_found`                   one more type is found after others
 --   `params_more`, `terms_more`        the types of one more parameter, and of one more term
 --   `scheme_found`                     a scheme of types that are found
 --   `constructor_found`, `built_found` what a constructor takes, of types that are found, and its scheme
 --   `applied_found`                    data that is applied to one more type parameter
---   `view_there`, `view_past`          what is at an index among the views of a list's items
 --   `declaration_there`, ..            what is at an index among the declarations that are known
 --   `function_known`, ..               schemes, by what names stand for
-use Rattle.std.proofs.Common.{◌≡◌, ℕ, ◌+◌, ◌<◌, ◌≤◌, List, [], ◌∷◌, ◌++◌, Option, Some, None, option_map, refl, subst, slice_get, sym, ap, ap₂, ◌∙◌, length, get_or, map, take, arith}
+use Rattle.std.proofs.Common.{◌≡◌, ℕ, ◌+◌, ◌<◌, ◌≤◌, List, [], ◌∷◌, ◌++◌, Option, Some, None, refl, subst, slice_get, sym, ap, ap₂, ◌∙◌, length, get_or, map, take, arith}
 use Rattle.std.proofs.lemmas.List.{map-append, map_more, take_more}
-use Rattle.std.proofs.lemmas.List.Elements.{All-nil, All-push}
+use Rattle.std.proofs.lemmas.List.Elements.{All-push}
 use Rattle.std.proofs.lemmas.List.FromFn.{map-range_with_len_more}
-use Rattle.std.proofs.lemmas.Option.{same_Some, slice_get-map, slice_get_past, slice_get_read}
+use Rattle.std.proofs.lemmas.Option.{same_Some}
 use Rattle.std.specs.List.{range_with_len}
 use Rattle.std.specs.declared.alloc.Global.{Global}
 use Rattle.std.specs.declared.vec.Vec.{Vec}
@@ -42,6 +41,7 @@ use Rattle.check_fun.proofs.ContextLemmas.{finds_all_stays, knows_stays, stays_t
 use Rattle.check_fun.specs.Contexts.{Context, context_in, Found, Finds, FindsAll, FindsConstructor, FindsScheme, Knows, Stays}
 use Rattle.check_fun.specs.declared.checker.Checker.{Checker}
 use Rattle.check_fun.specs.declared.schemes.ConstructorTakes.{ConstructorTakes}
+use Rattle.list_facts.proofs.EntryLemmas.{slice_get-map_there, slice_get-map_past}
 
 -- A checker knows what it knew at the start, has the same first offence, and finds this in each context.
 pub record SoFar (start now : Checker) (IsFound : Context → Type 0) : Type 0 where
@@ -63,11 +63,6 @@ so_far_next so first stays step = record {
 pub found_so_far : {start now : Checker} {found : Option TypeIndex} {type : Context → Option PlainType}
     → SoFar start now (λ (context : Context). Finds now found (type context)) → Found now found
 found_so_far {start} so = (so.found (context_in start) (record { is = refl })).found_is
-
--- no types are found yet
-pub none_found : {checker : Checker} → FindsAll checker (Some []) (Some [])
-none_found {checker} =
-    record { found_are = record { among = All-nil (IsAmong (types_in checker.table)) }; are = refl }
 
 -- one more type is found after others
 pub one_more_found : {now next : Checker} {found after : List TypeIndex} {index : TypeIndex} {types more : List PlainType}
@@ -152,19 +147,6 @@ pub applied_found : {checker : Checker} {found : TypeIndex} (head : PlainType) (
 applied_found head index found = rw (map-range_with_len_more PlainParameter 0 index index (omega arith))
     (rw (applied_end head (map PlainParameter (range_with_len 0 index)) (PlainParameter index)) found)
 
--- the view of an item of a list is at its index among the views
-pub view_there : {A B : Type 0} (view : A → B) (items : List A) (index : ℕ) (item : A) → index < length items
-    → item ≡ get_or items index item → slice_get (map view items) index ≡ Some (view item)
-view_there view items index item there is =
-    slice_get-map view items index
-    ∙ ap (option_map view) (slice_get_read items (length items) index item refl there is)
-
--- there is none past the list
-pub view_past : {A B : Type 0} (view : A → B) (items : List A) (index : ℕ) → length items ≤ index
-    → slice_get (map view items) index ≡ None
-view_past view items index past =
-    slice_get-map view items index ∙ ap (option_map view) (slice_get_past items index past)
-
 -- the tree of a declaration is at its index among those that are known
 pub declaration_there : {checker : Checker} {context : Context} (index : ℕ) (declaration : Decl)
     → Knows checker context → index < length checker.table.program.now.declarations.items
@@ -174,7 +156,8 @@ unfolding context_in
 declaration_there {checker} index declaration knows there is =
     subst (λ (context : Context). slice_get context.declarations index ≡ Some (decl_tree context.names declaration))
     knows.is
-    (view_there (decl_tree checker.table.program.now.symbols) checker.table.program.now.declarations.items index
+    (slice_get-map_there (decl_tree checker.table.program.now.symbols) checker.table.program.now.declarations.items
+    index
     declaration there is)
 
 -- there is none past the declarations
@@ -183,7 +166,8 @@ pub declaration_past : {checker : Checker} {context : Context} (index : ℕ) →
 unfolding context_in
 declaration_past {checker} index knows past =
     subst (λ (context : Context). slice_get context.declarations index ≡ None) knows.is
-    (view_past (decl_tree checker.table.program.now.symbols) checker.table.program.now.declarations.items index past)
+    (slice_get-map_past (decl_tree checker.table.program.now.symbols) checker.table.program.now.declarations.items index
+    past)
 
 -- the scheme of a function, by what its name stands for
 pub function_known : {checker : Checker} {context : Context} {found : Option FunctionMeaning} (name : Symbol)

@@ -29,11 +29,12 @@ use Rattle.check_obj.proofs.EntriesLemmas.{after_append, agree_append, agree_one
 use Rattle.check_obj.proofs.FirstLemmas.{IsNamed}
 use Rattle.check_obj.proofs.InheritedLemmas.{inherited, inherits, named_own}
 use Rattle.check_obj.proofs.MeetLemmas.{above_listed, listed_above}
-use Rattle.check_obj.proofs.OneTypeLemmas.{agree_found, agree_whole, head_or_tail, HaveOneType}
-use Rattle.check_obj.proofs.SameTypeLemmas.{both_tell}
+use Rattle.check_obj.proofs.OneTypeLemmas.{agree_found, agree_whole, HaveOneType}
 use Rattle.check_obj.proofs.SeveralReportedLemmas.{no_types}
 use Rattle.check_obj.specs.MethodRows.{row_entry, signature_type, IsDeclared, TellsSeveral}
 use Rattle.check_obj.specs.MethodsMet.{entries_agree, entries_in, met_after, typed_row, HasTypes}
+use Rattle.list_facts.proofs.AllLemmas.{Contains-head_or_tail}
+use Rattle.std.specs.Cmp.{both_ways}
 
 -- the methods of a declaration, and those of the interfaces above it
 abbrev methods_at : List DeclTree → ℕ → List SignatureTree
@@ -143,7 +144,7 @@ entry_gathered table (first ∷ others) index one there among = ⊎_elim
     (subst (λ (at : ℕ). Contains (own_signatures (declarations_of table) at) one) (sym same) among)))
     (λ rest. Contains-append_right (entries_in table first) (gathered table others)
     (row_entry table.program.now.symbols one) (entry_gathered table others index one rest among))
-    (head_or_tail first others index there)
+    (Contains-head_or_tail first others index there)
 
 -- the entries of a declaration are entries of methods at an interface, if its methods are such
 entries_of_own : (table : TypeTable) (index other : ℕ)
@@ -310,7 +311,7 @@ agreed_all {table} {several} {met} interface above index reported so over tells 
     agreed_more interface reported so tells
     ∙ ap (λ (items : List ℕ). entries_agree several [] (gathered table items ++ entries_in table interface))
     (take_all index above over) in
-    both_tell reported (agree (methods_at declarations interface))
+    both_ways reported (agree (methods_at declarations interface))
     (λ agrees_here. agree_whole (methods_at declarations interface)
     (one_type_at table several interface entries several_reported (sym settled ∙ agrees_here)
     (λ one among. has_gathered table interface above one lists among)

@@ -1,6 +1,5 @@
 -- Statements of which the first ones were checked, each with what was declared before it visible.
 --
---   `branch_size`              the size of a branch that may be missing, by which the checks of branches end
 --   `frame_after_all`          what is around the statement after several
 --   `all_after`                the context there
 --   `after_other`              the context after a statement that declares nothing
@@ -10,20 +9,16 @@
 --   `block_step`               they were after one more
 --   `block_noted`              what was noted after all
 --   `block_stays`              a checker stays, if the slots are as before
-use Rattle.std.proofs.Common.{◌≡◌, ℕ, ◌+◌, ◌<◌, ◌≤◌, Bool, true, false, ◌&&◌, List, [], ◌∷◌, ◌++◌, All, Option, Some, None, drop, get_or, length, nat_le, set, take, refl, sym, ap, ap₂, ◌∙◌, subst}
-use denote.Param.Weighed.{most}
-use Rattle.std.specs.declared.alloc.Global.{Global}
-use Rattle.std.specs.declared.vec.Vec.{Vec}
+use Rattle.std.proofs.Common.{◌≡◌, ℕ, ◌+◌, ◌<◌, ◌≤◌, Bool, true, false, ◌&&◌, List, [], ◌∷◌, ◌++◌, All, Option, drop, get_or, length, nat_le, set, take, refl, sym, ap, ap₂, ◌∙◌, subst}
 use Rattle.std.proofs.lemmas.List.{drop_all, take_more}
 use Rattle.std.proofs.lemmas.List.Elements.{All-head, All-tail}
-use Rattle.abs_tree.proofs.EntryLemmas.{drop_item}
 use Rattle.abs_tree.specs.Syntax.{Name, Statement, BlockOf, SkipOf, SuspendOf, AwaitOf, ReturnOf, PrintOf, IfOf, WhileOf, DeclareOf, AssignOf, DoOf, VariableTree, AtSlot, AtBound, AtField, Unresolved}
 use Rattle.abs_tree.specs.SyntaxViews.{statement, statements}
 use Rattle.abs_tree.specs.declared.place.Place.{Place}
 use Rattle.abs_tree.specs.declared.refusal.Offence.{Offence}
 use Rattle.abs_tree.specs.declared.syntax.statement.RightSide.{RightSide}
 use Rattle.abs_tree.specs.declared.syntax.statement.Stmt as code_stmt
-use Rattle.abs_tree.specs.declared.syntax.statement.Stmt.{Block', If', Stmt, While', size-Stmt}
+use Rattle.abs_tree.specs.declared.syntax.statement.Stmt.{Block', If', Stmt, While'}
 use Rattle.abs_tree.specs.declared.syntax.types.TypeTerm.{TypeTerm}
 use Rattle.abs_tree.specs.declared.syntax.variable.Variable.{Variable}
 use Rattle.abs_types.proofs.KeepLemmas.{keeps_transitive}
@@ -40,11 +35,7 @@ use Rattle.check_obj.specs.Bodies.{after, statement_offends, statements_offend, 
 use Rattle.check_obj.specs.Endings.{IsFilled}
 use Rattle.check_obj.specs.Visible.{undone, Undoes}
 use Rattle.check_obj.specs.declared.visible.Shown.{Shown}
-
--- the size of a branch that may be missing, by which the checks of branches end
-abbrev pub branch_size : Option (Vec Stmt Global) → ℕ
-branch_size None = 0
-branch_size (Some branch) = most (λ (stmt : Stmt). size-Stmt stmt) branch.items
+use Rattle.list_facts.proofs.EntryLemmas.{drop_item}
 
 -- what is around the statement after several
 abbrev pub frame_after_all : List Name → Frame → List Stmt → Frame

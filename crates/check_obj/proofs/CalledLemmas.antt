@@ -31,6 +31,7 @@ use Rattle.check_fun.specs.ObjectHeads.{head_named, head_of}
 use Rattle.check_fun.specs.declared.checker.Checker.{Checker}
 use Rattle.check_fun.specs.declared.heads.Head.{Head}
 use Rattle.check_obj.specs.Calls.{called, signatures_of_head, trees_of}
+use Rattle.std.proofs.Math.Bool.{not-not}
 
 -- the types of methods with a name are those of the methods that are called so: the case of one more
 named_step : (first : SignatureTree) (named : List SignatureTree) (rest : List SignatureTree) (reported : Bool)
@@ -114,11 +115,6 @@ given_count {checker} {given} {known} finds =
     sym (length-map given (type_at (types_in checker.table)))
     ∙ ap length (same_Some (types_at (types_in checker.table) given) known finds.are)
 
--- what is not missing is there
-there_again : (reported : Bool) → not (not reported) ≡ reported
-there_again true = refl
-there_again false = refl
-
 -- what a call gives, if its receiver and its arguments have types
 pub call_found : {checker now : Checker} {object : Option PlainType} {types : Option (List PlainType)}
     {found : Option TypeIndex} (declarations : List DeclTree) (name : Name) (receiver : TypeIndex)
@@ -148,7 +144,7 @@ call_noted {checker} declarations name count place receiver given empty object t
     let known = types_at (types_in checker.table) given in
     let of_object : Finds checker (Some receiver) (Some type) = record { found_is = object.found_is; is = refl } in
     let of_types : FindsAll checker (Some given) (Some known) = record { found_are = types.found_are; are = refl } in
-    rw (← object.is, ← types.are, has type of_object, there_again empty)
+    rw (← object.is, ← types.are, has type of_object, not-not empty)
     (noted_after _ _ missing (step type known of_object of_types))
 
 -- where an argument has no type, only a missing method is
@@ -162,4 +158,4 @@ pub call_unoffending : {checker : Checker} {before now : Option Offence} {object
 call_unoffending {checker} declarations name count place receiver empty object types has missing =
     let type = type_at (types_in checker.table) receiver in
     let of_object : Finds checker (Some receiver) (Some type) = record { found_is = object.found_is; is = refl } in
-    rw (← object.is, ← types.are, has type of_object, there_again empty, append-nil) missing
+    rw (← object.is, ← types.are, has type of_object, not-not empty, append-nil) missing

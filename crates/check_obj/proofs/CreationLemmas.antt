@@ -2,7 +2,6 @@
 --
 --   `class_known`                      what a class takes, by what its name stands for
 --   `object_found`, `no_object`        an object, if the arguments fit what its class takes
---   `given_own`                        what indices stand for
 --   `given_found`, `none_given`        what gives a type by those of arguments, if all of them have types
 --   `given_noted`, `given_unoffending`  what is noted then
 use Rattle.std.proofs.Common.{◌≡◌, Bool, true, List, ◌++◌, Option, Some, None, is_some, if◌then◌else◌, refl, ap, subst, append-nil}
@@ -23,7 +22,7 @@ use Rattle.abs_types.specs.TypeTables.{declarations_of, types_in}
 use Rattle.abs_types.specs.declared.table.shape.TypeIndex.{TypeIndex}
 use Rattle.check_fun.proofs.ContextLemmas.{noted_after}
 use Rattle.check_fun.proofs.FoundLemmas.{finds_none}
-use Rattle.check_fun.specs.Contexts.{context_in, Context, FindsAll, Finds, FoundAll, Knows, Noted}
+use Rattle.check_fun.specs.Contexts.{context_in, Context, FindsAll, Finds, Knows, Noted}
 use Rattle.check_fun.specs.declared.checker.Checker.{Checker}
 
 -- what the class with a meaning takes
@@ -42,11 +41,6 @@ class_known {checker} {found = found} name knows is =
     subst (λ (context : Context). taken_by_meaning context.declarations found
     ≡ class_takes context.declarations (name_of context.names name))
     knows.is (ap (taken_by_meaning (declarations_of checker.table)) is)
-
--- indices that are found stand for their own types
-pub given_own : {checker : Checker} {given : List TypeIndex} → FoundAll checker (Some given)
-    → FindsAll checker (Some given) (Some (types_at (types_in checker.table) given))
-given_own found = record { found_are = found; are = refl }
 
 -- what arguments of these types give, if all of them have types
 pub given_found : {checker now : Checker} {types : Option (List PlainType)} {found : Option TypeIndex}

@@ -14,13 +14,9 @@ use Rattle.std.proofs.lemmas.Option.{none-some, same_Some}
 use Rattle.abs_types.specs.InterfacesMet.{same_type}
 use Rattle.abs_types.specs.PlainTypes.{PlainType}
 use Rattle.check_obj.proofs.SameTypeLemmas.{same_found, same_itself}
-use Rattle.check_obj.proofs.SeveralLemmas.{last_found, still_found}
 use Rattle.check_obj.specs.MethodsMet.{entries_agree, met_after, same_or_new, with_entry}
-
--- the first test, and then others
-and_assoc : (one two three : Bool) → (one && (two && three)) ≡ ((one && two) && three)
-and_assoc true two three = refl
-and_assoc false two three = refl
+use Rattle.list_facts.proofs.LookupLemmas.{lookup-last_found, lookup-still_found}
+use Rattle.std.proofs.Math.Bool.{and_assoc}
 
 -- whether entries and more entries agree: the case of one more before them, by whether it counts
 agree_append_if : (several : List ℕ) (met : List (ℕ × PlainType)) (first : ℕ × PlainType)
@@ -38,9 +34,9 @@ agree_append_if : (several : List ℕ) (met : List (ℕ × PlainType)) (first : 
     else met_after several met others) more)
 agree_append_if several met first others more true rest =
     ap (λ (reported : Bool). same_or_new first.1 (lookup (nat_eq first.0) met) && reported) (rest (with_entry met first))
-    ∙ and_assoc (same_or_new first.1 (lookup (nat_eq first.0) met))
+    ∙ sym (and_assoc (same_or_new first.1 (lookup (nat_eq first.0) met))
     (entries_agree several (with_entry met first) others)
-    (entries_agree several (met_after several (with_entry met first) others) more)
+    (entries_agree several (met_after several (with_entry met first) others) more))
 agree_append_if several met first others more false rest = rest met
 
 -- whether entries and more entries agree
@@ -77,7 +73,7 @@ kept_if : (met : List (ℕ × PlainType)) (entry : ℕ × PlainType) (number : �
     → lookup (nat_eq number) met ≡ Some type
     → lookup (nat_eq number) (if there then met else met ++ entry ∷ []) ≡ Some type
 kept_if met entry number type true found = found
-kept_if met entry number type false found = still_found met entry (nat_eq number) type found
+kept_if met entry number type false found = lookup-still_found met entry (nat_eq number) type found
 
 -- what was found is found after entries: the case of one more before them, by whether it counts
 found_after_if : (several : List ℕ) (met : List (ℕ × PlainType)) (first : ℕ × PlainType)
@@ -104,7 +100,7 @@ entry_found : (met : List (ℕ × PlainType)) (entry : ℕ × PlainType) (found 
     → lookup (nat_eq entry.0) met ≡ found → same_or_new entry.1 found ≡ true
     → lookup (nat_eq entry.0) (if is_some found then met else met ++ entry ∷ []) ≡ Some entry.1
 entry_found met entry None none agrees =
-    last_found met entry (nat_eq entry.0) none (eq-eqb entry.0 entry.0 refl)
+    lookup-last_found met entry (nat_eq entry.0) none (eq-eqb entry.0 entry.0 refl)
 entry_found met entry (Some known) is agrees = is ∙ ap Some (same_found known entry.1 agrees)
 
 -- the type of an entry that counts is found

@@ -9,7 +9,7 @@ use Rattle.std.specs.Prelude.{slice_get}
 use Rattle.std.proofs.lemmas.Bool.{not-true}
 use Rattle.std.proofs.lemmas.List.{length-map}
 use Rattle.std.proofs.lemmas.List.Elements.{All-filter, All-weaker, Contains-append_cases, Contains-append_left, Contains-append_right, filter_passes}
-use Rattle.std.proofs.lemmas.Option.{get_or_from_slice_get, none-some, same_Some, slice_get_past, slice_get_within, slice_get-map, slice_get-get_or, slice_get_read}
+use Rattle.std.proofs.lemmas.Option.{get_or_from_slice_get, none-some, same_Some, slice_get_past, slice_get_within, slice_get-map, slice_get_read}
 use Rattle.abs_program.specs.Supertypes.{is_below}
 use Rattle.abs_tree.specs.Syntax.{Name, DeclTree, DataTree, FunctionTree, InterfaceTree, ClassTree, SignatureTree}
 use Rattle.abs_tree.specs.SyntaxViews.{decl_tree}
@@ -23,6 +23,7 @@ use Rattle.check_obj.proofs.FirstLemmas.{named_all, named_first, named_members, 
 use Rattle.check_obj.proofs.RowsLemmas.{entries_of}
 use Rattle.check_obj.specs.MethodRows.{AreNamed, AreRows, IsRow}
 use Rattle.check_obj.specs.declared.method_types.MethodRow.{MethodRow}
+use Rattle.list_facts.proofs.EntryLemmas.{slice_get-not_none}
 
 -- the methods of a declaration of the code's trees have names of the table
 named_in : (names : List Name) (declaration : Decl) → AreNamed names (signatures_in (decl_tree names declaration))
@@ -89,13 +90,6 @@ distinct_there (Some declaration) = distinct_in declaration
 pub distinct_own : (declarations : List DeclTree) (index : ℕ) → AreDistinct (own_signatures declarations index)
 distinct_own declarations index = distinct_there (slice_get declarations index)
 
--- an index in a list has something there
-past_none : {A : Type 0} (xs : List A) (index : ℕ) → index < length xs → slice_get xs index ≡ None → ⊥
-past_none [] index there none = omega (arith, there)
-past_none (first ∷ others) index there none =
-    none-some (get_or (first ∷ others) index first)
-    (sym none ∙ slice_get-get_or (first ∷ others) index first there)
-
 -- the row of a declaration has its methods: the case of one that may be there
 row_there : {table : TypeTable} (rows : List MethodRow) (index : ℕ) (row : MethodRow) (found : Option DeclTree)
     → slice_get (declarations_of table) index ≡ found → AreRows table (entries_of rows)
@@ -111,7 +105,7 @@ row_there {table} rows index row None there are is =
     slice_get-map (λ (one : MethodRow). one.types.entries) rows index
     ∙ ap (option_map (λ (one : MethodRow). one.types.entries)) is in
     let within = slice_get_within (entries_of rows) index row.types.entries entries in
-    absurd (past_none (declarations_of table) index (omega (arith, within, are.count)) there)
+    absurd (slice_get-not_none (declarations_of table) index (omega (arith, within, are.count)) there)
 
 -- the row of the declaration with an index has its methods
 pub row_at : {table : TypeTable} (rows : List MethodRow) (index : ℕ) (row : MethodRow)

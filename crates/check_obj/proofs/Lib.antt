@@ -1,33 +1,32 @@
-pub mod AgreeLemmas
-pub mod AgreedLemmas
-pub mod BelowLemmas
-pub mod BlockLemmas
-pub mod BodyLemmas
-pub mod CallLemmas
-pub mod CalledLemmas
-pub mod ClassLemmas
-pub mod CreationLemmas
-pub mod EndingLemmas
-pub mod EntriesLemmas
-pub mod FirstLemmas
-pub mod GrownRowLemmas
-pub mod GuardLemmas
-pub mod HasLemmas
-pub mod InheritedLemmas
-pub mod MeetLemmas
-pub mod MethodRowLemmas
-pub mod MethodTypeLemmas
-pub mod OneTypeLemmas
-pub mod OrderLemmas
-pub mod PickedLemmas
-pub mod ProgramLemmas
-pub mod ResultLemmas
-pub mod RowsLemmas
-pub mod SameTypeLemmas
-pub mod SeveralLemmas
-pub mod SeveralReportedLemmas
-pub mod ShapeLemmas
-pub mod SideLemmas
-pub mod TakingLemmas
-pub mod TreeLemmas
-pub mod VisibleLemmas
+mod AgreeLemmas
+mod AgreedLemmas
+mod BelowLemmas
+mod BlockLemmas
+mod BodyLemmas
+mod CallLemmas
+mod CalledLemmas
+mod ClassLemmas
+mod CreationLemmas
+mod EndingLemmas
+mod EntriesLemmas
+mod FirstLemmas
+mod GrownRowLemmas
+mod GuardLemmas
+mod HasLemmas
+mod InheritedLemmas
+mod MeetLemmas
+mod MethodRowLemmas
+mod MethodTypeLemmas
+mod OneTypeLemmas
+mod OrderLemmas
+mod PickedLemmas
+mod ProgramLemmas
+mod ResultLemmas
+mod RowsLemmas
+mod SameTypeLemmas
+mod SeveralLemmas
+mod SeveralReportedLemmas
+mod ShapeLemmas
+mod SideLemmas
+mod TakingLemmas
+mod VisibleLemmas

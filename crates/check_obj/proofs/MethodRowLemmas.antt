@@ -3,7 +3,7 @@
 --   `row_kept`                     a row has the same methods later
 --   `entry_at`, `IsEntry`          an entry with its type, which is of the table
 --   `row_same`, `row_added`        a row with a method whose name is there, and with one whose name is new
-use Rattle.std.proofs.Common.{◌≡◌, ℕ, Bool, true, false, List, [], ◌∷◌, ◌++◌, Option, Some, None, option_map, if◌then◌else◌, map, nat_eq, All, refl, sym, ap, ap₂, ◌∙◌, subst, true≢false}
+use Rattle.std.proofs.Common.{◌≡◌, ℕ, Bool, true, false, List, [], ◌∷◌, ◌++◌, Option, Some, None, option_map, if◌then◌else◌, map, nat_eq, All, refl, sym, ap, ap₂, ◌∙◌, subst}
 use Rattle.std.proofs.lemmas.List.{map-append}
 use Rattle.std.proofs.lemmas.List.Elements.{All-head, All-push, All-tail}
 use Rattle.std.proofs.lemmas.Map.Made.{lookup-map_values}
@@ -27,6 +27,7 @@ use Rattle.check_fun.specs.Contexts.{context_in, Context, Finds, Knows, Stays}
 use Rattle.check_fun.specs.declared.checker.Checker.{Checker}
 use Rattle.check_obj.proofs.FirstLemmas.{first_push, has_name, is_looked_up, named_first, named_signature, IsNamed}
 use Rattle.check_obj.specs.MethodRows.{row_entry, signature_type, AreNamed, IsRow}
+use Rattle.list_facts.proofs.OptionLemmas.{is_some-none}
 
 -- an entry of a row with the type for which its index stands
 abbrev pub entry_at : List PlainType → ℕ × TypeIndex → ℕ × PlainType
@@ -98,11 +99,6 @@ row_same {table} {done} {row} signature number numbered there named is =
     (sym (first_push done last
     ∙ ap (λ (b : Bool). if b then first_of_each done else first_of_each done ++ last ∷ []) had)) is
 
--- nothing is found
-none_found : {A : Type 0} (found : Option A) → is_some found ≡ false → found ≡ None
-none_found None none = refl
-none_found (Some one) none = absurd (true≢false none)
-
 -- a row with a method whose name is new has it last
 pub row_added : {before now : Checker} {done : List SignatureTree} {S : Type 0} (types : IndexMap ℕ TypeIndex S)
     (after : List (ℕ × TypeIndex)) (signature : Signature) (number : ℕ) (found : TypeIndex)
@@ -125,7 +121,7 @@ row_added {before} {now} {done} types after signature number found numbered abse
     first_push done last ∙ ap (λ (b : Bool). if b then first_of_each done else first_of_each done ++ last ∷ []) apart in
     let entries : after ≡ types.entries ++ (number, found) ∷ [] =
     inserted ∙ insert_entry-new nat_eq types number found
-    (none_found (lookup (nat_eq number) types.entries) absent) in
+    (is_some-none (lookup (nat_eq number) types.entries) absent) in
     let finds_it : Finds now (Some found) (Some (signature_type last)) =
     finds (context_in before) (record { is = refl }) in
     let kept = row_kept stays.keeps is in

@@ -2,30 +2,22 @@
 --
 --   `HaveOneType`                  methods of one name have one type
 --   `agree_found`, `agree_whole`   it is so of methods that agree by the test, and the other way round
---   `head_or_tail`                 what is in a list is its first item, or is in the others
-use Rattle.std.proofs.Common.{◌≡◌, Bool, true, false, not, ◌||◌, List, [], ◌∷◌, ◌⊎◌, inl, inr, All, Contains, refl, sym, ap, ◌∙◌, ⊎_elim, arith}
+use Rattle.std.proofs.Common.{◌≡◌, Bool, true, false, not, ◌||◌, List, [], ◌∷◌, ◌⊎◌, All, Contains, refl, sym, ap, ◌∙◌, ⊎_elim, arith}
 use Rattle.std.specs.Str.{bytes_eq}
 use Rattle.std.proofs.lemmas.Bool.{and_from, and_parts}
-use Rattle.std.proofs.lemmas.List.Elements.{All-cons, All-contains, All-contains_itself, All-head, All-nil, All-tail, All-weaker, Contains-append_cases, Contains-append_left, Contains-append_right, Contains-push, Contains-push_cases}
+use Rattle.std.proofs.lemmas.List.Elements.{All-cons, All-contains, All-contains_itself, All-head, All-nil, All-tail, All-weaker, Contains-append_left, Contains-append_right, Contains-push}
 use Rattle.std.proofs.lemmas.Slice.Eq.{bytes_eq-Decides}
 use Rattle.abs_tree.specs.Syntax.{SignatureTree}
 use Rattle.abs_types.specs.InterfacesMet.{agree, can_be_both, can_be_with_all, same_method, same_type}
 use Rattle.abs_types.specs.Methods.{method_type}
 use Rattle.check_obj.proofs.SameTypeLemmas.{method_test, one_type, same_itself}
 use Rattle.check_obj.specs.MethodRows.{signature_type}
+use Rattle.list_facts.proofs.AllLemmas.{Contains-head_or_tail}
 
 -- Methods of one name have one type.
 pub record HaveOneType (signatures : List SignatureTree) : Type 0 where
   pub one_type : (one other : SignatureTree) → Contains signatures one → Contains signatures other
       → one.name.name ≡ other.name.name → signature_type one ≡ signature_type other
-
--- what is in a list is its first item, or is in the others
-pub head_or_tail : {A : Type 0} (first : A) (others : List A) (one : A) → Contains (first ∷ others) one
-    → (first ≡ one) ⊎ Contains others one
-head_or_tail first others one there = ⊎_elim
-    (λ head. ⊎_elim (λ none. absurd (omega (arith, none.1))) (λ same. inl same) (Contains-push_cases [] first one head))
-    (λ rest. inr rest)
-    (Contains-append_cases (first ∷ []) others one there)
 
 -- methods of one name that can be both have one type
 both_found : (one other : SignatureTree) → can_be_both one other ≡ true → one.name.name ≡ other.name.name
@@ -66,14 +58,14 @@ agree_found (first ∷ others) agreed =
           (λ other_rest. ap signature_type (sym one_first)
           ∙ first_found first others other both.0 other_rest
           (ap (λ (method : SignatureTree). method.name.name) one_first ∙ same))
-          (head_or_tail first others other other_there))
+          (Contains-head_or_tail first others other other_there))
           (λ one_rest. ⊎_elim
           (λ other_first. sym (first_found first others one both.0 one_rest
           (ap (λ (method : SignatureTree). method.name.name) other_first ∙ sym same))
           ∙ ap signature_type other_first)
           (λ other_rest. rest.one_type one other one_rest other_rest same)
-          (head_or_tail first others other other_there))
-          (head_or_tail first others one one_there);
+          (Contains-head_or_tail first others other other_there))
+          (Contains-head_or_tail first others one one_there);
     }
 
 -- methods can be both, if they have one type where they have one name: by whether they have one name

@@ -2,12 +2,11 @@
 --
 --   `noted_swapped`            offences, and others before them
 --   `members_apart`            the offences of members, of which those of all fields come first
-use Rattle.std.proofs.Common.{◌≡◌, false, List, [], ◌∷◌, ◌++◌, Option, Some, None, Contains, fold, get_or, inl, inr, refl, sym, ap, ◌∙◌, append_assoc}
-use Rattle.std.specs.Ordering.{is_lt}
+use Rattle.std.proofs.Common.{◌≡◌, List, [], ◌∷◌, ◌++◌, Option, Some, None, Contains, fold, get_or, inl, inr, refl, sym, ap, ◌∙◌, append_assoc}
 use Rattle.std.proofs.lemmas.List.Elements.{All-contains, Contains-append_cases, Contains-append_left, Contains-append_right, Contains-get_or}
 use Rattle.std.proofs.lemmas.List.Sums.{fold-append}
-use Rattle.abs_tree.proofs.OffenceLemmas.{first_is_least}
-use Rattle.abs_tree.specs.Offences.{earlier, first_offence, offence_cmp, IsFirst}
+use Rattle.abs_tree.proofs.OffenceLemmas.{first_is_least, NotBefore}
+use Rattle.abs_tree.specs.Offences.{earlier, first_offence, IsFirst}
 use Rattle.abs_tree.specs.Syntax.{Name, MemberTree, FieldTree, MethodTree, DeclTree}
 use Rattle.abs_tree.specs.declared.refusal.Offence.{Offence}
 use Rattle.abs_types.specs.PlainTypes.{PlainType, plain}
@@ -18,10 +17,6 @@ use Rattle.check_obj.specs.Classes.{fields_offences, methods_offences}
 -- each of these offences is one of others
 abbrev Within : List Offence → List Offence → Type 0
 Within some others = (offence : Offence) → Contains some offence → Contains others offence
-
--- an offence does not come before this one
-abbrev NotBefore : Offence → Offence → Type 0
-NotBefore offence other = is_lt (offence_cmp other offence) ≡ false
 
 -- the first one of some offences is the first one of others, if these are the same
 first_moved : {some others : List Offence} (offence : Offence) → Within some others → Within others some

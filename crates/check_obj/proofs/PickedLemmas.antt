@@ -5,7 +5,6 @@
 --   `interface_called`                 those of an interface are both
 --   `AddedSoFar`                       those at the places before an index were added
 --   `added_begins`, `added_picked`, `added_other`, `added_ends`    before the first place, one more, and all
---   `differ`                           numbers that differ fail the test of equality
 use Rattle.std.proofs.Common.{◌≡◌, ℕ, suc, zero, ◌+◌, ◌<◌, ◌≤◌, Bool, true, false, List, [], ◌∷◌, ◌++◌, Option, Some, if◌then◌else◌, filter, length, take, get_or, nat_eq, refl, sym, ap, ap₂, ◌∙◌, zero-add, arith, append_assoc, append-nil, true≢false, eqb-true}
 use Rattle.std.specs.Prelude.{slice_get}
 use Rattle.std.specs.Str.{bytes_eq}
@@ -27,6 +26,7 @@ use Rattle.check_fun.specs.ObjectHeads.{OfInterface}
 use Rattle.check_obj.proofs.BelowLemmas.{IsInterfaceAt, below_is_interface}
 use Rattle.check_obj.proofs.CallLemmas.{first_called, first_named}
 use Rattle.check_obj.specs.Calls.{called, if_called, if_there, picked, signature_tree_at}
+use Rattle.list_facts.proofs.RestLemmas.{IsRest, rest_first, rest_others}
 
 -- whether a declaration is an interface
 abbrev is_interface : DeclTree → Bool
@@ -69,24 +69,6 @@ none_picked pick declarations count interface base (first ∷ others) name apart
     none_picked_step pick declarations count interface base (places_among interface (base + 1) others name)
     (bytes_eq first.name.name name) apart
     (none_picked pick declarations count interface (base + 1) others name apart)
-
--- items are those of a list from an index on
-abbrev IsRest : {A : Type 0} → List A → ℕ → List A → Type 0
-IsRest items index rest = (k : ℕ) → slice_get rest k ≡ slice_get items (index + k)
-
--- the first of them is that at the index
-rest_first : {A : Type 0} (items : List A) (index : ℕ) (one : A) (others : List A) → IsRest items index (one ∷ others)
-    → slice_get items index ≡ Some one
-rest_first items index one others is =
-    let at : index + 0 ≡ index = omega arith in
-    ap (slice_get items) (sym at) ∙ sym (is 0)
-
--- the others are those from the next index on
-rest_others : {A : Type 0} (items : List A) (index : ℕ) (one : A) (others : List A)
-    → IsRest items index (one ∷ others) → IsRest items (index + 1) others
-rest_others items index one others is = λ k.
-    let at : index + suc k ≡ index + 1 + k = omega arith in
-    is (suc k) ∙ ap (slice_get items) at
 
 -- the method at a place of an interface
 method_there : (declarations : List DeclTree) (interface index : ℕ) (place : Place) (own : DeclaredTree)
@@ -266,10 +248,6 @@ added_one pick declarations count places index default reported there is =
     ∙ ap (λ (one : List SignatureTree). picked pick declarations count (take index places) ++ one)
     (append-nil (if pick at.interface then if_there count (signature_tree_at declarations at) else [])
     ∙ ap (λ (one : Bool). if one then if_there count (signature_tree_at declarations at) else []) is)
-
--- numbers that differ fail the test of equality
-pub differ : (one other : ℕ) → (one ≡ other → ⊥) → nat_eq one other ≡ false
-differ one other apart = grind (arith, nat_tests)
 
 -- it was added, if its interface is picked
 pub added_picked : {pick : ℕ → Bool} {declarations : List DeclTree} {count : ℕ} {places : List SignatureAt} {index : ℕ}

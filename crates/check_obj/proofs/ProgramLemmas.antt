@@ -1,6 +1,6 @@
 -- A whole program, whose declarations are checked one after the other.
 --
---   `same_declarations`, `same_names`  a table that grows is of the same program
+--   `same_names`                       a table that grows is of the same program
 --   `rows_kept`, `several_kept`        rows have the methods of their declarations in a table that grows
 --   `IsNumbered`                       offences of declarations, each of which is known by its index
 --   `DeclarationsSoFar`                the first declarations were checked
@@ -28,23 +28,20 @@ use Rattle.abs_tree.specs.declared.syntax.declaration.Decl.{Decl}
 use Rattle.abs_tree.specs.declared.syntax.declaration.Decl.TheVariants as decl
 use Rattle.abs_tree.specs.declared.syntax.declaration.Member.{Member}
 use Rattle.abs_tree.specs.declared.syntax.declaration.Member.TheVariants as member
-use Rattle.abs_types.proofs.KeepLemmas.{keeps_reflexive, keeps_transitive}
+use Rattle.abs_types.proofs.KeepLemmas.{keeps_reflexive, keeps_transitive, declarations_kept}
 use Rattle.abs_types.specs.StatementOffences.{statements_offences}
 use Rattle.abs_types.specs.TypeOffences.{class_offences, function_offences, interface_offences, main_frame, main_offences, type_offences}
 use Rattle.abs_types.specs.TypeTables.{declarations_of, Keeps}
 use Rattle.abs_types.specs.declared.table.TypeTable.{TypeTable}
 use Rattle.abs_types.specs.declared.table.shape.TypeIndex.{TypeIndex}
 use Rattle.check_fun.proofs.ContextLemmas.{noted_after, noted_nothing}
-use Rattle.check_fun.proofs.SchemeLemmas.{view_there}
 use Rattle.check_fun.specs.Contexts.{context_in, Context, Knows, Noted}
 use Rattle.check_fun.specs.declared.checker.Checker.{Checker}
 use Rattle.check_obj.proofs.MethodRowLemmas.{row_kept}
 use Rattle.check_obj.specs.MethodRows.{AreRows, IsDeclared, TellsSeveral}
+use Rattle.list_facts.proofs.EntryLemmas.{slice_get-map_there}
 
 -- a table that grows is of the same program
-pub same_declarations : {before now : TypeTable} → Keeps before now → declarations_of now ≡ declarations_of before
-same_declarations keeps = rw keeps.program_is refl
-
 pub same_names : {before now : TypeTable} → Keeps before now → now.program.now.symbols ≡ before.program.now.symbols
 same_names keeps = rw keeps.program_is refl
 
@@ -52,9 +49,9 @@ same_names keeps = rw keeps.program_is refl
 pub rows_kept : {before now : TypeTable} {rows : List (List (ℕ × TypeIndex))} → Keeps before now → AreRows before rows
     → AreRows now rows
 rows_kept {before} keeps were = record {
-  count = were.count ∙ ap length (sym (same_declarations keeps));
+  count = were.count ∙ ap length (sym (declarations_kept keeps));
   each = λ index declaration there. row_kept keeps
-      (were.each index declaration (rw (same_declarations keeps) at there));
+      (were.each index declaration (rw (declarations_kept keeps) at there));
 }
 
 -- names have several types in it, or one
@@ -63,8 +60,8 @@ pub several_kept : {before now : TypeTable} {several : List ℕ} → Keeps befor
 several_kept {before} {now} {several} keeps were = record {
   one_type = λ one other first second named reported.
       were.one_type one other
-      (subst (λ (all : List DeclTree). IsDeclared all one) (same_declarations keeps) first)
-      (subst (λ (all : List DeclTree). IsDeclared all other) (same_declarations keeps) second) named
+      (subst (λ (all : List DeclTree). IsDeclared all one) (declarations_kept keeps) first)
+      (subst (λ (all : List DeclTree). IsDeclared all other) (declarations_kept keeps) second) named
       (ap (λ (names : List Name). list_any (nat_eq (number_of_name names one.name.name)) several)
       (sym (same_names keeps)) ∙ reported);
 }
@@ -154,7 +151,8 @@ pub own_declaration : (start now : Checker) (index place : ℕ) (one : Decl) (al
     → all ≡ start.table.program.now.declarations.items
     → slice_get (declarations_of now.table) place ≡ Some (decl_tree now.table.program.now.symbols one)
 own_declaration start now index place one all keeps there is counted whole =
-    rw (keeps.program_is, counted, ← whole) (view_there (decl_tree start.table.program.now.symbols) all index one there is)
+    rw (keeps.program_is, counted, ← whole) (slice_get-map_there (decl_tree start.table.program.now.symbols) all index
+    one there is)
 
 -- the bodies of a member have their slots in one way at most, and so those of a declaration
 MemberHasSlots-prop : (names : List Name) (one : Member) → IsProp (MemberHasSlots names one)

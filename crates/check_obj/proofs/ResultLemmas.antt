@@ -1,21 +1,14 @@
 -- Calls whose result is passed on.
 --
---   `passed_anyway`            what holds in any case holds if there is no error
 --   `passed_stays`             a checker that stays before a call and in it stays
 --   `passed_noted`             what is noted in a call is noted after other offences
 use Rattle.std.proofs.Common.{List, ◌++◌, Option, OnOk}
 use Rattle.std.proofs.lemmas.Result.{on_ok_weaker}
 use Rattle.std.specs.declared.result.Result.{Result}
-use Rattle.std.specs.declared.result.Result.TheVariants.{Ok, Err}
 use Rattle.abs_tree.specs.declared.refusal.Offence.{Offence}
 use Rattle.check_fun.proofs.ContextLemmas.{noted_after, stays_transitive}
 use Rattle.check_fun.specs.Contexts.{Noted, Stays}
 use Rattle.check_fun.specs.declared.checker.Checker.{Checker}
-
--- what holds in any case holds if there is no error
-pub passed_anyway : {T E P : Type 0} (result : Result T E) → P → OnOk result P
-passed_anyway (Ok given) holds = holds
-passed_anyway (Err error) holds = tt
 
 -- a checker that stays before a call and in it stays
 pub passed_stays : {T E : Type 0} {before between : Checker} (result : Result T E) (now : Checker)

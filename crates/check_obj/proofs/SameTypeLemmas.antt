@@ -2,11 +2,10 @@
 -- their types are the same.
 --
 --   `same_found`, `same_itself`    types that are the same by the test are equal, and a type is the same as itself
---   `both_tell`                    two tests that hold of each other are the same
 --   `same_tells`                   what tells whether types are equal is the test
 --   `method_test`                  whether methods take and give the same types follows from their types
 --   `one_type`                     methods of the same types have one type
-use Rattle.std.proofs.Common.{◌≡◌, ◌↔◌, Bool, true, false, List, [], ◌∷◌, ◌++◌, refl, sym, ap, ap₂, ◌∙◌, true≢false, eq-eqb, eqb-true}
+use Rattle.std.proofs.Common.{◌≡◌, ◌↔◌, Bool, true, List, [], ◌∷◌, ◌++◌, refl, sym, ap, ap₂, ◌∙◌, true≢false, eq-eqb, eqb-true}
 use Rattle.std.proofs.lemmas.Bool.{and_from, and_parts}
 use Rattle.std.proofs.lemmas.List.{append-nil}
 use Rattle.std.proofs.lemmas.Slice.Eq.{bytes_eq-Decides}
@@ -16,6 +15,7 @@ use Rattle.abs_types.specs.Methods.{method_type}
 use Rattle.abs_types.specs.PlainTypes.{PlainType, PlainInt, PlainString, PlainBottom, PlainNull, PlainFut, PlainData, PlainApplied, PlainInterface, PlainClass, PlainParameter, applied_to, plain}
 use Rattle.abs_types.specs.Schemes.{param_types}
 use Rattle.check_obj.specs.MethodRows.{signature_type}
+use Rattle.std.specs.Cmp.{both_ways}
 
 -- types that are the same by the test are equal
 pub same_found : (one other : PlainType) → same_type one other ≡ true → one ≡ other
@@ -63,16 +63,10 @@ all_same_itself [] = refl
 all_same_itself (one ∷ ones) =
     and_from (same_type one one) (same_types ones ones) (same_itself one) (all_same_itself ones)
 
--- two tests that hold of each other are the same
-pub both_tell : (one other : Bool) → (one ≡ true → other ≡ true) → (other ≡ true → one ≡ true) → one ≡ other
-both_tell true other first second = sym (first refl)
-both_tell false true first second = second refl
-both_tell false false first second = refl
-
 -- what tells whether types are equal is the test
 pub same_tells : (reported : Bool) (one other : PlainType) → ((reported ≡ true) ↔ (one ≡ other)) → reported ≡ same_type one other
 same_tells reported one other tells =
-    both_tell reported (same_type one other)
+    both_ways reported (same_type one other)
     (λ yes. ap (same_type one) (sym (tells.0 yes)) ∙ same_itself one)
     (λ yes. tells.1 (same_found one other yes))
 
@@ -107,7 +101,7 @@ parts_equal one other ones others equal =
 pub method_test : (one other : SignatureTree)
     → same_type (signature_type one) (signature_type other) ≡ same_method (method_type one) (method_type other)
 method_test one other =
-    both_tell (same_type (signature_type one) (signature_type other))
+    both_ways (same_type (signature_type one) (signature_type other))
     (same_method (method_type one) (method_type other))
     (λ reported.
     let parts = parts_equal (plain one.result) (plain other.result) (param_types one.params)

@@ -4,10 +4,9 @@
 --   `noted_first`                  it is so before the first one
 --   `noted_same`, `noted_new`      it is so after one whose type is known, and after one with a new name
 --   `noted_several`                it is so after one of another type, whose name is reported
---   `still_found`, `last_found`    what is found among entries and one more
 --   `types_push`                   the types of entries and one more are of the table
 --   `noted_all`                    all are noted, if none is left
-use Rattle.std.proofs.Common.{◌≡◌, ◌↔◌, ℕ, Bool, true, false, cond, List, [], ◌∷◌, ◌++◌, Some, None, option_map, if◌then◌else◌, nat_eq, All, refl, sym, ap, ◌∙◌, subst, true≢false, eqb-true, eq-eqb}
+use Rattle.std.proofs.Common.{◌≡◌, ◌↔◌, ℕ, Bool, true, false, List, [], ◌∷◌, ◌++◌, Some, None, option_map, if◌then◌else◌, nat_eq, All, refl, sym, ap, ◌∙◌, subst, true≢false, eqb-true, eq-eqb}
 use Rattle.std.specs.List.{list_any}
 use Rattle.std.specs.Map.{lookup}
 use Rattle.std.proofs.lemmas.Bool.{or_parts}
@@ -17,7 +16,6 @@ use Rattle.std.proofs.lemmas.List.Elements.{All-head, All-nil, All-push, All-tai
 use Rattle.std.proofs.lemmas.List.Folds.{list_any-append}
 use Rattle.std.proofs.lemmas.Map.Made.{lookup-map_values}
 use Rattle.std.proofs.lemmas.Map.Views.{list_any-from_Contains}
-use Rattle.std.proofs.lemmas.Option.{none-some}
 use Rattle.indexmap.proofs.CallerLemmas.{insert_entry-new, Contains-insert_key}
 use Rattle.indexmap.specs.IndexMap.{IndexMap, insert_entry}
 use Rattle.indexmap.specs.IndexSet.{insert_key}
@@ -28,6 +26,7 @@ use Rattle.abs_types.specs.declared.table.TypeTable.{TypeTable}
 use Rattle.abs_types.specs.declared.table.shape.TypeIndex.{TypeIndex}
 use Rattle.check_obj.proofs.MethodRowLemmas.{entry_at, IsEntry}
 use Rattle.check_obj.specs.MethodsMet.{typed_row, HasTypes, IsKnown}
+use Rattle.list_facts.proofs.LookupLemmas.{lookup-still_found, lookup-last_found}
 
 -- the type of an entry is known, unless its number is reported to have several
 abbrev pub IsKnownEntry : TypeTable → List (ℕ × TypeIndex) → List ℕ → ℕ × PlainType → Type 0
@@ -137,36 +136,6 @@ noted_several {table} {row} {was} {left} {rest} {known} {was_several} {several} 
     })
     (record { is = λ alone. absurd (true≢false (sym is_reported ∙ alone)) })
 
--- what is found is found with one more entry: the case of one entry before
-found_step : {A : Type 0} (first : ℕ × A) (others more : List (ℕ × A)) (test : ℕ → Bool) (found : A) (reported : Bool)
-    → (lookup test others ≡ Some found → lookup test more ≡ Some found)
-    → cond reported (Some first.1) (lookup test others) ≡ Some found
-    → cond reported (Some first.1) (lookup test more) ≡ Some found
-found_step first others more test found true rest is = is
-found_step first others more test found false rest is = rest is
-
--- what is found is found with one more entry
-pub still_found : {A : Type 0} (entries : List (ℕ × A)) (last : ℕ × A) (test : ℕ → Bool) (found : A)
-    → lookup test entries ≡ Some found → lookup test (entries ++ last ∷ []) ≡ Some found
-still_found [] last test found is = absurd (none-some found is)
-still_found (first ∷ others) last test found is =
-    found_step first others (others ++ last ∷ []) test found (test first.0) (still_found others last test found) is
-
--- what was not found is found as the last entry: the case of one entry before
-last_step : {A : Type 0} (first last : ℕ × A) (others : List (ℕ × A)) (test : ℕ → Bool) (reported : Bool)
-    → (lookup test others ≡ None → lookup test (others ++ last ∷ []) ≡ Some last.1)
-    → cond reported (Some first.1) (lookup test others) ≡ None
-    → cond reported (Some first.1) (lookup test (others ++ last ∷ [])) ≡ Some last.1
-last_step first last others test true rest none = absurd (none-some first.1 (sym none))
-last_step first last others test false rest none = rest none
-
--- what was not found is found as the last entry
-pub last_found : {A : Type 0} (entries : List (ℕ × A)) (last : ℕ × A) (test : ℕ → Bool)
-    → lookup test entries ≡ None → test last.0 ≡ true → lookup test (entries ++ last ∷ []) ≡ Some last.1
-last_found [] last test none passes = ap (λ (reported : Bool). cond reported (Some last.1) None) passes
-last_found (first ∷ others) last test none passes =
-    last_step first last others test (test first.0) (λ is_none. last_found others last test is_none passes) none
-
 -- the types of entries and of one more are of the table
 pub types_push : {table : TypeTable} (row : List (ℕ × TypeIndex)) (number : ℕ) (index : TypeIndex)
     → HasTypes table row → IsAmong (types_in table) index → HasTypes table (row ++ (number, index) ∷ [])
@@ -192,12 +161,12 @@ noted_new {table} {S} {row} {was} {left} {rest} {after} {was_several} {several} 
     (rw after_is (types_push known.entries number index so.among_known (left_among so same)))
     (λ at type is_known. record {
       is = λ alone. ap (lookup (nat_eq at)) typed
-          ∙ still_found (typed_row table known.entries) (number, type_at types index) (nat_eq at) type
+          ∙ lookup-still_found (typed_row table known.entries) (number, type_at types index) (nat_eq at) type
           (is_known.is alone);
     })
     (record {
       is = λ alone. ap (lookup (nat_eq number)) typed
-          ∙ last_found (typed_row table known.entries) (number, type_at types index) (nat_eq number) typed_none
+          ∙ lookup-last_found (typed_row table known.entries) (number, type_at types index) (nat_eq number) typed_none
           (eq-eqb number number refl);
     })
 

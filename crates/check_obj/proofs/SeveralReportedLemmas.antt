@@ -7,7 +7,7 @@
 use Rattle.std.proofs.Common.{◌≡◌, ℕ, ◌+◌, ◌<◌, ◌≤◌, Bool, true, false, List, [], Option, Some, option_map, inl, inr, get_or, length, map, All, Contains, refl, sym, ap, ◌∙◌, subst, true≢false, arith}
 use Rattle.std.specs.Prelude.{slice_get}
 use Rattle.std.proofs.lemmas.Bool.Decides.{leb_tells}
-use Rattle.std.proofs.lemmas.List.{get_or-map, length-map}
+use Rattle.std.proofs.lemmas.List.{length-map}
 use Rattle.std.proofs.lemmas.List.Elements.{All-nil}
 use Rattle.std.proofs.lemmas.Option.{same_Some, slice_get-map, slice_get_read, slice_get_within}
 use Rattle.abs_program.specs.Holdings.{is_interface}
@@ -26,6 +26,7 @@ use Rattle.check_obj.proofs.SeveralLemmas.{IsKnownEntry, StayKnown}
 use Rattle.check_obj.specs.MethodRows.{row_entry, signature_type, AreRows, IsDeclared, IsRow, TellsSeveral}
 use Rattle.check_obj.specs.MethodsMet.{typed_row, HasTypes, IsKnown}
 use Rattle.check_obj.specs.declared.method_types.MethodRow.{MethodRow}
+use Rattle.list_facts.proofs.AllLemmas.{All-map_contains}
 
 -- the type of a method is known, unless its name is reported to have several
 abbrev pub IsKnownMethod : TypeTable → List (ℕ × TypeIndex) → List ℕ → SignatureTree → Type 0
@@ -50,14 +51,6 @@ reported_first {table} none = record {
   among = rw none (no_types table);
   noted = λ index declaration one before. absurd (omega (arith, before));
 }
-
--- what holds of all entries of a row holds of that of each method
-entry_of : {A B : Type 0} (P : B → Type 0) (f : A → B) (xs : List A) (x : A) → All P (map f xs) → Contains xs x
-    → P (f x)
-entry_of P f xs x all there =
-    let long : length (map f xs) ≡ length xs = length-map xs f in
-    subst P (get_or-map f xs there.0 x (f x) there.1 ∙ ap f there.2)
-    (all there.0 (f x) (omega (arith, there.1)))
 
 -- it is so after one more declaration
 reported_next : {table : TypeTable} {was known : List (ℕ × TypeIndex)} {was_several several : List ℕ} (index : ℕ)
@@ -89,7 +82,7 @@ pub reported_interface : {table : TypeTable} {was known : List (ℕ × TypeIndex
 reported_interface {table} {was} {known} {was_several} {several} index {row} so is among stay noted =
     reported_next index so among stay
     (λ declaration one there is_one declared.
-    entry_of (IsKnownEntry table known several) (row_entry table.program.now.symbols)
+    All-map_contains (IsKnownEntry table known several) (row_entry table.program.now.symbols)
     (own_signatures (declarations_of table) index) one
     (subst (λ (entries : List (ℕ × PlainType)). All (IsKnownEntry table known several) entries) is.are noted)
     (subst (λ (found : Option DeclTree). Contains (signatures_if_there found) one) (sym there) declared))

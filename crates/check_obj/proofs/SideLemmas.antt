@@ -5,9 +5,8 @@
 --   `own_noted`                what is noted of a call on `this`
 --   `other_type`, `no_call_known`      an expression that is no such call
 --   `future_of`                a future of a type that is found
-use Rattle.std.proofs.Common.{◌≡◌, ℕ, suc, Bool, true, false, not, ◌||◌, List, [], ◌∷◌, ◌++◌, Option, Some, None, is_some, is_none, length, refl, sym, ap, ◌∙◌, subst, true≢false, option_map, append_assoc}
+use Rattle.std.proofs.Common.{◌≡◌, ℕ, Bool, true, false, not, ◌||◌, List, [], ◌++◌, Option, Some, None, is_some, is_none, length, refl, sym, ap, ◌∙◌, subst, true≢false, option_map, append_assoc}
 use Rattle.std.proofs.lemmas.List.{length-map}
-use Rattle.std.proofs.lemmas.Option.{none-some, same_Some}
 use Rattle.abs_tree.specs.Syntax.{Name, DeclTree, ExprTree, LetIn, IfElse, OperatorsOf, Prefixed, NumberOf, StringOf, NullOf, DestinyOf, ThisOf, FieldOf, OwnCallOf, VariableOf, ApplyOf, BuildOf, CaseOf}
 use Rattle.abs_tree.specs.SyntaxViews.{expr_tree}
 use Rattle.abs_tree.specs.declared.place.Place.{Place}
@@ -22,12 +21,13 @@ use Rattle.abs_types.specs.PlainTypes.{PlainType, PlainClass, PlainFut}
 use Rattle.abs_types.specs.SideTypes.{call_offences, called_type, can_be_called, whole_offences, whole_type}
 use Rattle.abs_types.specs.TypeShapes.{type_at, types_at}
 use Rattle.abs_types.specs.TypeTables.{types_in}
-use Rattle.abs_types.specs.Typing.{both_types, type_in, Frame}
+use Rattle.abs_types.specs.Typing.{type_in, Frame}
 use Rattle.abs_types.specs.declared.table.shape.TypeIndex.{TypeIndex}
 use Rattle.check_fun.proofs.ContextLemmas.{noted_after}
-use Rattle.check_fun.specs.Contexts.{all_typed, context_in, typed, Context, FindsAll, Finds, Found, Knows, Noted}
+use Rattle.check_fun.specs.Contexts.{all_typed, context_in, Context, FindsAll, Finds, Found, Knows, Noted}
 use Rattle.check_fun.specs.declared.checker.Checker.{Checker}
 use Rattle.check_obj.specs.Bodies.{IsNoCall}
+use Rattle.check_fun.proofs.OperandLemmas.{typed_count}
 
 -- a type is missing exactly where no index is found
 none_known : {checker : Checker} {type : Option PlainType} (found : Option TypeIndex) (reported : Bool)
@@ -45,29 +45,13 @@ pub noted_missing : {checker : Checker} {type : Option PlainType} {before now : 
 noted_missing {before = before} {now} found reported code place is finds noted =
     subst (λ (missing : Bool). Noted before (offence_if missing code place) now) (none_known found reported is finds) noted
 
--- one type in front of others: there are as many as of the others, and one
-both_count : (first : Option PlainType) (others : Option (List PlainType)) (known : List PlainType) (count : ℕ)
-    → both_types first others ≡ Some known
-    → ((rest : List PlainType) → others ≡ Some rest → count ≡ length rest) → suc count ≡ length known
-both_count None others known count is rest = absurd (none-some known is)
-both_count (Some one) None known count is rest = absurd (none-some known is)
-both_count (Some one) (Some more) known count is rest =
-    ap suc (rest more refl) ∙ ap length (same_Some (one ∷ more) known is)
-
--- expressions that all have types have as many
-typed_count : (context : Context) (exprs : List Expr) (known : List PlainType) → all_typed context exprs ≡ Some known
-    → length exprs ≡ length known
-typed_count context [] known is = ap length (same_Some [] known is)
-typed_count context (first ∷ others) known is =
-    both_count (typed context first) (all_typed context others) known (length others) is (typed_count context others)
-
 -- so many indices are found for them
 pub found_count : {checker : Checker} {found : Option (List TypeIndex)} (context : Context) (exprs : List Expr)
     → FindsAll checker found (all_typed context exprs) → (indices : List TypeIndex) → found ≡ Some indices
     → length exprs ≡ length indices
 found_count {checker} context exprs finds indices is =
     let types = types_at (types_in checker.table) indices in
-    typed_count context exprs types (sym finds.are ∙ ap (option_map (types_at (types_in checker.table))) is)
+    sym (typed_count context exprs types (sym finds.are ∙ ap (option_map (types_at (types_in checker.table))) is))
     ∙ length-map indices (type_at (types_in checker.table))
 
 -- a call on `this` outside of a class offends alone

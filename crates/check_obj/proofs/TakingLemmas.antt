@@ -29,6 +29,7 @@ use Rattle.check_fun.proofs.RuleLemmas.{declarations_are}
 use Rattle.check_fun.specs.Contexts.{Context, FindsAll, Knows, Stays}
 use Rattle.check_fun.specs.declared.checker.Checker.{Checker}
 use Rattle.check_obj.specs.Calls.{trees_of}
+use Rattle.std.proofs.Math.Bool.{and-false}
 
 -- whether indices stand for types that fit those for which others stand
 abbrev pub indices_fit : Checker → List TypeIndex → List TypeIndex → Bool
@@ -93,11 +94,6 @@ fit_ends {checker} {given} {takes} {index} from over same =
     let none_too : drop index takes ≡ [] = drop_all index takes over_too in
     (rw (none, none_too) at from.settled)
 
--- a test and one that fails
-and_false : (reported : Bool) → reported && false ≡ false
-and_false true = refl
-and_false false = refl
-
 -- lists of other lengths do not fit
 unlike_apart : (declarations : List DeclTree) (types others : List PlainType) → (length types ≡ length others → ⊥)
     → false ≡ all_fit declarations types others
@@ -107,7 +103,7 @@ unlike_apart declarations (type ∷ types) [] apart = refl
 unlike_apart declarations (type ∷ types) (other ∷ others) apart =
     sym (ap (λ (rest : Bool). fits declarations type other && rest)
     (sym (unlike_apart declarations types others (λ same. apart (ap suc same))))
-    ∙ and_false (fits declarations type other))
+    ∙ and-false (fits declarations type other))
 
 -- so it is with indices
 pub unlike_fail : (checker : Checker) (given takes : List TypeIndex) → (length given ≡ length takes → ⊥)

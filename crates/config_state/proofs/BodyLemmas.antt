@@ -1,7 +1,6 @@
 -- The bodies of a program: the points of each stand among those of the program, from its first index on, and control
 -- stays among its statements.
 --
---   `get-there`                        there is an item at each index of a list
 --   `IsBodyOf`, `body_of-found`        a body is one of a program, and so is that of a frame
 --   `points_of_body`                   the points of a body stand among those of the program
 --   `statement_has_point`              each statement of a body has a point
@@ -11,7 +10,6 @@ use Rattle.std.proofs.Common.{◌≡◌, ℕ, zero, suc, ◌+◌, ◌-◌, ◌<�
 use Rattle.std.specs.Prelude.{Option, slice_get}
 use Rattle.std.proofs.lemmas.List.{length-append}
 use Rattle.std.proofs.lemmas.Option.{none-some, same_Some, option_and_then_some}
-use Rattle.abs_tree.proofs.IndexLemmas.{slice_get-front}
 use Rattle.abs_program.proofs.PointLemmas.{length-points, length-member_points, length-decl_points}
 use Rattle.abs_program.specs.Control.{Next, ByAnswer, Point, points, member_points, decl_points, program_points}
 use Rattle.abs_program.specs.Members.{method_of}
@@ -21,6 +19,7 @@ use Rattle.config_state.proofs.SpanLemmas.{IsInside, GoesInside, stays-at, entry
 use Rattle.config_state.specs.Bodies.{class_index, BodyAt, entry_of_body, main_at, member_body, class_body, method_in_class, method_at, body_found, body_of, IsStatementOf}
 use Rattle.config_state.specs.Configurations.{ObjectState, FrameState, Configuration, object_at}
 use Rattle.config_state.specs.OfProgram.{IsFrameOf}
+use Rattle.list_facts.proofs.EntryLemmas.{slice_get-there, slice_get-before, slice_get-after}
 
 -- A body of a program: that of the main block, or that of a method of a class.
 pub data IsBodyOf (program : ProgramTree) (body : BodyAt) : Type 0 where
@@ -44,27 +43,6 @@ pub body_of-found : (program : ProgramTree) (config : Configuration) (frame : Fr
     → body_of program config frame ≡ Some body → IsBodyOf program body
 body_of-found program config frame body is =
     found_is_body program (object_at config frame.object) frame.object frame.method body is
-
--- there is an item at each index of a list
-pub get-there : {A : Type 0} (items : List A) (index : ℕ) → index < length items
-    → (item : A) × (slice_get items index ≡ Some item)
-get-there [] index within = absurd (omega (arith, within))
-get-there (item ∷ others) zero within = (item, refl)
-get-there (item ∷ others) (suc index) within = get-there others index (omega (arith, within))
-
--- an item of the first of two lists
-get-before : {A : Type 0} (first others : List A) (index : ℕ) → index < length first
-    → slice_get (first ++ others) index ≡ slice_get first index
-get-before first others index within =
-    let item = get-there first index within in
-    slice_get-front first others index item.0 item.1 ∙ sym item.1
-
--- an item of the second one
-get-after : {A : Type 0} (first others : List A) (place index : ℕ) → place ≡ length first + index
-    → slice_get (first ++ others) place ≡ slice_get others index
-get-after [] others place index same = ap (slice_get others) (omega (arith, same))
-get-after (item ∷ first) others zero index same = absurd (omega (arith, same))
-get-after (item ∷ first) others (suc place) index same = get-after first others place index (omega (arith, same))
 
 -- The points of a body stand in a list of points, of which the first one has this index.
 record StandsIn (start : ℕ) (all : List Point) (body : BodyAt) : Type 0 where
@@ -93,7 +71,7 @@ stands_before {start} first others body stands = record {
   begins = stands.begins;
   fits = omega (arith, stands.fits, length-append first others);
   there = λ offset within.
-      get-before first others (stands.place + offset) (omega (arith, within, stands.fits))
+      slice_get-before first others (stands.place + offset) (omega (arith, within, stands.fits))
       ∙ stands.there offset within;
 }
 
@@ -105,7 +83,7 @@ stands_after {start} {next} first others body after stands = record {
   begins = omega (arith, stands.begins, after);
   fits = omega (arith, stands.fits, length-append first others);
   there = λ offset within.
-      get-after first others (length first + stands.place + offset) (stands.place + offset) (omega arith)
+      slice_get-after first others (length first + stands.place + offset) (stands.place + offset) (omega arith)
       ∙ stands.there offset within;
 }
 
@@ -188,7 +166,7 @@ statement_has_point program body index is statement =
     let within : offset < statement_count body.statements =
     omega (arith, statement.after_start, statement.before_end) in
     let same : index ≡ body.index + offset = omega (arith, statement.after_start) in
-    let own = get-there (points body.index body.statements None) offset
+    let own = slice_get-there (points body.index body.statements None) offset
     (omega (arith, within, length-points body.index body.statements None)) in (
       own.0,
       ap (slice_get (program_points program.source)) same ∙ (points_of_body program body is offset within ∙ own.1),

@@ -1,5 +1,5 @@
 pub mod EachLemmas
-pub mod SpanLemmas
+mod SpanLemmas
 pub mod BodyLemmas
 pub mod FirstLemmas
 pub mod StatementLemmas

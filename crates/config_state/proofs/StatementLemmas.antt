@@ -13,7 +13,6 @@ use Rattle.std.specs.Prelude.{Option, option_and_then, slice_get}
 use Rattle.std.proofs.lemmas.List.Elements.{All-get_or}
 use Rattle.std.proofs.lemmas.Option.{none-some, same_Some, option_and_then_some, slice_get_within, get_or_from_slice_get}
 use Rattle.abs_program.proofs.DeclaredLemmas.{class_is_declared}
-use Rattle.abs_tree.proofs.IndexLemmas.{slice_get-append}
 use Rattle.abs_program.specs.Bodies.{method_entry, member_entry, entry_in_class, initials_among, run_among, entry_of_class, class_entry, ClassEntryTree}
 use Rattle.abs_program.specs.Control.{Point, entry, points, points_of, else_points, program_points}
 use Rattle.abs_program.specs.Members.{method_of}
@@ -28,6 +27,7 @@ use Rattle.abs_program.specs.declared.name_spaces.Taking.{Taking}
 use Rattle.abs_tree.specs.declared.place.Place.{Place}
 use Rattle.config_state.proofs.BodyLemmas.{IsBodyOf, OfMain, OfMethod, points_of_body}
 use Rattle.config_state.specs.Bodies.{class_taking, BodyAt, entry_of_body, main_at, member_body, class_body, method_in_class, method_at, IsStatementOf}
+use Rattle.list_facts.proofs.EntryLemmas.{slice_get-append}
 
 module _ (inside : Inside) where
   mutual

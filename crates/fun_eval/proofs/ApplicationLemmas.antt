@@ -22,10 +22,10 @@ use Rattle.abs_tree.specs.declared.symbol.Symbol.{Symbol}
 use Rattle.abs_values.specs.declared.value.Value.{Value}
 use Rattle.fun_eval.proofs.FrameLemmas.{arguments_counted}
 use Rattle.fun_eval.proofs.OutcomeLemmas.{after_values}
-use Rattle.fun_eval.proofs.RowLemmas.{row_at}
 use Rattle.fun_eval.proofs.SoFarLemmas.{library_stays, names_stay}
 use Rattle.fun_eval.specs.Evaluating.{arguments_in, library_in, names_in, AddedArguments}
 use Rattle.fun_eval.specs.declared.evaluator.Evaluator.{Evaluator}
+use Rattle.list_facts.proofs.EntryLemmas.{drop_item}
 
 -- an application within the limit is counted
 pub counted : (library : Library) (give : List ValueTree → ExprTree → ℕ → Outcome) (name : Name)
@@ -74,7 +74,7 @@ one_left values first value one is =
     let there : first < length values = omega (arith, one) in
     let end : length values ≤ first + 1 = omega (arith, one) in
     drop-map value_tree first values
-    ∙ (ap (map value_tree) (row_at values first value there is)
+    ∙ (ap (map value_tree) (drop_item values first value there is)
     ∙ ap (λ (others : List Value). value_tree value ∷ map value_tree others) (drop_of_length-le values end))
 
 -- `toString` of no argument, or of several

@@ -16,16 +16,7 @@ use Rattle.abs_program.specs.Tables.{Table, meaning_of, with_first}
 use Rattle.abs_program.specs.declared.name_spaces.FunctionMeaning.{FunctionMeaning}
 use Rattle.abs_program.specs.declared.name_spaces.FunctionMeaning.TheVariants as function
 use Rattle.abs_program.specs.declared.name_spaces.Taking.{Taking}
-
--- without another meaning
-option_or-none : {A : Type 0} (meaning : Option A) → option_or meaning None ≡ meaning
-option_or-none (Some meaning) = refl
-option_or-none None = refl
-
--- the first of three meanings
-option_or-assoc : {A : Type 0} (one other third : Option A) → option_or (option_or one other) third ≡ option_or one (option_or other third)
-option_or-assoc (Some meaning) other third = refl
-option_or-assoc None other third = refl
+use Rattle.list_facts.proofs.OptionLemmas.{option_or-none, option_or-assoc}
 
 -- what a table says of a name, with one more name of which the first meaning counts
 first_meaning : {A : Type 0} (known : Table A) (own name : Name) (meaning : A)

@@ -1,13 +1,13 @@
-pub mod ApplicationLemmas
-pub mod BranchLemmas
-pub mod FormLemmas
-pub mod FrameLemmas
-pub mod FunctionLemmas
-pub mod InitialLemmas
-pub mod ListLemmas
-pub mod OutcomeLemmas
-pub mod PatternLemmas
-pub mod RowLemmas
-pub mod SoFarLemmas
-pub mod StackLemmas
-pub mod ValueLemmas
+mod ApplicationLemmas
+mod BranchLemmas
+mod FormLemmas
+mod FrameLemmas
+mod FunctionLemmas
+mod InitialLemmas
+mod ListLemmas
+mod OutcomeLemmas
+mod PatternLemmas
+mod RowLemmas
+mod SoFarLemmas
+mod StackLemmas
+mod ValueLemmas

@@ -9,7 +9,7 @@
 use Rattle.std.proofs.Common.{◌≡◌, ℕ, List, refl, sym, subst}
 use Rattle.std.proofs.lemmas.Result.{err_from_is_err_and}
 use Rattle.std.specs.Prelude.{Result, Ok, Err}
-use Rattle.std.specs.Result.{IsErrAnd, OnOk}
+use Rattle.std.specs.Result.{IsErrAnd}
 use Rattle.abs_values.specs.Evaluation.{Outcome, Outcomes, ends_with, outcome_after, outcome_after_all, operand_outcome, operators_outcome, result_after}
 use Rattle.abs_values.specs.Operations.{operation_result}
 use Rattle.abs_values.specs.Results.{Result as ResultTree, Gives, AllGive}
@@ -42,11 +42,6 @@ pub stopped_outcome : (expected : Outcome) (result : Result Value Stop) (now : E
 stopped_outcome expected result now cause is exits =
     let error = err_from_is_err_and result exits in
     rw error.1 (subst (IsStopped expected.result) (sym error.2) is)
-
--- what holds in any case holds of a success
-pub if_succeeds : {A E : Type 0} (result : Result A E) (Holds : Type 0) → Holds → OnOk result Holds
-if_succeeds (Ok value) Holds holds = holds
-if_succeeds (Err error) Holds holds = tt
 
 -- after a value
 pub after_value : (found : Outcome) (value : ValueTree) (made : ℕ) (next : ValueTree → ℕ → Outcome)

@@ -1,6 +1,5 @@
 -- The trees of a row of expressions, operators or branches from an index on: the one at the index and those after it.
-use Rattle.std.proofs.Common.{◌≡◌, ℕ, suc, ◌+◌, ◌<◌, ◌≤◌, List, ◌∷◌, arith, ap, ◌∙◌, sym, length, get_or, drop, drop_of_length-le}
-use Rattle.std.proofs.Math.Seq.{drop-cons}
+use Rattle.std.proofs.Common.{◌≡◌, ℕ, ◌+◌, ◌<◌, ◌≤◌, List, ap, length, get_or, drop, drop_of_length-le}
 use Rattle.std.specs.declared.alloc.Global.{Global}
 use Rattle.std.specs.declared.sync.Arc.{Arc}
 use Rattle.abs_program.specs.InstructionViews.{shared_expr_trees}
@@ -9,19 +8,13 @@ use Rattle.abs_tree.specs.SyntaxViews.{expr_tree, expr_trees, operand_trees, pat
 use Rattle.abs_tree.specs.declared.syntax.expression.Branch.{Branch}
 use Rattle.abs_tree.specs.declared.syntax.expression.Expr.{Expr}
 use Rattle.abs_tree.specs.declared.syntax.expression.Operand.{Operand}
+use Rattle.list_facts.proofs.EntryLemmas.{drop_item}
 
--- the items of a row from an index on
-pub row_at : {A : Type 0} (items : List A) (index : ℕ) (item : A) → index < length items
-    → item ≡ get_or items index item → drop index items ≡ item ∷ drop (index + 1) items
-row_at items index item there is =
-    drop-cons items index item there
-    ∙ (ap (λ (one : _). one ∷ drop (suc index) items) (sym is)
-    ∙ ap (λ (next : ℕ). item ∷ drop next items) (let after : suc index ≡ index + 1 = omega arith in after))
-
+-- the trees of the items of a row from an index on
 pub exprs_at : (names : List Name) (exprs : List Expr) (index : ℕ) (item : Expr) → index < length exprs
     → item ≡ get_or exprs index item
     → expr_trees names (drop index exprs) ≡ NextExpr (expr_tree names item) (expr_trees names (drop (index + 1) exprs))
-exprs_at names exprs index item there is = ap (expr_trees names) (row_at exprs index item there is)
+exprs_at names exprs index item there is = ap (expr_trees names) (drop_item exprs index item there is)
 
 pub exprs_end : (names : List Name) (exprs : List Expr) (index : ℕ) → length exprs ≤ index
     → expr_trees names (drop index exprs) ≡ NoExpr
@@ -31,7 +24,7 @@ pub operands_at : (names : List Name) (operands : List Operand) (index : ℕ) (i
     → item ≡ get_or operands index item
     → operand_trees names (drop index operands)
     ≡ NextOperand item.operator (expr_tree names item.right) (operand_trees names (drop (index + 1) operands))
-operands_at names operands index item there is = ap (operand_trees names) (row_at operands index item there is)
+operands_at names operands index item there is = ap (operand_trees names) (drop_item operands index item there is)
 
 pub operands_end : (names : List Name) (operands : List Operand) (index : ℕ) → length operands ≤ index
     → operand_trees names (drop index operands) ≡ NoOperands
@@ -42,7 +35,7 @@ pub branches_at : (names : List Name) (branches : List Branch) (index : ℕ) (it
     → branch_trees names (drop index branches)
     ≡ NextBranch (pattern_tree names item.pattern) (expr_tree names item.value)
     (branch_trees names (drop (index + 1) branches))
-branches_at names branches index item there is = ap (branch_trees names) (row_at branches index item there is)
+branches_at names branches index item there is = ap (branch_trees names) (drop_item branches index item there is)
 
 pub branches_end : (names : List Name) (branches : List Branch) (index : ℕ) → length branches ≤ index
     → branch_trees names (drop index branches) ≡ NoBranch
@@ -52,7 +45,7 @@ pub shared_at : (names : List Name) (exprs : List (Arc Expr Global)) (index : �
     → index < length exprs → item ≡ get_or exprs index item
     → shared_expr_trees names (drop index exprs)
     ≡ NextExpr (expr_tree names item.value) (shared_expr_trees names (drop (index + 1) exprs))
-shared_at names exprs index item there is = ap (shared_expr_trees names) (row_at exprs index item there is)
+shared_at names exprs index item there is = ap (shared_expr_trees names) (drop_item exprs index item there is)
 
 pub shared_end : (names : List Name) (exprs : List (Arc Expr Global)) (index : ℕ) → length exprs ≤ index
     → shared_expr_trees names (drop index exprs) ≡ NoExpr

@@ -4,9 +4,9 @@
 --   `replayed_more`            one more event of the history is done
 --   `no_step`, `no_task`       a task that has no event, by the answer of the code, and one that is not there
 --   `illegal_at`               the history stops being legal at the first event that does not exist
-use Rattle.std.proofs.Common.{◌≡◌, ◌≤◌, ◌+◌, ℕ, Bool, false, is_some, List, [], ◌∷◌, ◌++◌, length, take, drop, drop-cons, slice_get, Option, Some, None, refl, sym, ap, ◌∙◌, arith, add-one}
-use Rattle.std.proofs.lemmas.List.{length-map, length-take-le, take-append-drop, take_more}
-use Rattle.std.proofs.lemmas.Option.{slice_get_within, get_or_from_slice_get}
+use Rattle.std.proofs.Common.{◌≡◌, ◌≤◌, ◌+◌, ℕ, Bool, false, is_some, List, [], ◌++◌, length, take, drop, slice_get, Option, Some, None, refl, ap, ◌∙◌, arith}
+use Rattle.std.proofs.lemmas.List.{length-map, length-take-le}
+use Rattle.std.proofs.lemmas.Option.{slice_get_within}
 use Rattle.abs_tree.specs.Syntax.{Name, ProgramTree}
 use Rattle.config_state.specs.ConfigViews.{configuration}
 use Rattle.config_state.specs.Configurations.{Configuration}
@@ -18,19 +18,13 @@ use Rattle.run_history.specs.Replays.{IsFirstIllegal}
 use Rattle.run_history.specs.Turns.{HasEvent}
 use Rattle.step_rules.specs.Events.{Step, event_of}
 use Rattle.step_rules.specs.Runs.{Ran, run_of}
+use Rattle.list_facts.proofs.EntryLemmas.{take-found, split-found}
 
 -- before any event a run is in the first configuration, and nothing is printed
 pub run_of_none : (program : ProgramTree) (config : Configuration) (lines : List (List ℕ)) → config ≡ first program
     → lines ≡ [] → run_of program [] ≡ Some (record { config = config; lines = lines })
 unfolding run_of
 run_of_none program config lines is none = cc
-
--- the events up to one, and that one
-take_next : (history : List ℕ) (index task : ℕ) → slice_get history index ≡ Some task
-    → take (index + 1) history ≡ take index history ++ task ∷ []
-take_next history index task there =
-    take_more history index task (slice_get_within history index task there)
-    ∙ ap (λ (one : ℕ). take index history ++ one ∷ []) (get_or_from_slice_get history index task task there)
 
 -- one more event of the history is done
 pub replayed_more : (program : ProgramTree) (history : List ℕ) (index task : ℕ) (ran : Ran) (config : Configuration)
@@ -42,17 +36,8 @@ pub replayed_more : (program : ProgramTree) (history : List ℕ) (index task : �
 replayed_more program history index task ran config lines there leads has config_is lines_are =
     let found = event_found program ran.config task has in
     rw (config_is found.0 found.1, lines_are found.0 found.1)
-    (ap (run_of program) (take_next history index task there)
+    (ap (run_of program) (take-found history index task there)
     ∙ run_with_event program (take index history) task ran found.0 leads found.1)
-
--- the history is the events before one, that one and the others
-splits_at : (history : List ℕ) (index task : ℕ) → slice_get history index ≡ Some task
-    → history ≡ take index history ++ task ∷ drop (index + 1) history
-splits_at history index task there =
-    let within = slice_get_within history index task there in
-    let found = get_or_from_slice_get history index task task there in
-    sym (take-append-drop index history) ∙ ap (λ (rest : List ℕ). take index history ++ rest)
-    (rw (add-one, ← found) (drop-cons history index task within))
 
 -- a history stops being legal at the first event that does not exist
 pub illegal_at : (program : ProgramTree) (history : List ℕ) (index task : ℕ) (ran : Ran)
@@ -62,7 +47,7 @@ illegal_at program history index task ran there leads none = record {
   earlier = take index history;
   later = drop (index + 1) history;
   task = task;
-  history_is = splits_at history index task there;
+  history_is = split-found history index task there;
   index_is = omega (arith, slice_get_within history index task there, length-take-le index history);
   ran = ran;
   leads = leads;

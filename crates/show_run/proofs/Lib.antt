@@ -1,2 +1,2 @@
-pub mod OutputLemmas
-pub mod StepLemmas
+mod OutputLemmas
+mod StepLemmas

@@ -3,7 +3,7 @@
 --   `only`                     the results of a list of one expression, by the result of that
 --   `output_of_rows`           what its expressions and initial values give is the output for an input
 --   `output_of_one`            so is what a single expression gives, where no initial value follows it
-use Rattle.std.proofs.Common.{◌≡◌, ◌<◌, ◌≤◌, ◌∙◌, refl, sym, ap, true, nat_eq, eqb-true, List, [], ◌∷◌, get_or, length, arith}
+use Rattle.std.proofs.Common.{◌≡◌, ◌<◌, ◌≤◌, ◌∙◌, refl, sym, ap, true, nat_eq, eqb-true, List, [], ◌∷◌, get_or, length}
 use Rattle.std.proofs.lemmas.List.{nil_from_length}
 use Rattle.std.specs.declared.alloc.Global.{Global}
 use Rattle.std.specs.declared.sync.Arc.{Arc}
@@ -16,13 +16,7 @@ use Rattle.abs_tree.specs.SyntaxViews.{expr_tree, expr_trees}
 use Rattle.abs_values.specs.declared.evaluated.Evaluated.{Evaluated}
 use Rattle.abs_tree.specs.declared.syntax.expression.Expr.{Expr}
 use Rattle.step_rules.specs.Inputs.{Input, output_of}
-
--- a list of one item
-one_item : {A : Type 0} (items : List A) (item : A) → 1 ≤ length items → length items < 2
-    → item ≡ get_or items 0 item → items ≡ item ∷ []
-one_item [] item some few is = absurd (omega (arith, some))
-one_item {A} (first ∷ []) item some few is = ap (λ (one : A). one ∷ []) (sym is)
-one_item (first ∷ second ∷ others) item some few is = absurd (omega (arith, few))
+use Rattle.list_facts.proofs.EntryLemmas.{list-one_item}
 
 -- the results of a list of one expression
 abbrev pub only : Result → Results
@@ -54,7 +48,7 @@ module _ (program : ProgramTree) (input : Input) where
       → result_tree found ≡ result_of (library_of program) input.scope (expr_tree names expr)
       → only (result_tree found) ≡ output_of program input
   output_of_one names exprs inits expr some few expr_is none own_is initials_is found found_is =
-      let one = one_item exprs expr some few expr_is in
+      let one = list-one_item exprs expr some few expr_is in
       let empty = nil_from_length inits (eqb-true (length inits) 0 (sym none)) in
       ap only found_is ∙ sym (only_results (library_of program) input.scope (expr_tree names expr))
       ∙ output_of_rows (NextExpr (expr_tree names expr) NoExpr) NoExpr (sym (ap (expr_trees names) one) ∙ own_is)

@@ -15,13 +15,13 @@ use Rattle.std.proofs.lemmas.Option.{same_Some, slice_get_within}
 use Rattle.std.specs.Option.{option_map}
 use Rattle.abs_values.specs.References.{Reference, ToObject, ToFuture}
 use Rattle.abs_values.specs.ValueTrees.{ValueTree}
-use Rattle.config_state.proofs.BodyLemmas.{get-there}
 use Rattle.config_state.specs.Configurations.{ObjectState, FrameState, TaskState, Configuration, Each}
 use Rattle.config_state.specs.WellFormed.{IsThere, ValueIsThere, AreThere, IsFrameFormed}
 use Rattle.config_state.specs.declared.cog.Cog.{Cog}
 use Rattle.step_rules.proofs.ListLemmas.{set-updated, updated-same, updated-other, length-updated, WasUpdated, updated-entry, added-there, added-last, length-added, WasAdded, added-entry}
 use Rattle.step_rules.specs.Changes.{Written, Change, with_holder, with_fields, configuration_after}
 use Rattle.step_rules.specs.Stays.{IsSameObject, TaskAfter, Moved, Old, New, ObjectAfter, Kept, Filled, Fresh, CogAfter, Untouched, Held, Founded}
+use Rattle.list_facts.proofs.EntryLemmas.{slice_get-there}
 
 -- an object with the fields that are written, and a cog with a holder
 abbrev filled : Written → ObjectState → ObjectState
@@ -231,7 +231,7 @@ module _ (config : Configuration) (index : ℕ) (change : Change) where
   pub object-there : (other : ℕ) (before : ObjectState) → slice_get config.objects other ≡ Some before
       → ObjectStays config index change other before
   object-there other before there =
-      let now = get-there after.objects other (objects-grow other within) in
+      let now = slice_get-there after.objects other (objects-grow other within) in
       by_after now.0 now.1 (object-after other now.0 now.1)
     where
       within : other < length config.objects

@@ -16,7 +16,6 @@ use Rattle.abs_values.specs.Results.{Result}
 use Rattle.abs_tree.specs.Syntax.{NoExpr, ProgramTree}
 use Rattle.abs_values.specs.ValueTrees.{FutureValue}
 use Rattle.abs_program.specs.Whole.{IsWhole}
-use Rattle.config_state.proofs.BodyLemmas.{get-there}
 use Rattle.config_state.specs.Configurations.{ObjectState, FrameState, TaskState, Configuration, object_at, fields_of, IsUnfinished}
 use Rattle.config_state.specs.OfProgram.{next_point, IsConfigOf}
 use Rattle.config_state.specs.WellFormed.{IsWellFormed}
@@ -33,6 +32,7 @@ use Rattle.step_rules.specs.Events.{Step, event_of}
 use Rattle.step_rules.specs.Homes.{IsHoused}
 use Rattle.step_rules.specs.Inputs.{initials_at, exprs_at, input_in, input_with, input_of_task, input_of}
 use Rattle.step_rules.specs.Stays.{Stays}
+use Rattle.list_facts.proofs.EntryLemmas.{slice_get-there}
 
 -- a future is inside its own value
 inside_future : (task : ℕ) → IsIn (ToFuture task) (FutureValue task)
@@ -52,7 +52,7 @@ unfinished_before config index change other stays within unfinished = by_index (
       open_still = stays.had_no_result;
     }
     by_index (inr differs) =
-        let old = get-there config.tasks other within in
+        let old = slice_get-there config.tasks other within in
         let kept : old.0 ≡ unfinished.task =
         same_Some old.0 unfinished.task (sym (stays.tasks_stay other old.0 old.1 differs) ∙ unfinished.there) in
         record {

@@ -5,8 +5,8 @@
 --   `open_by_outcome`, `none_open`     a task is unfinished where it is there and has no result
 --   `open_get_by`                      whether a task is at an open `get`, by the slot that its next statement gets
 --   `resolved_by`                      whether the futures of a guard are resolved, by the slots that it names
-use Rattle.std.proofs.Common.{◌≡◌, ◌≢◌, ◌⊎◌, ◌<◌, ◌≤◌, ◌+◌, ℕ, inl, inr, Bool, true, false, not, is_some, MatchBool, All, List, get_or, length, slice_get, Option, Some, None, option_and_then, option_map, refl, sym, ap, ◌∙◌, subst, eq-or-lt_of_le, arith}
-use Rattle.std.proofs.lemmas.Option.{same_Some, slice_get-map, slice_get-get_or, slice_get_within, slice_get_past, get_or_from_slice_get}
+use Rattle.std.proofs.Common.{◌≡◌, ◌≢◌, ◌≤◌, ℕ, Bool, true, false, not, is_some, MatchBool, All, List, length, slice_get, Option, Some, None, option_and_then, option_map, refl, sym, ap, ◌∙◌}
+use Rattle.std.proofs.lemmas.Option.{same_Some, slice_get-map, slice_get_past}
 use Rattle.abs_program.specs.Control.{Point, program_points}
 use Rattle.abs_program.specs.Instructions.{EffectTree, Awaits, Gets, effect_of, InstructionTree, instruction_of, instructions}
 use Rattle.abs_values.specs.Results.{result_tree}
@@ -22,6 +22,7 @@ use Rattle.config_state.specs.declared.task.TaskCell.{TaskCell}
 use Rattle.step_rules.specs.Blocked.{IsAtOpenGet, AreResolved}
 use Rattle.step_rules.specs.Lookups.{named_value}
 use Rattle.step_rules.specs.WaitRules.{Unresolved, guard_by_outcome, guard_by_task, guard_by_value}
+use Rattle.list_facts.proofs.AllLemmas.{All-slice_get, All-from_slice_get}
 
 -- what the next statement of a frame does is the effect of its instruction
 pub next_effect_found : (program : ProgramTree) (frame : FrameState) (index : ℕ) (found : Option InstructionTree)
@@ -182,32 +183,6 @@ resolved_effect program config task frame innermost resolved =
     ∙ (ap (option_map (λ (point : Point). effect_of point.statement)) resolved.point_there
     ∙ ap Some resolved.awaits)
 
--- something is so of an entry of a list, if it is of all
-all_at : {A : Type 0} (is : A → Type 0) (list : List A) (index : ℕ) (entry : A) → All is list
-    → slice_get list index ≡ Some entry → is entry
-all_at is list index entry all there = subst is (get_or_from_slice_get list index entry entry there)
-    (all index entry (slice_get_within list index entry there))
-
--- something is so of all entries of a list, if it is of each
-all_of : {A : Type 0} (is : A → Type 0) (list : List A)
-    → ((index : ℕ) (entry : A) → slice_get list index ≡ Some entry → is entry) → All is list
-all_of is list each = λ index other within.
-    each index (get_or list index other) (slice_get-get_or list index other within)
-
--- something is so of one more entry of a list
-pub each_more : {A : Type 0} (is : A → Type 0) (list : List A) (index : ℕ) (none : A) → index < length list
-    → ((part : ℕ) (other : A) → part < index → is (get_or list part other)) → is (get_or list index none)
-    → (part : ℕ) (other : A) → part < index + 1 → is (get_or list part other)
-each_more is list index none there before now part other within =
-    by (eq-or-lt_of_le (omega (arith, within)))
-  where
-    same : get_or list index none ≡ get_or list index other
-    same = sym (get_or_from_slice_get list index _ other (slice_get-get_or list index none there))
-
-    by : (part ≡ index) ⊎ (part < index) → is (get_or list part other)
-    by (inl last) = subst (λ (at : ℕ). is (get_or list at other)) (sym last) (subst is same now)
-    by (inr earlier) = before part other earlier
-
 -- the futures of a guard are resolved exactly where none of its slots holds an unresolved one
 pub resolved_by : (program : ProgramTree) (config : Configuration) (task : TaskState) (frame : FrameState)
     (names : List (Option ℕ)) (none : Bool) → Some frame ≡ slice_get task.frames 0
@@ -226,7 +201,8 @@ resolved_by program config task frame names true innermost effect all =
       names = names;
       awaits = point.2;
       resolved = λ part name there slot future named holds unfinished.
-          all_at (λ (one : Option ℕ). guard_by_value config (named_value frame.slots one) ≢ Unresolved) names part name
+          All-slice_get (λ (one : Option ℕ). guard_by_value config (named_value frame.slots one) ≢ Unresolved) names
+          part name
           all there (ap (λ (one : Option ℕ). guard_by_value config (named_value frame.slots one)) named
           ∙ (ap (guard_by_value config) holds ∙ unresolved_by config future unfinished));
     }
@@ -234,7 +210,8 @@ resolved_by program config task frame names false innermost effect not_all = λ 
     let same = same_awaits _ _
     (same_Some _ _ (effect ∙ resolved_effect program config task frame innermost resolved)) in
     let same_frame = same_Some _ _ (innermost ∙ resolved.innermost) in
-    not_all (all_of (λ (one : Option ℕ). guard_by_value config (named_value frame.slots one) ≢ Unresolved) names
+    not_all (All-from_slice_get (λ (one : Option ℕ). guard_by_value config (named_value frame.slots one) ≢ Unresolved)
+    names
     (λ part name there is. by resolved same same_frame part name there name refl is))
   where
     same_awaits : (one other : List (Option ℕ)) → Awaits one ≡ Awaits other → one ≡ other

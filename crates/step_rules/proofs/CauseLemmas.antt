@@ -21,13 +21,14 @@ use Rattle.config_state.specs.declared.cog.Cog.{Cog}
 use Rattle.config_state.specs.declared.task.State.{State}
 use Rattle.config_state.specs.declared.task.State.TheVariants.{Ready, Running, Awaiting}
 use Rattle.step_rules.proofs.GetLemmas.{running_none, open_get_none}
-use Rattle.config_state.proofs.BodyLemmas.{get-there, frame_has_point}
+use Rattle.config_state.proofs.BodyLemmas.{frame_has_point}
 use Rattle.step_rules.specs.Blocked.{IsAtOpenGet, IsFree, AreResolved}
 use Rattle.step_rules.specs.Changes.{Change}
 use Rattle.step_rules.specs.Events.{run_change, run_frames, change_by_state, change_by_outcome, change_of_task, change_by, change_of, step_by, event_of}
 use Rattle.step_rules.specs.Inputs.{Input, input_in, input_with, input_of_task, input_of, output_of}
 use Rattle.step_rules.specs.Lookups.{Runner, named_value}
 use Rattle.step_rules.specs.WaitRules.{Guard, Faulty, Unresolved, Resolved, guard_by_outcome, guard_by_task, guard_by_value, guard_before, guard_of, take_if_free, take_rule, take_if_resolved, wake_by, wake_rule}
+use Rattle.list_facts.proofs.EntryLemmas.{slice_get-there}
 
 -- the change of a task, by what is found at its index
 change_found : (program : ProgramTree) (config : Configuration) (index : ℕ) (found : Option TaskState)
@@ -160,7 +161,7 @@ future_there : (config : Configuration) (values : List ValueTree) (slot future :
     → (task : TaskState) × (slice_get config.tasks future ≡ Some task)
 unfolding IsIn
 future_there config values slot future are holds =
-    get-there config.tasks future (are slot (FutureValue future) holds (ToFuture future) refl)
+    slice_get-there config.tasks future (are slot (FutureValue future) holds (ToFuture future) refl)
 
 -- of two parts of a guard both are resolved, if the whole is
 before_resolved : (first others : Guard) → guard_before first others ≡ Resolved

@@ -28,6 +28,7 @@ use Rattle.step_rules.specs.Targets.{target_of}
 use Rattle.step_rules.specs.declared.kind.Did.{Did}
 use Rattle.step_rules.specs.declared.kind.Did.TheVariants as did
 use Rattle.step_rules.specs.declared.plan.Plan.{Plan}
+use Rattle.list_facts.proofs.OptionLemmas.{IsSome-not_none, IsSome-mapped}
 
 -- The change of this task needs room: for what it makes, for what it prints, or for a frame.
 data Grows (task : TaskState) (change : Change) : Type 0 where
@@ -53,16 +54,6 @@ not_both task change small (MakesTask makes) = makes small.no_task
 not_both task change small (PrintsLine prints) = prints small.no_line
 not_both task change small (PushesFrame pushes) = omega (arith, small.no_frame, pushes)
 
--- what is there is something
-some_there : {A : Type 0} (found : Option A) → IsSome found → found ≢ None
-some_there None some same = absurd cc
-some_there (Some entry) some same = absurd cc
-
--- so is what it is seen as
-some_seen : {A B : Type 0} (found : Option A) (view : A → B) → IsSome found → option_map view found ≢ None
-some_seen None view some same = absurd cc
-some_seen (Some entry) view some same = absurd cc
-
 -- a plan with a line prints it
 line_seen : (plan : Plan) (line : Option (List ℕ)) → plan.line ≡ line → IsSome line → plan_lines plan ≢ []
 line_seen plan None is some same = absurd cc
@@ -72,11 +63,11 @@ line_seen plan (Some line) is some same = absurd cc
 grows_by_plan : (names : List Name) (task : TaskState) (plan : Plan) (change : Change)
     → HasParts names task.frames plan change → NeedsRoom plan → Grows task change
 grows_by_plan names task plan change parts (ForCog some) =
-    MakesCog (λ same. some_there plan.cog some (parts.cog_is ∙ same))
+    MakesCog (λ same. IsSome-not_none plan.cog some (parts.cog_is ∙ same))
 grows_by_plan names task plan change parts (ForObject some) =
-    MakesObject (λ same. some_seen plan.object (object_state names) some (parts.object_is ∙ same))
+    MakesObject (λ same. IsSome-mapped plan.object (object_state names) some (parts.object_is ∙ same))
 grows_by_plan names task plan change parts (ForTask some) =
-    MakesTask (λ same. some_seen plan.task (task_state names) some (parts.new_is ∙ same))
+    MakesTask (λ same. IsSome-mapped plan.task (task_state names) some (parts.new_is ∙ same))
 grows_by_plan names task plan change parts (ForLine some) =
     PrintsLine (λ same. line_seen plan plan.line refl some (parts.turned.lines_are ∙ same))
 grows_by_plan names task plan change parts (ForFrame frame next is) =

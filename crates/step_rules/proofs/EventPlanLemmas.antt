@@ -6,8 +6,7 @@
 --   `planned_change`           the plan of an event stands for its change
 --   `after_event`, `lines_of_event`    what an event leads to, by its change
 --   `formed_after`, `known_after`      the configuration after a change is well-formed, and of the program
---   `either_way`               what follows from a value and from an error
-use Rattle.std.proofs.Common.{◌≡◌, ℕ, suc, List, [], ◌∷◌, length, slice_get, Option, Some, None, IsSome, option_and_then, option_map, Result, Ok, Err, OnOk, OnErr, refl, sym, ap, ◌∙◌, subst}
+use Rattle.std.proofs.Common.{◌≡◌, ℕ, suc, List, [], ◌∷◌, length, slice_get, Option, Some, None, IsSome, option_and_then, option_map, refl, sym, ap, ◌∙◌, subst}
 use Rattle.std.proofs.lemmas.Option.{same_Some}
 use Rattle.abs_values.specs.Results.{Results}
 use Rattle.abs_tree.specs.Syntax.{Name, ProgramTree}
@@ -181,8 +180,3 @@ module _ (program : ProgramTree) (config : Configuration) (index : ℕ) where
         → IsConfigOf program (configuration_after config index change)
     known_after whole known =
         event_keeps_program program config index (step_by config index change) whole known event_by
-
--- what follows from a value and from an error is so
-pub either_way : {T E P Q R : Type 0} (result : Result T E) → OnOk result P → OnErr result Q → (P → R) → (Q → R) → R
-either_way (Ok value) good bad by_value by_error = by_value good
-either_way (Err error) good bad by_value by_error = by_error bad

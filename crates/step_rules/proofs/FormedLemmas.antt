@@ -5,7 +5,6 @@
 use Rattle.std.proofs.Common.{◌≡◌, ◌≢◌, ◌<◌, ℕ, [], length, slice_get, Option, Some, None, sym, ap, ◌∙◌, subst}
 use Rattle.abs_values.specs.Results.{Result, Gives}
 use Rattle.abs_values.specs.ValueTrees.{ValueTree}
-use Rattle.config_state.proofs.BodyLemmas.{get-there}
 use Rattle.config_state.specs.Configurations.{ObjectState, TaskState, Configuration, Each}
 use Rattle.config_state.specs.WellFormed.{ValueIsThere, AreThere, IsHolder, IsRunningIn, IsCogFormed, IsObjectFormed, IsFrameFormed, IsTaskFormed, IsWellFormed}
 use Rattle.config_state.specs.declared.cog.Cog.{Cog}
@@ -13,6 +12,7 @@ use Rattle.config_state.specs.declared.task.State.TheVariants.{Ready, Running}
 use Rattle.step_rules.proofs.AfterLemmas.{task-after, object-after, cog-after, task-moved, task-away, cog-held, cog-kept, cogs-grow, value-stays, values-stay, object_there-stays, formed_frames-stay}
 use Rattle.step_rules.specs.Changes.{Written, Change, configuration_after}
 use Rattle.step_rules.specs.Stays.{IsSameObject, TaskAfter, Moved, Old, New, ObjectAfter, Kept, Filled, Fresh, CogAfter, Untouched, Held, Founded}
+use Rattle.list_facts.proofs.EntryLemmas.{slice_get-there}
 
 -- What a change of a task needs: nobody else holds the cog of the task; it becomes the holder exactly where it then
 -- runs; and what it then holds, what is written and what is made is formed.
@@ -117,7 +117,7 @@ module _ (config : Configuration) (index : ℕ) (task : TaskState) (change : Cha
   moved-holds : change.task.state ≡ Running
       → IsHolder (configuration_after config index change) change.task.cog index
   moved-holds runs =
-      let cog = get-there config.cogs change.task.cog own_cog-there in record {
+      let cog = slice_get-there config.cogs change.task.cog own_cog-there in record {
         entry = record cog.0 { holder = change.holder };
         there = cog-held config index change cog.0 cog.1;
         holds = forms.holds runs;

@@ -1,9 +1,9 @@
 -- Whether a configuration is well-formed does not depend on the table of names.
 --
 --   `formed_of_names`          what is well-formed with one table of names is so with another one
-use Rattle.std.proofs.Common.{◌≡◌, ◌<◌, ℕ, zero, suc, List, [], ◌∷◌, ◌++◌, length, map, reverse, slice_get, Some, refl, sym, ap, ◌∙◌, subst, arith}
-use Rattle.std.proofs.lemmas.List.{length-map, map-append, reverse-append}
-use Rattle.std.proofs.lemmas.Option.{none-some, same_Some, slice_get-map}
+use Rattle.std.proofs.Common.{◌≡◌, ◌<◌, ℕ, List, [], length, map, reverse, Some, sym, ap, ◌∙◌, subst, arith}
+use Rattle.std.proofs.lemmas.List.{length-map}
+use Rattle.std.proofs.lemmas.Option.{slice_get-map}
 use Rattle.std.specs.Option.{option_map}
 use Rattle.abs_values.specs.References.{Reference, ToObject, ToFuture}
 use Rattle.abs_tree.specs.Syntax.{Name}
@@ -15,34 +15,16 @@ use Rattle.config_state.specs.declared.cog.Cog.{Cog}
 use Rattle.config_state.specs.declared.frame.Frame.{Frame}
 use Rattle.config_state.specs.declared.object.ObjectCell.{ObjectCell}
 use Rattle.config_state.specs.declared.task.TaskCell.{TaskCell}
-
--- an entry of a list that is made of another one
-mapped-entry : {A B : Type 0} (f : A → B) (list : List A) (index : ℕ) (entry : B)
-    → slice_get (map f list) index ≡ Some entry → (one : A) × (slice_get list index ≡ Some one) × (f one ≡ entry)
-mapped-entry f [] index entry is = absurd (none-some entry is)
-mapped-entry f (first ∷ others) zero entry is = (first, refl, same_Some (f first) entry is)
-mapped-entry f (first ∷ others) (suc index) entry is = mapped-entry f others index entry is
+use Rattle.list_facts.proofs.EntryLemmas.{slice_get-mapped}
+use Rattle.list_facts.proofs.MapLemmas.{reverse-map, map-none}
 
 -- what holds of each entry of a list holds of each entry of another one that is made of the same entries
 Each-mapped : {A B : Type 0} (f g : A → B) (P Q : ℕ → B → Type 0) (list : List A)
     → ((index : ℕ) (one : A) → P index (f one) → Q index (g one)) → Each (map f list) P → Each (map g list) Q
 Each-mapped f g P Q list turns each index entry is =
-    let at = mapped-entry g list index entry is in
+    let at = slice_get-mapped g list index entry is in
     subst (Q index) at.2
     (turns index at.0 (each index (f at.0) (slice_get-map f list index ∙ ap (option_map f) at.1)))
-
--- entries are made before or after the order is turned
-reverse-map : {A B : Type 0} (f : A → B) (list : List A) → reverse (map f list) ≡ map f (reverse list)
-reverse-map f [] = refl
-reverse-map {A} {B} f (first ∷ others) = reverse-append (f first ∷ []) (map f others)
-    ∙ (ap (λ (rest : List B). rest ++ f first ∷ []) (reverse-map f others)
-    ∙ (sym (map-append f (reverse others) (first ∷ []))
-    ∙ ap (map f) (sym (reverse-append (first ∷ []) others))))
-
--- a list that is made of no entry is empty, whatever is made
-none-mapped : {A B : Type 0} (f g : A → B) (list : List A) → map f list ≡ [] → map g list ≡ []
-none-mapped f g [] none = refl
-none-mapped f g (first ∷ others) none = absurd cc
 
 module _ (names others : List Name) (cogs : List Cog) (objects : List ObjectCell) (tasks : List TaskCell) where
   -- the configuration with each of the two tables
@@ -83,7 +65,7 @@ module _ (names others : List Name) (cogs : List Cog) (objects : List ObjectCell
       runs : (task : ℕ) → cog.holder ≡ Some task → IsRunningIn other index task
       runs task holds =
           let was = formed.holder_runs task holds in
-          let at = mapped-entry (task_state names) tasks task was.task was.there in
+          let at = slice_get-mapped (task_state names) tasks task was.task was.there in
           record {
             task = task_state others at.0;
             there = slice_get-map (task_state others) tasks task ∙ ap (option_map (task_state others)) at.1;
@@ -127,7 +109,7 @@ module _ (names others : List Name) (cogs : List Cog) (objects : List ObjectCell
     where
       no_frames : (these those : List Name) → (task_state these cell).frames ≡ [] → (task_state those cell).frames ≡ []
       no_frames these those none = reverse-map (frame_state those) cell.frames
-          ∙ none-mapped (frame_state these) (frame_state those) (reverse cell.frames)
+          ∙ map-none (frame_state these) (frame_state those) (reverse cell.frames)
           (sym (reverse-map (frame_state these) cell.frames) ∙ none)
 
   -- a configuration that is well-formed with one table of names is well-formed with another one

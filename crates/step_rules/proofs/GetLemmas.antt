@@ -3,7 +3,7 @@
 --   `gets_nothing`             a statement that gets a future evaluates nothing
 --   `running_none`             a running task without a change is at an open `get`
 --   `open_get_none`            a task at an open `get` has no change
-use Rattle.std.proofs.Common.{◌≡◌, ℕ, Bool, true, false, if◌then◌else◌, List, [], ◌∷◌, slice_get, Option, Some, None, option_and_then, refl, sym, ap, ap₂, ◌∙◌}
+use Rattle.std.proofs.Common.{◌≡◌, ℕ, true, List, [], ◌∷◌, slice_get, Option, Some, None, option_and_then, refl, sym, ap, ap₂, ◌∙◌}
 use Rattle.std.proofs.lemmas.Option.{same_Some}
 use Rattle.abs_program.specs.Control.{Point, program_points}
 use Rattle.abs_values.specs.Evaluation.{initial_outcomes}
@@ -21,13 +21,7 @@ use Rattle.step_rules.specs.Inputs.{scope_of, exprs_at, initials_for, initials_a
 use Rattle.step_rules.specs.LocalRules.{Local, statement_rule, next_rule, local_rule}
 use Rattle.step_rules.specs.Lookups.{Runner, successor, named_value, class_of}
 use Rattle.step_rules.specs.WaitRules.{get_by_outcome, get_by_task, get_rule}
-
--- a choice between two effects that are no `get`
-neither_gets : (chosen : Bool) (first second : EffectTree) (slot : Option ℕ) (target : Option VariableTree)
-    → (first ≡ Gets slot target → ⊥) → (second ≡ Gets slot target → ⊥)
-    → (if chosen then first else second) ≡ Gets slot target → ⊥
-neither_gets true first second slot target one other is = one is
-neither_gets false first second slot target one other is = other is
+use Rattle.abs_program.proofs.InstructionLemmas.{neither_gets}
 
 -- a right side that gets a future evaluates nothing
 side_gets_nothing : (side : SideTree) (goal : Option VariableTree) (slot : Option ℕ) (target : Option VariableTree)

@@ -20,6 +20,7 @@ use Rattle.step_rules.proofs.BlockedLemmas.{task_found}
 use Rattle.step_rules.proofs.CauseLemmas.{ended_has_none, running_has_none_iff, ready_has_iff, awaiting_has_iff}
 use Rattle.step_rules.specs.Blocked.{IsAtOpenGet, IsFree, AreResolved}
 use Rattle.step_rules.specs.Events.{event_of}
+use Rattle.list_facts.proofs.OptionLemmas.{option_map-none}
 
 -- an answer that is true exactly where there is something
 answer_some : {A B : Type 0} (answer : Bool) (found : Option A) → (is_some found ≡ true) ↔ B
@@ -34,11 +35,6 @@ answer_none : {A B : Type 0} (answer : Bool) (found : Option A) → (found ≡ N
 answer_none true found iff is = sym (ap is_some (iff.1 is))
 answer_none false None iff not_so = absurd (not_so (iff.0 refl))
 answer_none false (Some entry) iff not_so = refl
-
--- without a result of the code a task has none
-pub no_outcome : (outcome : Option Evaluated) → is_some outcome ≡ false → option_map result_tree outcome ≡ None
-no_outcome None is = refl
-no_outcome (Some result) is = absurd cc
 
 -- with a result of the code a task has one
 pub some_outcome : (outcome : Option Evaluated) → is_some outcome ≡ true
@@ -60,7 +56,7 @@ module _ (program : ProgramTree) (names : List Name) (config : Config) (index : 
       → free ≡ is_some (event_of program (configuration names config) index)
   ready_step free still ready is = ∥∥₁_elim config.well_formed (Bool-set _ _) (λ formed. answer_some free _
       (ready_has_iff program (configuration names config) index (task_state names cell) (formed names)
-      (task_found names config index cell there) (no_outcome cell.outcome still) ready) is)
+      (task_found names config index cell there) (option_map-none result_tree cell.outcome still) ready) is)
 
   -- a task that runs has an event unless it is at an open `get`
   pub running_step : (open_still : Bool) → ∥ IsConfigOf program (configuration names config) ∥₁

@@ -1,41 +1,41 @@
-pub mod ListLemmas
-pub mod AfterLemmas
-pub mod LocalRuleLemmas
-pub mod RuleLemmas
+mod ListLemmas
+mod AfterLemmas
+mod LocalRuleLemmas
+mod RuleLemmas
 pub mod StayLemmas
-pub mod OutputLemmas
-pub mod FrameLemmas
-pub mod FormedLemmas
-pub mod FormedPartLemmas
-pub mod FormedChangeLemmas
-pub mod FormedRuleLemmas
-pub mod GrowthLemmas
-pub mod UseLemmas
-pub mod KeepLemmas
-pub mod HouseLemmas
-pub mod ReachLemmas
-pub mod GetLemmas
+mod OutputLemmas
+mod FrameLemmas
+mod FormedLemmas
+mod FormedPartLemmas
+mod FormedChangeLemmas
+mod FormedRuleLemmas
+mod GrowthLemmas
+mod UseLemmas
+mod KeepLemmas
+mod HouseLemmas
+mod ReachLemmas
+mod GetLemmas
 pub mod CauseLemmas
 pub mod BlockedLemmas
-pub mod HasStepLemmas
-pub mod ApartLemmas
+mod HasStepLemmas
+mod ApartLemmas
 pub mod ProgressLemmas
-pub mod LookupLemmas
-pub mod RunLemmas
-pub mod ReadingLemmas
-pub mod EventPlanLemmas
-pub mod EventMemoryLemmas
-pub mod MoverLemmas
-pub mod RulePlanLemmas
-pub mod WaitPlanLemmas
-pub mod MadeLemmas
-pub mod StatementLemmas
-pub mod PlanningLemmas
-pub mod PlacingLemmas
-pub mod FormedNamesLemmas
-pub mod InstallLemmas
-pub mod EqualNameLemmas
-pub mod EqualTypeLemmas
-pub mod EqualPatternLemmas
-pub mod EqualExprLemmas
-pub mod EqualScopeLemmas
+mod LookupLemmas
+mod RunLemmas
+mod ReadingLemmas
+mod EventPlanLemmas
+mod EventMemoryLemmas
+mod MoverLemmas
+mod RulePlanLemmas
+mod WaitPlanLemmas
+mod MadeLemmas
+mod StatementLemmas
+mod PlanningLemmas
+mod PlacingLemmas
+mod FormedNamesLemmas
+mod InstallLemmas
+mod EqualNameLemmas
+mod EqualTypeLemmas
+mod EqualPatternLemmas
+mod EqualExprLemmas
+mod EqualScopeLemmas

@@ -10,8 +10,8 @@ use Rattle.std.proofs.Common.{◌≡◌, ◌≢◌, ◌⊎◌, ◌≤◌, ℕ, z
 use Rattle.std.proofs.lemmas.List.{length-append}
 use Rattle.std.proofs.lemmas.Option.{same_Some}
 use Rattle.std.specs.Option.{option_map}
-use Rattle.abs_tree.proofs.IndexLemmas.{slice_get-front, slice_get-next}
 use Rattle.step_rules.specs.Changes.{updated, added}
+use Rattle.list_facts.proofs.EntryLemmas.{slice_get-front, slice_get-next}
 
 -- to set an entry is to change it
 pub set-updated : {A : Type 0} (list : List A) (index : ℕ) (new : A)

@@ -7,7 +7,7 @@
 --   `enters-objects`                   a frame that is pushed writes nothing
 --   `goes_on-objects`                  a task that goes on writes where its value goes
 use Rattle.std.proofs.Common.{◌≡◌, ℕ, zero, suc, ◌-◌, List, [], ◌∷◌, ◌++◌, length, map, reverse, set, get_or, slice_get, Option, Some, None, refl, sym, ap, ◌∙◌, subst, arith}
-use Rattle.std.proofs.lemmas.List.{get_or_at, set_at, map-append, map-set, reverse-append, length-append}
+use Rattle.std.proofs.lemmas.List.{get_or_at, set_at, map-set, length-append}
 use Rattle.std.proofs.lemmas.Option.{same_Some, slice_get-map}
 use Rattle.std.specs.Option.{option_map}
 use Rattle.abs_tree.specs.Syntax.{Name}
@@ -26,11 +26,7 @@ use Rattle.step_rules.specs.Plans.{turn_change}
 use Rattle.step_rules.specs.Targets.{fields_after}
 use Rattle.step_rules.specs.declared.plan.Turn.{Turn}
 use Rattle.step_rules.specs.declared.plan.Turn.TheVariants.{Enters, GoesOn}
-
--- the last entry is the first one in the other order
-reverse-last : {A B : Type 0} (f : A → B) (front : List A) (last : A)
-    → reverse (map f (front ++ last ∷ [])) ≡ f last ∷ reverse (map f front)
-reverse-last f front last = rw (map-append, reverse-append) refl
+use Rattle.list_facts.proofs.MapLemmas.{reverse-map_last}
 
 -- A list is empty, or it has a last entry.
 data HasLast {A : Type 0} (list : List A) : Type 0 where
@@ -61,9 +57,9 @@ last-set {A} {B} f list entry new first others order read = by_last (has_last li
         → length front ≡ place → entry ≡ get_or (front ++ last ∷ []) place entry
         → (f entry ≡ first) × (reverse (map f (set (front ++ last ∷ []) place new)) ≡ f new ∷ others)
     at_last front last place order before read =
-        let turned : f last ∷ reverse (map f front) ≡ first ∷ others = sym (reverse-last f front last) ∙ order in
+        let turned : f last ∷ reverse (map f front) ≡ first ∷ others = sym (reverse-map_last f front last) ∙ order in
         let same : entry ≡ last = read ∙ get_or_at front last [] entry place before in
-        (cc, rw (set_at front last [] new place before, reverse-last f front new) (cc))
+        (cc, rw (set_at front last [] new place before, reverse-map_last f front new) (cc))
 
     by_last : HasLast list → IsLast f list entry new first others
     by_last (Empty none) =

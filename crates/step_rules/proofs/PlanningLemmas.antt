@@ -3,13 +3,12 @@
 --   `point_found`, `no_point`          the statement of an instruction
 --   `give_open`                        a value that is given is no fault
 --   `run_faulty`, `run_at_end`, `run_nowhere`, `run_at_point`  the change of a task that runs, by its output
---   `frames_by`, `on_err_both`         frames by the innermost; what follows from two facts of a failed call
+--   `frames_by`                        frames by the innermost
 --   `change_ended`, `ended_by`         a task with a result makes no change; one without a frame has a result
 --   `change_by_its_state`, `change_awaiting`, `change_running`     the change by the state
 --   `plan_there`                       the change of a plan
-use Rattle.std.proofs.Common.{◌≡◌, ℕ, List, [], ◌∷◌, drop, slice_get, is_some, true, Option, Some, None, Ok, Err, OnErr, option_and_then, option_map, refl, sym, ap, ◌∙◌}
+use Rattle.std.proofs.Common.{◌≡◌, ℕ, List, [], ◌∷◌, drop, slice_get, is_some, true, Option, Some, None, option_and_then, option_map, refl, sym, ap, ◌∙◌}
 use Rattle.std.proofs.lemmas.Option.{same_Some, slice_get-map}
-use Rattle.std.specs.declared.result.Result.{Result as Returned}
 use Rattle.abs_program.specs.Control.{Point, program_points}
 use Rattle.abs_program.specs.Instructions.{InstructionTree, effect_of, instruction_of, instructions}
 use Rattle.abs_values.specs.Results.{Result, Results, AllGive, Fails, OneFails}
@@ -123,12 +122,6 @@ pub frames_by : (frames : List FrameState) (frame : FrameState) → Some frame �
     → frames ≡ frame ∷ drop 1 frames
 frames_by [] frame is = absurd cc
 frames_by (first ∷ others) frame is = cc
-
--- Two facts of a failed call give a third.
-pub on_err_both : {T E P Q R : Type 0} (result : Returned T E) → (P → Q → R) → OnErr result P → OnErr result Q
-    → OnErr result R
-on_err_both (Ok value) both one other = one
-on_err_both (Err failed) both one other = both one other
 
 module _ (program : ProgramTree) (config : Configuration) (index : ℕ) (results : Results) (task : TaskState)
     (there : slice_get config.tasks index ≡ Some task) where

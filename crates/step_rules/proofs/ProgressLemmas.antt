@@ -10,7 +10,6 @@ use Rattle.std.specs.Prelude.{IsSome, is_some}
 use Rattle.abs_program.specs.Control.{Point, program_points}
 use Rattle.abs_tree.specs.Syntax.{ProgramTree}
 use Rattle.abs_program.specs.Whole.{IsWhole}
-use Rattle.config_state.proofs.BodyLemmas.{get-there}
 use Rattle.config_state.specs.Configurations.{FrameState, TaskState, Configuration}
 use Rattle.config_state.specs.OfProgram.{next_point, IsAtGuard, IsConfigOf}
 use Rattle.config_state.specs.WellFormed.{IsWellFormed}
@@ -22,6 +21,7 @@ use Rattle.step_rules.proofs.ReachLemmas.{reachable_keeps}
 use Rattle.step_rules.specs.Blocked.{IsAtOpenGet, NeverWaits}
 use Rattle.step_rules.specs.Events.{Step, event_of}
 use Rattle.step_rules.specs.Runs.{IsReachable, IsOpen, HasStep}
+use Rattle.list_facts.proofs.EntryLemmas.{slice_get-there}
 
 -- the next statement of a frame is one of the program
 point_of_program : (program : ProgramTree) (frame : FrameState) (point : Point)
@@ -50,7 +50,7 @@ module _ (program : ProgramTree) (config : Configuration) (never : NeverWaits pr
   ready_steps : (index : ℕ) (task : TaskState) → slice_get config.tasks index ≡ Some task → task.outcome ≡ None
       → task.state ≡ Ready → HasStep program config
   ready_steps index task there open_still ready =
-      let cog = get-there config.cogs task.cog (formed.tasks_formed index task there).cog_there in
+      let cog = slice_get-there config.cogs task.cog (formed.tasks_formed index task there).cog_there in
       by_holder cog.0 cog.1 cog.0.holder refl
     where
       by_holder : (cog : Cog) → slice_get config.cogs task.cog ≡ Some cog → (holder : Option ℕ) → cog.holder ≡ holder

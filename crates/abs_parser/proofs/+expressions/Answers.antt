@@ -1,7 +1,7 @@
 use Rattle.abs_lexer.specs.Views.{lexed}
 use Rattle.abs_parser.proofs.+expressions.Goals.{operators::operators_after-in-Some+in_ok-right+in_ok-push+then-not-repeats, operators::operators_after-in_default, primaries::constructor_primary-in-Some, primaries::constructor_primary-in-None}
 use Rattle.abs_parser.proofs.reader.CaseSteps.{case_begins, case_asked, refused_branch, refused_brace, first_branch, next_branch, case_found, pattern_read, refused_pattern, branch_found}
-use Rattle.abs_parser.proofs.grammar.DigitLemmas.{number_digits, number_fits, narrowed}
+use Rattle.abs_parser.proofs.grammar.DigitLemmas.{number_digits, number_fits}
 use Rattle.abs_parser.proofs.reader.ExpressionSteps.{or_found, or_refused, if_opened, if_begins, if_tested, if_chosen, if_found, let_opened, let_begins, let_named, let_assigned, let_valued, let_found}
 use Rattle.abs_parser.proofs.grammar.FirstPlaceLemmas.{found_within, found_fewer}
 use Rattle.abs_parser.proofs.reader.ListLemmas.{list_of_expressions, trees_of_expressions, arguments}
@@ -34,6 +34,7 @@ use Rattle.abs_lexer.specs.declared.lexeme.Keyword.TheVariants as keyword
 use Rattle.abs_lexer.specs.declared.lexeme.Lexeme.TheVariants as lexeme
 use Rattle.abs_lexer.specs.declared.lexeme.Punctuator.TheVariants as punctuator
 use Rattle.abs_tree.specs.declared.syntax.expression.Expr as code_expr
+use Rattle.list_facts.proofs.DigitLemmas.{narrowed}
 
 pub expressions::expression-returns : goal.expressions::expression-returns
 expressions::expression-returns t c =

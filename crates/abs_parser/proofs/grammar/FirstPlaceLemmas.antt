@@ -1,9 +1,8 @@
 -- The first token of a parsed nonterminal. Its place is that of the tree and of the spot where the reader began. Its
 -- depth is at least that of the nonterminal, and fewer tokens are left after it. The proof follows the wanted items up
 -- to the first one that is not left out.
-use Rattle.std.proofs.Common.{◌≡◌, ◌≤◌, ◌<◌, ℕ, ◌+◌, length, Bool, true, false, ◌||◌, cond, List, [], ◌∷◌, Option, Some, None, option_map, refl, sym, ap, subst, ◌∙◌, arith}
+use Rattle.std.proofs.Common.{◌≡◌, ◌≤◌, ◌<◌, ℕ, ◌+◌, length, Bool, true, false, ◌||◌, cond, List, [], ◌∷◌, Option, Some, None, option_map, refl, ap, ◌∙◌, arith}
 use mathlib.Core.Logic.{◌⊎◌, inl, inr}
-use Rattle.std.specs.List.{find}
 use Rattle.std.specs.Prelude.{⊤}
 use Rattle.std.proofs.lemmas.Bool.{cases_Bool, cond-true, cond-false}
 use Rattle.abs_tree.specs.Places.{start}
@@ -19,18 +18,7 @@ use Rattle.abs_parser.specs.Tokens.{Spot, place_of}
 use Rattle.abs_parser.specs.TreesOf.{first_place, place_in}
 use Rattle.abs_parser.proofs.stop.MoveLemmas.{within_first}
 use Rattle.abs_parser.proofs.reader.FoundLemmas.{reads_shorter, left_length}
-
--- an element that `find` finds passes the test
-found_fits : {X : Type 0} (test : X → Bool) (list : List X) (one : X) → find test list ≡ Some one → test one ≡ true
-found_fits test [] one e = cc
-found_fits test (x ∷ others) one e = at (cases_Bool (test x)) (found_fits test others one)
-  where
-    at : (test x ≡ true) ⊎ (test x ≡ false) → (find test others ≡ Some one → test one ≡ true) → test one ≡ true
-    at (inl is) after =
-        let here : Some x ≡ Some one = sym (cond-true (test x) (Some x) (find test others) is) ∙ e in
-        let same : x ≡ one = cc in
-        subst (λ y. test y ≡ true) same is
-    at (inr is_not) after = after (sym (cond-false (test x) (Some x) (find test others) is_not) ∙ e)
+use Rattle.list_facts.proofs.FindLemmas.{find-passes}
 
 -- whether a wanted item may begin with a token of this kind, given whether the items after it may
 abbrev pub one_may : Wanted → TokenKind → Bool → Bool
@@ -105,7 +93,7 @@ one_opened nonterminal kind least depth inner below is = at (chosen nonterminal 
         let same : inner ≡ place deeper items = cc in
         rw same (
           items_may items deeper kind
-              ∙ found_fits (λ (list : List Item). items_begin begins list kind) (rule nonterminal) items some,
+              ∙ find-passes (λ (list : List Item). items_begin begins list kind) (rule nonterminal) items some,
           items_below
               items least deeper (inner_below (counts nonterminal) least depth below),
         )

@@ -16,6 +16,7 @@ use Rattle.abs_lexer.specs.contracts.lexeme.Lexeme.{enum}
 use Rattle.abs_lexer.specs.contracts.lexeme.LexemePartialEq.TheImpl.{ghosts}
 use Rattle.abs_lexer.specs.contracts.lexeme.Punctuator.{the_type as punctuator}
 use Rattle.abs_lexer.specs.declared.lexeme.Lexeme.{Lexeme}
+use Rattle.std.proofs.lemmas.Bool.{not-false}
 
 -- at each variant of an enum, fields that compare as equal are the same
 abbrev AllTell : (parts : List (List Field)) → Each Bool parts → Type 0
@@ -78,14 +79,9 @@ same_kind k l same =
     choices_same enum.parts compared all_tell (enum.as_values k) (enum.as_values l) same in
     sym (enum.eta k) ∙ (ap enum.make values ∙ enum.eta l)
 
--- a Boolean is true where its negation is false
-not_false : (b : Bool) → not b ≡ false → b ≡ true
-not_false true h = refl
-not_false false h = cc
-
 -- lexemes that do not compare as different are the same
 pub kind_reported : (k l : Lexeme) (differ : Bool) → differ ≡ not (ghosts.eq k l) → differ ≡ false → k ≡ l
-kind_reported k l differ is same = same_kind k l (not_false (ghosts.eq k l) (sym is ∙ same))
+kind_reported k l differ is same = same_kind k l (not-false (ghosts.eq k l) (sym is ∙ same))
 
 -- lexemes are the same where their comparison answers true
 pub kind_equal : (k l : Lexeme) (equal : Bool) → equal ≡ ghosts.eq k l → equal ≡ true → k ≡ l

@@ -1,12 +1,13 @@
 -- What the grammar says of any nonterminal, given the next token: where it begins and what it opens to. The nonterminal
 -- may also be optional or repeated.
-use Rattle.std.proofs.Common.{◌≡◌, ℕ, Bool, true, false, ◌||◌, cond, List, [], ◌∷◌, ◌+◌, Some, None, refl, sym, ap, ◌∙◌}
+use Rattle.std.proofs.Common.{◌≡◌, ℕ, Bool, true, false, cond, List, [], ◌∷◌, ◌+◌, Some, None, refl, sym, ap, ◌∙◌}
 use Rattle.std.proofs.Math.Bool.{or-false}
 use Rattle.std.specs.Prelude.{option_map}
 use Rattle.std.specs.List.{list_any, find}
 use Rattle.abs_parser.specs.TokenKinds.{TokenKind, fits}
 use Rattle.abs_parser.specs.Productions.{Nonterminal, Program, Item, Of, Part, rule, counts, items_begin, begins, begins_within, chosen}
 use Rattle.abs_parser.specs.Readings.{One, Optional, Repeated, Wanted, Subgoal, place, inner_depth, opened}
+use Rattle.list_facts.proofs.FindLemmas.{find-none}
 
 -- a nonterminal begins where one of its alternatives does
 pub begins_by_rule : (nonterminal : Nonterminal) (kind : TokenKind)
@@ -33,23 +34,13 @@ pub begins_with_part : (nonterminal : Nonterminal) {first : Nonterminal} {items 
     → rule nonterminal ≡ (Part first ∷ items) ∷ [] → begins nonterminal kind ≡ begins first kind
 begins_with_part nonterminal kind is = begins_by nonterminal kind is
 
--- `find` finds nothing where no element passes the test
-find_none : {A : Type 0} (test : A → Bool) (xs : List A) → list_any test xs ≡ false → find test xs ≡ None
-find_none test [] none = refl
-find_none test (x ∷ xs) none = go (test x) none (find_none test xs)
-  where
-    go : (here : Bool) → (here || list_any test xs) ≡ false → (list_any test xs ≡ false → find test xs ≡ None)
-        → cond here (Some x) (find test xs) ≡ None
-    go true none others = absurd cc
-    go false none others = others none
-
 -- a nonterminal does not open where it may not begin
 pub part_shut : (nonterminal : Nonterminal) (kind : TokenKind) (depth : ℕ) → begins nonterminal kind ≡ false
     → opened (One nonterminal) kind depth ≡ None
 unfolding chosen
 part_shut nonterminal kind depth none =
     ap (option_map (place (inner_depth nonterminal depth)))
-    (find_none (λ (items : List Item). items_begin begins items kind) (rule nonterminal)
+    (find-none (λ (items : List Item). items_begin begins items kind) (rule nonterminal)
     (sym (begins_by_rule nonterminal kind) ∙ none))
 
 -- a nonterminal may begin where it opens, by cases of whether it may

@@ -1,7 +1,7 @@
 -- What the readers of operators use: what a precedence and the operators after its first operand open to, given the
 -- next token. Also the trees of what was read, and the steps of a reader over a first operand and over each operator
 -- with its operand.
-use Rattle.std.proofs.Common.{◌≡◌, ◌≤◌, ◌<◌, ℕ, Bool, true, false, cond, List, [], ◌∷◌, ◌++◌, length, Some, None, refl, sym, ap, ◌∙◌, arith}
+use Rattle.std.proofs.Common.{◌≡◌, ◌≤◌, ◌<◌, ℕ, true, false, cond, List, [], ◌∷◌, ◌++◌, length, Some, None, refl, sym, ap, ◌∙◌, arith}
 use Rattle.std.proofs.lemmas.List.{append-nil}
 use Rattle.std.proofs.lemmas.Bool.{cond-true, cond-false}
 use Rattle.abs_tree.specs.Syntax.{Name, ExprTree, OperatorsOf, Operands, NoOperands, NextOperand}
@@ -33,6 +33,8 @@ use Rattle.abs_parser.proofs.reader.FoundLemmas.{found_goes_on}
 use Rattle.abs_parser.proofs.reader.StepLemmas.{HasRead, opens, inside_alone, left_whole, over_token, over_part, into_last, all_read, refused_inside}
 use Rattle.abs_parser.proofs.grammar.NonterminalLemmas.{begins_with_part, part_shut, part_begun}
 use Rattle.abs_parser.proofs.reader.InFrontSteps.{refused_in_front}
+use Rattle.list_facts.proofs.OptionLemmas.{cond-Some}
+use Rattle.abs_tree.proofs.TreeLemmas.{operands_before, operands_more}
 
 -- with at least one operator, `with_operators` builds a node
 pub node_is : (names : List Name) (place : Place) (first : ExprTree) (operands : List Operand) → 0 < length operands
@@ -112,22 +114,17 @@ rest_ends precedence.Sum kind depth none = rw (none operator.Plus refl, none ope
 rest_ends precedence.Mul kind depth none =
     rw (none operator.Times refl, none operator.Divide refl, none operator.Remainder refl) refl
 
--- a choice between two present values is a present value
-some_of_either : {A : Type 0} (is : Bool) (x y : A) → cond is (Some x) (Some y) ≡ Some (cond is x y)
-some_of_either true x y = refl
-some_of_either false x y = refl
-
 -- any token opens what follows a first operand: to an operator with its operand, or to nothing
 rest_is_opened : (precedence : Precedence) (kind : TokenKind) (depth : ℕ)
     → opened (rest_of precedence) kind depth
     ≡ Some (cond (begins (tail_nonterminal precedence) kind)
     (Subgoal (One (tail_nonterminal precedence)) depth ∷ further precedence depth) [])
-rest_is_opened precedence.Or kind depth = some_of_either (begins OrTail kind) _ _
-rest_is_opened precedence.And kind depth = some_of_either (begins AndTail kind) _ _
-rest_is_opened precedence.Equal kind depth = some_of_either (begins EqualTail kind) _ _
-rest_is_opened precedence.Compare kind depth = some_of_either (begins CompareTail kind) _ _
-rest_is_opened precedence.Sum kind depth = some_of_either (begins SumTail kind) _ _
-rest_is_opened precedence.Mul kind depth = some_of_either (begins MulTail kind) _ _
+rest_is_opened precedence.Or kind depth = cond-Some (begins OrTail kind) _ _
+rest_is_opened precedence.And kind depth = cond-Some (begins AndTail kind) _ _
+rest_is_opened precedence.Equal kind depth = cond-Some (begins EqualTail kind) _ _
+rest_is_opened precedence.Compare kind depth = cond-Some (begins CompareTail kind) _ _
+rest_is_opened precedence.Sum kind depth = cond-Some (begins SumTail kind) _ _
+rest_is_opened precedence.Mul kind depth = cond-Some (begins MulTail kind) _ _
 
 -- The trees
 
@@ -166,26 +163,12 @@ punctuator_read : (operator : Operator) → operator_of (PunctuatorKind (punctua
 punctuator_read operator.Or = refl
 punctuator_read _ = refl
 
--- the operators and operands that were read, followed by others
-abbrev operands_before : List Name → List Operand → Operands → Operands
-operands_before names [] after = after
-operands_before names (operand ∷ others) after =
-    NextOperand operand.operator (expr_tree names operand.right) (operands_before names others after)
-
 -- followed by those of a list, they are those of both lists
 operands_of_both : (names : List Name) (operands more : List Operand)
     → operands_before names operands (operand_trees names more) ≡ operand_trees names (operands ++ more)
 operands_of_both names [] more = refl
 operands_of_both names (operand ∷ others) more =
     ap (NextOperand operand.operator (expr_tree names operand.right)) (operands_of_both names others more)
-
--- an operand that is appended comes just before the others
-one_before : (names : List Name) (operands : List Operand) (operand : Operand) (after : Operands)
-    → operands_before names (operands ++ operand ∷ []) after
-    ≡ operands_before names operands (NextOperand operand.operator (expr_tree names operand.right) after)
-one_before names [] operand after = refl
-one_before names (first ∷ others) operand after =
-    ap (NextOperand first.operator (expr_tree names first.right)) (one_before names others operand after)
 
 -- The steps
 
@@ -302,7 +285,7 @@ next_operand_read {precedence} {depth} {now = now} operands operand so is takes 
       is = λ names more inside.
           so.is names (goes_on_further (found_goes_on found) more) (tail (Node (rest_of precedence) inside Empty))
           ∙ (ap (operands_before names operands) ((one.is names more).0 again inside)
-          ∙ sym (one_before names operands operand (operands_in precedence inside)));
+          ∙ sym (operands_more names operands operand (operands_in precedence inside)));
     }
 
 -- `expr` is the expression of a first operand and of the operators and operands after it

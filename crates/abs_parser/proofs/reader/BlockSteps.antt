@@ -3,7 +3,7 @@
 use Rattle.std.proofs.Common.{◌≡◌, ◌≤◌, ◌<◌, ℕ, true, false, List, [], ◌∷◌, ◌++◌, ◌+◌, length, refl, sym, ap, ◌∙◌, arith}
 use Rattle.abs_tree.specs.declared.syntax.declaration.Body.{Body}
 use Rattle.abs_tree.specs.declared.syntax.statement.Stmt.{Stmt as CodeStmt}
-use Rattle.abs_tree.specs.Syntax.{Name, Statement, Statements, NoStatement, NextStatement}
+use Rattle.abs_tree.specs.Syntax.{Name, Statement, NextStatement}
 use Rattle.abs_tree.specs.SyntaxSizes.{count_of, statement_count}
 use Rattle.abs_tree.specs.SyntaxViews.{statement, statements}
 use Rattle.abs_lexer.specs.declared.lexeme.Lexeme.TheVariants as lexeme
@@ -26,26 +26,7 @@ use Rattle.abs_parser.proofs.reader.StatementSteps.{IsStatement, block_opened}
 use Rattle.abs_parser.proofs.reader.FoundLemmas.{token_shorter, found_goes_on}
 use Rattle.abs_parser.proofs.reader.StepLemmas.{HasRead, opens, over_token, over_part, all_read, refused_inside, fits_next}
 use Rattle.abs_parser.proofs.grammar.NonterminalLemmas.{part_begun, repeated_opened}
-
--- the trees of these statements, followed by others
-abbrev pub statements_before : List Name → List CodeStmt → Statements → Statements
-statements_before names [] after = after
-statements_before names (stmt ∷ others) after =
-    NextStatement (statement names stmt) (statements_before names others after)
-
--- followed by no others, they are the trees of the statements alone
-all_statements : (names : List Name) (listed : List CodeStmt)
-    → statements_before names listed NoStatement ≡ statements names listed
-all_statements names [] = refl
-all_statements names (stmt ∷ others) = ap (NextStatement (statement names stmt)) (all_statements names others)
-
--- the tree of one more statement comes just before the others
-one_statement : (names : List Name) (listed : List CodeStmt) (stmt : CodeStmt) (after : Statements)
-    → statements_before names (listed ++ stmt ∷ []) after
-    ≡ statements_before names listed (NextStatement (statement names stmt) after)
-one_statement names [] stmt after = refl
-one_statement names (first ∷ others) stmt after =
-    ap (NextStatement (statement names first)) (one_statement names others stmt after)
+use Rattle.abs_tree.proofs.TreeLemmas.{statements_before, statements_all, statements_more}
 
 -- one more statement adds its count to that of the statements before it
 before_count : (names : List Name) (listed : List CodeStmt) (stmt : CodeStmt)
@@ -98,7 +79,7 @@ one_more names index listed stmt found inside is =
     let free : index + statement_count (statements names (listed ++ stmt ∷ []))
     ≡ index + statement_count (statements names listed) + count_of (statement names stmt) =
     omega (arith, before_count names listed stmt) in
-    one_statement names listed stmt _
+    statements_more names listed stmt _
     ∙ (ap (λ (n : ℕ). statements_before names listed (NextStatement (statement names stmt) (statements_in n inside)))
     free
     ∙ ap (λ (tree : Statement). statements_before names listed
@@ -167,7 +148,7 @@ pub block_found : {brace : Lexed} {depth : ℕ} {old now : List (List ℕ)} {ind
 block_found {brace} {depth} {now = now} {index} {here = here} body closed so takes within =
     let none = no_statement depth now here (fits_next refl takes) in
     all_read (over_token (over_part so.read none) takes refl refl within) (λ names more. record {
-      statements_are = sym (all_statements names body.statements.items)
+      statements_are = sym (statements_all names body.statements.items)
           ∙ (sym (ap (λ (inside : Forest).
           statements_before names body.statements.items
           (statements_in (index + statement_count (statements names body.statements.items)) inside))

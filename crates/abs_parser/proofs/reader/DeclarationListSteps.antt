@@ -25,7 +25,7 @@ use Rattle.abs_parser.specs.Tokens.{Spot, TakesToken}
 use Rattle.abs_parser.specs.TreesOf.{decl_in, decls_in}
 use Rattle.abs_tree.specs.declared.source_error.SourceError.{SourceError}
 use Rattle.abs_tree.specs.declared.source_error.SourceError.TheVariants.{Refused}
-use Rattle.abs_parser.proofs.reader.DeclarationSteps.{one_more, no_part}
+use Rattle.abs_parser.proofs.reader.DeclarationSteps.{no_part}
 use Rattle.abs_parser.proofs.grammar.FirstTokens.{BeginsBy, begins_next, IsNoneOf, none_found}
 use Rattle.abs_parser.proofs.grammar.NameLemmas.{goes_on_further}
 use Rattle.abs_parser.proofs.reader.PatternSteps.{next_end}
@@ -34,6 +34,7 @@ use Rattle.abs_parser.proofs.reader.StatementSteps.{block_shut}
 use Rattle.abs_parser.proofs.reader.FoundLemmas.{found_goes_on}
 use Rattle.abs_parser.proofs.reader.StepLemmas.{HasRead, inside_alone, left_whole, opens, over_part, all_read, refused_inside, refused_after, refused_alike, refused_shut}
 use Rattle.abs_parser.proofs.grammar.NonterminalLemmas.{part_shut, part_begun, repeated_opened, repeated_ends}
+use Rattle.list_facts.proofs.MapLemmas.{map-append_one}
 
 -- The first token
 
@@ -178,7 +179,7 @@ next_declaration {index = index} {free} {after} {listed = listed} decl same so f
       (Node (One Decl) found.inside (Node (Repeated Decl) inside Empty))
       ∙ (ap (λ (trees : List DeclTree). map (decl_tree names) listed ++ trees)
       (declaration_in_turn names free after decl found.inside inside (is_after names) (found.is names more))
-      ∙ sym (one_more (decl_tree names) listed decl (decls_in after inside)));
+      ∙ sym (map-append_one (decl_tree names) listed decl (decls_in after inside)));
   is_free = λ names. omega (arith, so.is_free names, is_after names, one_declaration_counted names listed decl);
   few = omega (arith, so.few, few);
 })

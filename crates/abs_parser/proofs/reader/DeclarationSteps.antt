@@ -1,9 +1,9 @@
 -- The steps of the parsing functions of declarations. They read the keyword and the name of a declaration, and the
 -- parts that repeat up to a closing token. The parts that were read so far come with their trees. Constructors and data
 -- types follow, given the next token.
-use Rattle.std.proofs.Common.{◌≡◌, ◌≤◌, ℕ, true, false, List, [], ◌∷◌, ◌++◌, map, Some, None, refl, sym, ap, ◌∙◌, append_assoc}
+use Rattle.std.proofs.Common.{◌≡◌, ◌≤◌, ℕ, true, false, List, [], ◌∷◌, ◌++◌, map, Some, None, refl, sym, ap, ◌∙◌}
 use Rattle.std.specs.Prelude.{⊤}
-use Rattle.std.proofs.lemmas.List.{append-nil, map-append}
+use Rattle.std.proofs.lemmas.List.{append-nil}
 use Rattle.abs_tree.specs.Names.{with_name, number_of_name}
 use Rattle.abs_tree.specs.declared.place.Place.{Place}
 use Rattle.abs_tree.specs.declared.symbol.Symbol.{Symbol as NameSymbol}
@@ -34,6 +34,7 @@ use Rattle.abs_parser.proofs.reader.PatternSteps.{next_taken, nothing_found}
 use Rattle.abs_parser.proofs.reader.RepeatSteps.{in_front, over_one_more, refused_up_to, ends_at}
 use Rattle.abs_parser.proofs.reader.NameListSteps.{declared_kept}
 use Rattle.abs_parser.proofs.reader.KeywordSteps.{keyword_read}
+use Rattle.list_facts.proofs.MapLemmas.{map-append_one}
 
 -- Parts that repeat up to a closing token
 
@@ -68,13 +69,6 @@ pub record ReadsParts {Listed Tree : Type 0} (parts : Parts Listed Tree) (Starts
       ≡ whole names (map (parts.tree names) listed ++ parts.trees_in index (map (parts.tree names) listed) inside)
       ∷ others
 
--- the tree of one more part comes between those before it and those after it
-pub one_more : {Listed Tree : Type 0} (tree : Listed → Tree) (listed : List Listed) (one : Listed) (after : List Tree)
-    → map tree (listed ++ one ∷ []) ++ after ≡ map tree listed ++ tree one ∷ after
-one_more tree listed one after =
-    ap (λ trees. trees ++ after) (map-append tree listed (one ∷ []))
-    ∙ append_assoc (map tree listed) (tree one ∷ []) after
-
 -- one more of the parts was read
 pub next_part : {Listed Tree : Type 0} {parts : Parts Listed Tree} {Starts : ℕ → Type 0}
     {whole : List Name → List Tree → DeclTree} {depth : ℕ} {old now new : List (List ℕ)} {from here to : Spot}
@@ -96,7 +90,7 @@ next_part {parts = parts} {whole = whole} {depth} {listed = listed} one same so 
       (Node (One parts.nonterminal) found.inside (Node (Repeated parts.nonterminal) inside Empty)) mark at others
       ∙ ap (λ trees. whole names trees ∷ others)
       (ap (λ trees. map (parts.tree names) listed ++ trees) (sym (is index starts names more inside))
-      ∙ sym (one_more (parts.tree names) listed one
+      ∙ sym (map-append_one (parts.tree names) listed one
       (parts.trees_in index (map (parts.tree names) (listed ++ one ∷ [])) inside)));
 })
 

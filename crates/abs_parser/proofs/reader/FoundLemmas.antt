@@ -22,6 +22,7 @@ use Rattle.abs_parser.specs.Tokens.{Spot, TakesToken}
 use Rattle.abs_parser.specs.TreesOf.{written}
 use Rattle.abs_parser.specs.ReaderAnswers.{left_at, name_first, names_before, asked, FoundAs, is_asked}
 use Rattle.abs_parser.proofs.grammar.NameLemmas.{goes_on_all, number_stays, few_more}
+use Rattle.std.proofs.Math.Bool.{or-true}
 
 -- two lists of nesting depths within the limit are within it together
 pub within_both : (first second : List ℕ) → AllWithin first → AllWithin second → AllWithin (first ++ second)
@@ -195,11 +196,6 @@ name_at [] name found = absurd cc
 name_at (x ∷ xs) name found = place_by (bytes_eq name x) (list_any (bytes_eq name) xs) (number_of_name xs name) name x
     xs (λ e. sym ((bytes_eq-Decides name x).0 e)) (name_at xs name) found
 
--- a disjunction holds if its second part does
-or_right : (b : Bool) → (b || true) ≡ true
-or_right true = refl
-or_right false = refl
-
 -- a table has the name that was added to it, by cases of whether it had it before
 is_there_by : (is : Bool) (table : List (List ℕ)) (name : List ℕ) → list_any (bytes_eq name) table ≡ is
     → list_any (bytes_eq name) (cond is table (table ++ name ∷ [])) ≡ true
@@ -207,7 +203,7 @@ is_there_by true table name e = e
 is_there_by false table name e =
     list_any-append (bytes_eq name) table (name ∷ [])
     ∙ (ap (λ (b : Bool). list_any (bytes_eq name) table || (b || false)) ((bytes_eq-Decides name name).1 refl)
-    ∙ or_right _)
+    ∙ or-true _)
 
 -- a table has the name that was added to it
 is_there : (table : List (List ℕ)) (name : List ℕ) → list_any (bytes_eq name) (with_name table name) ≡ true

@@ -21,12 +21,12 @@ use Rattle.abs_parser.specs.Tokens.{Spot, TakesToken}
 use Rattle.abs_tree.specs.declared.source_error.SourceError.{SourceError}
 use Rattle.abs_tree.specs.declared.source_error.SourceError.TheVariants.{Refused, Memory}
 use Rattle.abs_parser.proofs.grammar.BeginningLemmas.{may_begin, first_kinds}
-use Rattle.abs_parser.proofs.grammar.DigitLemmas.{narrowed}
 use Rattle.abs_parser.proofs.grammar.FirstTokens.{begins_by_kind}
 use Rattle.abs_parser.proofs.reader.StepLemmas.{HasRead, opens, all_read, refused_inside, refused_first_token, refused_shut, next_is}
 use Rattle.abs_parser.proofs.grammar.PatternLemmas.{after_first, pattern_opened, any_opened, minus_opened, punctuator_shut, end_shut}
 use Rattle.abs_parser.proofs.grammar.AskedLemmas.{punctuator_fits}
 use Rattle.abs_parser.proofs.grammar.NonterminalLemmas.{part_shut}
+use Rattle.list_facts.proofs.DigitLemmas.{narrowed}
 
 -- the next token kind is the one that the token's lexeme and bytes give
 pub next_taken : {kind : Lexeme} {token : Lexed} {from to : Spot} → TakesKind kind token from to

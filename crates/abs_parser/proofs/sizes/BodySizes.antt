@@ -1,15 +1,11 @@
 -- The variables of each body of a source: no more than those of the source, so a bound on these holds for each body.
 use Rattle.std.proofs.Common.{◌≤◌, ℕ, ◌+◌, List, [], ◌∷◌, ◌++◌, length, arith}
-use Rattle.std.proofs.lemmas.List.Elements.{All-nil, All-cons, All-append}
+use Rattle.std.proofs.lemmas.List.Elements.{All-nil, All-append}
 use Rattle.std.specs.List.{All}
 use Rattle.abs_tree.specs.Syntax.{NoValue, Value, MemberTree, FieldTree, MethodTree, DeclTree, DataTree, FunctionTree, InterfaceTree, ClassTree, SourceTree}
 use Rattle.abs_tree.specs.SyntaxSizes.{expr_variables, statements_variables, field_variables, method_sizes, decl_sizes, body_sizes}
 use Rattle.abs_tree.specs.SourceSizes.{member_variables, decl_variables, all_variables}
-
--- the numbers of a list are within a bound if the first is and the others are
-pub within_cons : (bound n : ℕ) (others : List ℕ) → n ≤ bound → All (λ m. m ≤ bound) others
-    → All (λ m. m ≤ bound) (n ∷ others)
-within_cons bound n others here after = All-cons (λ m. m ≤ bound) n others here after
+use Rattle.list_facts.proofs.AllLemmas.{All-within_cons}
 
 -- the initial values of a class have no more variables than all its members together
 values_within : (members : List MemberTree) → field_variables members ≤ member_variables members
@@ -25,7 +21,8 @@ methods_within bound [] few = All-nil _
 methods_within bound (FieldTree type name NoValue ∷ others) few = methods_within bound others few
 methods_within bound (FieldTree type name (Value value) ∷ others) few = methods_within bound others (omega (arith, few))
 methods_within bound (MethodTree signature end body ∷ others) few =
-    within_cons bound (length signature.params + statements_variables body) (method_sizes others) (omega (arith, few))
+    All-within_cons bound (length signature.params + statements_variables body) (method_sizes others)
+    (omega (arith, few))
     (methods_within bound others (omega (arith, few)))
 
 -- a bound on the variables of all declarations holds for each of their bodies
@@ -34,14 +31,14 @@ decls_within : (bound : ℕ) (decls : List DeclTree) → decl_variables decls �
 decls_within bound [] few = All-nil _
 decls_within bound (DataTree place name parameters constructors ∷ others) few = decls_within bound others few
 decls_within bound (FunctionTree place type name parameters params value ∷ others) few =
-    within_cons bound (length params + expr_variables value) (decl_sizes others) (omega (arith, few))
+    All-within_cons bound (length params + expr_variables value) (decl_sizes others) (omega (arith, few))
     (decls_within bound others (omega (arith, few)))
 decls_within bound (InterfaceTree place name extended signatures ∷ others) few =
     decls_within bound others (omega (arith, few))
 decls_within bound (ClassTree place name params implemented members ∷ others) few =
     let methods = methods_within bound members (omega (arith, few)) in
     let after = decls_within bound others (omega (arith, few)) in
-    within_cons bound (field_variables members) (method_sizes members ++ decl_sizes others)
+    All-within_cons bound (field_variables members) (method_sizes members ++ decl_sizes others)
     (omega (arith, few, values_within members))
     (All-append (λ n. n ≤ bound) (method_sizes members) (decl_sizes others) methods after)
 
@@ -49,5 +46,5 @@ decls_within bound (ClassTree place name params implemented members ∷ others) 
 pub bodies_within : (bound : ℕ) (text : SourceTree) → all_variables text ≤ bound
     → All (λ n. n ≤ bound) (body_sizes text)
 bodies_within bound text few =
-    within_cons bound (statements_variables text.main) (decl_sizes text.declarations) (omega (arith, few))
+    All-within_cons bound (statements_variables text.main) (decl_sizes text.declarations) (omega (arith, few))
     (decls_within bound text.declarations (omega (arith, few)))

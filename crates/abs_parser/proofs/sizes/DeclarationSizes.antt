@@ -14,7 +14,8 @@ use Rattle.abs_parser.specs.TreesOf.{type_in, declared, param_in, more_params, p
 use Rattle.abs_parser.proofs.sizes.LeafLemmas.{leaves}
 use Rattle.abs_parser.proofs.sizes.ExprSizes.{expr_few}
 use Rattle.abs_parser.proofs.sizes.StatementSizes.{block_few}
-use Rattle.abs_parser.proofs.sizes.BodySizes.{within_cons, bodies_within}
+use Rattle.abs_parser.proofs.sizes.BodySizes.{bodies_within}
+use Rattle.list_facts.proofs.AllLemmas.{All-within_cons}
 
 -- a parameter before others adds no more parameters than its forest has leaves
 param_few : (forest : Forest) (others : List ParamTree)
@@ -159,7 +160,7 @@ class_by_few index bound (KeywordKind keyword.Interface) place
     (Leaf name _ (Node _ extended (Leaf opening _ (Node _ signatures _)))) others few after = after
 class_by_few index bound (KeywordKind keyword.Class) place
     (Leaf name _ (Node _ params (Node _ implemented (Leaf opening _ (Node _ members _))))) others few after =
-    within_cons bound (length (class_params_maybe params) + fields_among (members_in index members))
+    All-within_cons bound (length (class_params_maybe params) + fields_among (members_in index members))
     (decl_fields others)
     (omega (arith, few, class_params_few params, fields_few index members))
     after

@@ -3,9 +3,9 @@
 -- what completes the items after it. Items stay fine when parts open, since each alternative of the grammar passes a
 -- test. In it no item may continue with what completes the next ones. An item that may be the last continues only with
 -- tokens with which the nonterminal may continue.
-use Rattle.std.proofs.Common.{◌≡◌, ℕ, zero, suc, ◌+◌, Bool, true, false, not, ◌&&◌, ◌||◌, List, [], ◌∷◌, ◌++◌, Option, Some, None, cond, codes, refl, sym, ap, subst, ◌∙◌}
+use Rattle.std.proofs.Common.{◌≡◌, ℕ, zero, suc, ◌+◌, Bool, true, false, not, ◌&&◌, ◌||◌, List, [], ◌∷◌, ◌++◌, Option, Some, None, codes, refl, sym, ap, subst, ◌∙◌}
 use Rattle.std.specs.Prelude.{option_map, if◌then◌else◌}
-use Rattle.std.specs.List.{list_any, list_all, find}
+use Rattle.std.specs.List.{list_any, list_all}
 use Rattle.std.specs.Str.{bytes_eq}
 use Rattle.std.proofs.Math.Bool.{or-false}
 use Rattle.std.proofs.lemmas.Bool.{and_parts, or_parts, not-true}
@@ -22,6 +22,7 @@ use Rattle.abs_parser.specs.Productions.{Nonterminal, Program, Path, Constructor
 use Rattle.abs_parser.specs.Readings.{Goal, One, Optional, Repeated, Wanted, Terminal, Subgoal, place_item, place, inner_depth, opened}
 use Rattle.abs_parser.proofs.grammar.ReadingLemmas.{a_program}
 use Rattle.abs_parser.proofs.stop.MoveLemmas.{Moves, Stays, Takes, Opens}
+use Rattle.list_facts.proofs.FindLemmas.{find-list_all}
 
 -- a token at the start of the source
 abbrev token : Lexeme → List ℕ → Mark
@@ -429,28 +430,13 @@ items_fine last (item ∷ others) depth items e none fine =
     (λ kinds e. items_clear last others kinds depth items e none)
     (items_fine last others depth items parts.1 none fine)
 
--- An element found in a list passes a test that each element passes.
-found_passes : {A : Type 0} (wanted test : A → Bool) (xs : List A) (found : A) → find wanted xs ≡ Some found
-    → list_all test xs ≡ true → test found ≡ true
-found_passes wanted test [] found is e = absurd cc
-found_passes wanted test (x ∷ xs) found is e =
-    let parts = and_parts _ _ e in
-    go (wanted x) is parts.0 (λ is. found_passes wanted test xs found is parts.1)
-  where
-    go : (here : Bool) → cond here (Some x) (find wanted xs) ≡ Some found → test x ≡ true
-        → (find wanted xs ≡ Some found → test found ≡ true) → test found ≡ true
-    go true is passes further =
-        let same : x ≡ found = cc in
-        ap test (sym same) ∙ passes
-    go false is passes further = further is
-
 -- The chosen alternative passes the test.
 pub chosen_is_fine : (nonterminal : Nonterminal) (kind : TokenKind) (items : List Item)
     → chosen nonterminal kind ≡ Some items → items_are_fine (continues nonterminal) items ≡ true
 unfolding chosen
 chosen_is_fine nonterminal kind items e =
-    found_passes _ (λ (items : List Item). items_are_fine (continues nonterminal) items) (rule nonterminal) items e
-    (table_is_fine nonterminal)
+    find-list_all _ (λ (items : List Item). items_are_fine (continues nonterminal) items) (rule nonterminal) items
+    (table_is_fine nonterminal) e
 
 -- What a nonterminal opens to is fine where the nonterminal was.
 chosen_fine : (nonterminal : Nonterminal) (kind : TokenKind) (depth : ℕ) (alternative : Option (List Item))

@@ -2,9 +2,9 @@
 -- list and, at its first token, by opening parts until a token is wanted. That ends, since no nonterminal begins with
 -- itself. Each alternative reaches a token within a few rounds, and what follows that token is decided for the shorter
 -- list.
-use Rattle.std.proofs.Common.{◌≡◌, ◌≤◌, ◌<◌, ℕ, zero, suc, Bool, true, false, ◌&&◌, List, [], ◌∷◌, ◌++◌, ◌+◌, Option, Some, None, option_map, refl, sym, ap, subst, ◌∙◌}
+use Rattle.std.proofs.Common.{◌≡◌, ◌≤◌, ◌<◌, ℕ, zero, suc, Bool, true, false, ◌&&◌, List, [], ◌∷◌, ◌++◌, ◌+◌, Option, Some, None, option_map, refl, ap}
 use mathlib.Core.Logic.{◌⊎◌, inl, inr}
-use Rattle.std.specs.List.{list_all, find}
+use Rattle.std.specs.List.{list_all}
 use Rattle.std.proofs.lemmas.Bool.{cases_Bool, cases_lt, and_parts, cond-true, cond-false}
 use Rattle.abs_tree.specs.declared.refusal.Code.{Code}
 use Rattle.abs_tree.specs.declared.refusal.Code.TheVariants.{S1}
@@ -14,21 +14,7 @@ use Rattle.abs_parser.specs.Readings.{Goal, One, Optional, Repeated, Wanted, Ter
 use Rattle.abs_parser.specs.Stops.{limit}
 use Rattle.abs_parser.specs.Refusing.{Refuses, Beyond, Other, Below, Past, Shut, Open, Cut, AllWithin}
 use Rattle.abs_parser.proofs.grammar.ReadingLemmas.{WholeReading, part_closed, token_put}
-
--- An element found in a list passes each test that all elements pass.
-pub found_passes : {X : Type 0} (test passes : X → Bool) (list : List X) (one : X) → list_all passes list ≡ true
-    → find test list ≡ Some one → passes one ≡ true
-found_passes test passes [] one all e = cc
-found_passes test passes (x ∷ others) one all e =
-    at (cases_Bool (test x)) (and_parts (passes x) (list_all passes others) all) (found_passes test passes others one)
-  where
-    at : (test x ≡ true) ⊎ (test x ≡ false) → (passes x ≡ true) × (list_all passes others ≡ true)
-        → (list_all passes others ≡ true → find test others ≡ Some one → passes one ≡ true) → passes one ≡ true
-    at (inl is) each after =
-        let here : Some x ≡ Some one = sym (cond-true (test x) (Some x) (find test others) is) ∙ e in
-        let same : x ≡ one = cc in
-        subst (λ y. passes y ≡ true) same each.0
-    at (inr is_not) each after = after each.1 (sym (cond-false (test x) (Some x) (find test others) is_not) ∙ e)
+use Rattle.list_facts.proofs.FindLemmas.{find-list_all}
 
 -- whether an item reaches a token, given which nonterminals do, and whether the items after it do
 abbrev item_leads : (Nonterminal → Bool) → Item → Bool → Bool
@@ -147,7 +133,7 @@ module _ (mark : Mark) (ts : List Mark) (after : (items : List Wanted) → Decid
       go each None shut = refused _ _ (Shut (ap (option_map (place (inner_depth nonterminal depth))) shut) refl)
       go each (Some alternative) is =
           let deeper = inner_depth nonterminal depth in
-          let leads = found_passes _ (items_lead (leads_within rounds)) (rule nonterminal) alternative e is in
+          let leads = find-list_all _ (items_lead (leads_within rounds)) (rule nonterminal) alternative e is in
           let inside = at_alternative (leads_within rounds) each alternative leads deeper items in
           at_opened (One nonterminal) depth (place deeper alternative) items (ap (option_map (place deeper)) is) inside
 

@@ -11,8 +11,8 @@ use Rattle.abs_parser.specs.Productions.{Nonterminal, Program, Item, rule, begin
 use Rattle.abs_parser.specs.Readings.{Goal, One, Optional, Repeated, Wanted, Terminal, Subgoal, place, inner_depth, opened}
 use Rattle.abs_parser.specs.Refusing.{Refuses}
 use Rattle.abs_parser.proofs.stop.MoveLemmas.{Moves, Stays, Takes, Opens, Blocked, Refusal, AtToken, AtEnd, refusal}
-use Rattle.abs_parser.proofs.stop.DecisionLemmas.{found_passes}
 use Rattle.abs_parser.proofs.grammar.ReadingLemmas.{a_program}
+use Rattle.list_facts.proofs.FindLemmas.{find-list_all}
 
 -- whether the nonterminal is not the program
 abbrev is_inner : Nonterminal → Bool
@@ -69,7 +69,7 @@ inner_closed nonterminal kind depth items is closed = go (chosen nonterminal kin
     go None shut = tt
     go (Some alternative) e =
         let deeper = inner_depth nonterminal depth in
-        let without_end = found_passes _ (λ (row : List Item). list_all endless (place deeper row)) (rule nonterminal)
+        let without_end = find-list_all _ (λ (row : List Item). list_all endless (place deeper row)) (rule nonterminal)
         alternative (inner_endless nonterminal deeper is) e in
         endless_first (place deeper alternative) items without_end closed
 

@@ -12,8 +12,8 @@ use Rattle.run_history.specs.Turns.{IsInTurn}
 use Rattle.step_rules.specs.Runs.{run_of, EndsAs}
 use Rattle.abs_command.specs.Texts.{report_lines, end_text}
 use Rattle.abs_command.proofs.AnswerLemmas.{delivered, analysed_by}
-use Rattle.abs_command.proofs.ResultLemmas.{on_error}
 use Rattle.abs_command.proofs.command.answer_program.Goals as goal
+use Rattle.list_facts.proofs.ResultLemmas.{OnErr-always}
 
 pub returns-in_default-clause-answered : goal.returns-in_default-clause-answered
 returns-in_default-clause-answered g c = λ words bytes source source' named accepted.
@@ -32,7 +32,7 @@ returns-in_default-clause-answered g c = λ words bytes source source' named acc
 
 pub returns-in_err-config-clause-exhausted : goal.returns-in_err-config-clause-exhausted
 returns-in_err-config-clause-exhausted g c =
-    on_error c.from_residual-in_err-config.result (λ words bytes named accepted.
+    OnErr-always c.from_residual-in_err-config.result (λ words bytes named accepted.
     report named (program_tree c.args.program.now) accepted
     (subst (Appends (g.K.Sink.written c.args.sink.now) (g.K.Sink.written c.write_all.new.sink))
     (c.as_bytes.ensures ∙ (c.in_ok-text.ensures ∙ ap report_lines c.analyse-analysis.ensures))
@@ -40,7 +40,7 @@ returns-in_err-config-clause-exhausted g c =
 
 pub returns-in_err-text-2-clause-exhausted : goal.returns-in_err-text-2-clause-exhausted
 returns-in_err-text-2-clause-exhausted g c =
-    on_error c.from_residual-in_err-text-2.result (λ words bytes named accepted.
+    OnErr-always c.from_residual-in_err-text-2.result (λ words bytes named accepted.
     report named (program_tree c.args.program.now) accepted
     (subst (Appends (g.K.Sink.written c.args.sink.now) (g.K.Sink.written c.write_all.new.sink))
     (c.as_bytes.ensures ∙ (c.in_ok-text.ensures ∙ ap report_lines c.analyse-analysis.ensures))

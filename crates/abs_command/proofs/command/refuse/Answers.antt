@@ -1,8 +1,9 @@
 use Rattle.std.proofs.Common.{◌∙◌, ap, []}
 use Rattle.std.specs.Prelude.{Some}
 use Rattle.abs_command.specs.Ways.CameTo.{refused}
-use Rattle.abs_command.proofs.AnswerLemmas.{appends_nothing, delivered}
+use Rattle.abs_command.proofs.AnswerLemmas.{delivered}
 use Rattle.abs_command.proofs.command.refuse.Goals as goal
+use Rattle.list_facts.proofs.StreamLemmas.{Appends-nothing}
 
 pub returns-clause-answered : goal.returns-clause-answered
 returns-clause-answered g c = λ words bytes source source' named small first.
@@ -16,4 +17,4 @@ returns-clause-answered g c = λ words bytes source source' named small first.
       fields = c.before_analysis-ended.ensures.fields;
       status = ap Some c.before_analysis-ended.ensures.status;
       printed = c.as_bytes.ensures ∙ c.in_ok-text.ensures;
-    })) (appends_nothing _) c.deliver.ensures.delivered (λ rose. rose)
+    })) (Appends-nothing _) c.deliver.ensures.delivered (λ rose. rose)

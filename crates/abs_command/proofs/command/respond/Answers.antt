@@ -4,11 +4,12 @@ use Rattle.abs_command.specs.Promises.Answer.{whole, exhausted}
 use Rattle.abs_command.specs.Ways.CameTo.{misused, unread}
 use Rattle.abs_command.specs.Statuses.{WasRead}
 use Rattle.abs_command.specs.Taking.{TookWhole}
-use Rattle.abs_command.proofs.AnswerLemmas.{appends_nothing, delivered}
-use Rattle.abs_command.proofs.ResultLemmas.{ok_follows, error_follows}
+use Rattle.abs_command.proofs.AnswerLemmas.{delivered}
 use Rattle.abs_command.proofs.PromiseLemmas.{promised}
 use Rattle.abs_command.proofs.TakingLemmas.{read_whole, some_taken, read_in_part, nothing_read}
 use Rattle.abs_command.proofs.command.respond.Goals as goal
+use Rattle.list_facts.proofs.StreamLemmas.{Appends-nothing}
+use Rattle.std.proofs.lemmas.Result.{IfOk-weaker, on_err_weaker}
 
 pub returns-in_default-clause-promises : goal.returns-in_default-clause-promises
 returns-in_default-clause-promises g c = promised _ [] _ _ _ _ _ (nothing_read _ _ _ c.in_default.ensures.none)
@@ -18,28 +19,28 @@ returns-in_default-clause-promises g c = promised _ [] _ _ _ _ _ (nothing_read _
       fields = c.before_analysis-ended.ensures.fields;
       status = ap Some c.before_analysis-ended.ensures.status;
       printed = c.as_bytes.ensures.value;
-    })) (appends_nothing _) c.deliver.ensures.delivered (λ rose. rose))
+    })) (Appends-nothing _) c.deliver.ensures.delivered (λ rose. rose))
 
 pub returns-in-Ok-clause-promises : goal.returns-in-Ok-clause-promises
 returns-in-Ok-clause-promises g c =
     let took = subst (λ (bytes : List ℕ).
     TookWhole (g.S.Source.under c.args.source.now c.in-Some.file.now) (g.S.Source.left c.take.new.source) bytes)
     (sym c.as_slice.ensures.value) c.in-Ok.ensures.took in
-    ok_follows c.answer.result c.answer.ensures.answered (λ ended answer. promised _ c.as_slice.result.now _ _ _ _ ended
+    IfOk-weaker c.answer.result _ _ (λ ended answer. promised _ c.as_slice.result.now _ _ _ _ ended
     (read_whole _ _ _ c.in-Some.file.now c.as_slice.result.now ended.status c.in-Some.ensures.some took
     c.in-Ok.ensures.missing c.in-Ok.ensures.same_names)
-    (answer _ _ _ (c.in-Some.file.now, c.in-Some.ensures.some)))
+    (answer _ _ _ (c.in-Some.file.now, c.in-Some.ensures.some))) c.answer.ensures.answered
 
 pub returns-in-Ok-clause-exhausted : goal.returns-in-Ok-clause-exhausted
 returns-in-Ok-clause-exhausted g c =
     let took = subst (λ (bytes : List ℕ).
     TookWhole (g.S.Source.under c.args.source.now c.in-Some.file.now) (g.S.Source.left c.take.new.source) bytes)
     (sym c.as_slice.ensures.value) c.in-Ok.ensures.took in
-    error_follows c.answer.result c.answer.ensures.exhausted
+    on_err_weaker c.answer.result
     (λ written ended is. promised _ c.as_slice.result.now _ _ _ _ ended
     (read_whole _ _ _ c.in-Some.file.now c.as_slice.result.now ended.status c.in-Some.ensures.some took
     c.in-Ok.ensures.missing c.in-Ok.ensures.same_names)
-    (exhausted is (written _ (c.in-Some.file.now, c.in-Some.ensures.some))))
+    (exhausted is (written _ (c.in-Some.file.now, c.in-Some.ensures.some)))) c.answer.ensures.exhausted
 
 pub returns-in-Err-Failed-clause-promises : goal.returns-in-Err-Failed-clause-promises
 returns-in-Err-Failed-clause-promises g c =
@@ -55,4 +56,4 @@ returns-in-Err-Failed-clause-promises g c =
       fields = c.before_analysis.ensures.fields;
       status = ap Some c.before_analysis.ensures.status;
       printed = refl;
-    })) (appends_nothing _))
+    })) (Appends-nothing _))

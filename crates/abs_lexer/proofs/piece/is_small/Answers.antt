@@ -1,6 +1,6 @@
 use Rattle.std.proofs.Common.{◌∙◌, arith}
-use Rattle.abs_lexer.proofs.NumberLemmas.{IsUtf8-digits, parses_small, few_are_small}
 use Rattle.abs_lexer.proofs.piece.is_small.Goals as goal
+use Rattle.list_facts.proofs.DigitLemmas.{IsUtf8-digits, parses_small, few_are_small}
 
 pub returns-then-digits-le-SURELY_SMALL : goal.returns-then-digits-le-SURELY_SMALL
 returns-then-digits-le-SURELY_SMALL c = few_are_small c.args.digits.now c.requires.digits (omega arith)

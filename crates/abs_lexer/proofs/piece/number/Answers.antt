@@ -1,6 +1,6 @@
 use Rattle.std.specs.Char.{is_ascii_digit}
-use Rattle.abs_lexer.proofs.RunLemmas.{run_passes}
 use Rattle.abs_lexer.proofs.piece.number.Goals as goal
+use Rattle.list_facts.proofs.PrefixLemmas.{run_passes}
 
 pub is_small-requires-clause-digits : goal.is_small-requires-clause-digits
 is_small-requires-clause-digits c =

@@ -1,7 +1,7 @@
 use Rattle.std.proofs.Common.{rules}
-use Rattle.abs_lexer.proofs.NumberLemmas.{IsUtf8-digits}
 use Rattle.abs_parser.proofs.grammar.DigitLemmas.{numeral_of}
 use Rattle.abs_parser.proofs.literals.numeral.Goals as goal
+use Rattle.list_facts.proofs.DigitLemmas.{IsUtf8-digits}
 
 pub unreachable-requires : goal.unreachable-requires
 unreachable-requires c =

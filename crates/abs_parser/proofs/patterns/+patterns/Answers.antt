@@ -9,7 +9,7 @@ use Rattle.abs_parser.specs.TreesOf.{patterns_maybe}
 use Rattle.abs_parser.specs.Productions.{Pattern, PatternArguments}
 use Rattle.abs_parser.specs.Views.{spot}
 use Rattle.abs_parser.proofs.grammar.BeginningLemmas.{keywords_do_not}
-use Rattle.abs_parser.proofs.grammar.DigitLemmas.{number_digits, number_fits, narrowed}
+use Rattle.abs_parser.proofs.grammar.DigitLemmas.{number_digits, number_fits}
 use Rattle.abs_parser.proofs.reader.ListLemmas.{list_of_patterns, trees_of_patterns, pattern_arguments}
 use Rattle.abs_parser.proofs.reader.ListSteps.{first_so_far, next_so_far, all_so_far, refused_first, refused_next, maybe_found, refused_between, parentheses_left_out, parenthesis_read_maybe, nothing_between}
 use Rattle.abs_parser.proofs.reader.ResultLemmas.{passed_on}
@@ -21,6 +21,7 @@ use Rattle.abs_parser.proofs.grammar.PatternLemmas.{constructor_opened, binds_tr
 use Rattle.abs_parser.proofs.reader.PatternSteps.{pattern_begins, refused_at_end, refused_pattern, refused_no_pattern}
 use Rattle.abs_parser.proofs.reader.PrimarySteps.{stands}
 use Rattle.abs_parser.proofs.patterns.+patterns.Goals as goal
+use Rattle.list_facts.proofs.DigitLemmas.{narrowed}
 
 pub pattern-returns-in_default : goal.pattern-returns-in_default
 pattern-returns-in_default t c =

@@ -1,7 +1,8 @@
 use Rattle.std.proofs.Common.{eq-eqb}
-use Rattle.check_obj.proofs.PickedLemmas.{added_other, added_picked, differ}
+use Rattle.check_obj.proofs.PickedLemmas.{added_other, added_picked}
 use Rattle.check_obj.proofs.calls.add_own.Goals as goal
 use Rattle.check_obj.proofs.calls.add_own.Goals.{then-at-own+in_ok-add_at, else-at-own}
+use Rattle.std.proofs.lemmas.Bool.{ne_eqb}
 
 pub loop-at-preserved : goal.loop-at-preserved
 loop-at-preserved c = elim c.if-at-own.branch [
@@ -12,5 +13,5 @@ loop-at-preserved c = elim c.if-at-own.branch [
   | else-at-own w ↦
       rw w.found-is
       (added_other (record { interface = 0; index = 0 }) c.loop-at.invariant c.loop-at-test.true
-      (differ _ _ w.if-at-own.false))
+      (ne_eqb _ _ w.if-at-own.false))
 ]

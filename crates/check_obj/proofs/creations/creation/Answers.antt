@@ -2,8 +2,9 @@ use Rattle.std.proofs.Common.{refl}
 use Rattle.abs_tree.specs.Names.{name_of}
 use Rattle.abs_types.specs.SideTypes.{new_type}
 use Rattle.check_fun.proofs.ContextLemmas.{finds_stays, knows_stays, stays_transitive}
-use Rattle.check_obj.proofs.CreationLemmas.{given_found, given_own, given_noted, given_unoffending, none_given}
+use Rattle.check_obj.proofs.CreationLemmas.{given_found, given_noted, given_unoffending, none_given}
 use Rattle.check_obj.proofs.creations.creation.Goals as goal
+use Rattle.check_fun.proofs.FoundLemmas.{finds_all_own}
 
 pub returns-in_default-clause-found : goal.returns-in_default-clause-found
 returns-in_default-clause-found c context knows =
@@ -45,6 +46,6 @@ returns-clause-stays c =
 pub returns-clause-there : goal.returns-clause-there
 returns-clause-there c =
     let found = c.in_ok-given.ensures.found _ (record { is = refl }) in
-    let given = given_own (rw c.as_slice.ensures.value (rw c.in-Some.is at found.found_are)) in
+    let given = finds_all_own (rw c.as_slice.ensures.value (rw c.in-Some.is at found.found_are)) in
     (finds_stays c.note_untyped.ensures.stays
     (c.in_ok-found.ensures.found _ _ (record { is = refl }) given)).found_is

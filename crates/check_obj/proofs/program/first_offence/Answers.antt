@@ -1,10 +1,10 @@
 use Rattle.std.proofs.Common.{false}
 use Rattle.abs_program.specs.NamedViews.{named_tree}
 use Rattle.abs_tree.specs.SyntaxViews.{statements}
-use Rattle.abs_types.proofs.KeepLemmas.{keeps_transitive}
+use Rattle.abs_types.proofs.KeepLemmas.{keeps_transitive, declarations_kept}
 use Rattle.abs_types.specs.StatementOffences.{statements_offences}
 use Rattle.abs_types.specs.TypeOffences.{main_frame}
-use Rattle.check_obj.proofs.ProgramLemmas.{all_noted, noted_there, program_known, rows_kept, same_declarations, same_names}
+use Rattle.check_obj.proofs.ProgramLemmas.{all_noted, noted_there, program_known, rows_kept, same_names}
 use Rattle.check_obj.proofs.program.first_offence.Goals as goal
 
 pub classes-requires : goal.classes-requires
@@ -32,5 +32,5 @@ returns c =
     (λ names declarations. statements_offences declarations (main_frame (statements names main)) false
     (statements names main)) to_classes c.in_ok-main_block.ensures.noted in
     all_noted (named_tree c.args.program.now) c.new-checker.ensures.first of_functions
-    (rw (c.method_rows.ensures.first, same_declarations to_rows, known.1) at of_interfaces)
-    (rw (same_declarations to_interfaces, known.1) at of_classes) (rw (known.1, known.0) at of_main)
+    (rw (c.method_rows.ensures.first, declarations_kept to_rows, known.1) at of_interfaces)
+    (rw (declarations_kept to_interfaces, known.1) at of_classes) (rw (known.1, known.0) at of_main)

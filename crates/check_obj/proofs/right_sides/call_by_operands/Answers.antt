@@ -1,10 +1,10 @@
 use Rattle.std.proofs.Common.{refl}
 use Rattle.std.proofs.lemmas.Result.{on_ok_weaker, IfOk-weaker}
 use Rattle.check_fun.proofs.ContextLemmas.{finds_stays, found_stays, knows_stays, noted_after, stays_transitive}
-use Rattle.check_fun.proofs.ExprLemmas.{exprs_counted}
 use Rattle.check_fun.specs.Contexts.{Stays}
 use Rattle.check_obj.proofs.SideLemmas.{found_count, found_there}
 use Rattle.check_obj.proofs.right_sides.call_by_operands.Goals as goal
+use Rattle.abs_tree.proofs.FormLemmas.{exprs_counted}
 
 pub call-requires-clause-receiver : goal.call-requires-clause-receiver
 call-requires-clause-receiver c =

@@ -3,10 +3,10 @@ use Rattle.std.proofs.lemmas.Result.{on_ok_weaker, IfOk-weaker}
 use Rattle.abs_tree.specs.Names.{name_of}
 use Rattle.abs_tree.specs.declared.refusal.Code.TheVariants.{T2}
 use Rattle.check_fun.proofs.ContextLemmas.{finds_all_stays, finds_stays, found_all_stays, found_stays, knows_stays, stays_transitive}
-use Rattle.check_fun.proofs.ExprLemmas.{exprs_counted}
 use Rattle.check_fun.specs.Contexts.{Stays}
 use Rattle.check_obj.proofs.SideLemmas.{found_count, found_there, noted_missing, own_noted}
 use Rattle.check_obj.proofs.right_sides.own_call.Goals as goal
+use Rattle.abs_tree.proofs.FormLemmas.{exprs_counted}
 
 pub call-requires-clause-receiver : goal.call-requires-clause-receiver
 call-requires-clause-receiver c =

@@ -2,8 +2,8 @@ use Rattle.std.proofs.Common.{ap, ◌∙◌}
 use Rattle.std.specs.declared.alloc.Global.{Global}
 use Rattle.std.specs.declared.vec.Vec.{Vec}
 use Rattle.abs_tree.specs.declared.syntax.expression.Expr.{Expr}
-use Rattle.check_fun.proofs.ExprLemmas.{own_call_tree}
 use Rattle.check_obj.proofs.right_sides.whole.Goals as goal
+use Rattle.abs_tree.proofs.FormLemmas.{own_call_tree}
 
 pub returns-in-OwnCall-clause-found : goal.returns-in-OwnCall-clause-found
 returns-in-OwnCall-clause-found c context knows =

@@ -10,12 +10,13 @@ use Rattle.check_fun.proofs.FoundLemmas.{keeps_same, knows_own}
 use Rattle.check_fun.proofs.StepLemmas.{noted_between}
 use Rattle.check_fun.specs.Contexts.{Knows, Stays}
 use Rattle.check_obj.proofs.BlockLemmas.{after_other, block_noted, block_stays, block_step, is_end, undoes_stays}
-use Rattle.check_obj.proofs.ResultLemmas.{passed_anyway, passed_noted, passed_stays}
-use Rattle.check_obj.proofs.TreeLemmas.{block_tree, if_tree, while_tree}
+use Rattle.check_obj.proofs.ResultLemmas.{passed_noted, passed_stays}
 use Rattle.check_obj.specs.Bodies.{statements_offend, unbound}
 use Rattle.check_obj.specs.Endings.{IsFilled}
 use Rattle.check_obj.proofs.statements.+statements.Goals as goal
 use Rattle.check_obj.proofs.statements.+statements.Goals.{statements-then-is_last, statements-else-is_last, statements-then-is_last-2, statements-else-is_last-2}
+use Rattle.list_facts.proofs.ResultLemmas.{OnOk-always}
+use Rattle.abs_tree.proofs.StatementLemmas.{block_tree, if_tree-value, while_tree-value}
 
 pub if_else-returns-in-Some-clause-noted : goal.if_else-returns-in-Some-clause-noted
 if_else-returns-in-Some-clause-noted t c context knows =
@@ -62,14 +63,14 @@ other_statement-returns-in-Block-clause-noted t c context knows =
 pub other_statement-returns-in-If-clause-noted : goal.other_statement-returns-in-If-clause-noted
 other_statement-returns-in-If-clause-noted t c context knows =
     let form = c.in-If in
-    rw (if_tree context.names c.args.stmt.now form.index form.place form.condition form.first form.second
+    rw (if_tree-value context.names c.args.stmt.now form.index form.place form.condition form.first form.second
     c.deref-in-If.result.now c.deref-in-If-2.result.now form.is c.deref-in-If.ensures c.deref-in-If-2.ensures.value)
     (c.if_else.ensures.noted context knows)
 
 pub other_statement-returns-in-While-clause-noted : goal.other_statement-returns-in-While-clause-noted
 other_statement-returns-in-While-clause-noted t c context knows =
     let form = c.in-While in
-    rw (while_tree context.names c.args.stmt.now form.index form.place form.condition form.body
+    rw (while_tree-value context.names c.args.stmt.now form.index form.place form.condition form.body
     c.deref-in-While.result.now c.deref-in-While-2.result.now form.is c.deref-in-While.ensures
     c.deref-in-While-2.ensures.value) (c.while_do.ensures.noted context knows)
 
@@ -87,7 +88,7 @@ statement-returns-in_ok-initial_value-in-Declare-clause-noted t c context knows 
     let noted = c.in_ok-initial_value-in-Declare.ensures.noted context _ (knows_stays c.written.ensures.stays knows)
     (c.in_ok-declared-in-Declare.ensures.found (unbound context) knows) in
     rw c.in-Declare.is
-    (passed_anyway c.show.result (noted_between c.written.ensures.first noted c.show.ensures.first))
+    (OnOk-always c.show.result (noted_between c.written.ensures.first noted c.show.ensures.first))
 
 pub statement-returns-in_ok-initial_value-in-Declare-clause-undoes
     : goal.statement-returns-in_ok-initial_value-in-Declare-clause-undoes
@@ -98,7 +99,7 @@ statement-returns-in_ok-initial_value-in-Declare-clause-undoes t c slots undoes 
 pub statement-returns-in_ok-initial_value-in-Declare-clause-keeps
     : goal.statement-returns-in_ok-initial_value-in-Declare-clause-keeps
 statement-returns-in_ok-initial_value-in-Declare-clause-keeps t c =
-    passed_anyway c.show.result (keeps_transitive c.written.ensures.stays.keeps
+    OnOk-always c.show.result (keeps_transitive c.written.ensures.stays.keeps
     (keeps_transitive c.in_ok-initial_value-in-Declare.ensures.stays.keeps (keeps_same c.show.ensures.table)))
 
 pub statement-returns-in_default : goal.statement-returns-in_default

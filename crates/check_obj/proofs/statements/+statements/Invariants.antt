@@ -1,8 +1,9 @@
 use Rattle.std.proofs.Common.{◌+◌, ◌*◌, max}
 use denote.Param.Weighed.{most}
 use Rattle.abs_tree.specs.declared.syntax.statement.Stmt.{size-Stmt}
-use Rattle.check_obj.proofs.BlockLemmas.{branch_size, BlockSoFar}
+use Rattle.check_obj.proofs.BlockLemmas.{BlockSoFar}
 use Rattle.check_obj.proofs.statements.+statements.Given as goal
+use Rattle.abs_tree.proofs.StatementLemmas.{branch_size}
 
 -- The measure of each function is four times the depth of what it checks, and a rank of less than four: that of a
 -- function which passes all of it on is the greater.

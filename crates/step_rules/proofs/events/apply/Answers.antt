@@ -8,9 +8,10 @@ use Rattle.config_state.specs.ConfigViews.{configuration}
 use Rattle.config_state.specs.OfProgram.{IsConfigOf}
 use Rattle.config_state.specs.declared.config.Config.{Config}
 use Rattle.step_rules.proofs.EventMemoryLemmas.{memory_by_plan, memory_by_output}
-use Rattle.step_rules.proofs.EventPlanLemmas.{plan_parts, change_there, same_change, planned_change, after_event, lines_of_event, formed_after, known_after, either_way}
+use Rattle.step_rules.proofs.EventPlanLemmas.{plan_parts, change_there, same_change, planned_change, after_event, lines_of_event, formed_after, known_after}
 use Rattle.step_rules.specs.Changes.{Change}
 use Rattle.step_rules.proofs.events.apply.Goals as goal
+use Rattle.list_facts.proofs.ResultLemmas.{OnOk-or_OnErr}
 
 pub unreachable-requires : goal.unreachable-requires
 unreachable-requires c =
@@ -89,7 +90,7 @@ returns-clause-of_program c =
     let config = configuration names c.args.config.now in
     let event = planned_change program config c.args.task c.requires.has_step (results_tree c.args.values)
     c.requires.is_output names c.in-Some.plan (rw c.in-Some.is at c.in_ok-plan.ensures.plan) in
-    either_way c.install.result c.install.ensures.config c.install.ensures.err_config
+    OnOk-or_OnErr c.install.result c.install.ensures.config c.install.ensures.err_config
     (λ placed. ∥∥₁_map₂ c.args.program.now.is_whole c.requires.of_program (λ whole known.
     subst (IsConfigOf program) (sym (placed names event.0 event.2))
     (known_after program config c.args.task event.0 event.1 whole known)))

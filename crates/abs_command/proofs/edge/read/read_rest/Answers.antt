@@ -1,8 +1,8 @@
 use Rattle.std.proofs.Common.{◌++◌, take, arith, length-take-le}
 use Rattle.std.proofs.lemmas.Grind.{common_steps}
 use Rattle.std.proofs.lemmas.Result.{err_from_is_err_and}
-use Rattle.abs_command.proofs.ByteLemmas.{Consumes-then}
 use Rattle.abs_command.proofs.edge.read.read_rest.Goals as goal
+use Rattle.list_facts.proofs.StreamLemmas.{Consumes-then}
 
 -- What was read before memory ran out was taken too.
 pub returns-in_err-extend_from_slice-clause-some :

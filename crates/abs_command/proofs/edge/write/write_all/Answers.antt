@@ -1,6 +1,6 @@
 use Rattle.std.proofs.Common.{◌++◌, take, arith}
-use Rattle.abs_command.proofs.ByteLemmas.{Appends-then, front-moves}
 use Rattle.abs_command.proofs.edge.write.write_all.Goals as goal
+use Rattle.list_facts.proofs.StreamLemmas.{Appends-then, front-moves}
 
 pub loop-rest-preserved : goal.loop-rest-preserved
 loop-rest-preserved g c =

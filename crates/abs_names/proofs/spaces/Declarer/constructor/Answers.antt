@@ -3,8 +3,8 @@ use Rattle.abs_tree.specs.Names.{name_of}
 use Rattle.abs_program.specs.Tables.{with_first}
 use Rattle.abs_program.specs.declared.name_spaces.Taking.{Taking}
 use Rattle.abs_names.specs.TypeNames.{Around}
-use Rattle.abs_names.proofs.SpaceLemmas.{count_of_types}
 use Rattle.abs_names.proofs.spaces.Declarer.constructor.Goals as goal
+use Rattle.abs_names.proofs.TypeLemmas.{types_counted}
 
 pub returns-clause-around : goal.returns-clause-around
 returns-clause-around c =
@@ -20,4 +20,4 @@ returns-clause-around c =
     c.in_ok-taken.ensures.around
     ∙ ap around (c.in_ok-taking.ensures
     ∙ ap (λ (n : ℕ). record { declaration = c.args.owner; arity = n })
-    (omega (arith, c.len.ensures, count_of_types names constructor.types.items)))
+    (omega (arith, c.len.ensures, types_counted names constructor.types.items)))

@@ -6,13 +6,14 @@ use Rattle.abs_tree.specs.Names.{name_of}
 use Rattle.abs_tree.specs.SyntaxViews.{pattern_tree, variable_tree}
 use Rattle.abs_names.specs.TypeNames.{function_taking, constructor_taking}
 use Rattle.abs_names.specs.Visible.{Visible}
-use Rattle.abs_names.proofs.FormLemmas.{operators_tree, operators_found, case_tree, case_found, own_call_tree, own_call_found, apply_tree, apply_found, build_tree, build_found, exprs_noted, in_scope, kept_in}
+use Rattle.abs_names.proofs.FormLemmas.{operators_found, case_found, own_call_found, apply_found, build_found, exprs_noted, in_scope, kept_in}
 use Rattle.abs_names.specs.Scopes.{next_bound}
 use Rattle.abs_names.proofs.LeaveLemmas.{Within, within_variable, within_pattern, left_is}
 use Rattle.abs_names.proofs.LoopLemmas.{all_done}
 use Rattle.abs_names.proofs.RowLemmas.{exprs_step, operands_step, branches_step}
-use Rattle.abs_names.proofs.TreeLemmas.{exprs_all, operands_all, branches_all}
 use Rattle.abs_names.proofs.walk.Walk.+expressions.Goals as goal
+use Rattle.abs_tree.proofs.FormLemmas.{operators_tree, case_tree, own_call_tree, apply_tree, build_tree}
+use Rattle.abs_tree.proofs.TreeLemmas.{exprs_all, operands_all, branches_all}
 
 pub expressions-loop-expr-preserved : goal.expressions-loop-expr-preserved
 expressions-loop-expr-preserved t c =

@@ -5,8 +5,9 @@ use Rattle.abs_names.specs.Scopes.{patterns_scope}
 use Rattle.abs_names.specs.TypeNames.{constructor_taking}
 use Rattle.abs_names.specs.Visible.{Visible}
 use Rattle.abs_names.proofs.FormLemmas.{in_scope, kept_in}
-use Rattle.abs_names.proofs.PatternLemmas.{patterns_step, patterns_done, built_tree, built_found, built_noted}
+use Rattle.abs_names.proofs.PatternLemmas.{patterns_step, patterns_done, built_found, built_noted}
 use Rattle.abs_names.proofs.walk.Walk.+patterns.Goals as goal
+use Rattle.abs_tree.proofs.FormLemmas.{built_tree}
 
 pub patterns-loop-part-preserved : goal.patterns-loop-part-preserved
 patterns-loop-part-preserved t c =

@@ -1,5 +1,5 @@
 use Rattle.std.proofs.Common.{◌≡◌, ◌∙◌, ◌++◌, ◌+◌, ◌*◌, arith, refl, sym, ap, subst, length, fold}
-use Rattle.abs_tree.proofs.StatementLemmas.{statement-block}
+use Rattle.abs_tree.proofs.StatementLemmas.{statement-block, branch_size, block_tree, while_tree-value, if_tree-value}
 use Rattle.abs_tree.specs.Offences.{earlier}
 use Rattle.abs_program.specs.Slots.{statement_slots}
 use Rattle.std.specs.Prelude.{Option}
@@ -10,8 +10,8 @@ use Rattle.abs_tree.specs.SyntaxViews.{statement}
 use Rattle.abs_tree.specs.declared.syntax.statement.Stmt.{Stmt}
 use Rattle.abs_names.specs.NameOffences.{statement_offences}
 use Rattle.abs_names.specs.Resolution.{resolved_statement}
-use Rattle.abs_names.proofs.BlockLemmas.{branch_size, block_step, block_done, slots_done}
-use Rattle.abs_names.proofs.ControlLemmas.{block_tree, while_tree, while_found, while_noted, slots_of_tree, if_tree, if_found, if_noted, if_slots, slots_after}
+use Rattle.abs_names.proofs.BlockLemmas.{block_step, block_done, slots_done}
+use Rattle.abs_names.proofs.ControlLemmas.{while_found, while_noted, slots_of_tree, if_found, if_noted, if_slots, slots_after}
 use Rattle.abs_names.proofs.LeaveLemmas.{left_is}
 use Rattle.abs_names.proofs.walk.Walk.+statements.Goals as goal
 
@@ -79,7 +79,8 @@ statement-returns-in_ok-block-in-While-clause-found t c =
     while_found start c.shared-in-While.new.self.scope (length c.args.slots.now.items.items)
     (statement start.names.before c.args.stmt.now) form.index form.place c.in_ok-shared-in-While.field-0
     c.in_ok-block-in-While.field-0 value items
-    (while_tree start.names.before c.args.stmt.now form.index form.place form.condition form.body value items form.is
+    (while_tree-value start.names.before c.args.stmt.now form.index form.place form.condition form.body value items
+    form.is
     c.deref-in-While.ensures c.deref-in-While-2.ensures.value)
     c.in_ok-shared-in-While.ensures.scope c.in_ok-shared-in-While.ensures.found c.in_ok-block-in-While.ensures.found
 
@@ -93,7 +94,8 @@ statement-returns-in_ok-block-in-While-clause-noted t c =
     while_noted start c.shared-in-While.new.self.scope (length c.args.slots.now.items.items)
     (statement start.names.before c.args.stmt.now) form.index form.place value items c.args.self.now.first
     c.shared-in-While.new.self.first c.block-in-While.new.self.first
-    (while_tree start.names.before c.args.stmt.now form.index form.place form.condition form.body value items form.is
+    (while_tree-value start.names.before c.args.stmt.now form.index form.place form.condition form.body value items
+    form.is
     c.deref-in-While.ensures c.deref-in-While-2.ensures.value)
     c.in_ok-shared-in-While.ensures.scope c.in_ok-shared-in-While.ensures.noted c.in_ok-block-in-While.ensures.noted
 
@@ -106,7 +108,7 @@ statement-returns-in_ok-block-in-While-clause-slots t c =
     let items = c.deref-in-While-2.result.now in
     slots_of_tree start c.shared-in-While.new.self.scope (statement start.names.before c.args.stmt.now) items
     c.args.slots.now.items.items c.block-in-While.new.slots.items.items
-    (ap statement_slots (while_tree start.names.before c.args.stmt.now form.index form.place form.condition
+    (ap statement_slots (while_tree-value start.names.before c.args.stmt.now form.index form.place form.condition
     form.body value items form.is c.deref-in-While.ensures c.deref-in-While-2.ensures.value))
     c.in_ok-shared-in-While.ensures.scope c.in_ok-block-in-While.ensures.slots
 
@@ -124,7 +126,7 @@ statement-returns-in_ok-maybe_block-in-If-clause-found t c =
     if_found start c.shared.new.self.scope c.block-in-If.new.self.scope (length c.args.slots.now.items.items)
     (length c.block-in-If.new.slots.items.items) (statement start.names.before c.args.stmt.now) form.index form.place
     c.in_ok-shared-in-If.field-0 c.in_ok-block-in-If.field-0 c.in_ok-maybe_block-in-If.field-0 value items form.second
-    (if_tree start.names.before c.args.stmt.now form.index form.place form.condition form.first form.second value
+    (if_tree-value start.names.before c.args.stmt.now form.index form.place form.condition form.first form.second value
     items form.is c.deref-in-If.ensures c.deref-in-If-2.ensures.value)
     c.in_ok-shared-in-If.ensures.scope (c.in_ok-block-in-If.ensures.scope ∙ c.in_ok-shared-in-If.ensures.scope)
     (slots_after start c.shared.new.self.scope items c.args.slots.now.items.items
@@ -141,7 +143,7 @@ statement-returns-in_ok-maybe_block-in-If-clause-noted t c =
     (length c.block-in-If.new.slots.items.items) (statement start.names.before c.args.stmt.now) form.index
     form.place value items form.second c.args.self.now.first c.shared.new.self.first c.block-in-If.new.self.first
     c.maybe_block.new.self.first
-    (if_tree start.names.before c.args.stmt.now form.index form.place form.condition form.first form.second value
+    (if_tree-value start.names.before c.args.stmt.now form.index form.place form.condition form.first form.second value
     items form.is c.deref-in-If.ensures c.deref-in-If-2.ensures.value)
     c.in_ok-shared-in-If.ensures.scope (c.in_ok-block-in-If.ensures.scope ∙ c.in_ok-shared-in-If.ensures.scope)
     (slots_after start c.shared.new.self.scope items c.args.slots.now.items.items
@@ -157,7 +159,8 @@ statement-returns-in_ok-maybe_block-in-If-clause-slots t c =
     if_slots start c.shared.new.self.scope c.block-in-If.new.self.scope
     (statement start.names.before c.args.stmt.now) items
     form.second c.args.slots.now.items.items c.block-in-If.new.slots.items.items c.maybe_block.new.slots.items.items
-    (ap statement_slots (if_tree start.names.before c.args.stmt.now form.index form.place form.condition form.first
+    (ap statement_slots (if_tree-value start.names.before c.args.stmt.now form.index form.place form.condition
+    form.first
     form.second value items form.is c.deref-in-If.ensures c.deref-in-If-2.ensures.value))
     c.in_ok-shared-in-If.ensures.scope (c.in_ok-block-in-If.ensures.scope ∙ c.in_ok-shared-in-If.ensures.scope)
     c.in_ok-block-in-If.ensures.slots c.in_ok-maybe_block-in-If.ensures.slots

@@ -1,6 +1,7 @@
 use Rattle.std.proofs.Common.{◌+◌, ◌*◌}
-use Rattle.abs_names.proofs.BlockLemmas.{branch_size, BlockSoFar}
+use Rattle.abs_names.proofs.BlockLemmas.{BlockSoFar}
 use Rattle.abs_names.proofs.walk.Walk.+statements.Given as goal
+use Rattle.abs_tree.proofs.StatementLemmas.{branch_size}
 
 -- The measure of each function is three times the depth of what it resolves, and a rank of less than three: that of a
 -- function which passes all of it on is the greater.

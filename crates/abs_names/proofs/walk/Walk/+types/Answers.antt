@@ -5,9 +5,10 @@ use Rattle.abs_tree.specs.SyntaxViews.{type_tree}
 use Rattle.abs_names.specs.Visible.{Visible}
 use Rattle.abs_names.proofs.FormLemmas.{kept_in}
 use Rattle.abs_names.proofs.LoopLemmas.{all_done}
-use Rattle.abs_names.proofs.TypeLemmas.{types_step, unresolved_tree, data_tree, data_found, looked_up, named_found, named_noted}
-use Rattle.abs_names.proofs.TreeLemmas.{types_all}
+use Rattle.abs_names.proofs.TypeLemmas.{types_step, data_found, looked_up, named_found, named_noted}
 use Rattle.abs_names.proofs.walk.Walk.+types.Goals as goal
+use Rattle.abs_tree.proofs.FormLemmas.{unresolved_tree, data_tree}
+use Rattle.abs_tree.proofs.TreeLemmas.{types_all}
 
 pub type_terms-loop-term-preserved : goal.type_terms-loop-term-preserved
 type_terms-loop-term-preserved t c =

@@ -1,8 +1,9 @@
 use Rattle.std.proofs.Common.{◌≡◌, []}
 use Rattle.abs_program.specs.SlotViews.{DeclHasSlots}
 use Rattle.abs_names.proofs.DeclarationLemmas.{in_declarations, declaration_resolution}
-use Rattle.abs_names.proofs.InPlaceLemmas.{ChangedSoFar, HaveSoFar}
+use Rattle.abs_names.proofs.InPlaceLemmas.{ChangedSoFar}
 use Rattle.abs_names.proofs.walk.Walk.declarations.Given as goal
+use Rattle.list_facts.proofs.InPlaceLemmas.{HaveSoFar}
 
 abbrev pub invariant-loop-declaration : goal.invariant-loop-declaration
 invariant-loop-declaration l =

@@ -1,7 +1,8 @@
 use Rattle.abs_program.specs.SlotViews.{MemberHasSlots}
-use Rattle.abs_names.proofs.InPlaceLemmas.{ChangedSoFar, HaveSoFar}
+use Rattle.abs_names.proofs.InPlaceLemmas.{ChangedSoFar}
 use Rattle.abs_names.proofs.MemberLemmas.{in_class, member_resolution}
 use Rattle.abs_names.proofs.walk.Walk.members.Given as goal
+use Rattle.list_facts.proofs.InPlaceLemmas.{HaveSoFar}
 
 abbrev pub invariant-loop-member : goal.invariant-loop-member
 invariant-loop-member l =

@@ -1,4 +1,4 @@
-use Rattle.std.proofs.Common.{◌≡◌, ◌∙◌, Bool, true, false, not, refl, ap, subst, nat_eq}
+use Rattle.std.proofs.Common.{◌≡◌, ◌∙◌, true, not, refl, ap, subst, nat_eq}
 use Rattle.std.specs.List.{list_any}
 use Rattle.std.proofs.lemmas.List.{drop_more}
 use Rattle.indexmap.specs.IndexSet.{insert_key}
@@ -6,11 +6,7 @@ use Rattle.abs_tree.specs.Names.{number_of_name, name_of}
 use Rattle.abs_names.specs.Visible.{Names}
 use Rattle.abs_names.proofs.RepeatLemmas.{repeated_step}
 use Rattle.abs_names.proofs.walk.Walk.note_repeated.Goals as goal
-
--- what is not new was there
-not_not : (b : Bool) → not (not b) ≡ b
-not_not true = refl
-not_not false = refl
+use Rattle.std.proofs.Math.Bool.{not-not}
 
 pub loop-one-preserved : goal.loop-one-preserved
 loop-one-preserved c =
@@ -23,5 +19,5 @@ loop-one-preserved c =
     c.around.ensures.names c.kept-name.ensures
     (c.in_ok-is_new.ensures.keys ∙ ap (insert_key nat_eq numbers) number)
     (ap not c.in_ok-is_new.ensures.added
-    ∙ (not_not (list_any (nat_eq c.number.result) numbers) ∙ ap (λ n. list_any (nat_eq n) numbers) number))
+    ∙ (not-not (list_any (nat_eq c.number.result) numbers) ∙ ap (λ n. list_any (nat_eq n) numbers) number))
     c.note_if.ensures refl

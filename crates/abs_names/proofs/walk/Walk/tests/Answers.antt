@@ -6,8 +6,8 @@ use Rattle.abs_names.specs.NameOffences.{expr_offences}
 use Rattle.abs_names.specs.Resolution.{resolved_expr}
 use Rattle.abs_names.proofs.LoopLemmas.{all_done}
 use Rattle.abs_names.proofs.RowLemmas.{tests_step}
-use Rattle.abs_names.proofs.TreeLemmas.{tests_all}
 use Rattle.abs_names.proofs.walk.Walk.tests.Goals as goal
+use Rattle.abs_tree.proofs.TreeLemmas.{tests_all}
 
 pub loop-test-preserved : goal.loop-test-preserved
 loop-test-preserved c =

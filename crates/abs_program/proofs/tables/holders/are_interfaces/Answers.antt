@@ -1,8 +1,8 @@
 use Rattle.std.proofs.Common.{[], ◌∷◌, Bool, map, refl, sym, ap}
-use Rattle.abs_tree.proofs.AddedLemmas.{added_to_step, added_to_done}
 use Rattle.abs_program.specs.Holdings.{are_interfaces}
 use Rattle.abs_tree.specs.SyntaxViews.{decl_tree}
 use Rattle.abs_program.proofs.tables.holders.are_interfaces.Goals as goal
+use Rattle.list_facts.proofs.AddedLemmas.{added_to_step, added_to_done}
 
 pub loop-declaration-preserved : goal.loop-declaration-preserved
 loop-declaration-preserved c = λ names.

@@ -1,10 +1,10 @@
 use Rattle.std.proofs.Common.{[], map}
 use Rattle.abs_graph.specs.Views.{graph_of}
-use Rattle.abs_tree.proofs.AddedLemmas.{AddedToSoFar}
 use Rattle.abs_program.specs.Holdings.{holdings_in}
 use Rattle.abs_program.specs.KeptSpaces.{spaces_by_name}
 use Rattle.abs_tree.specs.SyntaxViews.{decl_tree}
 use Rattle.abs_program.proofs.tables.holders.holding_graph.Given as goal
+use Rattle.list_facts.proofs.AddedLemmas.{AddedToSoFar}
 
 abbrev pub invariant-loop-declaration : goal.invariant-loop-declaration
 invariant-loop-declaration l =

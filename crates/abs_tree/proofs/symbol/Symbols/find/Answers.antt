@@ -3,8 +3,8 @@ use Rattle.std.specs.Prelude.{option_map}
 use Rattle.std.specs.List.{position}
 use Rattle.std.specs.Str.{bytes_eq}
 use Rattle.abs_tree.specs.declared.symbol.Symbol.{Symbol}
-use Rattle.abs_tree.proofs.TableLemmas.{position-map}
 use Rattle.abs_tree.proofs.symbol.Symbols.find.Goals as goal
+use Rattle.list_facts.proofs.MapLemmas.{position-map}
 
 -- the symbol with a number
 abbrev numbered : ℕ → Symbol

@@ -1,7 +1,7 @@
 use Rattle.std.proofs.Common.{◌∙◌, sym, ap, map}
 use Rattle.std.specs.Str.{bytes_eq}
-use Rattle.abs_tree.proofs.TableLemmas.{position_or_len-map, inserted-map}
 use Rattle.abs_tree.proofs.symbol.Symbols.intern.Goals as goal
+use Rattle.list_facts.proofs.MapLemmas.{position_or_len-map, inserted-map}
 
 pub returns-clause-symbol : goal.returns-clause-symbol
 returns-clause-symbol c =

@@ -8,13 +8,14 @@ use Rattle.abs_tree.specs.declared.syntax.expression.Expr.{Expr}
 use Rattle.check_fun.proofs.ContextLemmas.{finds_stays, finds_all_stays, finds_kept, found_stays, found_all_stays, knows_stays, noted_after, noted_same, stays_transitive}
 use Rattle.check_fun.proofs.FoundLemmas.{finds_none, finds_own, keeps_same, bound_stays}
 use Rattle.check_fun.proofs.OperandLemmas.{operands_are, rights_count, rights_untyped}
-use Rattle.check_fun.proofs.ExprLemmas.{let_tree, if_tree, prefixed_tree, operators_tree, case_tree, own_call_tree, apply_tree, build_tree, exprs_counted}
+use Rattle.check_fun.proofs.ExprLemmas.{let_tree, if_tree, prefixed_tree}
 use Rattle.check_fun.proofs.SoFarLemmas.{exprs_row, operands_row, branches_row, row_begins, row_step, row_found, row_noted}
 use Rattle.check_fun.proofs.StepLemmas.{noted_since, noted_between, scheme_there}
 use Rattle.abs_tree.specs.SyntaxViews.{variable_tree}
 use Rattle.check_fun.specs.Contexts.{typed, Finds}
 use Rattle.check_fun.specs.Parts.{in_branch}
 use Rattle.check_fun.proofs.checker.Checker.+expressions.Goals as goal
+use Rattle.abs_tree.proofs.FormLemmas.{operators_tree, case_tree, own_call_tree, apply_tree, build_tree, exprs_counted}
 
 pub arguments-loop-expr-init : goal.arguments-loop-expr-init
 arguments-loop-expr-init t c =

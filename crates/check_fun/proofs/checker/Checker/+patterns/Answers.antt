@@ -12,9 +12,10 @@ use Rattle.abs_types.specs.PlainTypes.{PlainType}
 use Rattle.abs_types.specs.declared.table.shape.TypeIndex.{TypeIndex}
 use Rattle.check_fun.specs.Contexts.{context_in, items_of, Context, Finds, FindsAll, Knows, Noted}
 use Rattle.check_fun.proofs.ContextLemmas.{finds_all_stays, found_all_kept, found_all_stays, found_stays, knows_stays}
-use Rattle.check_fun.proofs.PatternLemmas.{built_met, built_tree, finds_listed, foreign_found, found_at, found_listed, matched, patterns_start, patterns_step, patterns_done, PatternMet}
+use Rattle.check_fun.proofs.PatternLemmas.{built_met, finds_listed, foreign_found, found_at, found_listed, matched, patterns_start, patterns_step, patterns_done, PatternMet}
 use Rattle.check_fun.proofs.checker.Checker.+patterns.Goals as goal
 use Rattle.check_fun.proofs.checker.Checker.+patterns.Goals.{built-then-not-is_foreign, built-else-not-is_foreign}
+use Rattle.abs_tree.proofs.FormLemmas.{built_tree}
 
 -- what is known where a constructor was met
 met : {t : ℕ} (c : goal.built-Joined-parts-2 t) (context : Context) (type : Option PlainType)

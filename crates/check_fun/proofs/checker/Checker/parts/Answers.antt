@@ -3,8 +3,8 @@ use Rattle.abs_tree.specs.Names.{name_of}
 use Rattle.abs_types.specs.TypeShapes.{type_at}
 use Rattle.abs_types.specs.TypeTables.{types_in}
 use Rattle.check_fun.proofs.ContextLemmas.{finds_stays, finds_all_stays, found_all_stays, found_stays, knows_stays, stays_transitive}
-use Rattle.check_fun.proofs.FoundLemmas.{finds_own}
-use Rattle.check_fun.proofs.PartLemmas.{bottom_parts, finds_all_own, has_value, no_parts, parts_replaced, takes_found}
+use Rattle.check_fun.proofs.FoundLemmas.{finds_own, finds_all_own}
+use Rattle.check_fun.proofs.PartLemmas.{bottom_parts, has_value, no_parts, parts_replaced, takes_found}
 use Rattle.check_fun.specs.Contexts.{context_in, FindsAll}
 use Rattle.check_fun.proofs.checker.Checker.parts.Goals as goal
 

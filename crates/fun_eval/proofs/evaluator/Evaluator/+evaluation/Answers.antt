@@ -18,7 +18,7 @@ use Rattle.fun_eval.proofs.BranchLemmas.{case_taken, if_taken, let_taken}
 use Rattle.fun_eval.proofs.FormLemmas.{apply_form, build_form, case_form, destiny_form, field_form, if_form, let_form, no_level, null_form, number_form, operators_form, own_call_form, prefixed_form, string_form, this_form, variable_form}
 use Rattle.fun_eval.proofs.FrameLemmas.{arguments_counted, bound_counted, scope_call}
 use Rattle.fun_eval.proofs.FunctionLemmas.{defined_is_first, to_string_is_named, unknown_has_none}
-use Rattle.fun_eval.proofs.OutcomeLemmas.{after_value, after_values, if_succeeds, operators_stop, other_operand, result_outcome, same_outcome, stopped_outcome}
+use Rattle.fun_eval.proofs.OutcomeLemmas.{after_value, after_values, operators_stop, other_operand, result_outcome, same_outcome, stopped_outcome}
 use Rattle.fun_eval.proofs.SoFarLemmas.{names_stay, operators_step, operators_stopped}
 use Rattle.fun_eval.proofs.StackLemmas.{begins_more, restored}
 use Rattle.fun_eval.proofs.ValueLemmas.{arguments_step, arguments_stopped, values_step, values_stopped}
@@ -27,6 +27,7 @@ use Rattle.fun_eval.specs.Matching.{Begins}
 use Rattle.fun_eval.specs.Reading.{value_of_function}
 use Rattle.fun_eval.specs.declared.scope.Frame.TheVariants as frame
 use Rattle.fun_eval.proofs.evaluator.Evaluator.+evaluation.Goals as goal
+use Rattle.list_facts.proofs.ResultLemmas.{OnOk-always}
 
 pub add_arguments-returns-in_err-value-clause-stopped : goal.add_arguments-returns-in_err-value-clause-stopped
 add_arguments-returns-in_err-value-clause-stopped t c =
@@ -401,7 +402,7 @@ operand-returns-in_ok-right-in_default t c =
           ∙ ap (λ (known : List Name). ends_with (operation_result known operation left other) made)
           (sym (names_stay c.args.self.now c.part.new.self right.stays.library_is))))
           (result_outcome _ c.operate.result made c.part.new.self refl c.operate.ensures);
-      stays = if_succeeds c.operate.result _ right.stays;
+      stays = OnOk-always c.operate.result right.stays;
     }
 
 pub operators-returns-in_err-so_far-clause-outcome : goal.operators-returns-in_err-so_far-clause-outcome

@@ -1,7 +1,6 @@
 use Rattle.std.proofs.Common.{◌≡◌, [], ◌∷◌, rules, arith, ap, sym, ◌∙◌}
 use Rattle.std.proofs.lemmas.List.{append-nil}
 use Rattle.std.proofs.lemmas.Result.{IfOk-weaker}
-use Rattle.abs_tree.proofs.BackwardLemmas.{one_back, all_back}
 use Rattle.abs_program.proofs.CountLemmas.{statements_add}
 use Rattle.abs_program.proofs.MakerLemmas.{made_alone, made_block, made_body, made_if, made_next, made_no_other, made_nothing, made_other, made_while, may_enter, may_make_body, may_make_fewer, may_make_first, may_make_last, may_make_next}
 use Rattle.abs_tree.proofs.StatementLemmas.{block_tree, holds_none, if_tree, size_within, while_tree}
@@ -10,6 +9,7 @@ use Rattle.abs_tree.specs.SyntaxSizes.{count_of, statement_count}
 use Rattle.abs_tree.specs.SyntaxViews.{statement, statements}
 use Rattle.abs_tree.specs.declared.syntax.statement.Stmt.{the_lemmas}
 use Rattle.abs_program.proofs.tables.instructions.Maker.+made.Goals as goal
+use Rattle.list_facts.proofs.BackwardLemmas.{one_back, all_back}
 
 pub add_body-enter_loop-own-requires : goal.add_body-enter_loop-own-requires
 add_body-enter_loop-own-requires t c = may_enter (statements c.requires.0 c.args.body.now) c.requires.1

@@ -1,10 +1,10 @@
 use Rattle.std.proofs.Common.{◌≡◌, List, [], ◌∷◌, sym, ◌∙◌}
 use Rattle.std.proofs.lemmas.List.{append-nil}
-use Rattle.abs_tree.proofs.BackwardLemmas.{one_back, all_back}
 use Rattle.abs_program.proofs.CountLemmas.{decls_add}
 use Rattle.abs_program.proofs.MakerLemmas.{makes_none, may_make_next, decls_next}
 use Rattle.abs_tree.specs.Syntax.{Name}
 use Rattle.abs_program.proofs.tables.instructions.Maker.add_declarations.Goals as goal
+use Rattle.list_facts.proofs.BackwardLemmas.{one_back, all_back}
 
 pub loop-declaration-init : goal.loop-declaration-init
 loop-declaration-init c =

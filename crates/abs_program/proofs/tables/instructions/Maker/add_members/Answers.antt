@@ -1,10 +1,10 @@
 use Rattle.std.proofs.Common.{◌≡◌, List, [], ◌∷◌, sym, ◌∙◌}
 use Rattle.std.proofs.lemmas.List.{append-nil}
-use Rattle.abs_tree.proofs.BackwardLemmas.{one_back, all_back}
 use Rattle.abs_program.proofs.CountLemmas.{members_add}
 use Rattle.abs_program.proofs.MakerLemmas.{makes_none, may_make_next, members_next}
 use Rattle.abs_tree.specs.Syntax.{Name}
 use Rattle.abs_program.proofs.tables.instructions.Maker.add_members.Goals as goal
+use Rattle.list_facts.proofs.BackwardLemmas.{one_back, all_back}
 
 pub loop-member-init : goal.loop-member-init
 loop-member-init c =

@@ -1,5 +1,5 @@
 -- Lists whose items a loop takes from the last one to the first.
-use Rattle.std.proofs.Common.{◌≡◌, List, [], ◌∷◌, ◌++◌, ap, ◌∙◌, length, append_assoc}
+use Rattle.std.proofs.Common.{List, ◌≡◌, ◌++◌, ◌∷◌, ◌∙◌, ap, append_assoc, [], length}
 use Rattle.std.proofs.lemmas.List.{nil_from_length}
 
 -- the items that are left are followed by those that were taken, also after one more was taken

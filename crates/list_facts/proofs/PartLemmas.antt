@@ -1,9 +1,9 @@
--- Parts of lists: where a part stands in a list that is put together of several, which item is then at an index, and
--- that lists are related one by one if their parts are.
-use Rattle.std.proofs.Common.{◌≡◌, ℕ, zero, suc, ◌+◌, List, [], ◌∷◌, ◌++◌, arith, refl, sym, ap, ◌∙◌, subst, length, drop, append_assoc}
-use Rattle.std.specs.List.{AllZip}
-use Rattle.std.specs.Prelude.{⊤, Some, IsSomeAnd, MatchOption, slice_get}
+-- Parts of lists: where a part is in a list that is put together of several, which item is then at an index, and that
+-- lists are related one by one if their parts are.
+use Rattle.std.proofs.Common.{List, ℕ, drop, ◌≡◌, ◌++◌, sym, [], ◌∙◌, append_assoc, ◌+◌, length, ap, refl, ◌∷◌, arith, zero, suc, subst}
 use Rattle.std.proofs.lemmas.List.{append-nil, drop-drop, drop_at}
+use Rattle.std.specs.Prelude.{slice_get, Some, IsSomeAnd, MatchOption, ⊤}
+use Rattle.std.specs.List.{AllZip}
 use Rattle.std.proofs.lemmas.Slice.Zip.{AllZip-left}
 
 -- From this index on a list has this part, after which others may follow.
@@ -41,18 +41,18 @@ pub others_stand : {A : Type 0} {all : List A} {index : ℕ} {item : A} {others 
 others_stand {A} {all} {index} {item} {others} stands = second_stands (item ∷ []) others (omega arith) stands
 
 -- the first item of what is not dropped is at the index up to which items are dropped
-rest_first : {A : Type 0} (items : List A) (index : ℕ) (item : A) (others : List A) → drop index items ≡ item ∷ others
-    → slice_get items index ≡ Some item
-rest_first [] zero item others is = absurd (cc)
-rest_first [] (suc index) item others is = absurd (cc)
-rest_first (one ∷ items) zero item others is = cc
-rest_first (one ∷ items) (suc index) item others is = rest_first items index item others is
+slice_get-from_drop : {A : Type 0} (items : List A) (index : ℕ) (item : A) (others : List A)
+    → drop index items ≡ item ∷ others → slice_get items index ≡ Some item
+slice_get-from_drop [] zero item others is = absurd (cc)
+slice_get-from_drop [] (suc index) item others is = absurd (cc)
+slice_get-from_drop (one ∷ items) zero item others is = cc
+slice_get-from_drop (one ∷ items) (suc index) item others is = slice_get-from_drop items index item others is
 
 -- the first item of a part is at the index at which the part stands
 pub item_stands : {A : Type 0} {all : List A} {index : ℕ} {item : A} {others : List A}
     → StandsAt all index (item ∷ others) → slice_get all index ≡ Some item
 item_stands {A} {all} {index} {item} {others} stands =
-    rest_first all index item (others ++ stands.others) stands.is
+    slice_get-from_drop all index item (others ++ stands.others) stands.is
 
 -- lists are related one by one if their parts are
 pub AllZip-append : {A B : Type 0} (R : A → B → Type 0) (one : List A) (two : List B) (other : List A) (more : List B)

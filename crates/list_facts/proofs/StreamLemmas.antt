@@ -1,8 +1,8 @@
 -- Bytes that are taken or written one piece after another.
-use Rattle.std.proofs.Common.{◌≡◌, ℕ, List, ◌++◌, Option, Some, None, sym, ap, ◌∙◌, length, take, drop, append_assoc, take-append-drop}
-use Rattle.std.specs.Io.KnownBytes.{Appends, Consumes}
+use Rattle.std.proofs.Common.{Option, List, ℕ, ◌++◌, None, Some, ◌∙◌, ap, sym, append_assoc, ◌≡◌, take, length, drop, take-append-drop, []}
+use Rattle.std.specs.Io.KnownBytes.{Consumes, Appends}
 use Rattle.std.specs.List.{between}
-use Rattle.std.proofs.lemmas.List.{take_rest}
+use Rattle.std.proofs.lemmas.List.{take_rest, append-nil}
 
 -- a piece that is taken after another is taken with it
 pub Consumes-then : (u v w : Option (List ℕ)) (a b : List ℕ) → Consumes u v a → Consumes v w b → Consumes u w (a ++ b)
@@ -26,3 +26,8 @@ front-moves all front rest n e =
     ap (λ (t : List ℕ). front ++ t) (sym (take-append-drop n rest))
     ∙ sym (append_assoc front (take n rest) (drop n rest)) in
     e ∙ apart ∙ ap (λ (t : List ℕ). (front ++ take n rest) ++ t) (sym (take_rest rest n))
+
+-- nothing was written
+pub Appends-nothing : (known : Option (List ℕ)) → Appends known known []
+Appends-nothing None = tt
+Appends-nothing (Some bytes) = sym (append-nil bytes)

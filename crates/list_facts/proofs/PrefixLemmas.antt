@@ -1,17 +1,13 @@
--- The run of a list: its longest prefix whose bytes all pass a test. No byte that passes follows it.
-use Rattle.std.proofs.Common.{◌≡◌, ℕ, suc, ◌+◌, ◌≤◌, Bool, true, false, List, [], ◌∷◌, ◌++◌, refl, cond, length, take, drop, arith, sym, subst, length-take}
-use Rattle.std.proofs.lemmas.Bool.Decides.{nat_tests}
-use Rattle.std.proofs.lemmas.List.Elements.{All-nil, All-cons, All-head, All-tail}
+-- The run of a list: its longest prefix whose items all pass a test. No item that passes follows it.
+use Rattle.std.proofs.Common.{ℕ, Bool, List, ◌≡◌, take, cond, ◌+◌, ◌∷◌, true, subst, sym, false, one-add, refl, [], drop, ◌++◌, length, arith}
 use Rattle.std.specs.List.{AllPass, prefix_len}
-
-suc_is : (n : ℕ) → 1 + n ≡ suc n
-suc_is n = omega arith
+use Rattle.std.proofs.lemmas.List.Elements.{All-cons, All-nil, All-head, All-tail}
 
 -- each byte of the run passes
 passes_by : (p : ℕ → Bool) (b : Bool) (x : ℕ) (xs : List ℕ) → p x ≡ b → AllPass p (take (prefix_len p xs) xs)
     → AllPass p (take (cond b (1 + prefix_len p xs) 0) (x ∷ xs))
 passes_by p true x xs e rest =
-    subst (λ (n : ℕ). AllPass p (take n (x ∷ xs))) (sym (suc_is (prefix_len p xs)))
+    subst (λ (n : ℕ). AllPass p (take n (x ∷ xs))) (sym (one-add (prefix_len p xs)))
     (All-cons (λ y. p y ≡ true) x (take (prefix_len p xs) xs) e rest)
 passes_by p false x xs e rest = All-nil (λ y. p y ≡ true)
 
@@ -22,21 +18,13 @@ run_passes p (x ∷ xs) = passes_by p (p x) x xs refl (run_passes p xs)
 -- no byte that passes follows the run
 ends_by : (p : ℕ → Bool) (b : Bool) (x : ℕ) (xs : List ℕ) → p x ≡ b → prefix_len p (drop (prefix_len p xs) xs) ≡ 0
     → prefix_len p (drop (cond b (1 + prefix_len p xs) 0) (x ∷ xs)) ≡ 0
-ends_by p true x xs e rest = subst (λ (n : ℕ). prefix_len p (drop n (x ∷ xs)) ≡ 0) (sym (suc_is (prefix_len p xs))) rest
+ends_by p true x xs e rest = subst (λ (n : ℕ). prefix_len p (drop n (x ∷ xs)) ≡ 0) (sym (one-add (prefix_len p xs)))
+    rest
 ends_by p false x xs e rest = rw e refl
 
 pub run_ends : (p : ℕ → Bool) (xs : List ℕ) → prefix_len p (drop (prefix_len p xs) xs) ≡ 0
 run_ends p [] = refl
 run_ends p (x ∷ xs) = ends_by p (p x) x xs refl (run_ends p xs)
-
--- the run is no longer than the list
-pub run_within : (p : ℕ → Bool) (xs : List ℕ) → prefix_len p xs ≤ length xs
-run_within p [] = omega arith
-run_within p (x ∷ xs) = within_by (p x) (run_within p xs)
-  where
-    within_by : (b : Bool) → prefix_len p xs ≤ length xs → cond b (1 + prefix_len p xs) 0 ≤ suc (length xs)
-    within_by true h = omega arith
-    within_by false h = omega arith
 
 -- if all of a list passes, its run with a rest is as long as the list and the run of the rest
 pub run_over : (p : ℕ → Bool) (xs ys : List ℕ) → AllPass p xs → prefix_len p (xs ++ ys) ≡ length xs + prefix_len p ys
@@ -49,7 +37,3 @@ run_over p (x ∷ xs) ys h =
 -- if all of a list passes, and no byte that passes follows it, the list is the run
 pub run_is : (p : ℕ → Bool) (xs ys : List ℕ) → AllPass p xs → prefix_len p ys ≡ 0 → prefix_len p (xs ++ ys) ≡ length xs
 run_is p xs ys h none = omega (arith, run_over p xs ys h)
-
--- the length of a prefix of a list
-pub length_front : (n : ℕ) (xs : List ℕ) → n ≤ length xs → length (take n xs) ≡ n
-length_front n xs h = grind (arith, nat_tests, length-take)

@@ -1,7 +1,7 @@
 -- Lists to which a loop adds what each item of another list gives.
-use Rattle.std.proofs.Common.{◌≡◌, ℕ, ◌+◌, ◌<◌, ◌≤◌, List, [], ◌∷◌, ◌++◌, sym, ap, ◌∙◌, length, get_or, drop, append_assoc}
+use Rattle.std.proofs.Common.{List, ℕ, ◌++◌, drop, ◌≡◌, ◌<◌, length, get_or, ◌∷◌, ◌+◌, ap, ◌∙◌, append_assoc, sym, ◌≤◌, []}
+use Rattle.list_facts.proofs.EntryLemmas.{drop_item}
 use Rattle.std.proofs.lemmas.List.{append-nil, drop_all}
-use Rattle.abs_tree.proofs.EntryLemmas.{drop_item}
 
 -- What the items before an index give was added to a list. With what the others give, it is what all give.
 pub record AddedToSoFar {A B : Type 0} (given : List A → List B) (start : List B) (items : List A) (index : ℕ)

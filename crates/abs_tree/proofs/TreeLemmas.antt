@@ -1,8 +1,8 @@
 -- Lists of trees of which a prefix was made: trees before trees, and one more of them.
-use Rattle.std.proofs.Common.{◌≡◌, List, [], ◌∷◌, ◌++◌, refl, ap}
-use Rattle.abs_tree.specs.Syntax.{Name, TypeTrees, NoType, NextType, PatternTrees, NoPattern, NextPattern, ExprTrees, NoExpr, NextExpr, Operands, NoOperands, NextOperand, Branches, NoBranch, NextBranch, Tests, NoTest, NextTest, Statements, NoStatement, NextStatement}
-use Rattle.abs_tree.specs.SyntaxViews.{type_tree, type_trees, pattern_tree, pattern_trees, expr_tree, expr_trees, operand_trees, branches, tests, statement, statements}
+use Rattle.std.proofs.Common.{List, ◌∷◌, [], ◌++◌, ◌≡◌, refl, ap}
+use Rattle.abs_tree.specs.Syntax.{Name, TypeTrees, NextType, NoType, PatternTrees, NextPattern, NoPattern, ExprTrees, NextExpr, NoExpr, Operands, NextOperand, NoOperands, Branches, NextBranch, NoBranch, Tests, NextTest, NoTest, Statements, NextStatement, NoStatement}
 use Rattle.abs_tree.specs.declared.syntax.types.TypeTerm.{TypeTerm}
+use Rattle.abs_tree.specs.SyntaxViews.{type_tree, type_trees, pattern_tree, pattern_trees, expr_tree, expr_trees, operand_trees, branches, tests, statement, statements}
 use Rattle.abs_tree.specs.declared.syntax.pattern.Pattern.{Pattern}
 use Rattle.abs_tree.specs.declared.syntax.expression.Expr.{Expr}
 use Rattle.abs_tree.specs.declared.syntax.expression.Operand.{Operand}

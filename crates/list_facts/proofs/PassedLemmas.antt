@@ -1,7 +1,7 @@
 -- Loops that look for an item of a list, up to the first one that decides.
-use Rattle.std.proofs.Common.{◌≡◌, ℕ, ◌+◌, ◌<◌, ◌≤◌, List, [], ◌∷◌, sym, ap, ◌∙◌, length, get_or, drop}
+use Rattle.std.proofs.Common.{List, ℕ, drop, ◌≡◌, ◌<◌, length, get_or, ◌∷◌, ◌+◌, sym, ◌∙◌, ap, ◌≤◌, []}
+use Rattle.list_facts.proofs.EntryLemmas.{drop_item}
 use Rattle.std.proofs.lemmas.List.{drop_all}
-use Rattle.abs_tree.proofs.EntryLemmas.{drop_item}
 
 -- What the items from an index on give is what all items give: those before it do not matter.
 pub record PassedSoFar {A B : Type 0} (given : List A → B) (items : List A) (index : ℕ) : Type 0 where
