@@ -27,7 +27,7 @@ use Rattle.abs_parser.specs.Texts.{IsTextOf, StopsWith}
 use Rattle.abs_parser.specs.TreesOf.{tree_of}
 use Rattle.abs_names.specs.Answers.{RefusesFirst}
 use Rattle.abs_names.specs.NameOffences.{name_offences}
-use Rattle.abs_names.specs.Prelude.{prelude_names}
+use Rattle.abs_prelude.specs.Prelude.{prelude_names}
 use Rattle.abs_names.specs.Resolution.{resolved}
 use Rattle.abs_types.specs.TypeOffences.{type_offences}
 use Rattle.abs_profile.specs.Profile.{profile_offences}

@@ -1,5 +1,4 @@
 mod ScopeLemmas
-mod PreludeLemmas
 mod SpaceLemmas
 mod RepeatLemmas
 mod LoopLemmas

@@ -12,7 +12,7 @@ use Rattle.abs_tree.specs.declared.syntax.slot.Slot.TheVariants.{Parameter, Loca
 use Rattle.abs_program.specs.NameSpaces.{NameSpaces, spaces_of}
 use Rattle.abs_names.specs.OwnSlots.{Given, numbered, given_params, given_side, given_maybe_side, given_statement, given_else, given_statements, HasOwnSlots, MemberHasOwnSlots, DeclarationHasOwnSlots, AllHaveOwnSlots}
 use Rattle.abs_names.specs.Resolution.{resolved_exprs, resolved_side, resolved_maybe_side, resolved_statement, resolved_else, resolved_statements, resolved_params, resolved_members, resolved_declarations, resolved}
-use Rattle.abs_names.specs.Prelude.{prelude}
+use Rattle.abs_prelude.specs.Prelude.{prelude}
 use Rattle.abs_names.specs.TypeNames.{Around, around_of}
 use Rattle.abs_names.specs.Scopes.{Meanings, Scope, statement_scope, body_scope, class_fields}
 use Rattle.abs_names.specs.declared.scope.Routine.TheVariants.{Main, Method, Function}

@@ -10,7 +10,7 @@ use Rattle.abs_tree.specs.Limits.{table_limit}
 use Rattle.abs_program.specs.NameSpaces.{NameSpaces, spaces_of}
 use Rattle.abs_tree.specs.Syntax.{AtSlot, AtField, ParamTree, NoValue, Value, MemberTree, FieldTree, MethodTree, DeclTree, DataTree, FunctionTree, InterfaceTree, ClassTree, SourceTree}
 use Rattle.abs_tree.specs.SyntaxSizes.{statement_count, member_statements, decl_statements, all_statements, expr_variables, statements_variables, field_variables, method_sizes, decl_sizes, body_sizes, fields_among, decl_fields, class_sizes}
-use Rattle.abs_names.specs.Prelude.{prelude}
+use Rattle.abs_prelude.specs.Prelude.{prelude}
 use Rattle.abs_names.specs.Resolution.{resolved_params, resolved_members, resolved_declarations, resolved}
 use Rattle.abs_names.specs.Scopes.{Meanings, body_scope, class_fields}
 use Rattle.abs_names.specs.TypeNames.{Around, around_of}

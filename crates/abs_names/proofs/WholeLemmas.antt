@@ -11,7 +11,7 @@ use Rattle.abs_tree.specs.Syntax.{DeclTree, SourceTree}
 use Rattle.abs_program.specs.Whole.{DeclarationIsThere, StatementsAreThere, IsWhole}
 use Rattle.abs_names.specs.Extension.{extension_offences}
 use Rattle.abs_names.specs.NameOffences.{declared_offences, repeated_offences, declarations_offences, statements_offences, name_offences}
-use Rattle.abs_names.specs.Prelude.{prelude}
+use Rattle.abs_prelude.specs.Prelude.{prelude}
 use Rattle.abs_names.specs.Resolution.{resolved_declarations, resolved_statements, resolved}
 use Rattle.abs_names.specs.Scopes.{body_scope}
 use Rattle.abs_names.specs.TypeNames.{around_of}

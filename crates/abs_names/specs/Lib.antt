@@ -1,7 +1,6 @@
 pub mod Numbered
 pub mod Scopes
 pub mod Visible
-pub mod Prelude
 pub mod Single
 pub mod TypeNames
 pub mod Spaces

@@ -20,7 +20,7 @@ use Rattle.abs_graph.specs.Graphs.{on_cycles}
 use Rattle.abs_names.specs.Extension.{extension_offences}
 use Rattle.abs_program.specs.Supertypes.{supertypes}
 use Rattle.abs_names.specs.Repeats.{declarations_repeats}
-use Rattle.abs_names.specs.Prelude.{prelude}
+use Rattle.abs_prelude.specs.Prelude.{prelude}
 use Rattle.abs_names.specs.Single.{unknown, unwritten, twice}
 use Rattle.abs_names.specs.Spaces.{spaces_offences}
 use Rattle.abs_names.specs.TypeNames.{Around, around_of, applied, function_taking, constructor_taking, class_taking, type_offences, types_offences}

@@ -11,7 +11,7 @@ use Rattle.abs_program.specs.Slots.{is_this, statement_slots, statements_slots}
 use Rattle.abs_tree.specs.Syntax.{Name, VariableTree, Unresolved, AtSlot, AtBound, AtField, PatternTree, AnyValue, Binds, SameNumber, SameString, Built, PatternTrees, NoPattern, NextPattern, ExprTree, LetIn, IfElse, OperatorsOf, Prefixed, NumberOf, StringOf, NullOf, DestinyOf, ThisOf, FieldOf, OwnCallOf, VariableOf, ApplyOf, BuildOf, CaseOf, ExprTrees, NoExpr, NextExpr, Operands, NoOperands, NextOperand, Branches, NoBranch, NextBranch, SideTree, NewOf, ValueOf, SendOf, GetOf, CallOf, Tests, NoTest, NextTest, TargetTree, ToVariable, ToField, MaybeSide, NoSide, SomeSide, Statement, BlockOf, SkipOf, SuspendOf, AwaitOf, ReturnOf, PrintOf, IfOf, WhileOf, DeclareOf, AssignOf, DoOf, MaybeStatements, NoElse, Else, Statements, NoStatement, NextStatement, ParamTree, ConstructorTree, SignatureTree, MaybeExpr, NoValue, Value, MemberTree, FieldTree, MethodTree, DeclTree, DataTree, FunctionTree, InterfaceTree, ClassTree, SourceTree}
 use Rattle.abs_tree.specs.declared.place.Place.{Place}
 use Rattle.abs_program.specs.NameSpaces.{NameSpaces, spaces_of}
-use Rattle.abs_names.specs.Prelude.{prelude}
+use Rattle.abs_prelude.specs.Prelude.{prelude}
 use Rattle.abs_names.specs.TypeNames.{Around, around_of, resolved_type, resolved_types}
 use Rattle.abs_names.specs.declared.scope.Routine.TheVariants.{Main, Method, Function, Initial}
 use Rattle.abs_names.specs.Scopes.{Meanings, Scope, field_of, use_of, next_bound, with_bound, pattern_scope, local_slot, statement_scope, body_scope, class_fields, fields_after}

@@ -11,7 +11,7 @@ ghost use Rattle.abs_tree.specs.SourceViews.{source_tree};
 ghost use Rattle.abs_tree.specs.SyntaxViews.{decl_tree, tree_of_parts};
 ghost use Rattle.abs_names.specs.Answers.{Refuses};
 ghost use Rattle.abs_names.specs.NameOffences.{name_offences, repeated_offences, declared_offences, declarations_offences};
-ghost use Rattle.abs_names.specs.Prelude.{prelude, prelude_names};
+ghost use Rattle.abs_prelude.specs.Prelude.{prelude, prelude_names};
 ghost use Rattle.abs_names.specs.Repeats.{declarations_repeats};
 ghost use Rattle.abs_names.specs.Resolution.{resolved, resolved_declarations};
 ghost use Rattle.abs_names.specs.Scopes.{body_scope};
@@ -21,10 +21,10 @@ ghost use Rattle.abs_names.specs.declared.scope.Routine.TheVariants.{Main as InM
 
 use crate::NameError;
 use crate::around::Around;
-use crate::prelude::{add_names, prelude as prelude_declarations};
 use crate::scope::Routine;
 use crate::spaces::Declarer;
 use crate::walk::Walk;
+use abs_prelude::{add_names, prelude as prelude_declarations};
 use abs_program::{NameSpaces, Named, Tables};
 use abs_tree::{Body, Decl, Offence, Program, Symbols};
 use std::alloc::{AllocError, Global};

@@ -23,8 +23,10 @@ pub task_found : {checker : Checker} {context : Context} → Knows checker conte
     → Finds checker checker.task context.frame.task
 unfolding context_in
 task_found {checker} knows = record {
-  found_is = record { among = ∥∥₁_elim checker.task_is (among-prop (types_in checker.table) checker.task)
-      (λ among. among) };
+  found_is = record {
+    among = ∥∥₁_elim checker.task_is (among-prop (types_in checker.table) checker.task)
+        (λ among. among);
+  };
   is = ap (λ (known : Context). known.frame.task) knows.is;
 }
 

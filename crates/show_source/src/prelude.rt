@@ -1,4 +1,4 @@
-//! Prints the tree of the prelude twice: as its text is read, and as it is made by hand.
+//! Prints the tree of the prelude twice: as its text is read, and as it is made from a table.
 ghost use Rattle.std.specs.Prelude.{◌≤◌, length};
 ghost use Rattle.abs_tree.specs.Limits.{source_limit};
 
@@ -6,13 +6,14 @@ use crate::declarations::add_tree;
 use crate::failure::Failure;
 use crate::sink::Sink;
 use abs_lexer::lexer::tokens;
-use abs_names::{PRELUDE_DECLARATIONS, PRELUDE_TEXT, add_prelude_names, prelude_declarations};
 use abs_parser::parse;
+use abs_prelude::{DECLARATIONS, TEXT, add_names, prelude};
 use abs_tree::limits::SOURCE_LIMIT;
 use abs_tree::{Program, Symbols};
 use std::alloc::{AllocError, Global};
 
-/// Two lines with the tree of the prelude before an empty main block: as its text is read, and as it is made by hand.
+/// Two lines with the tree of the prelude before an empty main block: as its text is read, and as it is made from a
+/// table.
 ///
 /// # Errors
 /// [`Failure::Refused`] if the text is no program, and [`Failure::Memory`] if memory runs out.
@@ -30,7 +31,7 @@ pub(crate) fn prelude_lines(alloc: Global) -> Result<String, Failure> {
 /// [`AllocError`] if memory runs out.
 fn prelude_source(alloc: Global) -> Result<String, AllocError> {
     let mut source = Sink::new(alloc);
-    for line in PRELUDE_TEXT.lines().take(PRELUDE_DECLARATIONS) {
+    for line in TEXT.lines().take(DECLARATIONS) {
         source.push(line);
         source.push("\n");
     }
@@ -56,8 +57,8 @@ fn both_trees(alloc: Global, source: &[u8]) -> Result<String, Failure>
 /// [`AllocError`] if memory runs out.
 fn made_after(alloc: Global, read: &Program<'_>) -> Result<String, AllocError> {
     let mut symbols = Symbols::new(alloc);
-    add_prelude_names(&mut symbols)?;
-    let made = prelude_declarations(alloc, &symbols)?;
+    add_names(&mut symbols)?;
+    let made = prelude(alloc, &symbols)?;
     let declarations = read.declarations.as_slice();
     let sink = add_tree(Sink::new(alloc), &read.symbols, declarations, &read.main);
     add_tree(sink, &symbols, made.as_slice(), &read.main).finish()

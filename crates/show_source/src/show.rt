@@ -8,8 +8,9 @@ use crate::prelude::prelude_lines;
 use crate::sink::Sink;
 use abs_lexer::lexer::tokens;
 use abs_lexer::token::Tokens;
-use abs_names::{PRELUDE_DECLARATIONS, resolve};
+use abs_names::resolve;
 use abs_parser::parse;
+use abs_prelude::DECLARATIONS;
 use abs_program::Named;
 use abs_tree::{Body, Decl, Place, Program, Symbol, Symbols};
 use std::alloc::{AllocError, Global};
@@ -29,7 +30,7 @@ pub(crate) enum What {
     Symbols,
     /// The tokens, and the place after the last byte.
     Tokens,
-    /// The tree of the prelude, whatever the source is: as its text is read, and as it is made by hand.
+    /// The tree of the prelude, whatever the source is: as its text is read, and as it is made from a table.
     Prelude,
 }
 
@@ -96,7 +97,7 @@ fn resolved_lines(alloc: Global, what: What, named: &Named<'_>) -> Result<String
     let shown = match what {
         What::Symbols => return name_lines(alloc, &named.symbols),
         What::Declared => all,
-        _ => all.get(PRELUDE_DECLARATIONS..).unwrap_or(all),
+        _ => all.get(DECLARATIONS..).unwrap_or(all),
     };
     tree_line(alloc, &named.symbols, shown, &named.main)
 }

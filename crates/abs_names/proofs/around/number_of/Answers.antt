@@ -1,4 +1,4 @@
-use Rattle.abs_names.proofs.PreludeLemmas.{name_of_found}
+use Rattle.abs_prelude.proofs.NameLemmas.{name_of_found}
 use Rattle.abs_names.proofs.around.number_of.Goals as goal
 
 pub returns-in-Some-clause-name : goal.returns-in-Some-clause-name

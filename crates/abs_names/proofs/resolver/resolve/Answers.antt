@@ -13,7 +13,7 @@ use Rattle.abs_tree.specs.SyntaxViews.{decl_tree, tree_of_parts}
 use Rattle.abs_program.specs.Whole.{IsWhole}
 use Rattle.abs_tree.proofs.OffenceLemmas.{no_offence}
 use Rattle.abs_names.specs.NameOffences.{name_offences}
-use Rattle.abs_names.specs.Prelude.{prelude}
+use Rattle.abs_prelude.specs.Prelude.{prelude}
 use Rattle.abs_names.specs.Resolution.{resolved}
 use Rattle.abs_names.proofs.ResolvedLemmas.{spaces_kept}
 use Rattle.abs_names.proofs.SourceSizeLemmas.{AreFew, all_statements_kept, bodies_are_few, class_sizes_kept}

@@ -9,7 +9,7 @@ use Rattle.abs_tree.specs.Syntax.{Name, DeclTree}
 use Rattle.abs_tree.specs.SyntaxViews.{decl_tree}
 use Rattle.abs_names.specs.Extension.{extension_offences}
 use Rattle.abs_names.specs.NameOffences.{repeated_offences, declarations_offences}
-use Rattle.abs_names.specs.Prelude.{prelude}
+use Rattle.abs_prelude.specs.Prelude.{prelude}
 use Rattle.abs_names.specs.Resolution.{resolved_declarations}
 use Rattle.abs_names.specs.Scopes.{Scope}
 use Rattle.abs_names.specs.TypeNames.{around_of}

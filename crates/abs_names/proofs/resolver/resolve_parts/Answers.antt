@@ -9,7 +9,7 @@ use Rattle.abs_tree.specs.declared.place.Place.{Place}
 use Rattle.abs_tree.specs.declared.refusal.Offence.{Offence}
 use Rattle.abs_tree.specs.declared.syntax.slot.Slot.{Slot}
 use Rattle.abs_names.specs.NameOffences.{declared_offences, statements_offences}
-use Rattle.abs_names.specs.Prelude.{prelude}
+use Rattle.abs_prelude.specs.Prelude.{prelude}
 use Rattle.abs_names.specs.Resolution.{resolved_declarations, resolved_statements}
 use Rattle.abs_names.specs.Scopes.{Meanings, Scope, body_scope}
 use Rattle.abs_names.specs.TypeNames.{Around, around_of}

@@ -15,7 +15,7 @@ returns-in_ok-all_written-in-Some-clause-found c context knows =
       length-map c.in-Data.type_params.items (declared context.names),
       parameters,
       slice_get-map_there (constructor_tree context.names) c.in-Data.constructors.items c.args.index
-      c.in-Some.constructor.now
+          c.in-Some.constructor.now
           there.3.0 there.1,
     )
     (constructor_found c.in-Data.name.name c.in_ok-counted-in-Some.field-0 c.in_ok-all_written-in-Some.field-0
@@ -24,6 +24,9 @@ returns-in_ok-all_written-in-Some-clause-found c context knows =
 pub returns-in-None-clause-found : goal.returns-in-None-clause-found
 returns-in-None-clause-found c context knows =
     let there = rw c.deref.ensures.value at c.in-None.ensures.lookup in
-    rw (c.in-Data.is, slice_get-map_past (constructor_tree context.names) c.in-Data.constructors.items c.args.index
-    there.3)
+    rw (
+      c.in-Data.is,
+      slice_get-map_past (constructor_tree context.names) c.in-Data.constructors.items c.args.index
+          there.3,
+    )
     (record { among = tt; is = refl })
