@@ -381,7 +381,8 @@ after_variable index place name (Node _ arguments (Node _ rest _)) =
     DoOf index place (rest_in place (named place name (arguments_maybe arguments)) rest)
 after_variable index place name _ = SkipOf index place
 
--- the same for a statement that begins with "this", "." and a name
+-- a statement with this index that begins with "this", "." and a name, by what follows: "=" and a right side, or the
+-- rest of one
 abbrev pub after_field : ℕ → Place → Place → Name → Forest → Statement
 after_field index place name_place name (Leaf equals _ (Node _ rhs _)) =
     AssignOf index place (ToField place name_place name) (rhs_in rhs)

@@ -169,10 +169,13 @@ pub(crate) fn operators<'a, 'b>(
     )
 }
 
-/// An expression of the precedence `to`, and the cursor after it. Its first operand is of the precedence `at` and
-/// begins at `place`; the operators and operands after it are read.
+/// A first operand, which begins at `place`, with the operators of each precedence from `at` up to `to`, each with the
+/// operand after it; and the cursor after that. Where the first is an operand of `at`, they are an expression of `to`.
+///
+/// # Errors
+/// The refusal of the first token that is a syntax error or too deeply nested.
 #[cycle(expressions)]
-fn climb<'a, 'b>(
+pub(crate) fn climb<'a, 'b>(
     alloc: Global,
     symbols: &mut Symbols<'a>,
     at: Precedence,
@@ -201,11 +204,8 @@ fn climb<'a, 'b>(
 
 /// A first operand, which begins at `place`, with the operators of a precedence and the operands after it; and the
 /// cursor after them.
-///
-/// # Errors
-/// The refusal of the first token that is a syntax error or too deeply nested.
 #[cycle(expressions)]
-pub(crate) fn operators_after<'a, 'b>(
+fn operators_after<'a, 'b>(
     alloc: Global,
     symbols: &mut Symbols<'a>,
     precedence: Precedence,

@@ -20,7 +20,7 @@ use crate::arguments::arguments_maybe;
 use crate::cursor::Cursor;
 use crate::expressions::{expression, in_parentheses};
 use crate::guards::guard;
-use crate::operators::{Precedence, operators_after};
+use crate::operators::{Precedence, climb};
 use crate::primaries::{member, named};
 use crate::right_sides::{right_side, right_side_tail};
 use crate::types::type_term;
@@ -49,7 +49,7 @@ impl First {
         }
     }
 
-    /// The same as the target of an assignment.
+    /// The variable or the field as the target of an assignment.
     fn target(self) -> Target
         ensures { (names : List Name) → target_tree names result ≡ target_of names self }
     {
@@ -63,7 +63,7 @@ impl First {
         }
     }
 
-    /// The same as an expression, with or without arguments after it.
+    /// The variable or the field as an expression, with or without arguments after it.
     ///
     /// # Errors
     /// [`AllocError`] if an allocation fails.
@@ -308,62 +308,17 @@ fn rest<'a, 'b>(
         (λ found. spot found.1)
         (λ found names inside. side_tree names found.0 ≡ rest_in place (expr_tree names first) inside)) }
 {
-    let precedence = depth + 1;
-    let (product, here) = operators_after(
+    let (value, here) = climb(
         alloc,
         symbols,
         Precedence::Mul,
-        precedence,
+        Precedence::Or,
+        depth + 1,
         place,
         first,
         from,
     )?;
-    let (sum, here) = operators_after(
-        alloc,
-        symbols,
-        Precedence::Sum,
-        precedence,
-        place,
-        product,
-        here,
-    )?;
-    let (comparison, here) = operators_after(
-        alloc,
-        symbols,
-        Precedence::Compare,
-        precedence,
-        place,
-        sum,
-        here,
-    )?;
-    let (equality, here) = operators_after(
-        alloc,
-        symbols,
-        Precedence::Equal,
-        precedence,
-        place,
-        comparison,
-        here,
-    )?;
-    let (conjunction, here) = operators_after(
-        alloc,
-        symbols,
-        Precedence::And,
-        precedence,
-        place,
-        equality,
-        here,
-    )?;
-    let (disjunction, here) = operators_after(
-        alloc,
-        symbols,
-        Precedence::Or,
-        precedence,
-        place,
-        conjunction,
-        here,
-    )?;
-    let (side, last) = right_side_tail(alloc, symbols, depth, place, disjunction, here)?;
+    let (side, last) = right_side_tail(alloc, symbols, depth, place, value, here)?;
     let (_, end) = last.take(Lexeme::Punctuator(Punctuator::Semicolon), depth)?;
     Ok((side, end))
 }

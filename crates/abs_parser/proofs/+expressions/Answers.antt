@@ -6,8 +6,8 @@ use Rattle.abs_parser.proofs.reader.ExpressionSteps.{or_found, or_refused, if_op
 use Rattle.abs_parser.proofs.grammar.FirstPlaceLemmas.{found_within, found_fewer}
 use Rattle.abs_parser.proofs.reader.ListLemmas.{list_of_expressions, trees_of_expressions, arguments}
 use Rattle.abs_parser.proofs.reader.ListSteps.{first_so_far, next_so_far, all_so_far, refused_first, refused_next, maybe_found, refused_between, parentheses_left_out, parentheses_follow, parentheses_opened, parentheses_shut, parenthesis_read, nothing_between}
-use Rattle.abs_parser.proofs.grammar.OperatorLemmas.{no_operand_read, next_operand_refused, next_operand_read, last_operand_found, operators_end, first_operand_read, precedence_found}
-use Rattle.abs_parser.proofs.reader.ClimbingLemmas.{unary_refused, precedence_refused, nothing_follows, same_precedence, other_precedence, last_precedence, next_order, next_operand}
+use Rattle.abs_parser.proofs.grammar.OperatorLemmas.{no_operand_read, next_operand_refused, next_operand_read, last_operand_found, operators_end}
+use Rattle.abs_parser.proofs.reader.ClimbingLemmas.{unary_refused, nothing_follows, same_precedence, other_precedence, next_order, climb_found, climb_refused, found_further, refused_later}
 use Rattle.abs_parser.proofs.reader.PatternSteps.{next_taken}
 use Rattle.abs_parser.proofs.grammar.PrimaryLemmas.{other_keyword, no_tail, tree_by, named_tree, built_tree, member_tree, this_tree, group_tree, prefixed_tree, build_expr, constant_expr}
 use Rattle.abs_parser.proofs.reader.PrimarySteps.{stands, first_read, name_read, member_begins, call_found, prefix_read, prefix_refused, operand_found, operand_refused, refused_primary, refused_lower, refused_upper, refused_group, refused_keyword, unary_refused_at_end, primary_refused_at_end, refused_no_primary}
@@ -20,7 +20,9 @@ use Rattle.abs_parser.specs.Productions.{ThisTail, Expr, Arguments}
 use Rattle.abs_parser.specs.ReaderAnswers.{is_asked, maybe_exprs}
 use Rattle.abs_parser.specs.Readings.{One, Optional, Empty}
 use Rattle.abs_parser.specs.TreesOf.{args_maybe, named, member}
+use Rattle.abs_parser.specs.Climbing.{Last, Here}
 use Rattle.abs_parser.specs.Views.{spot}
+use Rattle.abs_parser.specs.declared.operators.Precedence.TheVariants as precedence
 use Rattle.abs_tree.specs.Syntax.{NumberOf, StringOf}
 use Rattle.abs_tree.specs.SyntaxViews.{expr_tree, expr_trees}
 use Rattle.abs_tree.specs.declared.syntax.expression.Branch.{Branch}
@@ -227,26 +229,26 @@ operators::operators-climb-requires t c =
 pub operators::operators-returns : goal.operators::operators-returns
 operators::operators-returns t c =
     parses_by _ _ _ c.climb.result (λ found climbs.
-    climbs c.args.symbols.now (spot c.args.from) c.place.ensures c.in_ok-first.ensures)
-    (λ error fails. fails c.args.symbols.now (spot c.args.from) c.place.ensures c.in_ok-first.ensures)
+    climb_found precedence.Mul c.args.precedence _ _ _ (omega arith)
+    c.place.ensures c.in_ok-first.ensures climbs)
+    (λ error fails.
+    climb_refused precedence.Mul c.args.precedence _ _ error (omega arith)
+    c.place.ensures c.in_ok-first.ensures fails)
     c.climb.ensures.found c.climb.ensures.refused
 
 pub operators::climb-returns-then-not-operator_follows-clause-found
     : goal.operators::climb-returns-then-not-operator_follows-clause-found
-operators::climb-returns-then-not-operator_follows-clause-found t c = λ older begin is found.
+operators::climb-returns-then-not-operator_follows-clause-found t c =
     nothing_follows c.args.at c.args.to c.args.place c.args.first c.requires.order
-    (c.operator_follows.ensures c.if-not-operator_follows.true) is found
+    (c.operator_follows.ensures c.if-not-operator_follows.true)
 
 pub operators::climb-returns-in_err-left-clause-refused : goal.operators::climb-returns-in_err-left-clause-refused
 operators::climb-returns-in_err-left-clause-refused t c =
-    error_passed_on _ c.from_residual.result c.from_residual.ensures.1
-    (λ older begin is found. precedence_refused c.args.at c.args.to c.args.depth begin _ c.requires.order
-    (refused_inside (first_operand_read c.args.at found) _ c.in_err-left.ensures))
+    error_passed_on _ c.from_residual.result c.from_residual.ensures.1 (Here c.in_err-left.ensures)
 
 pub operators::climb-returns-then-eq-clause-found : goal.operators::climb-returns-then-eq-clause-found
-operators::climb-returns-then-eq-clause-found t c = λ older begin is found.
-    let here = precedence_found c.args.at c.args.place c.args.first c.in_ok-left.left found is c.in_ok-left.ensures in
-    last_precedence c.in_ok-left.left (same_precedence c.args.at c.args.to (sym c.eq.ensures ∙ c.if-eq.true)) here
+operators::climb-returns-then-eq-clause-found t c =
+    Last (same_precedence c.args.at c.args.to (sym c.eq.ensures ∙ c.if-eq.true)) c.in_ok-left.ensures
 
 pub operators::climb-climb-requires : goal.operators::climb-climb-requires
 operators::climb-climb-requires t c =
@@ -263,18 +265,14 @@ operators::climb-climb-requires t c =
 pub operators::climb-returns-clause-found : goal.operators::climb-returns-clause-found
 operators::climb-returns-clause-found t c =
     let other = other_precedence c.args.at c.args.to (sym c.eq.ensures ∙ c.if-eq.false) in
-    IfOk-weaker c.climb.result _ _ (λ found climbs older begin is operand.
-    let here = precedence_found c.args.at c.args.place c.args.first c.in_ok-left.left operand is c.in_ok-left.ensures in
-    climbs older begin is (rw c.looser.ensures
-    (next_operand c.args.at c.args.to c.in_ok-left.left c.requires.order other here))) c.climb.ensures.found
+    IfOk-weaker c.climb.result _ _ (λ found climbs. found_further c.looser.ensures other c.in_ok-left.ensures climbs)
+    c.climb.ensures.found
 
 pub operators::climb-returns-clause-refused : goal.operators::climb-returns-clause-refused
 operators::climb-returns-clause-refused t c =
     let other = other_precedence c.args.at c.args.to (sym c.eq.ensures ∙ c.if-eq.false) in
-    IfErr-weaker c.climb.result _ _ (λ error fails older begin is operand.
-    let here = precedence_found c.args.at c.args.place c.args.first c.in_ok-left.left operand is c.in_ok-left.ensures in
-    fails older begin is (rw c.looser.ensures
-    (next_operand c.args.at c.args.to c.in_ok-left.left c.requires.order other here))) c.climb.ensures.refused
+    IfErr-weaker c.climb.result _ _ (λ error fails. refused_later c.looser.ensures other c.in_ok-left.ensures fails)
+    c.climb.ensures.refused
 
 pub operators::operators_after-loop-operator-init : goal.operators::operators_after-loop-operator-init
 operators::operators_after-loop-operator-init t c =

@@ -1,7 +1,7 @@
 -- The steps of the parsing function of `Rest`, which follows the first operand of a right side. It reads the operators
 -- of each precedence, and then what may follow an expression, up to `;`. All that comes before `;` may be left out. So
 -- where the next token does not open `Rest`, no token was read, and `Rest` is refused where the next item is.
-use Rattle.std.proofs.Common.{◌≡◌, ◌≤◌, ℕ, ◌+◌, Bool, true, false, List, [], ◌∷◌, ◌++◌, Some, None, refl, sym, ap, subst, ◌∙◌}
+use Rattle.std.proofs.Common.{◌≡◌, ◌≤◌, ℕ, ◌+◌, Bool, true, false, List, [], ◌∷◌, ◌++◌, map, Some, None, refl, sym, ap, subst, ◌∙◌}
 use Rattle.std.proofs.lemmas.Bool.{or_parts}
 use Rattle.std.proofs.lemmas.Option.{same_Some}
 use Rattle.abs_tree.specs.SyntaxViews.{expr_tree, side_tree}
@@ -13,14 +13,16 @@ use Rattle.abs_lexer.specs.declared.lexeme.Lexeme.TheVariants as lexeme
 use Rattle.abs_lexer.specs.declared.lexeme.Punctuator.TheVariants as punctuator
 use Rattle.abs_lexer.specs.Tokens.{Lexed}
 use Rattle.abs_parser.specs.TokenKinds.{Mark, Token, TokenKind, PunctuatorKind, fits, next}
-use Rattle.abs_parser.specs.Precedences.{rest_of, operands_in}
+use Rattle.abs_parser.specs.Answers.{GoesOn}
+use Rattle.abs_parser.specs.Climbing.{FoundAfter, Climbs, Last, Further, FailsToClimb, Here, Later}
+use Rattle.abs_parser.specs.Precedences.{looser, rest_of}
 use Rattle.abs_parser.specs.Productions.{Rest, MulTail, SumTail, CompareTail, EqualTail, AndTail, OrTail, RhsTail, begins}
 use Rattle.abs_parser.specs.Readings.{Goal, One, Optional, Wanted, Terminal, Subgoal, opened, Forest, Leaf, Node, Reads, Nothing, Taken, Opened}
 use Rattle.abs_parser.specs.Refusing.{Refuses, Shut, Open, Cut}
 use Rattle.abs_parser.specs.ReaderAnswers.{left_at, TakesKind, FoundAs, RefusedAs, IsRefused, AreRefused}
 use Rattle.abs_parser.specs.Stops.{limit}
 use Rattle.abs_parser.specs.Tokens.{Spot}
-use Rattle.abs_parser.specs.TreesOf.{with_operators, tail_in, rest_in}
+use Rattle.abs_parser.specs.TreesOf.{tail_in, rest_in}
 use Rattle.abs_parser.specs.declared.operators.Precedence.{Precedence}
 use Rattle.abs_parser.specs.declared.operators.Precedence.TheVariants as precedence
 use Rattle.abs_tree.specs.declared.source_error.SourceError.{SourceError}
@@ -263,7 +265,7 @@ abbrev pub after_operators : ℕ → List Wanted
 after_operators depth = Subgoal (Optional RhsTail) depth ∷ Terminal (PunctuatorKind punctuator.Semicolon) depth ∷ []
 
 -- `Rest` begins with the operators of each precedence
-pub rest_begins : (depth : ℕ) (table : List (List ℕ)) (from : Spot)
+rest_begins : (depth : ℕ) (table : List (List ℕ)) (from : Spot)
     → RestRead depth table table from (λ rest. rest)
     (Subgoal (rest_of precedence.Mul) (depth + 1) ∷ Subgoal (rest_of precedence.Sum) (depth + 1)
     ∷ Subgoal (rest_of precedence.Compare) (depth + 1)
@@ -273,7 +275,7 @@ rest_begins depth table from = may_open (One Rest) depth table from _
     (λ begun. part_opened Rest _ depth refl refl begun)
 
 -- the operators of a precedence were read
-pub over_precedence : {depth : ℕ} {old now new : List (List ℕ)} {from here after : Spot} {make : Forest → Forest}
+over_precedence : {depth : ℕ} {old now new : List (List ℕ)} {from here after : Spot} {make : Forest → Forest}
     {left : List Wanted}
     {is_read : List (List ℕ) → Forest → Type 0} (precedence : Precedence)
     → RestRead depth old now from make (Subgoal (rest_of precedence) (depth + 1) ∷ left) here
@@ -282,7 +284,7 @@ pub over_precedence : {depth : ℕ} {old now new : List (List ℕ)} {from here a
 over_precedence {depth} precedence so found = over_left_out so (precedence_left_out precedence _ (depth + 1)) found
 
 -- `Rest` is refused where these operators are
-pub precedence_refused : {depth : ℕ} {old now : List (List ℕ)} {from here : Spot} {make : Forest → Forest}
+precedence_refused : {depth : ℕ} {old now : List (List ℕ)} {from here : Spot} {make : Forest → Forest}
     {left : List Wanted} (precedence : Precedence) (error : SourceError)
     → RestRead depth old now from make (Subgoal (rest_of precedence) (depth + 1) ∷ left) here
     → IsRefused (Subgoal (rest_of precedence) (depth + 1)) here error
@@ -296,7 +298,7 @@ tail_left_out : (kind : TokenKind) (depth : ℕ) → begins Rest kind ≡ false
 tail_left_out kind depth none = optional_left_out RhsTail kind depth (begins_none kind none).tail
 
 -- `RhsTail`, which may follow an expression, was read
-pub over_tail : {depth : ℕ} {old now new : List (List ℕ)} {from here after : Spot} {make : Forest → Forest}
+over_tail : {depth : ℕ} {old now new : List (List ℕ)} {from here after : Spot} {make : Forest → Forest}
     {is_read : List (List ℕ) → Forest → Type 0}
     → RestRead depth old now from make (after_operators depth) here
     → (found : FoundAs (Optional RhsTail) depth now new here after is_read)
@@ -305,7 +307,7 @@ pub over_tail : {depth : ℕ} {old now new : List (List ℕ)} {from here after :
 over_tail {depth} so found = over_left_out so (tail_left_out _ depth) found
 
 -- `Rest` is refused where `RhsTail` is
-pub tail_refused : {depth : ℕ} {old now : List (List ℕ)} {from here : Spot} {make : Forest → Forest}
+tail_refused : {depth : ℕ} {old now : List (List ℕ)} {from here : Spot} {make : Forest → Forest}
     (error : SourceError)
     → RestRead depth old now from make (after_operators depth) here
     → IsRefused (Subgoal (Optional RhsTail) depth) here error
@@ -313,7 +315,7 @@ pub tail_refused : {depth : ℕ} {old now : List (List ℕ)} {from here : Spot} 
 tail_refused {depth} error so refused = refused_left_out so (tail_left_out _ depth) error refused
 
 -- `Rest` is refused where `;` is
-pub semicolon_refused : {depth : ℕ} {old now : List (List ℕ)} {from here : Spot} {make : Forest → Forest}
+semicolon_refused : {depth : ℕ} {old now : List (List ℕ)} {from here : Spot} {make : Forest → Forest}
     (error : SourceError)
     → RestRead depth old now from make (Terminal (PunctuatorKind punctuator.Semicolon) depth ∷ []) here
     → IsRefused (Terminal (PunctuatorKind punctuator.Semicolon) depth) here error
@@ -333,41 +335,150 @@ semicolon_read so semicolon within =
     let here = ap (λ (ts : List Mark). fits (PunctuatorKind punctuator.Semicolon) (next ts)) same in
     cc)) semicolon refl refl within
 
--- the operators of a precedence were found after an operand; together they are this expression
-abbrev pub PrecedenceFound : Precedence → ℕ → List (List ℕ) → List (List ℕ) → Spot → Spot → Place → Expr → Expr → Type 0
-PrecedenceFound precedence depth old new from to place first expr =
-    FoundAs (rest_of precedence) (depth + 1) old new from to
-    (λ names inside. expr_tree names expr ≡ with_operators place (expr_tree names first) (operands_in precedence inside))
+-- Operators of several precedences
+
+-- the precedences that bind less than this one, in the order in which they are read
+abbrev looser_ones : Precedence → List Precedence
+looser_ones precedence.Or = []
+looser_ones precedence.And = precedence.Or ∷ []
+looser_ones precedence.Equal = precedence.And ∷ precedence.Or ∷ []
+looser_ones precedence.Compare = precedence.Equal ∷ precedence.And ∷ precedence.Or ∷ []
+looser_ones precedence.Sum = precedence.Compare ∷ precedence.Equal ∷ precedence.And ∷ precedence.Or ∷ []
+looser_ones precedence.Mul =
+    precedence.Sum ∷ precedence.Compare ∷ precedence.Equal ∷ precedence.And ∷ precedence.Or ∷ []
+
+-- what is wanted after the operators of a precedence: those of each one that binds less, and what follows operators
+abbrev wanted_after : Precedence → ℕ → List Wanted
+wanted_after precedence depth =
+    map (λ (each : Precedence). Subgoal (rest_of each) (depth + 1)) (looser_ones precedence) ++ after_operators depth
+
+-- after the operators of a precedence that is not the last, those of the next one are wanted
+next_wanted : (at : Precedence) (depth : ℕ) → (at ≡ precedence.Or → ⊥)
+    → wanted_after at depth ≡ Subgoal (rest_of (looser at)) (depth + 1) ∷ wanted_after (looser at) depth
+next_wanted precedence.Or depth other = absurd (other refl)
+next_wanted precedence.And depth other = refl
+next_wanted precedence.Equal depth other = refl
+next_wanted precedence.Compare depth other = refl
+next_wanted precedence.Sum depth other = refl
+next_wanted precedence.Mul depth other = refl
+
+-- `Rest` is refused where the operators of a precedence are, after those of each one before it
+refused_from : {depth : ℕ} {old now : List (List ℕ)} {from here : Spot} {make : Forest → Forest} {place : Place}
+    {first : Expr} {inner : ℕ} (at : Precedence) (error : SourceError) → inner ≡ depth + 1
+    → RestRead depth old now from make (Subgoal (rest_of at) (depth + 1) ∷ wanted_after at depth) here
+    → FailsToClimb at precedence.Or inner now place first here error
+    → IsRefused (Subgoal (One Rest) depth) from error
+refused_from {here = here} at error is so (Here refused) =
+    precedence_refused at error so
+    (subst (λ (n : ℕ). IsRefused (Subgoal (rest_of at) n) here error) is refused)
+refused_from {depth} {old} {now} {from} {here} {make} {place = place} {first} at error is so
+    (Later {now = new} {left = left} {here = end} other after fails) =
+    let found = subst (λ (n : ℕ). FoundAfter at n now new place first left here end) is after in
+    refused_from (looser at) error is
+    (subst (λ (wanted : List Wanted). RestRead depth old new from
+    (λ (rest : Forest). make (Node (rest_of at) found.inside rest)) wanted end) (next_wanted at depth other)
+    (over_precedence at so found)) fails
+
+-- `Rest` is refused where its operators are
+pub operators_refused : {old : List (List ℕ)} {from : Spot} {place : Place} {first : Expr} (depth : ℕ)
+    (error : SourceError) → FailsToClimb precedence.Mul precedence.Or (depth + 1) old place first from error
+    → IsRefused (Subgoal (One Rest) depth) from error
+operators_refused {old} {from} depth error fails =
+    refused_from precedence.Mul error refl (rest_begins depth old from) fails
+
+-- The operators of each precedence were read after a first operand, up to here. Together they are this expression.
+record OperatorsRead (depth : ℕ) (old now : List (List ℕ)) (place : Place) (first expr : Expr) (from here : Spot)
+    : Type 0 where
+  make : Forest → Forest
+  read : RestRead depth old now from make (after_operators depth) here
+  is : (names : List (List ℕ)) → GoesOn now names → (part : Goal) (tail others : Forest)
+      → rest_in place (expr_tree names first) (make (Node part tail others))
+      ≡ tail_in place (expr_tree names expr) tail
+
+-- The operators of a precedence were read, and then those of the next one up to the last.
+record ReadFurther (at : Precedence) (depth : ℕ) (old new : List (List ℕ)) (place : Place) (first expr : Expr)
+    (from end : Spot) : Type 0 where
+  now : List (List ℕ)
+  left : Expr
+  here : Spot
+  after : FoundAfter at depth old now place first left from here
+  climbs : Climbs (looser at) precedence.Or depth now new place left expr here end
+
+-- the operators of a precedence that is not the last are followed by those of the next one
+next_read : {depth : ℕ} {old new : List (List ℕ)} {place : Place} {first expr : Expr} {from end : Spot}
+    (at : Precedence) → (at ≡ precedence.Or → ⊥) → Climbs at precedence.Or depth old new place first expr from end
+    → ReadFurther at depth old new place first expr from end
+next_read at other (Last same after) = absurd (other same)
+next_read at other (Further {now = now} {left = left} {here = here} different after climbs) =
+    record { now = now; left = left; here = here; after = after; climbs = climbs }
+
+-- those of the last precedence are followed by no others
+last_read : {depth : ℕ} {old new : List (List ℕ)} {place : Place} {first expr : Expr} {from end : Spot}
+    (at : Precedence) → at ≡ precedence.Or → Climbs at precedence.Or depth old new place first expr from end
+    → FoundAfter at depth old new place first expr from end
+last_read at same (Last is after) = after
+last_read at same (Further other after climbs) = absurd (other same)
+
+-- the operators of each precedence were read
+operators_read : {depth : ℕ} {old new : List (List ℕ)} {place : Place} {first expr : Expr} {from end : Spot}
+    → Climbs precedence.Mul precedence.Or (depth + 1) old new place first expr from end
+    → OperatorsRead depth old new place first expr from end
+operators_read {depth} {old} {new} {place} {first} {expr} {from} climbs =
+    let muls = next_read precedence.Mul (λ is. absurd cc) climbs in
+    let sums = next_read precedence.Sum (λ is. absurd cc) muls.climbs in
+    let compares = next_read precedence.Compare (λ is. absurd cc) sums.climbs in
+    let equals = next_read precedence.Equal (λ is. absurd cc) compares.climbs in
+    let ands = next_read precedence.And (λ is. absurd cc) equals.climbs in
+    let ors = last_read precedence.Or refl ands.climbs in
+    let up_to_mul = over_precedence precedence.Mul (rest_begins depth old from) muls.after in
+    let up_to_sum = over_precedence precedence.Sum up_to_mul sums.after in
+    let up_to_compare = over_precedence precedence.Compare up_to_sum compares.after in
+    let up_to_equal = over_precedence precedence.Equal up_to_compare equals.after in
+    let up_to_and = over_precedence precedence.And up_to_equal ands.after in
+    record {
+      make = λ rest. Node (rest_of precedence.Mul) muls.after.inside (Node (rest_of precedence.Sum) sums.after.inside
+          (Node (rest_of precedence.Compare) compares.after.inside (Node (rest_of precedence.Equal) equals.after.inside
+          (Node (rest_of precedence.And) ands.after.inside (Node (rest_of precedence.Or) ors.inside rest)))));
+      read = over_precedence precedence.Or up_to_and ors;
+      is = λ names more part tail others.
+          let before_or = goes_on_further (found_goes_on ors) more in
+          let before_and = goes_on_further (found_goes_on ands.after) before_or in
+          let before_equal = goes_on_further (found_goes_on equals.after) before_and in
+          let before_compare = goes_on_further (found_goes_on compares.after) before_equal in
+          let before_sum = goes_on_further (found_goes_on sums.after) before_compare in
+          rw (ors.is names more, ands.after.is names before_or, equals.after.is names before_and)
+          (rw (compares.after.is names before_equal, sums.after.is names before_compare, muls.after.is names before_sum)
+          refl);
+    }
+
+-- `Rest` is refused where what follows its operators is
+pub rest_tail_refused : {old now : List (List ℕ)} {from here : Spot} {place : Place} {first expr : Expr}
+    (depth : ℕ) (error : SourceError)
+    → Climbs precedence.Mul precedence.Or (depth + 1) old now place first expr from here
+    → IsRefused (Subgoal (Optional RhsTail) depth) here error
+    → IsRefused (Subgoal (One Rest) depth) from error
+rest_tail_refused depth error climbs refused = tail_refused error (operators_read climbs).read refused
+
+-- `Rest` is refused where the `;` after its operators and what follows them is
+pub rest_end_refused : {depth : ℕ} {old now new : List (List ℕ)} {from here after : Spot} {place : Place}
+    {first expr : Expr} {is_read : List (List ℕ) → Forest → Type 0}
+    (error : SourceError) → Climbs precedence.Mul precedence.Or (depth + 1) old now place first expr from here
+    → FoundAs (Optional RhsTail) depth now new here after is_read
+    → IsRefused (Terminal (PunctuatorKind punctuator.Semicolon) depth) after error
+    → IsRefused (Subgoal (One Rest) depth) from error
+rest_end_refused error climbs tail refused =
+    semicolon_refused error (over_tail (operators_read climbs).read tail) refused
 
 -- `Rest` is found with the operators of each precedence, what may follow them, and `;`
-pub rest_found : {token : Lexed} {depth : ℕ} {old a b c d e f new : List (List ℕ)}
-    {from at_sum at_compare at_equal at_and at_or at_tail at_end end : Spot} {place : Place}
-    (first product sum comparison equality conjunction disjunction : Expr) (side : RightSide)
-    → PrecedenceFound precedence.Mul depth old a from at_sum place first product
-    → PrecedenceFound precedence.Sum depth a b at_sum at_compare place product sum
-    → PrecedenceFound precedence.Compare depth b c at_compare at_equal place sum comparison
-    → PrecedenceFound precedence.Equal depth c d at_equal at_and place comparison equality
-    → PrecedenceFound precedence.And depth d e at_and at_or place equality conjunction
-    → PrecedenceFound precedence.Or depth e f at_or at_tail place conjunction disjunction
-    → FoundAs (Optional RhsTail) depth f new at_tail at_end
-    (λ names inside. side_tree names side ≡ tail_in place (expr_tree names disjunction) inside)
-    → TakesKind (lexeme.Punctuator punctuator.Semicolon) token at_end end → depth ≤ limit
+pub rest_found : {token : Lexed} {depth : ℕ} {old now new : List (List ℕ)} {from here after end : Spot}
+    {place : Place} {first expr : Expr} (side : RightSide)
+    → Climbs precedence.Mul precedence.Or (depth + 1) old now place first expr from here
+    → FoundAs (Optional RhsTail) depth now new here after
+    (λ names inside. side_tree names side ≡ tail_in place (expr_tree names expr) inside)
+    → TakesKind (lexeme.Punctuator punctuator.Semicolon) token after end → depth ≤ limit
     → FoundAs (One Rest) depth old new from end
     (λ names inside. side_tree names side ≡ rest_in place (expr_tree names first) inside)
-rest_found {depth = depth} {old} {from = from} first product sum comparison equality conjunction disjunction side muls
-    sums compares equals ands ors tail semicolon within =
-    let up_to_mul = over_precedence precedence.Mul (rest_begins depth old from) muls in
-    let up_to_sum = over_precedence precedence.Sum up_to_mul sums in
-    let up_to_compare = over_precedence precedence.Compare up_to_sum compares in
-    let up_to_equal = over_precedence precedence.Equal up_to_compare equals in
-    let up_to_and = over_precedence precedence.And up_to_equal ands in
-    let up_to_or = over_precedence precedence.Or up_to_and ors in
-    all_read (semicolon_read (over_tail up_to_or tail) semicolon within) (λ names more.
-    let before_tail = goes_on_further (found_goes_on tail) more in
-    let before_or = goes_on_further (found_goes_on ors) before_tail in
-    let before_and = goes_on_further (found_goes_on ands) before_or in
-    let before_equal = goes_on_further (found_goes_on equals) before_and in
-    let before_compare = goes_on_further (found_goes_on compares) before_equal in
-    let before_sum = goes_on_further (found_goes_on sums) before_compare in
-    rw (tail.is names more, ors.is names before_tail, ands.is names before_or, equals.is names before_and)
-    (rw (compares.is names before_equal, sums.is names before_compare, muls.is names before_sum) refl))
+rest_found side climbs tail semicolon within =
+    let operators = operators_read climbs in
+    all_read (semicolon_read (over_tail operators.read tail) semicolon within) (λ names more.
+    tail.is names more ∙ sym (operators.is names (goes_on_further (found_goes_on tail) more) _ tail.inside _))
