@@ -3,15 +3,11 @@
 --   `AreChecked`                       the first declarations were checked
 --   `none_checked`, `one_checked`      they were before the first one, and after one more
 --   `all_checked`                      what was noted after all
---   `first_refused`                    the refusal for what was noted first
-use Rattle.std.proofs.Common.{Option, None, option_map, fold, ◌≡◌, ℕ, ◌+◌, ◌<◌, ◌≤◌, List, [], ◌∷◌, ◌++◌, get_or, length, map, take, take_all, refl, sym, ap, ◌∙◌, append_assoc, append-nil}
+use Rattle.std.proofs.Common.{◌≡◌, ℕ, ◌+◌, ◌<◌, ◌≤◌, List, [], ◌∷◌, ◌++◌, get_or, length, map, take, take_all, refl, sym, ap, ◌∙◌, append_assoc, append-nil}
 use Rattle.std.proofs.lemmas.List.{take_more, map-append}
-use Rattle.abs_tree.specs.Offences.{earlier, first_offence}
-use Rattle.abs_tree.specs.Refusals.{refusal_of}
 use Rattle.abs_tree.specs.Syntax.{DeclTree}
 use Rattle.abs_tree.specs.SyntaxViews.{decl_tree}
 use Rattle.abs_tree.specs.declared.refusal.Offence.{Offence}
-use Rattle.abs_tree.specs.declared.refusal.Refusal.{Refusal}
 use Rattle.abs_tree.specs.declared.syntax.declaration.Decl.{Decl}
 use Rattle.abs_types.proofs.KeepLemmas.{keeps_reflexive, keeps_transitive}
 use Rattle.abs_types.specs.TypeOffences.{function_offences, function_offences_in, functions_offences}
@@ -70,10 +66,3 @@ unfolding context_in function_offences
 all_checked {before} {now} all index so ended is context knows =
     let whole : take index all ≡ before.table.program.now.declarations.items = take_all index all ended ∙ is in
     rw (← knows.is) (rw whole at so.noted)
-
--- the refusal for what was noted is that for the first offence
-pub first_refused : {before now : Option Offence} (offences : List Offence) (refusal : Option Refusal)
-    → Noted before offences now → before ≡ None → option_map refusal_of now ≡ refusal
-    → refusal ≡ option_map refusal_of (first_offence offences)
-first_refused offences refusal noted none is =
-    sym is ∙ ap (option_map refusal_of) (noted.is ∙ ap (λ (first : Option Offence). fold earlier first offences) none)

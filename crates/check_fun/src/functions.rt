@@ -1,8 +1,5 @@
-//! The functions of a program, and their first offence.
-ghost use Rattle.std.specs.Prelude.{◌≡◌, ◌++◌, Some, option_map, IfOk, OnOk};
-ghost use Rattle.abs_tree.specs.Offences.{first_offence};
-ghost use Rattle.abs_tree.specs.Refusals.{refusal_of};
-ghost use Rattle.abs_program.specs.NamedViews.{named_tree};
+//! Checks the functions of a program: the value of each fits its result type, or the first offence is noted.
+ghost use Rattle.std.specs.Prelude.{◌++◌, Some, OnOk};
 ghost use Rattle.abs_tree.specs.SyntaxPlaces.{expr_place};
 ghost use Rattle.abs_tree.specs.SyntaxViews.{decl_tree, expr_tree, type_tree};
 ghost use Rattle.abs_types.specs.Mistyped.{unfit};
@@ -12,26 +9,9 @@ ghost use Rattle.abs_types.specs.TypeTables.{Keeps};
 ghost use Rattle.check_fun.specs.Contexts.{offends, typed, Context, Finds, Found, Knows, Noted, Stays};
 
 use crate::checker::Checker;
-use abs_program::Named;
-use abs_tree::{Decl, Expr, Place, Refusal, TypeTerm};
+use abs_tree::{Decl, Expr, Place, TypeTerm};
 use abs_types::TypeIndex;
-use std::alloc::{AllocError, Global};
-
-/// The refusal of a program for the first offence of its functions by their types, or None if they have none.
-///
-/// # Errors
-/// [`AllocError`] if an allocation fails, or if there are too many types.
-pub fn check_functions(alloc: Global, program: &Named<'_>) -> Result<Option<Refusal>, AllocError>
-    ensures { IfOk result (λ found. found ≡ option_map refusal_of
-        (first_offence (function_offences (named_tree program.now).declarations))) }
-{
-    let mut checker = Checker::new(alloc, program);
-    checker.functions()?;
-    match checker.first {
-        Some(offence) => Ok(Some(offence.refusal())),
-        None => Ok(None),
-    }
-}
+use std::alloc::AllocError;
 
 impl Checker<'_> {
     /// Checks all functions of the program.

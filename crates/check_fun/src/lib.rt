@@ -20,5 +20,4 @@ mod rules;
 mod schemes;
 
 pub use checker::Checker;
-pub use functions::check_functions;
 pub use heads::Head;
