@@ -63,7 +63,7 @@ fault_line number (Some (Gives value)) = []
 fault_line number (Some (Fails cause)) =
     codes "fault: task " ++ (decimal number ++ (codes ": " ++ (fault_name cause ++ codes "\n")))
 
--- those lines in the order of the tasks, the first of which has this index
+-- the lines of the tasks that ended by a fault, in the order of the tasks, the first of which has this index
 abbrev pub fault_lines : ℕ → List TaskState → List ℕ
 fault_lines number [] = []
 fault_lines number (task ∷ tasks) = fault_line number task.outcome ++ fault_lines (number + 1) tasks

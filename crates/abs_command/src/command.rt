@@ -172,7 +172,7 @@ pub fn abs_run<S: Source, K: Sink>(
     }
 }
 
-/// The same; an error is that memory ran out, on whatever way.
+/// Does what [`abs_run`] does, but gives an error where memory runs out, on whatever way.
 fn respond<S: Source, K: Sink>(
     alloc: Global,
     words: &Vec<String>,

@@ -29,7 +29,7 @@ unfoldable mutual
       if byte == 34 then Some 0 else (if byte == 10 then None else
       (if byte == 92 then closing_after_escape others else increased_by 1 (closing_quote others)))
 
-  -- the same after a `\`, which the count includes
+  -- after a `\` in a string, the number of bytes before the quote that closes it on the same line; the `\` counts too
   pub closing_after_escape : List ℕ → Option ℕ
   closing_after_escape [] = None
   closing_after_escape (byte ∷ others) = if byte == 10 then None else increased_by 2 (closing_quote others)

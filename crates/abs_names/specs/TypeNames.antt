@@ -38,7 +38,7 @@ around_of spaces type_params = record { spaces = spaces; type_params = with_type
 abbrev pub counted : ℕ → ℕ → Place → List Offence
 counted taken given place = if nat_eq taken given then [] else record { place = place; code = N3 } ∷ []
 
--- the same for a name that may be unknown
+-- the offence of a name at this place that is unknown, or is given so many arguments and does not take so many
 abbrev pub applied : Option ℕ → ℕ → Place → List Offence
 applied (Some taken) given place = counted taken given place
 applied None given place = record { place = place; code = N2 } ∷ []

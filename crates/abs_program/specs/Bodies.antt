@@ -19,11 +19,11 @@ abbrev pub body_entry : ℕ → ℕ → Statements → BodyEntry
 body_entry index params body =
     record { first = entry index body None; slots = length (body_slots params body); params = params }
 
--- that of the main block
+-- the entry of the main block
 abbrev pub main_entry : SourceTree → BodyEntry
 main_entry program = body_entry (decl_statements program.declarations) 0 program.main
 
--- that of the method at an index among members, whose statements have indices from this one on
+-- the entry of the method at an index among members, whose statements have indices from this one on
 abbrev pub member_entry : ℕ → List MemberTree → ℕ → Option BodyEntry
 member_entry index [] member = None
 member_entry index (MethodTree signature end body ∷ others) zero = Some (body_entry index (length signature.params) body)
@@ -31,7 +31,7 @@ member_entry index (FieldTree type name initial ∷ others) zero = None
 member_entry index (first ∷ others) (suc member) =
     member_entry (index + member_statements (first ∷ [])) others member
 
--- that of the method at an index of the class at an index of declarations
+-- the entry of the method at an index of the class at an index of declarations
 abbrev pub entry_in_class : ℕ → List DeclTree → ℕ → ℕ → Option BodyEntry
 entry_in_class index [] class member = None
 entry_in_class index (ClassTree place name params implemented members ∷ others) zero member =
@@ -81,12 +81,12 @@ pub record ClassEntryTree : Type 0 where
   pub initials : ExprTrees
   pub run : Option ℕ
 
--- that of a declaration, if it is a class
+-- what a new object of a declaration takes, if the declaration is a class
 abbrev pub entry_of_class : DeclTree → Option ClassEntryTree
 entry_of_class (ClassTree place name params implemented members) =
     Some (record { params = length params; initials = initials_among members; run = run_among members })
 entry_of_class _ = None
 
--- that of the declaration at an index
+-- what a new object of the declaration at an index takes, if that is a class
 unfoldable pub class_entry : List DeclTree → ℕ → Option ClassEntryTree
 class_entry declarations class = option_and_then entry_of_class (slice_get declarations class)

@@ -39,7 +39,7 @@ abbrev mutual
   loop_sizes_of_else NoElse = []
   loop_sizes_of_else (Else branch) = loop_sizes branch
 
--- those of the methods of a class, and of declarations
+-- the sizes of the loops in the methods of a class, and in declarations
 abbrev pub member_loops : List MemberTree → List ℕ
 member_loops [] = []
 member_loops (FieldTree type name initial ∷ others) = member_loops others

@@ -18,7 +18,7 @@ pub record BodyHasSlots (names : List Name) (params : ℕ) (body : Body) : Type 
   pub are : body.slots.items ≡ body_slots params (statements names body.statements.items)
   pub few : length body.slots.items ≤ table_limit
 
--- so has each method of a class
+-- each method of a class has the slots of its tree, and not too many of them
 abbrev pub MemberHasSlots : List Name → Member → Type 0
 MemberHasSlots names (member.Field type name initial) = ⊤
 MemberHasSlots names (member.Method signature body) = BodyHasSlots names (length signature.params.items) body

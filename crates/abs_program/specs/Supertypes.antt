@@ -18,13 +18,13 @@ abbrev pub interface_of : Option TypeMeaning → List ℕ
 interface_of (Some (type.Interface index)) = index ∷ []
 interface_of _ = []
 
--- those of several names
+-- the interfaces that several names stand for
 abbrev pub interfaces_named : NameSpaces → List DeclaredTree → List ℕ
 interfaces_named spaces [] = []
 interfaces_named spaces (name ∷ others) =
     interface_of (meaning_of spaces.types name.name) ++ interfaces_named spaces others
 
--- those that a declaration extends or implements in one step, by the indices of their declarations
+-- the interfaces that a declaration extends or implements in one step, by the indices of their declarations
 abbrev pub above : NameSpaces → DeclTree → List ℕ
 above spaces (InterfaceTree place name extended signatures) = interfaces_named spaces extended
 above spaces (ClassTree place name params implemented members) = interfaces_named spaces implemented

@@ -47,6 +47,6 @@ pub record AreTables (names : List Name) (source : SourceTree) (tables : Tables)
   pub fields_are : AreFields source.declarations tables.fields
   pub control_is : IsControl names source tables.control
 
--- the same of the code's declarations and of its main block
+-- these are the tables of the code's declarations and of its main block
 abbrev pub HaveTables : List Name → List Decl → Body → Tables → Type 0
 HaveTables names declarations main tables = AreTables names (tree_of_parts names declarations main) tables

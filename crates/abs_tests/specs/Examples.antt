@@ -46,7 +46,7 @@ members = MethodTree (work (IntType start)) start
 abbrev pub worker : DeclTree
 worker = ClassTree start (declared (codes "Worker")) [] [] members
 
--- the same class, which implements Job
+-- class Worker implements Job { Int work(Int days) { return days; } }
 abbrev pub job_worker : DeclTree
 job_worker = ClassTree start (declared (codes "Worker")) [] (declared (codes "Job") ∷ []) members
 

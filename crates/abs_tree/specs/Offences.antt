@@ -64,6 +64,6 @@ pub record IsFirst (offences : List Offence) (offence : Offence) : Type 0 where
 abbrev pub offence_at : Code → Place → List Offence
 offence_at code place = record { place = place; code = code } ∷ []
 
--- the same, if there is reason for it
+-- the offence with a code at a place as a list, if there is reason for it; else none
 abbrev pub offence_if : Bool → Code → Place → List Offence
 offence_if offends code place = if offends then offence_at code place else []

@@ -16,7 +16,7 @@ MembersAreNumbered first (MethodTree signature end body ∷ others) =
     AreNumbered first body × MembersAreNumbered (first + statement_count body) others
 MembersAreNumbered first (FieldTree type name initial ∷ others) = MembersAreNumbered first others
 
--- those of declarations, of which only a class has any
+-- the statements of declarations, of which only a class has any
 abbrev pub DeclsAreNumbered : ℕ → List DeclTree → Type 0
 DeclsAreNumbered first [] = ⊤
 DeclsAreNumbered first (ClassTree place name params implemented members ∷ others) =

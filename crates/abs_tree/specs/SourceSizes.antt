@@ -20,7 +20,7 @@ member_variables (FieldTree _ _ (Value value) ∷ others) = expr_variables value
 member_variables (MethodTree signature _ body ∷ others) =
     length signature.params + statements_variables body + member_variables others
 
--- those of declarations
+-- the variables of declarations
 abbrev pub decl_variables : List DeclTree → ℕ
 decl_variables [] = 0
 decl_variables (DataTree _ _ _ _ ∷ others) = decl_variables others
@@ -30,6 +30,6 @@ decl_variables (InterfaceTree _ _ _ signatures ∷ others) = signature_params si
 decl_variables (ClassTree _ _ params _ members ∷ others) =
     length params + member_variables members + decl_variables others
 
--- those of a source
+-- the variables of a source
 abbrev pub all_variables : SourceTree → ℕ
 all_variables source = decl_variables source.declarations + statements_variables source.main

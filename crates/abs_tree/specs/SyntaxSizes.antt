@@ -48,7 +48,7 @@ abbrev mutual
   patterns_variables NoPattern = 0
   patterns_variables (NextPattern first others) = pattern_variables first + patterns_variables others
 
--- those of `let` and of the patterns in an expression
+-- the number of variables of `let` and of the patterns in an expression
 abbrev mutual
   pub expr_variables : ExprTree → ℕ
   expr_variables (LetIn _ _ _ _ value body) = 1 + expr_variables value + expr_variables body
@@ -86,7 +86,7 @@ abbrev pub test_variables : Tests → ℕ
 test_variables NoTest = 0
 test_variables (NextTest _ value _ others) = expr_variables value + test_variables others
 
--- those of a statement, with the local that it declares
+-- the number of variables of a statement, with the local that it declares
 abbrev mutual
   pub statement_variables : Statement → ℕ
   statement_variables (BlockOf _ block) = statements_variables block
@@ -107,7 +107,7 @@ abbrev mutual
   statements_variables NoStatement = 0
   statements_variables (NextStatement first others) = statement_variables first + statements_variables others
 
--- those of the initial values of a class, which are evaluated together
+-- the number of variables of the initial values of a class, which are evaluated together
 abbrev pub field_variables : List MemberTree → ℕ
 field_variables [] = 0
 field_variables (FieldTree _ _ (Value value) ∷ others) = expr_variables value + field_variables others
@@ -120,7 +120,7 @@ method_sizes (MethodTree signature _ body ∷ others) =
     (length signature.params + statements_variables body) ∷ method_sizes others
 method_sizes (FieldTree _ _ _ ∷ others) = method_sizes others
 
--- those of functions, and of classes with their initial values
+-- the sizes of the bodies of functions, and of classes with their initial values
 abbrev pub decl_sizes : List DeclTree → List ℕ
 decl_sizes [] = []
 decl_sizes (FunctionTree _ _ _ _ params value ∷ others) = (length params + expr_variables value) ∷ decl_sizes others

@@ -43,7 +43,8 @@ meet declarations (PlainApplied head argument) given met =
     else met_if_fits declarations (PlainApplied head argument) given met
 meet declarations takes given met = met_if_fits declarations takes given met
 
--- the same of several arguments in order, of which there must be as many as types are taken
+-- What the type parameters have met, after arguments are given for types, one by one: `meet` for each of them. There
+-- must be as many arguments as types.
 abbrev pub meet_all : List DeclTree → List PlainType → List PlainType → List PlainType → Option (List PlainType)
 meet_all declarations [] [] met = Some met
 meet_all declarations (takes ∷ others) (given ∷ more) met =

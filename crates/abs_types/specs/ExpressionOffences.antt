@@ -104,7 +104,7 @@ abbrev mutual
   operands_offences declarations frame bound (NextOperand operator right others) =
       expr_offences declarations frame bound right ++ operands_offences declarations frame bound others
 
-  -- those of branches and of their patterns; a pattern whose subject has no type does not offend
+  -- the offences of branches and of their patterns; a pattern whose subject has no type does not offend
   pub branches_offences : List DeclTree → Frame → List (Option PlainType) → Option PlainType → Branches
       → List Offence
   branches_offences declarations frame bound subject NoBranch = []

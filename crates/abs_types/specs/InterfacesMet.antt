@@ -27,7 +27,7 @@ same_type (PlainClass one) (PlainClass other) = bytes_eq one other
 same_type (PlainParameter one) (PlainParameter other) = nat_eq one other
 same_type _ _ = false
 
--- the same of types in order, which are as many
+-- whether two lists of types are as long, and have the same types in the same order
 abbrev pub same_types : List PlainType → List PlainType → Bool
 same_types [] [] = true
 same_types (one ∷ ones) (other ∷ others) = same_type one other && same_types ones others
@@ -70,6 +70,7 @@ abbrev pub agree : List SignatureTree → Bool
 agree [] = true
 agree (first ∷ others) = can_be_with_all first others && agree others
 
--- the same of the methods that the interface with an index declares, and of those of the interfaces above it
+-- whether each two methods have the same types, if they have one name, among those that the interface with an index
+-- declares and those of the interfaces above it
 abbrev pub agrees : List DeclTree → ℕ → List SignatureTree → Bool
 agrees declarations index signatures = agree (first_of_each signatures ++ inherited_signatures declarations index)

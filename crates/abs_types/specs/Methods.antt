@@ -55,12 +55,12 @@ abbrev pub signatures_if_there : Option DeclTree → List SignatureTree
 signatures_if_there (Some declaration) = signatures_in declaration
 signatures_if_there None = []
 
--- those that the declaration with an index declares
+-- the methods that the declaration with an index declares
 abbrev pub own_signatures : List DeclTree → ℕ → List SignatureTree
 own_signatures declarations index = signatures_if_there (slice_get declarations index)
 
--- those of the interfaces above the declaration with an index, in the order of the declarations, the first of which has
--- the index `next`
+-- the methods of the interfaces above the declaration with an index, in the order of the declarations, the first of
+-- which has the index `next`
 abbrev pub signatures_above : List DeclTree → ℕ → ℕ → List DeclTree → List SignatureTree
 signatures_above declarations index next [] = []
 signatures_above declarations index next (first ∷ others) =
@@ -70,7 +70,7 @@ signatures_above declarations index next (first ∷ others) =
 unfoldable pub inherited_signatures : List DeclTree → ℕ → List SignatureTree
 inherited_signatures declarations index = signatures_above declarations index 0 declarations
 
--- those of what the name of a class or an interface stands for
+-- the methods of what the name of a class or an interface stands for
 abbrev pub class_signatures : List DeclTree → Option Taking → List SignatureTree
 class_signatures declarations (Some class) = own_signatures declarations class.declaration
 class_signatures declarations None = []
@@ -88,7 +88,7 @@ signatures_of_type declarations (PlainInterface name) =
     interface_signatures declarations (meaning_of (spaces_of declarations).types name)
 signatures_of_type declarations _ = []
 
--- those with a name and this many parameters
+-- whether a method has a name and this many parameters
 abbrev pub is_called : Name → ℕ → SignatureTree → Bool
 is_called name count signature = is_named name signature && nat_eq (length signature.params) count
 

@@ -13,11 +13,11 @@ use Rattle.abs_tree.specs.declared.refusal.Offence.{Offence}
 use Rattle.abs_types.specs.PlainTypes.{PlainType}
 use Rattle.abs_types.specs.Subtyping.{fits}
 
--- that of a wrong type
+-- the offence of a wrong type, if there is reason for it
 abbrev pub mistyped_if : Bool → Place → List Offence
 mistyped_if offends place = offence_if offends T1 place
 
--- that of a part at this place, if all its parts have types and it has none
+-- the offence of an expression at this place, if all its parts have types and it has none
 abbrev pub untyped : Bool → Option PlainType → Place → List Offence
 untyped parts_typed type_of place = mistyped_if (parts_typed && is_none type_of) place
 
@@ -26,6 +26,6 @@ abbrev pub does_not_fit : List DeclTree → Option PlainType → PlainType → B
 does_not_fit declarations (Some given) asked = not (fits declarations given asked)
 does_not_fit declarations None asked = false
 
--- that of a part at this place whose type does not fit the type that is asked for
+-- the offence of a part at this place whose type does not fit the type that is asked for
 abbrev pub unfit : List DeclTree → Option PlainType → PlainType → Place → List Offence
 unfit declarations given asked place = mistyped_if (does_not_fit declarations given asked) place

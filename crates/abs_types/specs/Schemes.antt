@@ -34,7 +34,7 @@ declared_scheme (DataTree place name type_params constructors) = None
 declared_scheme (InterfaceTree place name extended signatures) = None
 declared_scheme (ClassTree place name params implemented members) = None
 
--- that of `toString`, which takes any value
+-- the scheme of `toString`, which takes any value
 abbrev pub to_string_scheme : Scheme
 to_string_scheme = record { parameters = 1; takes = PlainParameter 0 ∷ []; gives = PlainString }
 

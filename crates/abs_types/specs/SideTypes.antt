@@ -58,7 +58,7 @@ abbrev pub value_type : Option PlainType → Option PlainType
 value_type (Some (PlainFut value)) = Some value
 value_type _ = None
 
--- the same of an expression, which is to be a parameter or a local
+-- the type of the value of the future that an expression gives, which is to be a parameter or a local
 abbrev pub future_type : Frame → ExprTree → Option PlainType
 future_type frame (VariableOf place (AtSlot slot)) = value_type (known_at frame.slots slot)
 future_type frame _ = None
@@ -91,7 +91,7 @@ call_offences declarations receiver method count given place =
     ++ untyped (can_be_called declarations receiver method count given)
     (called_type declarations receiver method given) place
 
--- those of a call by its operands: its receiver, followed by its arguments
+-- the offences of a call by its operands: its receiver, followed by its arguments
 abbrev pub offences_by_operands : List DeclTree → Frame → Place → Name → ExprTrees → List Offence
 offences_by_operands declarations frame place method NoExpr = mistyped_if true place
 offences_by_operands declarations frame place method (NextExpr receiver arguments) =
@@ -99,7 +99,7 @@ offences_by_operands declarations frame place method (NextExpr receiver argument
     ++ call_offences declarations (type_in declarations frame [] receiver) method (count_exprs arguments)
     (types_in declarations frame [] arguments) place
 
--- those of an expression that is a whole right side; outside of a class there is no method of `this`
+-- the offences of an expression that is a whole right side; outside of a class there is no method of `this`
 abbrev pub whole_offences : List DeclTree → Frame → ExprTree → List Offence
 whole_offences declarations frame (OwnCallOf place method arguments) =
     exprs_offences declarations frame [] arguments

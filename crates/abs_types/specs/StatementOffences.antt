@@ -66,25 +66,25 @@ abbrev pub asked_offences : List DeclTree → Frame → ExprTree → PlainType �
 asked_offences declarations frame value asked place =
     expr_offences declarations frame [] value ++ unfit declarations (type_in declarations frame [] value) asked place
 
--- those of a part of a guard: with "?" it is a parameter or a local of a `Fut` type, without it a Bool
+-- the offences of a part of a guard: with "?" it is a parameter or a local of a `Fut` type, without it a Bool
 abbrev pub part_offences : List DeclTree → Frame → Place → ExprTree → Bool → List Offence
 part_offences declarations frame place value asks =
     if asks then expr_offences declarations frame [] value ++ mistyped_if (is_none (future_type frame value)) place
     else asked_offences declarations frame value bool_type place
 
--- those of a guard
+-- the offences of a guard
 abbrev pub test_offences : List DeclTree → Frame → Tests → List Offence
 test_offences declarations frame NoTest = []
 test_offences declarations frame (NextTest place value asks others) =
     part_offences declarations frame place value asks ++ test_offences declarations frame others
 
--- those of the right side of a declaration: without one the type is to have `null`
+-- the offences of the right side of a declaration: without one the type is to have `null`
 abbrev pub initial_offences : List DeclTree → Frame → PlainType → Place → MaybeSide → List Offence
 initial_offences declarations frame type place NoSide = offence_if (not (can_be_null type)) T3 place
 initial_offences declarations frame type place (SomeSide side) =
     side_offences declarations frame side ++ unfit_side declarations frame side (Some type)
 
--- those of the value of a `return`; a body without a result type has none
+-- the offences of the value of a `return`, which a body without a result type may not have
 abbrev pub result_offences : List DeclTree → Frame → ExprTree → Option PlainType → List Offence
 result_offences declarations frame value (Some result) =
     asked_offences declarations frame value result (expr_place value)

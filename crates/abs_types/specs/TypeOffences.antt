@@ -57,7 +57,7 @@ functions_offences declarations [] = []
 functions_offences declarations (first ∷ others) =
     function_offences_in declarations first ++ functions_offences declarations others
 
--- those of an interface with an index, at its name
+-- the offences of an interface with an index, at its name
 abbrev pub interface_offences_in : List DeclTree → ℕ → DeclTree → List Offence
 interface_offences_in declarations index (InterfaceTree place name extended signatures) =
     offence_if (not (agrees declarations index signatures)) T4 name.place
@@ -70,7 +70,8 @@ interfaces_offences declarations index [] = []
 interfaces_offences declarations index (first ∷ others) =
     interface_offences_in declarations index first ++ interfaces_offences declarations (1 + index) others
 
--- those of a field, where variables with these types are visible: its value fits its type, or the type has `null`
+-- the offences of a field, where variables with these types are visible: its value is to fit its type, or without a
+-- value the type is to have `null`
 abbrev pub field_offences : List DeclTree → List PlainType → PlainType → Place → MaybeExpr → List Offence
 field_offences declarations types type place NoValue = offence_if (not (can_be_null type)) T3 place
 field_offences declarations types type place (Value value) =
@@ -80,7 +81,7 @@ field_offences declarations types type place (Value value) =
 abbrev pub ends_well : PlainType → Statements → Bool
 ends_well result body = same_type result unit_type || ends_with_return body
 
--- those of a method of a class that has fields of these types
+-- the offences of a method of a class that has fields of these types
 abbrev pub method_offences : List DeclTree → Name → List PlainType → SignatureTree → Place → Statements → List Offence
 method_offences declarations class fields signature end body =
     statements_offences declarations (method_frame class fields signature body) true body
@@ -92,8 +93,8 @@ field_types [] = []
 field_types (FieldTree type name initial ∷ others) = plain type ∷ field_types others
 field_types (MethodTree signature end body ∷ others) = field_types others
 
--- those of the members of a class that has fields of these types; the parameters of the class and the fields before a
--- member have the types `known`
+-- the offences of the members of a class that has fields of these types; the parameters of the class and the fields
+-- before a member have the types `known`
 abbrev pub members_offences : List DeclTree → Name → List PlainType → List PlainType → List MemberTree → List Offence
 members_offences declarations class fields known [] = []
 members_offences declarations class fields known (FieldTree type name initial ∷ others) =
@@ -103,7 +104,7 @@ members_offences declarations class fields known (MethodTree signature end body 
     method_offences declarations class fields signature end body
     ++ members_offences declarations class fields known others
 
--- those of a class with an index: of an interface that it does not meet, at its name, and of its members
+-- the offences of a class with an index: of an interface that it does not meet, at its name, and of its members
 abbrev pub class_offences_in : List DeclTree → ℕ → DeclTree → List Offence
 class_offences_in declarations index (ClassTree place name params implemented members) =
     offence_if (not (meets_interfaces declarations index members)) T4 name.place

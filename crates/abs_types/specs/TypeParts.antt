@@ -41,7 +41,7 @@ pub record AreApplied (types : List PlainType) (one other : TypeIndex) (heads ar
   pub arguments_one_below : arguments.one.0 < one.0
   pub arguments_other_below : arguments.other.0 < other.0
 
--- the same by cases
+-- two types have these parts: those of two `Fut` types, or of two types that are applied to one more argument
 abbrev pub AreParts : List PlainType → TypeIndex → TypeIndex → Parts → Type 0
 AreParts types one other (parts.Futures values) = AreFutures types one other values
 AreParts types one other (parts.Applied heads arguments) = AreApplied types one other heads arguments

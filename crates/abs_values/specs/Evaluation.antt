@@ -49,7 +49,7 @@ outcome_after found next = after found.result found.applications next
     after (Gives value) made next = next value made
     after (Fails cause) made next = ends_with (Fails cause) made
 
--- the same for the results of a list of expressions
+-- what follows the values of a list of expressions; after a fault nothing is evaluated
 abbrev pub outcome_after_all : Outcomes → (List ValueTree → ℕ → Outcome) → Outcome
 outcome_after_all found next = after found.results found.applications next
   where

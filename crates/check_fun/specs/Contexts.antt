@@ -88,7 +88,7 @@ pub record Finds (checker : Checker) (found : Option TypeIndex) (type : Option P
   pub found_is : Found checker found
   pub is : option_map (type_at (types_in checker.table)) found ≡ type
 
--- the same of several indices
+-- Indices that are found are those of types of the table.
 pub record FoundAll (checker : Checker) (found : Option (List TypeIndex)) : Type 0 where
   pub among : IfSome found (All (IsAmong (types_in checker.table)))
 

@@ -16,13 +16,13 @@ pub data PlainHead : Type 0 where
   OfClass : (name : Name) → PlainHead
   OfOther : PlainHead
 
--- that of a type
+-- the head of a type
 abbrev pub head_of : PlainType → PlainHead
 head_of (PlainInterface name) = OfInterface name
 head_of (PlainClass name) = OfClass name
 head_of _ = OfOther
 
--- that of the code, whose names are numbers
+-- the code's head, whose names are numbers, with its name written out
 abbrev pub head_named : List Name → Head → PlainHead
 head_named names (head.Interface name) = OfInterface (name_of names name)
 head_named names (head.Class name) = OfClass (name_of names name)

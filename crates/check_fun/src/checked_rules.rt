@@ -19,7 +19,7 @@ use abs_types::TypeIndex;
 use std::alloc::AllocError;
 
 impl Checker<'_> {
-    /// That of `let`. It is noted, if all its parts have types and it has none, and so it is for each rule here.
+    /// The type of a `let` by those of its parts. If they all have types and it has none, it is noted at `place`.
     pub(crate) fn checked_let(
         &mut self,
         place: Place,
@@ -44,7 +44,7 @@ impl Checker<'_> {
         found
     }
 
-    /// That of `if`.
+    /// The type of an `if` by those of its parts. If they all have types and it has none, it is noted at `place`.
     ///
     /// # Errors
     /// [`AllocError`] if an allocation fails, or if there are too many types. So it is for each rule that makes types.
@@ -74,7 +74,8 @@ impl Checker<'_> {
         Ok(found)
     }
 
-    /// That of an operator before an operand.
+    /// The type of an operator with the operand after it, by that of the operand. If the operand has a type and the
+    /// whole has none, it is noted at `place`.
     #[tactic(auto, using(crate::proofs::ContextLemmas::stays_transitive))]
     pub(crate) fn checked_prefix(
         &mut self,
@@ -96,7 +97,8 @@ impl Checker<'_> {
         Ok(found)
     }
 
-    /// That of operators of one precedence, given their right operands.
+    /// The type of an operator list by those of its first operand and of the right ones. If they all have types and the
+    /// list has none, it is noted at `place`.
     #[tactic(auto, using(crate::proofs::ContextLemmas::stays_transitive))]
     pub(crate) fn checked_operators(
         &mut self,
@@ -125,7 +127,8 @@ impl Checker<'_> {
         Ok(found)
     }
 
-    /// That of `case`, given the types of its branches.
+    /// The type of a `case` by those of its subject and its branches. If they all have types and it has none, it is
+    /// noted at `place`.
     #[tactic(auto, using(crate::proofs::ContextLemmas::stays_transitive))]
     pub(crate) fn checked_case(
         &mut self,
@@ -149,7 +152,8 @@ impl Checker<'_> {
         Ok(found)
     }
 
-    /// That of an application of what may have a scheme, given the types of its arguments.
+    /// The type of an application by the scheme of what is applied, if there is one, and by the types of the arguments.
+    /// If these all have types and it has none, it is noted at `place`.
     #[tactic(auto, using(crate::proofs::ContextLemmas::stays_transitive))]
     pub(crate) fn checked_application(
         &mut self,
@@ -196,7 +200,7 @@ impl Checker<'_> {
         self.note_if(arguments.is_some(), Code::T1, place);
     }
 
-    /// That of an operator before an operand.
+    /// The type of an operator with the operand after it, if the operand has a type and the two have one together.
     fn given_prefix(
         &mut self,
         prefix: Prefix,
@@ -215,7 +219,7 @@ impl Checker<'_> {
         }
     }
 
-    /// That of operators of one precedence, given their right operands.
+    /// The type of an operator list, if its operands all have types and the list has one.
     fn given_operators(
         &mut self,
         first: Option<TypeIndex>,
@@ -238,7 +242,7 @@ impl Checker<'_> {
         }
     }
 
-    /// That of `case`, given the types of its branches.
+    /// The type of a `case`, if its subject and its branches have types, and these have a join.
     fn given_case(
         &mut self,
         subject: Option<TypeIndex>,
@@ -257,7 +261,7 @@ impl Checker<'_> {
         }
     }
 
-    /// That of an application of what may have a scheme, given its arguments.
+    /// The type of an application, if what is applied has a scheme, its arguments have types, and it has one.
     fn given_application(
         &mut self,
         scheme: Option<TypeScheme>,

@@ -57,7 +57,7 @@ impl Checker<'_> {
         }
     }
 
-    /// The same of an expression of the lowest level of the grammar.
+    /// The type of an expression of the lowest level of the grammar, if it has one. What offends in it is noted.
     #[cycle(expressions)]
     fn primary(&mut self, expr: &Expr) -> Result<Option<TypeIndex>, AllocError>
         requires primary { elim (expr_tree self.old.table.program.now.symbols expr.now) [

@@ -212,7 +212,7 @@ fn takes_count(program: &Named<'_>, class: u32, index: u32, count: usize) -> boo
     }
 }
 
-/// The same of a declaration.
+/// Whether a declaration is a class, and its member with an index a method with this many parameters.
 fn declaration_takes(declaration: &Decl, index: u32, count: usize) -> bool
     ensures { (names : List Name) → result
         ≡ declaration_takes index count (Some (decl_tree names declaration.now)) }

@@ -75,7 +75,7 @@ impl Checker<'_> {
         }
     }
 
-    /// That of `+`: two numbers, two strings, or an operand of no value, for which the other one decides.
+    /// The type of `+`, if it has one: of two numbers or two strings. For an operand of no value the other one decides.
     fn sum_rule(&self, left: TypeIndex, right: TypeIndex) -> Option<TypeIndex>
         requires left { Found self.now (Some left) }
         requires right { Found self.now (Some right) }
@@ -100,7 +100,7 @@ impl Checker<'_> {
         }
     }
 
-    /// That of an operator which asks for two operands of one type, and gives another one.
+    /// The type that an operator gives, if both operands fit the type that it asks for.
     fn both_rule(
         &self,
         asked: TypeIndex,
@@ -126,7 +126,7 @@ impl Checker<'_> {
         }
     }
 
-    /// That of `==` and `!=`: operands that have a join give a `Bool`.
+    /// The type of `==` or `!=`: a `Bool`, if the operands have a join.
     #[tactic(auto, using(crate::proofs::ContextLemmas::stays_transitive))]
     fn equality_rule(
         &mut self,

@@ -91,7 +91,8 @@ impl Checker<'_> {
         }
     }
 
-    /// The same of a constructor with the patterns of its arguments.
+    /// Whether a constructor with the patterns of its arguments fits its subject. Its variables are bound. What does
+    /// not fit is noted.
     #[cycle(patterns)]
     fn built(
         &mut self,

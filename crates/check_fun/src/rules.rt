@@ -39,7 +39,7 @@ impl Checker<'_> {
         }
     }
 
-    /// That of `let`: the value fits the declared type, and the type is that of the body.
+    /// The type of a `let`: that of its body, if the value fits the declared type.
     pub(crate) fn let_rule(
         &self,
         value: Option<TypeIndex>,
@@ -63,7 +63,7 @@ impl Checker<'_> {
         }
     }
 
-    /// That of `if`: the condition is a `Bool`, and the type is the join of both branches.
+    /// The type of an `if`: the join of both branches, if there is one and the condition is a `Bool`.
     #[tactic(auto, using(crate::proofs::ContextLemmas::found_stays, crate::proofs::ContextLemmas::stays_transitive))]
     pub(crate) fn if_rule(
         &mut self,
@@ -96,7 +96,7 @@ impl Checker<'_> {
         self.join(first, second)
     }
 
-    /// That of an operator before an operand.
+    /// The type of an operator with the operand after it, if the operand fits what the operator asks for.
     pub(crate) fn prefix_rule(
         &mut self,
         prefix: Prefix,

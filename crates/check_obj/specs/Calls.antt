@@ -23,7 +23,7 @@ signatures_of_head declarations (OfInterface name) = signatures_of_type declarat
 signatures_of_head declarations (OfClass name) = signatures_of_type declarations (PlainClass name)
 signatures_of_head declarations OfOther = []
 
--- those with a name and this many parameters
+-- the methods of a head with a name and this many parameters
 abbrev pub called : List DeclTree → PlainHead → Name → ℕ → List SignatureTree
 called declarations head name count = filter (is_called name count) (signatures_of_head declarations head)
 
@@ -44,7 +44,7 @@ method_among index (DataTree place name type_params constructors) = None
 method_among index (FunctionTree place result name type_params params value) = None
 method_among index (InterfaceTree place name extended signatures) = None
 
--- the same of the declaration with an index
+-- the method that is the member with an index of the declaration with an index, if that is a class
 unfoldable pub method_tree_at : List DeclTree → ℕ → ℕ → Option SignatureTree
 method_tree_at declarations class index = option_and_then (method_among index) (slice_get declarations class)
 
@@ -63,7 +63,7 @@ signature_tree_at declarations at = option_and_then (signature_among at.index) (
 abbrev pub if_called : ℕ → SignatureTree → List SignatureTree
 if_called count signature = if nat_eq (length signature.params) count then signature ∷ [] else []
 
--- the same of one that may be there
+-- a method, if it is there and has this many parameters
 abbrev pub if_there : ℕ → Option SignatureTree → List SignatureTree
 if_there count (Some signature) = if_called count signature
 if_there count None = []

@@ -27,7 +27,7 @@ fields_offences declarations known (FieldTree type name initial ∷ others) =
 fields_offences declarations known (MethodTree signature end body ∷ others) =
     fields_offences declarations known others
 
--- those of the methods among members of a class that has fields of these types
+-- the offences of the methods among members of a class that has fields of these types
 abbrev pub methods_offences : List DeclTree → Name → List PlainType → List MemberTree → List Offence
 methods_offences declarations class fields [] = []
 methods_offences declarations class fields (FieldTree type name initial ∷ others) =

@@ -42,7 +42,7 @@ pub(crate) fn methods_called<'p>(
     }
 }
 
-/// Those of a class: there is one at the most.
+/// The methods of a class with a name and this many parameters, of which there is at most one.
 ///
 /// # Errors
 /// [`AllocError`] if an allocation fails.
@@ -70,7 +70,8 @@ fn class_methods<'p>(
     Ok(found)
 }
 
-/// Those of an interface.
+/// The methods of an interface with a name and this many parameters, followed by those that it inherits, in the order
+/// of the declarations.
 ///
 /// # Errors
 /// [`AllocError`] if an allocation fails.

@@ -23,7 +23,7 @@ use check_fun::Checker;
 use indexmap::IndexSet;
 use std::alloc::{AllocError, Global};
 
-/// The same program, if its types have no offence.
+/// A program as one whose types are checked, if they have no offence.
 ///
 /// # Errors
 /// [`TypeError::Refused`] if they have one, with the refusal for the first one.

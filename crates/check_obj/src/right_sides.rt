@@ -106,7 +106,7 @@ fn whole(checker: &mut Checker<'_>, value: &Expr) -> Result<Option<TypeIndex>, A
     }
 }
 
-/// The same of an expression that is no call on `this`.
+/// The type of an expression that is a whole right side and no call on `this`.
 fn other_value(checker: &mut Checker<'_>, value: &Expr) -> Result<Option<TypeIndex>, AllocError>
     requires { IsNoCall (expr_tree checker.old.table.program.now.symbols value.now) }
     ensures found { (context : Context) → Knows checker.old (unbound context)

@@ -51,7 +51,7 @@ member_body index (MethodTree signature end body ∷ others) zero =
 member_body index (FieldTree type name initial ∷ others) zero = None
 member_body index (first ∷ others) (suc member) = member_body (index + member_statements (first ∷ [])) others member
 
--- that of the method at an index of the class at an index of declarations
+-- the body of the method at an index of the class at an index of declarations
 abbrev pub class_body : ℕ → List DeclTree → ℕ → ℕ → Option BodyAt
 class_body index [] class member = None
 class_body index (ClassTree place name params implemented members ∷ others) zero member =

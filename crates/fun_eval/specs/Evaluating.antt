@@ -77,7 +77,7 @@ IsWithin frame evaluator = AreWithin frame (length evaluator.arguments.items) (l
 abbrev pub gives_in : Evaluator → Frame → ℕ → ExprTree → ℕ → Outcome
 gives_in evaluator frame left = evaluate (library_in evaluator) (evaluator_scope frame evaluator) left
 
--- the same after the applications so far
+-- the outcome of each expression after the applications so far, in a frame of the evaluator and with some levels left
 abbrev pub outcome_in : Evaluator → Frame → ℕ → ExprTree → Outcome
 outcome_in evaluator frame left expr_tree = gives_in evaluator frame left expr_tree evaluator.applications
 
@@ -123,7 +123,8 @@ GivesValues expected (Ok values) now =
     expected ≡ all_end_with (AllGive (map value_tree values.items)) now.applications
 GivesValues expected (Err cause) now = AreStopped expected.results cause
 
--- the same, whatever the evaluator is then
+-- The code gives these values of a list of expressions, whatever the evaluator is then. Or one of them gives a fault,
+-- or memory runs out.
 abbrev pub GivesAll : Results → Result (Vec Value Global) Stop → Type 0
 GivesAll expected (Ok values) = expected ≡ AllGive (map value_tree values.items)
 GivesAll expected (Err cause) = AreStopped expected cause

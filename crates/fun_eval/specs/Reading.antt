@@ -26,7 +26,7 @@ scope_tree scope = record {
   bound = [];
 }
 
--- the same of an environment
+-- the values of an environment that the expressions of a statement can read
 abbrev pub env_scope : Env → ScopeTree
 env_scope env = record { this = env.this; slots = env.slots; fields = env.fields; bound = [] }
 

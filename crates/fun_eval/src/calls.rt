@@ -51,7 +51,7 @@ pub fn eval_all(
     eval_all_in(alloc, program, Scope::of(env), exprs, inits)
 }
 
-/// The same as [`eval`] where the values that the expression reads are borrowed.
+/// The result of a statement's own expression, as [`eval`] gives it, where the values that it reads are borrowed.
 pub fn eval_in(
     alloc: Global,
     program: &Named<'_>,
@@ -69,7 +69,8 @@ pub fn eval_in(
     }
 }
 
-/// The same as [`eval_all`] where the values that the expressions read are borrowed.
+/// The results of all expressions of a statement, as [`eval_all`] gives them, where the values that they read are
+/// borrowed.
 pub fn eval_all_in(
     alloc: Global,
     program: &Named<'_>,

@@ -72,7 +72,8 @@ impl Evaluator<'_> {
         }
     }
 
-    /// The same for an operand, an argument or a subject. Most of them are numbers and variables, which need no call.
+    /// The value of an operand, an argument or a subject with `left` levels left. Most of them are numbers and
+    /// variables, which need no call.
     #[cycle(evaluation)]
     #[inline(always)]
     pub fn part(&mut self, frame: &Frame<'_>, left: u32, expr: &Expr) -> Result<Value, Stop>

@@ -67,7 +67,8 @@ fn matches(
     }
 }
 
-/// The same of several patterns and as many values.
+/// Whether patterns match values one by one, as many as they are. If they do, the values of their variables are added
+/// to those that are bound, in their order. If not, some values may have been added.
 #[cycle(matching)]
 fn all_match(
     symbols: &Symbols<'_>,

@@ -18,7 +18,7 @@ pub(crate) enum What {
     History,
     /// Its events one by one, with each configuration.
     Steps,
-    /// The same, with each event made from the output of its input.
+    /// Its events one by one, with each configuration, where each event is made from the output of its input.
     Outputs,
     /// What becomes of a given history of the source.
     Replay,

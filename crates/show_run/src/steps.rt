@@ -78,7 +78,7 @@ fn choices_line(program: &Named<'_>, config: &Config, printer: &mut Printer<'_, 
 /// Makes the event of a task, in one of the two ways. It tells what the event did.
 ///
 /// # Errors
-/// Those of [`step_or_retry`] or of [`apply_output`].
+/// An error of [`step_or_retry`] or of [`apply_output`].
 fn make_event(
     alloc: Global,
     program: &Named<'_>,

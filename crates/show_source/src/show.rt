@@ -22,7 +22,7 @@ pub(crate) enum What {
     Tree,
     /// The tree with its names resolved, without the declarations of the prelude.
     Resolved,
-    /// The same tree after the declarations of the prelude.
+    /// The tree with its names resolved, after the declarations of the prelude.
     Declared,
     /// The table of names of the source, in the order of their symbols.
     Names,

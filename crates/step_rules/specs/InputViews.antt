@@ -55,7 +55,7 @@ abbrev pub class_by : ProgramTree → EffectTree → Option ClassEntryTree
 class_by program (Makes mode class target) = class_taking program class
 class_by program _ = None
 
--- the same by its instruction, if there is one
+-- what a new object takes, by the instruction of a statement, if there is one
 abbrev pub class_made : ProgramTree → Option InstructionTree → Option ClassEntryTree
 class_made program None = None
 class_made program (Some instruction) = class_by program instruction.effect

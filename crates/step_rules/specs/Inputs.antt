@@ -44,7 +44,7 @@ abbrev pub initials_of : Option ClassEntryTree → ExprTrees
 initials_of None = NoExpr
 initials_of (Some class) = class.initials
 
--- those that a statement needs: for `new` those of its class
+-- the initial values that a statement needs: for `new` those of its class
 abbrev pub initials_for : ProgramTree → EffectTree → ExprTrees
 initials_for program (Makes mode class target) = initials_of (class_taking program class)
 initials_for program _ = NoExpr

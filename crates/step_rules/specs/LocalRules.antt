@@ -102,7 +102,7 @@ statement_rule program class frame others fields point values (CallsOwn method t
 statement_rule program class frame others fields point values Returns = return_rule frame others fields values
 statement_rule program class frame others fields point values effect = None
 
--- that of what is next in a frame: its next statement, or its end, where it returns `Unit`
+-- the rule of what is next in a frame: its next statement, or its end, where it returns `Unit`
 abbrev pub next_rule : ProgramTree → Option Name → FrameState → List FrameState → List ValueTree → List ValueTree
     → Option ℕ → Option Local
 next_rule program class frame others fields values None = pop_rule frame others fields (unit_value program.names)

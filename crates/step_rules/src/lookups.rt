@@ -104,7 +104,7 @@ pub(crate) fn method(program: &Named<'_>, class: Symbol, method: Symbol) -> Opti
     program.body(class, program.method(class, method)?)
 }
 
-/// The same, if it has this number of parameters.
+/// The body of the method with a name of the class with a name, if it has this number of parameters.
 pub(crate) fn callable(
     program: &Named<'_>,
     class: Symbol,

@@ -149,7 +149,7 @@ pub(crate) fn send(
     }
 }
 
-/// The same, on an object.
+/// call on an object with an index: a task of the method is made, in the cog of the object.
 ///
 /// # Errors
 /// [`AllocError`] if an allocation fails.

@@ -117,10 +117,11 @@ pub(crate) fn get(
     }
 }
 
-/// The same for a future.
+/// get of the future of a task: its value goes to the target, and its fault is the fault of the task that waits. There
+/// is none while the future is unresolved.
 ///
 /// # Errors
-/// As there.
+/// [`AllocError`] if there are as many copies of the value already as can be counted.
 fn get_from(at: Mover<'_>, task: u32, target: Option<Variable>) -> Result<Option<Plan>, AllocError>
     ensures plan { IfOk result (λ plan. (runner : Runner) (point : Point) → Moves at.entry runner point
         → option_and_then (planned (names_of at.entry) (config_of at.entry) runner) plan

@@ -86,7 +86,8 @@ impl Maker {
         Ok(first)
     }
 
-    /// The same for one statement with those in it.
+    /// Makes the instructions of a statement and of those in it, after which control goes to `after`, and tells where
+    /// it is before them.
     ///
     /// # Errors
     /// [`AllocError`] if an allocation fails.

@@ -28,7 +28,8 @@ pub(crate) fn count_statements(stmts: &[Stmt], loops: &mut Vec<u32>) -> Result<u
     Ok(count)
 }
 
-/// The same for one statement.
+/// How many statements have an index: this one and those in it. For each loop among them, after those in it, the number
+/// for its body is added to a list.
 ///
 /// # Errors
 /// [`AllocError`] if an allocation fails.
@@ -59,7 +60,8 @@ fn count_statement(stmt: &Stmt, loops: &mut Vec<u32>) -> Result<u32, AllocError>
     }
 }
 
-/// The same for the other branch of an `if`.
+/// How many statements of the other branch of an `if` have an index, with those in them. For each loop among them,
+/// after those in it, the number for its body is added to a list.
 ///
 /// # Errors
 /// [`AllocError`] if an allocation fails.
@@ -75,7 +77,8 @@ fn count_other(other: &Option<Vec<Stmt>>, loops: &mut Vec<u32>) -> Result<u32, A
     }
 }
 
-/// The same for a member of a class, which has statements if it is a method.
+/// How many statements a member of a class has: those of its body if it is a method, and else none. For each loop among
+/// them, after those in it, the number for its body is added to a list.
 ///
 /// # Errors
 /// [`AllocError`] if an allocation fails.
@@ -91,7 +94,8 @@ fn count_member(member: &Member, loops: &mut Vec<u32>) -> Result<u32, AllocError
     }
 }
 
-/// The same for the members of a class.
+/// How many statements the methods among the members of a class have. For each loop among them, after those in it, the
+/// number for its body is added to a list.
 ///
 /// # Errors
 /// [`AllocError`] if an allocation fails.
@@ -108,7 +112,8 @@ fn count_members(members: &[Member], loops: &mut Vec<u32>) -> Result<u32, AllocE
     Ok(count)
 }
 
-/// The same for a declaration, which has statements if it is a class.
+/// How many statements a declaration has: those of its methods if it is a class, and else none. For each loop among
+/// them, after those in it, the number for its body is added to a list.
 ///
 /// # Errors
 /// [`AllocError`] if an allocation fails.
@@ -124,7 +129,8 @@ fn count_declaration(declaration: &Decl, loops: &mut Vec<u32>) -> Result<u32, Al
     }
 }
 
-/// The same for declarations.
+/// How many statements the methods of the classes among declarations have. For each loop among them, after those in it,
+/// the number for its body is added to a list.
 ///
 /// # Errors
 /// [`AllocError`] if an allocation fails.

@@ -146,7 +146,8 @@ impl TypeTable<'_> {
         Ok(true)
     }
 
-    /// The same of two types that are not both applied, or the first of which has no type parameter.
+    /// Whether an argument can be given for a type, where the two are not both applied, or the type has no type
+    /// parameter. What type parameters have met is changed as in [`TypeTable::meet`].
     ///
     /// # Errors
     /// [`AllocError`] if an allocation fails, or if there are 2^31 types.
@@ -177,7 +178,8 @@ impl TypeTable<'_> {
         }
     }
 
-    /// The same of the type parameter with an index.
+    /// Whether an argument can be given for the type parameter with an index. What type parameters have met is changed
+    /// as in [`TypeTable::meet`].
     ///
     /// # Errors
     /// [`AllocError`] if an allocation fails, or if there are 2^31 types.
@@ -279,7 +281,8 @@ impl TypeTable<'_> {
         Ok(found)
     }
 
-    /// The same of a type that is not applied, or has no type parameter.
+    /// A type that is not applied, or has no type parameter, in which each type parameter is replaced by the type of
+    /// its index, if there is one.
     ///
     /// # Errors
     /// [`AllocError`] if an allocation fails, or if there are 2^31 types.

@@ -11,9 +11,9 @@ use std::alloc::AllocError;
 /// The parts of two types of one form, in pairs.
 #[derive(Clone, Copy)]
 pub(crate) enum Parts {
-    /// Those of `Fut`.
+    /// The parts of two `Fut` types.
     Futures(TypePair),
-    /// Those of data that is applied to one more argument.
+    /// The parts of two data types that are applied to one more argument.
     Applied {
         heads: TypePair,
         arguments: TypePair,
