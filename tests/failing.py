@@ -8,6 +8,8 @@ import sys
 from itertools import count
 from pathlib import Path
 
+from answers import finished
+
 HERE = Path(__file__).resolve().parent
 AT_ONCE = 100
 SECONDS = 60
@@ -32,10 +34,10 @@ def made_library(room):
 
 
 def called(words, library=None, **environment):
-    """The exit status of a program, its output, and of which kinds a call failed."""
+    """The exit status of a program, None where it does not end, its output, and of which kinds a call failed."""
     if library:
         environment = {"LD_PRELOAD": str(library), **{name: str(value) for name, value in environment.items()}}
-    done = subprocess.run(words, env=environment, stdin=subprocess.DEVNULL, capture_output=True, timeout=SECONDS)
+    done = finished(words, SECONDS, env=environment)
     kinds = ("ALLOCATION", "READ", "WRITE")
     return done.returncode, done.stdout, [kind for kind in kinds if f"{kind} fails\n".encode() in done.stderr]
 
