@@ -9,6 +9,8 @@ mod MethodLemmas
 pub mod PointLemmas
 mod LeftLemmas
 mod FlowLemmas
+pub mod ProgramPointLemmas
+mod ProgramFactLemmas
 pub mod InstructionLemmas
 mod CountLemmas
 mod MakerLemmas

@@ -5,12 +5,12 @@
 --   `method_entry`                         that of the method at an index of the class at an index
 --   `ClassEntryTree`, `class_entry`        what a new object of a class takes
 --   `initials_among`, `run_among`          the initial values of fields, and the method that runs at once
-use Rattle.std.specs.Prelude.{ℕ, zero, suc, ◌+◌, nat_eq, Bool, true, false, ◌&&◌, List, [], ◌∷◌, codes, length, slice_get, Option, Some, None, option_and_then, if◌then◌else◌}
+use Rattle.std.specs.Prelude.{ℕ, zero, suc, ◌+◌, nat_eq, Bool, false, ◌&&◌, List, [], ◌∷◌, codes, length, slice_get, Option, Some, None, option_and_then, if◌then◌else◌}
 use Rattle.std.specs.Str.{bytes_eq}
 use Rattle.abs_program.specs.Control.{entry}
 use Rattle.abs_program.specs.Members.{method_among}
 use Rattle.abs_program.specs.Slots.{body_slots}
-use Rattle.abs_tree.specs.Syntax.{TypeTree, DataType, NoType, ExprTree, NullOf, ExprTrees, NoExpr, NextExpr, Statements, MaybeExpr, NoValue, Value, DeclaredTree, SignatureTree, MemberTree, FieldTree, MethodTree, DeclTree, ClassTree, SourceTree}
+use Rattle.abs_tree.specs.Syntax.{TypeTree, DataType, NoType, ExprTree, NullOf, ExprTrees, NoExpr, NextExpr, Statements, MaybeExpr, NoValue, Value, DeclaredTree, MemberTree, FieldTree, MethodTree, DeclTree, ClassTree, SourceTree}
 use Rattle.abs_tree.specs.SyntaxSizes.{member_statements, decl_statements}
 use Rattle.abs_program.specs.declared.tables.control.BodyEntry.{BodyEntry}
 

@@ -6,9 +6,9 @@
 --   `fact_after`, `fact_after_one`     the fact after statements
 --   `facts`, `facts_of`                the facts at statements, in the order of their indices
 --   `IsFlow`                           branches, loops and blocks say no more than they may
---   `Lands`, `Follows`                 where control goes no more is said than after the statement
-use Rattle.std.specs.Prelude.{◌≡◌, ℕ, Bool, true, List, [], ◌∷◌, ◌++◌, slice_get, Option, Some}
-use Rattle.abs_program.specs.Control.{Goes, Next, ByAnswer, Point}
+--   `LandsAt`, `Lands`, `Follows`      where control goes no more is said than after the statement
+use Rattle.std.specs.Prelude.{◌≡◌, ⊤, ℕ, ◌+◌, Bool, true, List, [], ◌∷◌, ◌++◌, slice_get, Option, Some, None}
+use Rattle.abs_program.specs.Control.{Goes, Next, ByAnswer}
 use Rattle.abs_tree.specs.Syntax.{Statement, BlockOf, IfOf, WhileOf, MaybeStatements, NoElse, Else, Statements, NoStatement, NextStatement}
 
 -- a set of slots, by the test whether a slot is in it
@@ -80,16 +80,22 @@ pub record IsFlow (flow : Flow) : Type 0 where
   pub leaves_block : (fact : Slots) (block : Statements)
       → IsWithin (flow.closed fact (fact_after flow fact block)) (fact_after flow fact block)
 
--- Where control goes there is a statement, at which no more is said than this.
-abbrev pub Lands : List Slots → Option ℕ → Slots → Type 0
-Lands all next fact = (index : ℕ) → next ≡ Some index
-    → (there : Slots) × (slice_get all index ≡ Some there) × IsWithin there fact
+-- At the statement with an index no more is said than this, where the statements have indices from `start` on.
+pub record LandsAt (start : ℕ) (all : List Slots) (index : ℕ) (fact : Slots) : Type 0 where
+  pub offset : ℕ
+  pub is : index ≡ start + offset
+  pub said : Slots
+  pub there : slice_get all offset ≡ Some said
+  pub within : IsWithin said fact
+
+-- Where control goes there is a statement, at which no more is said than this, or no statement is left.
+abbrev pub Lands : ℕ → List Slots → Option ℕ → Slots → Type 0
+Lands start all None fact = ⊤
+Lands start all (Some index) fact = LandsAt start all index fact
 
 -- Where control goes after a statement at which the fact holds, no more is said than after it: after `if` and `while`
 -- that is the fact itself.
-abbrev pub Follows : Flow → List Slots → Slots → Point → Type 0
-Follows flow all fact point = on point.goes
-  where
-    on : Goes → Type 0
-    on (Next index) = Lands all index (flow.after fact point.statement)
-    on (ByAnswer when_true when_false) = Lands all when_true fact × Lands all when_false fact
+abbrev pub Follows : Flow → ℕ → List Slots → Slots → Statement → Goes → Type 0
+Follows flow start all fact statement (Next index) = Lands start all index (flow.after fact statement)
+Follows flow start all fact statement (ByAnswer when_true when_false) =
+    Lands start all when_true fact × Lands start all when_false fact

@@ -6,10 +6,10 @@
 --   `side_expr_trees`, `side_effect`       the expressions and the effect of a right side
 --   `expr_trees_of`, `effect_of`           those of a statement
 --   `instruction_of`, `instructions`       the instruction of a point, and all of a program
-use Rattle.std.specs.Prelude.{ℕ, Bool, List, [], ◌∷◌, map, Option, Some, None, if◌then◌else◌}
+use Rattle.std.specs.Prelude.{ℕ, List, [], ◌∷◌, map, Option, Some, None, if◌then◌else◌}
 use Rattle.abs_program.specs.Control.{Goes, Point, program_points}
 use Rattle.abs_program.specs.Slots.{is_this}
-use Rattle.abs_tree.specs.Syntax.{Name, VariableTree, Unresolved, AtSlot, ExprTree, VariableOf, OwnCallOf, ExprTrees, NoExpr, NextExpr, SideTree, NewOf, ValueOf, SendOf, GetOf, CallOf, Tests, NoTest, NextTest, TargetTree, ToVariable, ToField, MaybeSide, NoSide, SomeSide, Statement, BlockOf, SkipOf, SuspendOf, AwaitOf, ReturnOf, PrintOf, IfOf, WhileOf, DeclareOf, AssignOf, DoOf, SourceTree}
+use Rattle.abs_tree.specs.Syntax.{Name, VariableTree, Unresolved, AtSlot, ExprTree, VariableOf, OwnCallOf, ExprTrees, NoExpr, NextExpr, SideTree, NewOf, ValueOf, SendOf, GetOf, CallOf, Tests, NoTest, NextTest, TargetTree, ToVariable, ToField, NoSide, SomeSide, Statement, BlockOf, SkipOf, SuspendOf, AwaitOf, ReturnOf, PrintOf, IfOf, WhileOf, DeclareOf, AssignOf, DoOf, SourceTree}
 use Rattle.abs_tree.specs.SyntaxPlaces.{statement_place}
 use Rattle.abs_tree.specs.declared.syntax.statement.Mode.{Mode}
 

@@ -4,9 +4,9 @@
 --   `lefts`, `lefts_of`, `else_lefts`  what is left at each statement of a list, in the order of their indices
 --   `opened`, `opened_of`              statements up to the first one that has an index
 --   `first_left`                       what is left, without empty lists and bare blocks before the first statement
---   `IsAt`                             control is where this is left
+--   `IsLeftAt`, `IsAt`                 this is left at the statement with an index; control is where this is left
 --   `Steps`                            where control goes, that is left which the table of events says
-use Rattle.std.specs.Prelude.{◌≡◌, ℕ, List, [], ◌∷◌, ◌++◌, slice_get, Option, Some, None}
+use Rattle.std.specs.Prelude.{◌≡◌, ℕ, ◌+◌, List, [], ◌∷◌, ◌++◌, slice_get, Option, Some, None}
 use Rattle.abs_program.specs.Control.{Goes, Next, ByAnswer, Point}
 use Rattle.abs_tree.specs.Syntax.{Statement, BlockOf, IfOf, WhileOf, MaybeStatements, NoElse, Else, Statements, NoStatement, NextStatement}
 
@@ -52,36 +52,42 @@ abbrev pub else_branch : MaybeStatements → Statements
 else_branch NoElse = NoStatement
 else_branch (Else branch) = branch
 
+-- This is left at the statement with an index, where the statements have indices from `start` on.
+pub record IsLeftAt (start : ℕ) (all : List (List Statements)) (index : ℕ) (left : List Statements) : Type 0 where
+  pub offset : ℕ
+  pub is : index ≡ start + offset
+  pub there : slice_get all offset ≡ Some left
+
 -- Control is at the statement at which this is left, or past the last one, where nothing is left.
-abbrev pub IsAt : List (List Statements) → Option ℕ → List Statements → Type 0
-IsAt all None left = left ≡ []
-IsAt all (Some index) left = slice_get all index ≡ Some left
+abbrev pub IsAt : ℕ → List (List Statements) → Option ℕ → List Statements → Type 0
+IsAt start all None left = left ≡ []
+IsAt start all (Some index) left = IsLeftAt start all index left
 
 -- where control goes after a statement without statements in it
-abbrev pub NextIsAt : List (List Statements) → Goes → List Statements → Type 0
-NextIsAt all (Next index) left = IsAt all index left
-NextIsAt all (ByAnswer when_true when_false) left = ⊥
+abbrev pub NextIsAt : ℕ → List (List Statements) → Goes → List Statements → Type 0
+NextIsAt start all (Next index) left = IsAt start all index left
+NextIsAt start all (ByAnswer when_true when_false) left = ⊥
 
 -- where control goes by the answer of a condition
-abbrev pub AnswerIsAt : List (List Statements) → Goes → List Statements → List Statements → Type 0
-AnswerIsAt all (Next index) left_when_true left_when_false = ⊥
-AnswerIsAt all (ByAnswer when_true when_false) left_when_true left_when_false =
-    IsAt all when_true left_when_true × IsAt all when_false left_when_false
+abbrev pub AnswerIsAt : ℕ → List (List Statements) → Goes → List Statements → List Statements → Type 0
+AnswerIsAt start all (Next index) left_when_true left_when_false = ⊥
+AnswerIsAt start all (ByAnswer when_true when_false) left_when_true left_when_false =
+    IsAt start all when_true left_when_true × IsAt start all when_false left_when_false
 
 -- after the first of the statements that are left, that is left which the table of events says
-abbrev pub FirstSteps : List (List Statements) → Statement → Statements → List Statements → Goes → Type 0
-FirstSteps all (IfOf index place condition first second) others rest goes =
-    AnswerIsAt all goes (first_left (first ∷ others ∷ rest)) (first_left (else_branch second ∷ others ∷ rest))
-FirstSteps all (WhileOf index place condition body) others rest goes =
-    AnswerIsAt all goes (first_left (body ∷ NextStatement (WhileOf index place condition body) others ∷ rest))
+abbrev pub FirstSteps : ℕ → List (List Statements) → Statement → Statements → List Statements → Goes → Type 0
+FirstSteps start all (IfOf index place condition first second) others rest goes =
+    AnswerIsAt start all goes (first_left (first ∷ others ∷ rest)) (first_left (else_branch second ∷ others ∷ rest))
+FirstSteps start all (WhileOf index place condition body) others rest goes =
+    AnswerIsAt start all goes (first_left (body ∷ NextStatement (WhileOf index place condition body) others ∷ rest))
     (first_left (others ∷ rest))
-FirstSteps all (BlockOf place block) others rest goes = ⊥
-FirstSteps all statement others rest goes = NextIsAt all goes (first_left (others ∷ rest))
+FirstSteps start all (BlockOf place block) others rest goes = ⊥
+FirstSteps start all statement others rest goes = NextIsAt start all goes (first_left (others ∷ rest))
 
 -- The first of what is left is the statement of the point, and where control goes next exactly that is left which the
--- table of events says.
-abbrev pub Steps : List (List Statements) → List Statements → Point → Type 0
-Steps all [] point = ⊥
-Steps all (NoStatement ∷ rest) point = ⊥
-Steps all (NextStatement first others ∷ rest) point =
-    (point.statement ≡ first) × FirstSteps all first others rest point.goes
+-- table of events says. The statements have indices from `start` on.
+abbrev pub Steps : ℕ → List (List Statements) → List Statements → Point → Type 0
+Steps start all [] point = ⊥
+Steps start all (NoStatement ∷ rest) point = ⊥
+Steps start all (NextStatement first others ∷ rest) point =
+    (point.statement ≡ first) × FirstSteps start all first others rest point.goes

@@ -1,6 +1,7 @@
 pub mod Control
 pub mod Instructions
 pub mod Bodies
+pub mod ProgramBodies
 pub mod InstructionViews
 pub mod NamedViews
 pub mod KeptControl
@@ -9,6 +10,7 @@ pub mod BodyRows
 pub mod TreeSets
 pub mod Left
 pub mod Flows
+pub mod ProgramFacts
 pub mod Tables
 pub mod NameSpaces
 pub mod Slots

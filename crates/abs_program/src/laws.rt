@@ -1,5 +1,5 @@
 //! Laws of the definitions, which hold whatever the code does.
-ghost use Rattle.std.specs.Prelude.{◌≡◌, ℕ, List, [], ◌∷◌, length, slice_get, Some, None};
+ghost use Rattle.std.specs.Prelude.{◌≡◌, ◌<◌, ◌+◌, ℕ, List, [], ◌∷◌, length, slice_get, Some, None};
 ghost use Rattle.abs_program.specs.declared.name_spaces.ConstructorMeaning.{ConstructorMeaning};
 ghost use Rattle.abs_program.specs.declared.name_spaces.FunctionMeaning.TheVariants.{Defined};
 ghost use Rattle.abs_program.specs.declared.name_spaces.Taking.{Taking};
@@ -7,13 +7,15 @@ ghost use Rattle.abs_program.specs.declared.name_spaces.TypeMeaning.TheVariants.
 ghost use Rattle.abs_program.specs.NamedDeclarations.{IsData, IsInterface, IsConstructor, IsFunction, IsClass};
 ghost use Rattle.abs_program.specs.NameSpaces.{spaces_of};
 ghost use Rattle.abs_program.specs.NamedViews.{named_tree};
-ghost use Rattle.abs_tree.specs.Syntax.{Name, DeclTree};
+ghost use Rattle.abs_program.specs.ProgramBodies.{BodyAt, IsBodyOf};
+ghost use Rattle.abs_program.specs.ProgramFacts.{program_facts};
+ghost use Rattle.abs_tree.specs.Syntax.{Name, DeclTree, SourceTree, Statements};
+ghost use Rattle.abs_tree.specs.SyntaxSizes.{statement_count};
 ghost use Rattle.abs_program.specs.Tables.{meaning_of};
 ghost use Rattle.abs_program.specs.Whole.{IsWhole};
-ghost use Rattle.abs_program.specs.Control.{Point, entry, points};
+ghost use Rattle.abs_program.specs.Control.{Point, entry, points, program_points};
 ghost use Rattle.abs_program.specs.Flows.{Slots, Flow, IsFlow, facts, Lands, Follows};
 ghost use Rattle.abs_program.specs.Left.{lefts, first_left, IsAt, Steps};
-ghost use Rattle.abs_tree.specs.Syntax.{Statements};
 
 use crate::Named;
 
@@ -44,24 +46,49 @@ pub fn named_is_whole(named: &Named<'_>)
 
 /// What is left of a body agrees with where control goes. The first of what is left at a statement is that statement,
 /// and where control goes next, that is left which the table of events says. Before the first statement the whole body
-/// is left.
+/// is left. The statements of the body have indices from `start` on.
 pub fn control_leaves_the_rest()
-    ensures steps { (body : Statements) (index : ℕ) (point : Point) (left : List Statements)
-        → slice_get (points 0 body None) index ≡ Some point → slice_get (lefts body []) index ≡ Some left
-        → Steps (lefts body []) left point }
-    ensures starts { (body : Statements) → IsAt (lefts body []) (entry 0 body None) (first_left (body ∷ [])) }
-    ensures count { (body : Statements) → length (lefts body []) ≡ length (points 0 body None) }
+    ensures steps { (start : ℕ) (body : Statements) (offset : ℕ) (point : Point) (left : List Statements)
+        → slice_get (points start body None) offset ≡ Some point → slice_get (lefts body []) offset ≡ Some left
+        → Steps start (lefts body []) left point }
+    ensures starts { (start : ℕ) (body : Statements)
+        → IsAt start (lefts body []) (entry start body None) (first_left (body ∷ [])) }
+    ensures count { (start : ℕ) (body : Statements) → length (lefts body []) ≡ length (points start body None) }
 {}
 
 /// Facts at statements follow control. Where branches, loops and blocks say no more than they may, no more is said
 /// where control goes than after the statement, and there is a statement. At the first statement no more is said than
-/// before the body.
+/// before the body. The statements of the body have indices from `start` on.
 pub fn facts_follow_control()
-    ensures follow { (flow : Flow) → IsFlow flow → (body : Statements) (before : Slots) (index : ℕ) (point : Point)
-        (fact : Slots) → slice_get (points 0 body None) index ≡ Some point
-        → slice_get (facts flow before body) index ≡ Some fact → Follows flow (facts flow before body) fact point }
-    ensures starts { (flow : Flow) → IsFlow flow → (body : Statements) (before : Slots)
-        → Lands (facts flow before body) (entry 0 body None) before }
-    ensures count { (flow : Flow) (body : Statements) (before : Slots)
-        → length (facts flow before body) ≡ length (points 0 body None) }
+    ensures follow { (flow : Flow) → IsFlow flow → (start : ℕ) (body : Statements) (before : Slots) (offset : ℕ)
+        (point : Point) (fact : Slots) → slice_get (points start body None) offset ≡ Some point
+        → slice_get (facts flow before body) offset ≡ Some fact
+        → Follows flow start (facts flow before body) fact point.statement point.goes }
+    ensures starts { (flow : Flow) → IsFlow flow → (start : ℕ) (body : Statements) (before : Slots)
+        → Lands start (facts flow before body) (entry start body None) before }
+    ensures count { (flow : Flow) (start : ℕ) (body : Statements) (before : Slots)
+        → length (facts flow before body) ≡ length (points start body None) }
+{}
+
+/// The points of a body of a program are those of the program, from the index of its first statement on.
+pub fn bodies_are_in_programs()
+    ensures { (program : SourceTree) (body : BodyAt) (offset : ℕ) → IsBodyOf program body
+        → offset < statement_count body.statements
+        → slice_get (program_points program) (body.index + offset)
+        ≡ slice_get (points body.index body.statements None) offset }
+{}
+
+/// Facts at the statements of a whole program follow control, by the indices of the program. How many parameters a body
+/// has gives what holds before it. Where control goes after a statement no more is said than after it, and at the first
+/// statement of a body no more than before it.
+pub fn facts_follow_in_programs()
+    ensures follow { (flow : Flow) → IsFlow flow → (before : ℕ → Slots) (program : SourceTree) (index : ℕ)
+        (point : Point) (fact : Slots) → slice_get (program_points program) index ≡ Some point
+        → slice_get (program_facts flow before program) index ≡ Some fact
+        → Follows flow 0 (program_facts flow before program) fact point.statement point.goes }
+    ensures starts { (flow : Flow) → IsFlow flow → (before : ℕ → Slots) (program : SourceTree) (body : BodyAt)
+        → IsBodyOf program body
+        → Lands 0 (program_facts flow before program) (entry body.index body.statements None) (before body.params) }
+    ensures count { (flow : Flow) (before : ℕ → Slots) (program : SourceTree)
+        → length (program_facts flow before program) ≡ length (program_points program) }
 {}

@@ -9,7 +9,10 @@ pub mod named;
 pub mod readers;
 pub mod tables;
 
-pub use laws::{control_leaves_the_rest, declared_is_there, facts_follow_control, named_is_whole};
+pub use laws::{
+    bodies_are_in_programs, control_leaves_the_rest, declared_is_there, facts_follow_control,
+    facts_follow_in_programs, named_is_whole,
+};
 pub use meanings::Meanings;
 pub use name_spaces::{ConstructorMeaning, FunctionMeaning, NameSpaces, Taking, TypeMeaning};
 pub use named::Named;

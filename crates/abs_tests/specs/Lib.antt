@@ -1,2 +1,3 @@
+pub mod ControlExamples
 pub mod Examples
 pub mod ValueExamples

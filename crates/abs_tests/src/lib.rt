@@ -1,8 +1,10 @@
 //! Examples of definitions: what type and what result an expression has by them, where a program offends, how values
-//! are printed. A proof shows that the code does what a definition says; an example shows what the definition says.
-//! What the programs do is tested from outside, by the files of `tests/`.
+//! are printed, where control goes. A proof shows that the code does what a definition says; an example shows what the
+//! definition says. What the programs do is tested from outside, by the files of `tests/`.
 #![tactic(auto)]
 
+#[cfg(test)]
+mod control;
 #[cfg(test)]
 mod typing;
 #[cfg(test)]

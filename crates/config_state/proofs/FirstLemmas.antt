@@ -15,7 +15,8 @@ use Rattle.abs_values.specs.ValueTrees.{ValueTree, NullValue}
 use Rattle.abs_program.specs.declared.tables.control.BodyEntry.{BodyEntry}
 use Rattle.config_state.proofs.BodyLemmas.{entry_is_statement}
 use Rattle.config_state.proofs.EachLemmas.{Each-none, Each-one, Each-replicate}
-use Rattle.config_state.specs.Bodies.{entry_of_body, main_at}
+use Rattle.abs_program.specs.ProgramBodies.{entry_of_body}
+use Rattle.config_state.specs.Bodies.{main_at}
 use Rattle.config_state.specs.Configurations.{FrameState, Configuration}
 use Rattle.config_state.specs.First.{frame_for, first}
 use Rattle.config_state.specs.OfProgram.{IsFrameOf, IsTaskOf, IsConfigOf}
@@ -41,7 +42,8 @@ main_frame program = frame_for (entry_of_body (main_at program)) None None [] No
 pub first-well_formed : (program : ProgramTree) → IsWellFormed (first program)
 first-well_formed program = record {
   cogs_formed = Each-one (IsCogFormed (first program)) _ (record {
-    parent_there = λ parent is. absurd (none-some parent is);
+    parent_earlier = λ parent is. absurd (none-some parent is);
+    first_alone = λ none. refl;
     holder_runs = λ task is. absurd (none-some task is);
   });
   objects_formed = Each-none _;

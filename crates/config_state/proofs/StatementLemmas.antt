@@ -25,8 +25,10 @@ use Rattle.abs_program.specs.Tables.{meaning_of}
 use Rattle.abs_program.specs.Whole.{Inside, StatementIsThere, ElseIsThere, StatementsAreThere, MembersAreThere, DeclarationIsThere, IsWhole}
 use Rattle.abs_program.specs.declared.name_spaces.Taking.{Taking}
 use Rattle.abs_tree.specs.declared.place.Place.{Place}
-use Rattle.config_state.proofs.BodyLemmas.{IsBodyOf, OfMain, OfMethod, points_of_body}
-use Rattle.config_state.specs.Bodies.{class_taking, BodyAt, entry_of_body, main_at, member_body, class_body, method_in_class, method_at, IsStatementOf}
+use Rattle.abs_program.proofs.ProgramPointLemmas.{points_of_body}
+use Rattle.config_state.proofs.BodyLemmas.{method_is_body}
+use Rattle.abs_program.specs.ProgramBodies.{BodyAt, entry_of_body, member_body, class_body, IsBodyOf, OfMain, IsStatementOf}
+use Rattle.config_state.specs.Bodies.{class_taking, main_at, method_in_class, method_at}
 use Rattle.list_facts.proofs.EntryLemmas.{slice_get-append}
 
 module _ (inside : Inside) where
@@ -76,14 +78,14 @@ module _ (inside : Inside) where
 
 -- what a statement of a body can use is there, if what the body can use is
 statement_of_body_there : (program : ProgramTree) (body : BodyAt) (inside : Inside) (index : ℕ) (point : Point)
-    → IsBodyOf program body → StatementsAreThere inside body.statements → IsStatementOf body index
+    → IsBodyOf program.source body → StatementsAreThere inside body.statements → IsStatementOf body index
     → slice_get (program_points program.source) index ≡ Some point → StatementIsThere inside point.statement
 statement_of_body_there program body inside index point is there of found =
     let place = index - body.index in
     let at : body.index + place ≡ index = omega (arith, of.after_start) in
     let less : place < statement_count body.statements = omega (arith, of.after_start, of.before_end) in
     statements_there inside body.index body.statements None there place point
-    (sym (points_of_body program body is place less) ∙ (ap (slice_get (program_points program.source)) at ∙ found))
+    (sym (points_of_body program.source body place is less) ∙ (ap (slice_get (program_points program.source)) at ∙ found))
 
 -- what the body of a method can use, if its class has so many fields
 abbrev method_inside : NameSpaces → ℕ → BodyAt → Inside
@@ -220,7 +222,7 @@ pub method_statement_is_there : (program : ProgramTree) (class method : Name) (b
 method_statement_is_there program class method body entry index point whole found taken of at =
     statement_of_body_there program body
     (method_inside (spaces_of program.source.declarations) (entry.params + count_exprs entry.initials) body) index
-    point (OfMethod class method found)
+    point (method_is_body program class method body found)
     (named_body_there program class method body entry
     (meaning_of (spaces_of program.source.declarations).classes class) whole refl found taken) of at
 

@@ -6,7 +6,8 @@ use Rattle.std.specs.Prelude.{ℕ, ◌-◌, List, [], ◌∷◌, ◌++◌, repli
 use Rattle.abs_tree.specs.Syntax.{Name, ProgramTree}
 use Rattle.abs_values.specs.ValueTrees.{ValueTree, NullValue}
 use Rattle.abs_program.specs.declared.tables.control.BodyEntry.{BodyEntry}
-use Rattle.config_state.specs.Bodies.{entry_of_body, main_at}
+use Rattle.abs_program.specs.ProgramBodies.{entry_of_body}
+use Rattle.config_state.specs.Bodies.{main_at}
 use Rattle.config_state.specs.Configurations.{FrameState, Configuration}
 use Rattle.config_state.specs.declared.frame.Target.{Target}
 use Rattle.config_state.specs.declared.frame.Target.TheVariants.{Nothing}

@@ -14,7 +14,8 @@ use Rattle.abs_program.specs.Slots.{body_slots}
 use Rattle.abs_tree.specs.Syntax.{ProgramTree}
 use Rattle.abs_tree.specs.SyntaxCounts.{count_exprs}
 use Rattle.abs_values.specs.ValueTrees.{FutureValue}
-use Rattle.config_state.specs.Bodies.{class_taking, BodyAt, body_of, IsStatementOf}
+use Rattle.abs_program.specs.ProgramBodies.{BodyAt, IsStatementOf}
+use Rattle.config_state.specs.Bodies.{class_taking, body_of}
 use Rattle.config_state.specs.Configurations.{ObjectState, FrameState, TaskState, Configuration, object_at, fields_of, Each}
 use Rattle.config_state.specs.declared.frame.Target.{Target}
 use Rattle.config_state.specs.declared.frame.Target.TheVariants.{Nothing, Local, Field}

@@ -1,5 +1,6 @@
--- Well-formed configurations: every index names an entry; a task has a result exactly where it has no frame, and then
--- it is ready; a holder is a running task of its cog, and each running task holds its cog. `Config` keeps this.
+-- Well-formed configurations: every index names an entry; the parent of a cog is an earlier one; a task has a result
+-- exactly where it has no frame, and then it is ready; a holder is a running task of its cog, and each running task holds
+-- its cog. `Config` keeps this.
 --
 --   `IsThere`, `AreThere`              an object or a future has an entry; so does each one inside values
 --   `IsHolder`, `IsRunningIn`          a task holds a cog; a task runs, and is in a cog
@@ -39,9 +40,10 @@ pub record IsRunningIn (config : Configuration) (cog index : ℕ) : Type 0 where
   pub in_cog : task.cog ≡ cog
   pub runs : task.state ≡ Running
 
--- The parent of a cog is there, and its holder runs in it.
+-- The parent of a cog is an earlier cog, and only cog 0 has none. The holder of a cog runs in it.
 pub record IsCogFormed (config : Configuration) (index : ℕ) (cog : Cog) : Type 0 where
-  pub parent_there : (parent : ℕ) → cog.parent ≡ Some parent → parent < length config.cogs
+  pub parent_earlier : (parent : ℕ) → cog.parent ≡ Some parent → parent < index
+  pub first_alone : cog.parent ≡ None → index ≡ 0
   pub holder_runs : (task : ℕ) → cog.holder ≡ Some task → IsRunningIn config index task
 
 -- The cog of an object is there, and so is what its fields hold.

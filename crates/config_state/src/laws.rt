@@ -3,7 +3,7 @@ ghost use Rattle.std.specs.Prelude.{◌≡◌, ℕ, List};
 ghost use Rattle.std.specs.Option.{option_map};
 ghost use Rattle.abs_program.specs.Bodies.{method_entry};
 ghost use Rattle.abs_tree.specs.Syntax.{DeclTree};
-ghost use Rattle.config_state.specs.Bodies.{class_body, entry_of_body};
+ghost use Rattle.abs_program.specs.ProgramBodies.{class_body, entry_of_body};
 
 /// The table of a program's bodies has the bodies of the definitions.
 pub fn bodies_are_in_the_table()

@@ -120,7 +120,7 @@ module _ (config : Configuration) (index : ℕ) (task : TaskState) (formed : IsW
       (configuration_after config index (keeps at own lines kind cog object new)) frame)
       → AreThere (configuration_after config index (keeps at own lines kind cog object new)) own.fields
       → ((entry : Cog) → cog ≡ Some entry
-      → (entry.holder ≡ None) × ((parent : ℕ) → entry.parent ≡ Some parent → parent ≡ task.cog))
+      → (entry.holder ≡ None) × (entry.parent ≡ Some task.cog))
       → ((entry : ObjectState) → object ≡ Some entry
       → IsObjectFormed (configuration_after config index (keeps at own lines kind cog object new)) entry)
       → ((entry : TaskState) → new ≡ Some entry → (place : ℕ)
@@ -140,12 +140,8 @@ module _ (config : Configuration) (index : ℕ) (task : TaskState) (formed : IsW
         unfinished = λ none. some_frame;
         written = λ written has. subst (AreThere (configuration_after config index change))
             (sym (written-own at own.fields written has).1) fields;
-        new_cog = λ entry has. (let made = cog_made entry has in (
-          made.0,
-          λ parent is.
-              subst (λ (found : ℕ). found < length config.cogs) (sym (made.1 parent is))
-              (formed.tasks_formed index task there).cog_there,
-        ));
+        new_cog = λ entry has. (let made = cog_made entry has in
+            (made.0, task.cog, made.1, (formed.tasks_formed index task there).cog_there));
         new_object = object_made;
         new_task = task_made;
       })
@@ -164,7 +160,7 @@ module _ (config : Configuration) (index : ℕ) (task : TaskState) (formed : IsW
       → ValueIsThere (configuration_after config index
       (puts target value next frame others lines kind cog object new)) value
       → ((entry : Cog) → cog ≡ Some entry
-      → (entry.holder ≡ None) × ((parent : ℕ) → entry.parent ≡ Some parent → parent ≡ task.cog))
+      → (entry.holder ≡ None) × (entry.parent ≡ Some task.cog))
       → ((entry : ObjectState) → object ≡ Some entry → IsObjectFormed (configuration_after config index
       (puts target value next frame others lines kind cog object new)) entry)
       → ((entry : TaskState) → new ≡ Some entry → (place : ℕ) → IsTaskFormed (configuration_after config index

@@ -3,6 +3,7 @@
 --   `Forms`                    what a change needs for this
 --   `formed-after`             the configuration after such a change is well-formed
 use Rattle.std.proofs.Common.{◌≡◌, ◌≢◌, ◌<◌, ℕ, [], length, slice_get, Option, Some, None, sym, ap, ◌∙◌, subst}
+use Rattle.std.proofs.lemmas.Option.{none-some, same_Some}
 use Rattle.abs_values.specs.Results.{Result, Gives}
 use Rattle.abs_values.specs.ValueTrees.{ValueTree}
 use Rattle.config_state.specs.Configurations.{ObjectState, TaskState, Configuration, Each}
@@ -32,7 +33,7 @@ pub record Forms (config : Configuration) (index : ℕ) (task : TaskState) (chan
   pub written : (written : Written) → change.written ≡ Some written
       → AreThere (configuration_after config index change) written.fields
   pub new_cog : (cog : Cog) → change.cog ≡ Some cog
-      → (cog.holder ≡ None) × ((parent : ℕ) → cog.parent ≡ Some parent → parent < length config.cogs)
+      → (cog.holder ≡ None) × (parent : ℕ) × (cog.parent ≡ Some parent) × (parent < length config.cogs)
   pub new_object : (object : ObjectState) → change.object ≡ Some object
       → IsObjectFormed (configuration_after config index change) object
   pub new_task : (new : TaskState) → change.new ≡ Some new
@@ -69,14 +70,16 @@ module _ (config : Configuration) (index : ℕ) (task : TaskState) (change : Cha
   cog-formed : (other : ℕ) (cog : Cog) → CogAfter config change other cog
       → IsCogFormed (configuration_after config index change) other cog
   cog-formed other cog (Untouched differs is) = record {
-    parent_there = λ parent has. cogs-grow config index change parent
-        ((formed.cogs_formed other cog is).parent_there parent has);
+    parent_earlier = (formed.cogs_formed other cog is).parent_earlier;
+    first_alone = (formed.cogs_formed other cog is).first_alone;
     holder_runs = λ holder has. runs-still other holder differs
         ((formed.cogs_formed other cog is).holder_runs holder has);
   }
   cog-formed other cog (Held before own is same) = record {
-    parent_there = λ parent has. cogs-grow config index change parent ((formed.cogs_formed other before is).parent_there
-        parent (sym (ap (λ (entry : Cog). entry.parent) same) ∙ has));
+    parent_earlier = λ parent has. (formed.cogs_formed other before is).parent_earlier parent
+        (sym (ap (λ (entry : Cog). entry.parent) same) ∙ has);
+    first_alone = λ none. (formed.cogs_formed other before is).first_alone
+        (sym (ap (λ (entry : Cog). entry.parent) same) ∙ none);
     holder_runs = λ holder has. (let held = forms.holder_runs holder
         (sym (ap (λ (entry : Cog). entry.holder) same) ∙ has) in record {
           task = change.task;
@@ -87,7 +90,10 @@ module _ (config : Configuration) (index : ℕ) (task : TaskState) (change : Cha
         });
   }
   cog-formed other cog (Founded last is) = record {
-    parent_there = λ parent has. cogs-grow config index change parent ((forms.new_cog cog is).1 parent has);
+    parent_earlier = λ parent has. (let made = forms.new_cog cog is in
+        subst (λ (count : ℕ). parent < count) (sym last)
+        (subst (λ (found : ℕ). found < length config.cogs) (same_Some made.1 parent (sym made.2 ∙ has)) made.3));
+    first_alone = λ none. (let made = forms.new_cog cog is in absurd (none-some made.1 (sym none ∙ made.2)));
     holder_runs = λ holder has. absurd (cc ((forms.new_cog cog is).0, has));
   }
 

@@ -60,7 +60,11 @@ module _ (names others : List Name) (cogs : List Cog) (objects : List ObjectCell
 
   -- a cog
   cog_formed : (index : ℕ) (cog : Cog) → IsCogFormed one index cog → IsCogFormed other index cog
-  cog_formed index cog formed = record { parent_there = formed.parent_there; holder_runs = runs }
+  cog_formed index cog formed = record {
+    parent_earlier = formed.parent_earlier;
+    first_alone = formed.first_alone;
+    holder_runs = runs;
+  }
     where
       runs : (task : ℕ) → cog.holder ≡ Some task → IsRunningIn other index task
       runs task holds =

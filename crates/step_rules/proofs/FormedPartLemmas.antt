@@ -15,7 +15,7 @@ use Rattle.abs_tree.specs.declared.syntax.statement.Mode.TheVariants as mode
 use Rattle.abs_program.specs.declared.tables.control.BodyEntry.{BodyEntry}
 use Rattle.config_state.proofs.EachLemmas.{Each-none, Each-more, Each-one, Each-set, Each-append, Each-replicate}
 use Rattle.config_state.proofs.FirstLemmas.{null-there}
-use Rattle.config_state.specs.Bodies.{BodyAt, entry_of_body}
+use Rattle.abs_program.specs.ProgramBodies.{BodyAt, entry_of_body}
 use Rattle.config_state.specs.Configurations.{FrameState, TaskState, Configuration, Each}
 use Rattle.config_state.specs.First.{frame_for}
 use Rattle.config_state.specs.WellFormed.{IsThere, ValueIsThere, AreThere, IsFrameFormed, IsTaskFormed}
@@ -113,11 +113,9 @@ home-there (mode.Local at) config cog place after old new = old
 
 -- a cog that a `new` makes has no holder, and its parent is the cog of the task
 pub cog_for-made : (made : Mode) (cog place : ℕ) (entry : Cog) → cog_for made cog place ≡ Some entry
-    → (entry.holder ≡ None) × ((parent : ℕ) → entry.parent ≡ Some parent → parent ≡ cog)
+    → (entry.holder ≡ None) × (entry.parent ≡ Some cog)
 cog_for-made mode.Cog cog place entry is =
-    let same = same_Some _ entry is in (
-      sym (ap (λ (made : Cog). made.holder) same),
-      λ parent has. sym (same_Some cog parent (ap (λ (made : Cog). made.parent) same ∙ has)),
-    )
+    let same = same_Some _ entry is in
+    (sym (ap (λ (made : Cog). made.holder) same), sym (ap (λ (made : Cog). made.parent) same))
 cog_for-made mode.Plain cog place entry is = absurd cc
 cog_for-made (mode.Local at) cog place entry is = absurd cc

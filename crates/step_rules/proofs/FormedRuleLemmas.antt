@@ -16,7 +16,7 @@ use Rattle.abs_values.specs.declared.evaluated.Fault.{Fault}
 use Rattle.abs_tree.specs.declared.syntax.statement.Mode.{Mode}
 use Rattle.config_state.proofs.EachLemmas.{Each-more}
 use Rattle.config_state.proofs.FirstLemmas.{null-there}
-use Rattle.config_state.specs.Bodies.{BodyAt, entry_of_body}
+use Rattle.abs_program.specs.ProgramBodies.{BodyAt, entry_of_body}
 use Rattle.config_state.specs.Configurations.{ObjectState, FrameState, Configuration, Each, object_at, fields_of}
 use Rattle.config_state.specs.First.{frame_for}
 use Rattle.config_state.specs.WellFormed.{ValueIsThere, AreThere, IsObjectFormed, IsFrameFormed, IsTaskFormed, IsWellFormed}

@@ -26,10 +26,11 @@ use Rattle.abs_program.specs.Tables.{meaning_of}
 use Rattle.abs_values.specs.ValueTrees.{ValueTree, NullValue}
 use Rattle.abs_program.specs.declared.name_spaces.Taking.{Taking}
 use Rattle.abs_tree.specs.declared.syntax.slot.Slot.TheVariants.{Parameter}
-use Rattle.config_state.proofs.BodyLemmas.{IsBodyOf, body_of-found, branch_is_statement, entry_is_statement, next_is_statement}
+use Rattle.config_state.proofs.BodyLemmas.{body_of-found, branch_is_statement, entry_is_statement, next_is_statement}
 use Rattle.config_state.proofs.EachLemmas.{Each-none, Each-more}
 use Rattle.config_state.proofs.StatementLemmas.{class_body-member}
-use Rattle.config_state.specs.Bodies.{BodyAt, IsStatementOf, entry_of_body, class_taking, member_body, class_body, method_in_class, method_at, body_found}
+use Rattle.abs_program.specs.ProgramBodies.{BodyAt, IsBodyOf, IsStatementOf, entry_of_body, member_body, class_body}
+use Rattle.config_state.specs.Bodies.{class_taking, method_in_class, method_at, body_found}
 use Rattle.config_state.specs.Configurations.{ObjectState, FrameState, TaskState, Configuration, Each, object_at}
 use Rattle.config_state.specs.First.{frame_for}
 use Rattle.config_state.specs.OfProgram.{IsFrameOf, IsTaskOf, TargetIsIn, next_point}
@@ -41,7 +42,7 @@ use Rattle.step_rules.specs.NewEntries.{task_for, run_task}
 
 -- control goes to a statement of the same body
 successor_in : (program : ProgramTree) (body : BodyAt) (index : ℕ) (point : Point) (answer : Bool) (next : ℕ)
-    → IsBodyOf program body → IsStatementOf body index → slice_get (program_points program.source) index ≡ Some point
+    → IsBodyOf program.source body → IsStatementOf body index → slice_get (program_points program.source) index ≡ Some point
     → successor point.goes answer ≡ Some next → IsStatementOf body next
 successor_in program body index point answer next found inside there is = by_goes point.goes refl answer is
   where

@@ -6,7 +6,8 @@
 use Rattle.std.proofs.Common.{◌≡◌, ◌⊎◌, ◌<◌, ℕ, suc, inl, inr, List, length, slice_get, Option, Some, None, ap, ◌∙◌, refl, arith}
 use Rattle.abs_tree.specs.Syntax.{Name, ProgramTree}
 use Rattle.abs_values.specs.ValueTrees.{ValueTree}
-use Rattle.config_state.specs.Bodies.{BodyAt, body_found}
+use Rattle.abs_program.specs.ProgramBodies.{BodyAt}
+use Rattle.config_state.specs.Bodies.{body_found}
 use Rattle.config_state.specs.Configurations.{ObjectState, FrameState, TaskState, Configuration, object_at, fields_of, Each}
 use Rattle.config_state.specs.OfProgram.{IsFrameOf, TargetIsIn, IsTaskOf}
 use Rattle.config_state.specs.declared.frame.Target.{Target}

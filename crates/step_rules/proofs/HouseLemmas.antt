@@ -15,7 +15,7 @@ use Rattle.abs_tree.specs.Syntax.{Name, VariableTree, ProgramTree}
 use Rattle.abs_values.specs.ValueTrees.{ValueTree, NullValue, ObjectValue, FutureValue}
 use Rattle.abs_tree.specs.declared.syntax.statement.Mode.{Mode}
 use Rattle.config_state.proofs.EachLemmas.{Each-none, Each-more}
-use Rattle.config_state.specs.Bodies.{BodyAt, entry_of_body}
+use Rattle.abs_program.specs.ProgramBodies.{BodyAt, entry_of_body}
 use Rattle.config_state.specs.Configurations.{ObjectState, FrameState, TaskState, Configuration, Each, object_at, fields_of}
 use Rattle.config_state.specs.First.{frame_for}
 use Rattle.config_state.specs.declared.frame.Target.{Target}

@@ -16,7 +16,8 @@ use Rattle.abs_tree.specs.Syntax.{Name, VariableTree, ProgramTree}
 use Rattle.abs_values.specs.ValueTrees.{ValueTree, NullValue, ObjectValue, FutureValue}
 use Rattle.abs_program.specs.Whole.{IsWhole}
 use Rattle.abs_tree.specs.declared.syntax.statement.Mode.{Mode}
-use Rattle.config_state.specs.Bodies.{BodyAt, IsStatementOf, class_taking, entry_of_body, method_at}
+use Rattle.abs_program.specs.ProgramBodies.{BodyAt, IsStatementOf, entry_of_body}
+use Rattle.config_state.specs.Bodies.{class_taking, method_at}
 use Rattle.config_state.specs.Configurations.{ObjectState, FrameState, TaskState, Configuration, object_at, fields_of}
 use Rattle.config_state.specs.First.{frame_for}
 use Rattle.config_state.specs.OfProgram.{IsObjectOf, IsTaskOf, IsAtGuard, IsConfigOf, TargetIsIn}

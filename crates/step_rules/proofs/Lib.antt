@@ -13,6 +13,7 @@ mod GrowthLemmas
 mod UseLemmas
 mod KeepLemmas
 mod HouseLemmas
+pub mod InductionLemmas
 mod ReachLemmas
 mod GetLemmas
 pub mod CauseLemmas

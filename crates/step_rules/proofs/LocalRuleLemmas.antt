@@ -11,7 +11,7 @@ use Rattle.abs_tree.specs.Syntax.{Name, VariableTree, ProgramTree}
 use Rattle.abs_values.specs.ValueTrees.{ValueTree, IntValue, StringValue, BuiltValue, ObjectValue, FutureValue, NullValue}
 use Rattle.abs_values.specs.declared.evaluated.Fault.{Fault}
 use Rattle.abs_values.specs.declared.evaluated.Fault.TheVariants as fault
-use Rattle.config_state.specs.Bodies.{BodyAt}
+use Rattle.abs_program.specs.ProgramBodies.{BodyAt}
 use Rattle.config_state.specs.Configurations.{ObjectState, FrameState, Configuration, object_at, fields_of}
 use Rattle.step_rules.specs.Changes.{Change, kept_change, ended_change}
 use Rattle.step_rules.specs.Events.{local_change, with_output, local_or_other}

@@ -11,7 +11,8 @@ use Rattle.abs_tree.specs.Syntax.{Name, ProgramTree}
 use Rattle.abs_program.specs.Tables.{meaning_of}
 use Rattle.abs_program.specs.declared.name_spaces.Taking.{Taking}
 use Rattle.config_state.proofs.StatementLemmas.{method_entry-is}
-use Rattle.config_state.specs.Bodies.{entry_of_body, class_body, method_in_class, method_at}
+use Rattle.abs_program.specs.ProgramBodies.{entry_of_body, class_body}
+use Rattle.config_state.specs.Bodies.{method_in_class, method_at}
 
 -- the body of the method with a name of the class at an index is that in the table, by its index among the members
 body_in_table : (program : ProgramTree) (class : ℕ) (member : Option ℕ)

@@ -11,7 +11,8 @@ use Rattle.abs_values.specs.ValueViews.{value_tree}
 use Rattle.abs_tree.specs.declared.syntax.statement.Mode.{Mode}
 use Rattle.abs_program.specs.declared.tables.control.BodyEntry.{BodyEntry}
 use Rattle.abs_values.specs.declared.value.Value.{Value}
-use Rattle.config_state.specs.Bodies.{BodyAt, class_taking, entry_of_body}
+use Rattle.abs_program.specs.ProgramBodies.{BodyAt, entry_of_body}
+use Rattle.config_state.specs.Bodies.{class_taking}
 use Rattle.config_state.specs.Configurations.{ObjectState, TaskState, Configuration}
 use Rattle.config_state.specs.Views.{object_state, task_state}
 use Rattle.config_state.specs.declared.cog.Cog.{Cog}

@@ -13,7 +13,8 @@ use Rattle.abs_values.specs.ValueTrees.{ValueTree, IntValue, StringValue, BuiltV
 use Rattle.abs_values.specs.declared.evaluated.Fault.{Fault}
 use Rattle.abs_values.specs.declared.evaluated.Fault.TheVariants as fault
 use Rattle.abs_tree.specs.declared.syntax.statement.Mode.{Mode}
-use Rattle.config_state.specs.Bodies.{BodyAt, class_taking}
+use Rattle.abs_program.specs.ProgramBodies.{BodyAt}
+use Rattle.config_state.specs.Bodies.{class_taking}
 use Rattle.config_state.specs.Configurations.{ObjectState, FrameState, TaskState, Configuration, object_at, fields_of}
 use Rattle.config_state.specs.OfProgram.{next_point}
 use Rattle.config_state.specs.declared.cog.Cog.{Cog}

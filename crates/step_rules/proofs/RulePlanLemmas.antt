@@ -10,7 +10,7 @@ use Rattle.abs_values.specs.ValueTrees.{ValueTree}
 use Rattle.abs_values.specs.ValueViews.{value_tree}
 use Rattle.abs_program.specs.declared.tables.control.BodyEntry.{BodyEntry}
 use Rattle.abs_values.specs.declared.value.Value.{Value}
-use Rattle.config_state.specs.Bodies.{BodyAt, entry_of_body}
+use Rattle.abs_program.specs.ProgramBodies.{BodyAt, entry_of_body}
 use Rattle.config_state.specs.Configurations.{FrameState, TaskState, Configuration, object_at, fields_of}
 use Rattle.config_state.specs.First.{frame_for}
 use Rattle.config_state.specs.Views.{frame_state}

@@ -24,7 +24,8 @@ use Rattle.abs_tree.specs.declared.syntax.declaration.Decl.TheVariants as decl
 use Rattle.abs_tree.specs.declared.syntax.declaration.Member.{Member}
 use Rattle.abs_tree.specs.declared.syntax.declaration.Member.TheVariants as member
 use Rattle.abs_program.specs.declared.tables.control.BodyEntry.{BodyEntry}
-use Rattle.config_state.specs.Bodies.{BodyAt, class_index, class_taking, entry_of_body, method_at}
+use Rattle.abs_program.specs.ProgramBodies.{BodyAt, entry_of_body}
+use Rattle.config_state.specs.Bodies.{class_index, class_taking, method_at}
 use Rattle.config_state.specs.Configurations.{TaskState}
 use Rattle.step_rules.specs.NewEntries.{task_for, run_task}
 

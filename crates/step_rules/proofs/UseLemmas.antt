@@ -28,7 +28,8 @@ use Rattle.abs_values.specs.declared.evaluated.Fault.{Fault}
 use Rattle.abs_values.specs.declared.evaluated.Fault.TheVariants as fault
 use Rattle.abs_program.specs.declared.name_spaces.Taking.{Taking}
 use Rattle.abs_tree.specs.declared.syntax.statement.Mode.{Mode}
-use Rattle.config_state.specs.Bodies.{BodyAt, IsStatementOf, body_found, class_taking, main_at}
+use Rattle.abs_program.specs.ProgramBodies.{BodyAt, IsStatementOf}
+use Rattle.config_state.specs.Bodies.{body_found, class_taking, main_at}
 use Rattle.config_state.specs.Configurations.{ObjectState, FrameState, Configuration, Each, object_at, fields_of}
 use Rattle.config_state.specs.OfProgram.{IsConfigOf, IsFrameOf, TargetIsIn, next_point}
 use Rattle.config_state.proofs.EachLemmas.{Each-none, Each-more}

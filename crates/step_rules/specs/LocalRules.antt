@@ -15,7 +15,7 @@ use Rattle.abs_tree.specs.Syntax.{Name, VariableTree, ProgramTree}
 use Rattle.abs_values.specs.ValueTrees.{ValueTree, StringValue, NullValue}
 use Rattle.abs_values.specs.declared.evaluated.Fault.{Fault}
 use Rattle.abs_values.specs.declared.evaluated.Fault.TheVariants as fault
-use Rattle.config_state.specs.Bodies.{BodyAt, entry_of_body}
+use Rattle.abs_program.specs.ProgramBodies.{BodyAt, entry_of_body}
 use Rattle.config_state.specs.Configurations.{FrameState}
 use Rattle.config_state.specs.First.{frame_for}
 use Rattle.step_rules.specs.Lookups.{successor, callable, unit_value, same_object}

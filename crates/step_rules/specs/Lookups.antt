@@ -13,7 +13,8 @@ use Rattle.abs_tree.specs.Names.{number_of_name}
 use Rattle.abs_tree.specs.Syntax.{Name, ProgramTree}
 use Rattle.abs_tree.specs.SyntaxPlaces.{statement_place}
 use Rattle.abs_values.specs.ValueTrees.{ValueTree, BuiltValue, NoPart}
-use Rattle.config_state.specs.Bodies.{BodyAt, method_at}
+use Rattle.abs_program.specs.ProgramBodies.{BodyAt}
+use Rattle.config_state.specs.Bodies.{method_at}
 use Rattle.config_state.specs.Configurations.{ObjectState, FrameState, TaskState}
 
 -- a task that runs: its index, the task, its innermost frame, and its other frames

@@ -9,7 +9,8 @@ use Rattle.abs_tree.specs.Syntax.{Name, ProgramTree}
 use Rattle.abs_values.specs.ValueTrees.{ValueTree}
 use Rattle.abs_tree.specs.declared.syntax.statement.Mode.{Mode}
 use Rattle.abs_tree.specs.declared.syntax.statement.Mode.TheVariants as mode
-use Rattle.config_state.specs.Bodies.{BodyAt, entry_of_body, method_at}
+use Rattle.abs_program.specs.ProgramBodies.{BodyAt, entry_of_body}
+use Rattle.config_state.specs.Bodies.{method_at}
 use Rattle.config_state.specs.Configurations.{TaskState, Configuration}
 use Rattle.config_state.specs.First.{frame_for}
 use Rattle.config_state.specs.declared.cog.Cog.{Cog}

@@ -12,7 +12,8 @@ use Rattle.abs_tree.specs.Syntax.{Name, VariableTree, ProgramTree}
 use Rattle.abs_values.specs.ValueTrees.{ValueTree, NullValue, ObjectValue, FutureValue}
 use Rattle.abs_values.specs.declared.evaluated.Fault.TheVariants as fault
 use Rattle.abs_tree.specs.declared.syntax.statement.Mode.{Mode}
-use Rattle.config_state.specs.Bodies.{BodyAt, class_taking}
+use Rattle.abs_program.specs.ProgramBodies.{BodyAt}
+use Rattle.config_state.specs.Bodies.{class_taking}
 use Rattle.config_state.specs.Configurations.{ObjectState, FrameState, TaskState, Configuration, object_at, fields_of}
 use Rattle.config_state.specs.declared.frame.Target.{Target}
 use Rattle.step_rules.specs.Changes.{Change, kept_change, ended_change}

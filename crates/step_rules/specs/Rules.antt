@@ -12,7 +12,8 @@ use Rattle.abs_tree.specs.Syntax.{Name, VariableTree, ProgramTree}
 use Rattle.abs_values.specs.ValueTrees.{ValueTree, StringValue, ObjectValue, FutureValue, NullValue}
 use Rattle.abs_values.specs.declared.evaluated.Fault.{Fault}
 use Rattle.abs_tree.specs.declared.syntax.statement.Mode.{Mode}
-use Rattle.config_state.specs.Bodies.{BodyAt, entry_of_body, class_taking}
+use Rattle.abs_program.specs.ProgramBodies.{BodyAt, entry_of_body}
+use Rattle.config_state.specs.Bodies.{class_taking}
 use Rattle.config_state.specs.Configurations.{ObjectState, FrameState, TaskState, Configuration, object_at, fields_of}
 use Rattle.config_state.specs.First.{frame_for}
 use Rattle.config_state.specs.declared.cog.Cog.{Cog}

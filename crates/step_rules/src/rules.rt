@@ -10,7 +10,7 @@ ghost use Rattle.abs_tree.specs.SyntaxViews.{variable_tree};
 ghost use Rattle.abs_values.specs.ValueTrees.{NullValue};
 ghost use Rattle.abs_values.specs.ValueViews.{value_tree};
 ghost use Rattle.abs_values.specs.declared.value.Value.TheVariants.{Null};
-ghost use Rattle.config_state.specs.Bodies.{entry_of_body};
+ghost use Rattle.abs_program.specs.ProgramBodies.{entry_of_body};
 ghost use Rattle.config_state.specs.Configurations.{Configuration, object_at, fields_of};
 ghost use Rattle.config_state.specs.declared.frame.Target.TheVariants.{Nothing};
 ghost use Rattle.step_rules.specs.Events.{local_change};

@@ -7,5 +7,5 @@ pub returns : goal.returns
 returns c = record {
   steps = left_steps;
   starts = left_starts;
-  count = λ body. length-lefts body [] ∙ sym (length-points 0 body None);
+  count = λ start body. length-lefts body [] ∙ sym (length-points start body None);
 }

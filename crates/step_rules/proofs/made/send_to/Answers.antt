@@ -3,7 +3,7 @@ use Rattle.std.proofs.lemmas.List.{length-map}
 use Rattle.abs_tree.specs.Names.{name_of}
 use Rattle.abs_program.specs.NamedViews.{program_tree}
 use Rattle.abs_tree.specs.SyntaxViews.{variable_tree}
-use Rattle.config_state.specs.Bodies.{entry_of_body}
+use Rattle.abs_program.specs.ProgramBodies.{entry_of_body}
 use Rattle.config_state.specs.ConfigViews.{configuration}
 use Rattle.config_state.specs.Views.{object_state, task_state}
 use Rattle.step_rules.proofs.MadeLemmas.{called, goes_planned}
