@@ -6,11 +6,13 @@
 --   `ComesFrom`                        a reference is inside a value that an expression reads
 --   `ComesFromEarlier`                 it is inside a value of a list that comes before some index
 --   `IsGiven`                          a value of a list is what the expression at its index gives
+--   `StatementGives`                   the values of a statement: of its own expressions, and then the initial ones
 --   `expr_tree_at`                     the expression at an index
 use Rattle.std.specs.Prelude.{◌≡◌, ◌⊎◌, ◌<◌, ℕ, zero, suc, List, slice_get, Option, Some, None}
-use Rattle.abs_values.specs.Evaluation.{Outcome}
-use Rattle.abs_values.specs.Results.{Gives}
-use Rattle.abs_values.specs.Scopes.{Scope, Location, InSlot, InThis, location_of, value_at}
+use Rattle.abs_values.specs.Evaluation.{Outcome, all_end_with, evaluate, initial_outcomes, outcomes_of}
+use Rattle.abs_tree.specs.Limits.{level_limit}
+use Rattle.abs_values.specs.Results.{Gives, AllGive}
+use Rattle.abs_values.specs.Scopes.{Library, Scope, Location, InSlot, InThis, location_of, value_at}
 use Rattle.abs_tree.specs.Syntax.{ExprTree, LetIn, IfElse, OperatorsOf, Prefixed, NumberOf, StringOf, NullOf, DestinyOf, ThisOf, FieldOf, OwnCallOf, VariableOf, ApplyOf, BuildOf, CaseOf, ExprTrees, NoExpr, NextExpr, Operands, NoOperands, NextOperand, Branches, NoBranch, NextBranch}
 use Rattle.abs_values.specs.ValueTrees.{ValueTree, IntValue, StringValue, BuiltValue, ObjectValue, FutureValue, NullValue, ValueTrees, NoPart, NextPart}
 
@@ -96,3 +98,12 @@ pub record IsGiven (give : ExprTree → ℕ → Outcome) (expr_trees : ExprTrees
   pub there : expr_tree_at expr_trees index ≡ Some expr_tree
   pub applications : ℕ
   pub gives : (give expr_tree applications).result ≡ Gives value
+
+-- The own expressions of a statement give the values `own` after `made` applications. The list `values` is these and
+-- then the initial values.
+pub record StatementGives (library : Library) (scope : Scope) (expr_trees initials : ExprTrees) (values : List ValueTree)
+    : Type 0 where
+  pub own : List ValueTree
+  pub made : ℕ
+  pub own_given : outcomes_of (evaluate library scope level_limit) expr_trees 0 ≡ all_end_with (AllGive own) made
+  pub all_given : (initial_outcomes library initials own made).results ≡ AllGive values

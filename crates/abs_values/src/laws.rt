@@ -1,9 +1,10 @@
 //! Laws of the definitions, which hold whatever the code does.
-ghost use Rattle.std.specs.Prelude.{◌≡◌, ◌↔◌, ◌+◌, ℕ, List, length, slice_get, true, Some};
-ghost use Rattle.abs_values.specs.Evaluation.{evaluate, initial_outcomes, outcomes_of, Outcome};
-ghost use Rattle.abs_values.specs.References.{Reference, IsIn, ComesFrom, ComesFromEarlier, IsGiven, expr_tree_at};
+ghost use Rattle.std.specs.Prelude.{◌≡◌, ◌↔◌, ◌+◌, ℕ, List, length, take, slice_get, true, Some};
+ghost use Rattle.abs_values.specs.Evaluation.{evaluate, initial_outcomes, outcomes_of, results_of, Outcome};
+ghost use Rattle.abs_values.specs.References.{Reference, IsIn, ComesFrom, ComesFromEarlier, IsGiven, StatementGives, expr_tree_at};
 ghost use Rattle.abs_values.specs.Results.{Gives, AllGive};
-ghost use Rattle.abs_values.specs.Scopes.{Library, Scope};
+ghost use Rattle.abs_values.specs.Scopes.{Library, Scope, own_scope};
+ghost use Rattle.abs_tree.specs.Limits.{level_limit};
 ghost use Rattle.abs_tree.specs.Syntax.{ExprTree, ExprTrees};
 ghost use Rattle.abs_tree.specs.SyntaxCounts.{count_exprs};
 ghost use Rattle.abs_values.specs.ValueTrees.{ValueTree, same_value};
@@ -30,7 +31,9 @@ pub fn references_are_read()
 {}
 
 /// A list of expressions gives as many values as it has expressions, and each of them is what its expression gives. The
-/// initial values of an object follow its arguments, which stay as they are.
+/// initial values of an object follow its arguments, which stay as they are. Each of them is what its expression gives
+/// where the slots are the values before it. All values of a statement are those of its own expressions and then the
+/// initial values.
 pub fn lists_give_their_values()
     ensures count { (give : ExprTree → ℕ → Outcome) (expr_trees : ExprTrees) (made : ℕ) (values : List ValueTree)
         → (outcomes_of give expr_trees made).results ≡ AllGive values → length values ≡ count_exprs expr_trees }
@@ -44,4 +47,13 @@ pub fn lists_give_their_values()
         → (initial_outcomes library expr_trees arguments made).results ≡ AllGive values
         → (index : ℕ) (value : ValueTree) → slice_get arguments index ≡ Some value
         → slice_get values index ≡ Some value }
+    ensures initial_each { (library : Library) (expr_trees : ExprTrees) (arguments values : List ValueTree) (made : ℕ)
+        → (initial_outcomes library expr_trees arguments made).results ≡ AllGive values
+        → (index : ℕ) (expr_tree : ExprTree) → expr_tree_at expr_trees index ≡ Some expr_tree
+        → (value : ValueTree) → slice_get values (length arguments + index) ≡ Some value
+        → (applications : ℕ) × ((evaluate library (own_scope (take (length arguments + index) values)) level_limit
+        expr_tree applications).result ≡ Gives value) }
+    ensures statement { (library : Library) (scope : Scope) (expr_trees initials : ExprTrees) (values : List ValueTree)
+        → (results_of library scope expr_trees initials ≡ AllGive values)
+        ↔ StatementGives library scope expr_trees initials values }
 {}

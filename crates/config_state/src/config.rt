@@ -6,7 +6,8 @@ ghost use Rattle.config_state.specs.WellFormed.{IsWellFormed};
 
 use crate::{Cogs, Objects, Tasks};
 
-/// What there is at a moment of a run. Task 0 is that of the main block, and it is in cog 0.
+/// What there is at a moment of a run. In each configuration that a legal history reaches, task 0 is that of the main
+/// block, in cog 0 (`events_keep_configurations` of step_rules).
 #[derive(Drop)]
 pub struct Config {
     pub cogs: Cogs,

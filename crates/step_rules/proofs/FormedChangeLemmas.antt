@@ -3,7 +3,7 @@
 --   `takes-formed`, `rests-formed`, `ends-formed`      the task takes its cog, releases it, or ends
 --   `keeps-formed`                                     it goes on with frames and fields, and maybe something is made
 --   `puts-formed`, `goes_on-formed`                    it goes on, and a value goes to a target
-use Rattle.std.proofs.Common.{◌≡◌, ◌≢◌, ◌<◌, ℕ, List, [], length, slice_get, Option, Some, None, refl, sym, ap, ◌∙◌, subst}
+use Rattle.std.proofs.Common.{◌≡◌, ◌≢◌, ℕ, List, [], slice_get, Option, Some, None, refl, sym, ap, ◌∙◌, subst}
 use Rattle.std.proofs.lemmas.Option.{same_Some}
 use Rattle.abs_values.proofs.ResultLemmas.{IfGives, IfGives-at}
 use Rattle.abs_values.specs.Results.{Result, Gives}

@@ -5,7 +5,7 @@
 --   `frame_for-formed`, `task_for-formed`          a frame and a task that begin
 --   `run_task-formed`                              the task of a new object
 --   `home-there`, `cog_for-made`                   the cog of a new object
-use Rattle.std.proofs.Common.{◌≡◌, ◌<◌, ◌-◌, ℕ, List, [], codes, length, replicate, Option, Some, None, refl, sym, ap, ◌∙◌, subst}
+use Rattle.std.proofs.Common.{◌≡◌, ◌<◌, ◌-◌, ℕ, List, [], codes, length, replicate, Option, Some, None, refl, sym, ap, subst}
 use Rattle.std.proofs.lemmas.Option.{same_Some}
 use Rattle.abs_values.specs.References.{IsIn, IsInAny}
 use Rattle.abs_tree.specs.Syntax.{Name, ProgramTree}

@@ -1,5 +1,5 @@
 -- Each event of a housed configuration leads to one: objects were made by a `new` of their class at their place, and
--- tasks run on objects of their cog.
+-- cogs by a `new cog`; tasks run on objects of their cog, and new ones execute a method.
 --
 --   `AreHoused`, ..                frames of a task at home
 --   `Houses`, `kept_housed`        what a change has to keep, and the configuration after it
@@ -18,20 +18,22 @@ use Rattle.config_state.proofs.EachLemmas.{Each-none, Each-more}
 use Rattle.abs_program.specs.ProgramBodies.{BodyAt, entry_of_body}
 use Rattle.config_state.specs.Configurations.{ObjectState, FrameState, TaskState, Configuration, Each, object_at, fields_of}
 use Rattle.config_state.specs.First.{frame_for}
+use Rattle.config_state.specs.declared.cog.Cog.{Cog}
 use Rattle.config_state.specs.declared.frame.Target.{Target}
 use Rattle.config_state.specs.declared.frame.Target.TheVariants.{Nothing}
 use Rattle.config_state.specs.declared.task.State.TheVariants.{Ready, Running, Awaiting}
 use Rattle.step_rules.proofs.AfterLemmas.{task-after, object-after, object-there, object-new}
-use Rattle.step_rules.proofs.FrameLemmas.{run_task_is}
+use Rattle.step_rules.proofs.FrameLemmas.{callable_is, run_task_is}
+use Rattle.step_rules.proofs.OriginLemmas.{cog_for-made_by, task_for-called, method_task-stays, cogs_made-after, tasks_called-after}
 use Rattle.step_rules.proofs.RuleLemmas.{rule_of}
-use Rattle.step_rules.proofs.StayLemmas.{event_change}
+use Rattle.step_rules.proofs.StayLemmas.{change_stays, event_change}
 use Rattle.step_rules.specs.Changes.{Change, configuration_after, plain_change, kept_change, ended_change}
 use Rattle.step_rules.specs.Events.{Step, event_of}
-use Rattle.step_rules.specs.Homes.{IsHome, IsMade, IsTaskHoused, IsHoused}
-use Rattle.step_rules.specs.Lookups.{Runner, place_of, successor}
+use Rattle.step_rules.specs.Homes.{IsHome, IsMade, IsCogMade, IsTaskHoused, IsMethodTask, IsHoused}
+use Rattle.step_rules.specs.Lookups.{Runner, place_of, successor, callable}
 use Rattle.step_rules.specs.ObjectRules.{goes_on, new_with, call_with}
 use Rattle.step_rules.specs.Rules.{Rule, Taken, Faulted, Skipped, Stored, Cleared, Chosen, Printed, Made, Called, Pushed, Got, Passed, Released, Suspended, Gave, Popped}
-use Rattle.step_rules.specs.Stays.{IsSameObject, TaskAfter, Moved, Old, New, ObjectAfter, Kept, Filled, Fresh}
+use Rattle.step_rules.specs.Stays.{IsSameObject, TaskAfter, Moved, Old, New, ObjectAfter, Kept, Filled, Fresh, Stays}
 use Rattle.step_rules.specs.WaitRules.{suspend_rule}
 use Rattle.step_rules.specs.Targets.{slots_after, target_of}
 use Rattle.step_rules.specs.RuleParts.{IsRunner, IsRunningAt}
@@ -99,11 +101,15 @@ moved_frames_housed config cog object method frame now others are object_is meth
     (λ last. let old = are.outermost 0 frame refl last in (object_is ∙ old.0, method_is ∙ old.1))
     (other_frames_housed config cog object method frame others are)
 
--- What a change has to keep: its task and its new task are at home, and its new object was made.
+-- What a change has to keep: its task and its new task are at home, its new object and its new cog were made, and its
+-- new task is that of a method.
 pub record Houses (program : ProgramTree) (config : Configuration) (index : ℕ) (change : Change) : Type 0 where
   pub task : IsTaskHoused config change.task
   pub object : (object : ObjectState) → change.object ≡ Some object → IsMade program object
+  pub cog : (cog : Cog) → change.cog ≡ Some cog → IsCogMade program cog
   pub new : (task : TaskState) → change.new ≡ Some task → IsTaskHoused (configuration_after config index change) task
+  pub called : (task : TaskState) → change.new ≡ Some task
+      → IsMethodTask program (configuration_after config index change) task
 
 -- what is at home stays so
 home_stays : (config : Configuration) (index : ℕ) (change : Change) (cog : ℕ) (object : Option ℕ)
@@ -138,11 +144,13 @@ same_made program before after is same = record {
 
 -- the configuration after such a change is housed
 kept_housed : (program : ProgramTree) (config : Configuration) (index : ℕ) (change : Change)
-    → IsHoused program config → Houses program config index change
+    → IsHoused program config → Stays config index change → Houses program config index change
     → IsHoused program (configuration_after config index change)
-kept_housed program config index change housed keeps = record {
+kept_housed program config index change housed stays keeps = record {
   objects_made = λ other object there. by_object other object (object-after config index change other object there);
+  cogs_made = cogs_made-after program config index change housed.cogs_made keeps.cog;
   tasks_housed = λ other task there. by_task other task (task-after config index change other task there);
+  tasks_called = tasks_called-after program config index change housed.tasks_called stays keeps.called;
 }
   where
     by_object : (other : ℕ) (object : ObjectState) → ObjectAfter config change other object → IsMade program object
@@ -163,8 +171,13 @@ module _ (program : ProgramTree) (config : Configuration) (index : ℕ) where
   -- a change that only changes a task
   plain_houses : (task : TaskState) (holder : Option ℕ) (kind : Did) → IsTaskHoused config task
       → Houses program config index (plain_change task holder kind)
-  plain_houses task holder kind is =
-      record { task = is; object = λ object none. absurd cc; new = λ new none. absurd cc }
+  plain_houses task holder kind is = record {
+    task = is;
+    object = λ object none. absurd cc;
+    cog = λ cog none. absurd cc;
+    new = λ new none. absurd cc;
+    called = λ new none. absurd cc;
+  }
 
   -- a task that ends
   ended_houses : (task : TaskState) (result : Result) → IsTaskHoused config task
@@ -185,7 +198,9 @@ module _ (program : ProgramTree) (config : Configuration) (index : ℕ) where
         is.own (moved_frames_housed config task.cog task.object task.method frame
         (record frame { slots = slots_after target value frame.slots; next = next }) others are refl refl);
     object = λ object none. absurd cc;
+    cog = λ cog none. absurd cc;
     new = λ new none. absurd cc;
+    called = λ new none. absurd cc;
   }
 
   -- a new task of an object of its cog is at home
@@ -222,14 +237,20 @@ module _ (program : ProgramTree) (config : Configuration) (index : ℕ) where
     called_houses : (at : Runner) (point : Point) (object : ℕ) (cell : ObjectState) (arguments : List ValueTree)
         (method : Name) (target : Option VariableTree) (body : BodyAt) → at.index ≡ index → IsRunner config at
         → slice_get config.objects object ≡ Some cell
+        → callable program cell.class method (length arguments) ≡ Some body
         → Houses program config index (call_with config at (place_of point) (successor point.goes true) object cell
         method target arguments (Some body))
-    called_houses at point object cell arguments method target body same runner there = rw same (record {
+    called_houses at point object cell arguments method target body same runner there found = rw same (record {
       task = goes.task;
       object = goes.object;
+      cog = goes.cog;
       new = λ task made. subst (IsTaskHoused (configuration_after config index change))
           (same_Some new_task task made) (task_housed_stays config index change new_task
           (new_housed config body cell.cog object cell method (Some (place_of point)) arguments there refl));
+      called = λ task made. subst (IsMethodTask program (configuration_after config index change))
+          (same_Some new_task task made) (method_task-stays program config index change new_task
+          (task_for-called program config body cell.cog object cell method (Some (place_of point)) arguments there
+          (callable_is program cell.class method (length arguments) body found).0));
     })
       where
         new_task : TaskState
@@ -248,17 +269,26 @@ module _ (program : ProgramTree) (config : Configuration) (index : ℕ) where
 
     -- a new object
     made_houses : (at : Runner) (point : Point) (values : List ValueTree) (mode : Mode) (class : Name)
-        (target : Option VariableTree) (entry : ClassEntryTree) → at.index ≡ index → IsRunningAt program config at point values
+        (target : Option VariableTree) (entry : ClassEntryTree) → at.index ≡ index
+        → IsRunningAt program config at point values
         → effect_of point.statement ≡ Makes mode class target
         → Houses program config index (new_with program config at (place_of point) (successor point.goes true) mode
         class target values (Some entry))
     made_houses at point values mode class target entry same is makes = record {
       task = goes.task;
       object = λ object made. subst (IsMade program) (same_Some new_object object made) new_made;
+      cog = λ cog made.
+          option_and_then_some (slice_get (program_points program.source)) at.frame.next point is.point_there
+          (λ statement next there.
+          cog_for-made_by program statement point mode class target at.task.cog cog there makes made);
       new = λ task made. let runs = run_task_is program home (length config.objects) class entry.run task made in
           subst (IsTaskHoused (configuration_after config index change)) runs.4
           (new_housed (configuration_after config index change) runs.1 home (length config.objects) new_object
           (codes "run") None [] (object-new config index change new_object refl) refl);
+      called = λ task made. let runs = run_task_is program home (length config.objects) class entry.run task made in
+          subst (IsMethodTask program (configuration_after config index change)) runs.4
+          (task_for-called program (configuration_after config index change) runs.1 home (length config.objects)
+          new_object (codes "run") None [] (object-new config index change new_object refl) runs.3);
     }
       where
         home : ℕ
@@ -304,7 +334,9 @@ module _ (program : ProgramTree) (config : Configuration) (index : ℕ) where
           (moved_frames_housed config at.task.cog at.task.object at.task.method at.frame below at.others
           (all_housed at runner) refl refl));
       object = λ object none. absurd cc;
+      cog = λ cog none. absurd cc;
       new = λ new none. absurd cc;
+      called = λ new none. absurd cc;
     }
       where
         new_frame : FrameState
@@ -355,7 +387,7 @@ module _ (program : ProgramTree) (config : Configuration) (index : ℕ) where
     rule_houses change (Made at point values mode class target entry same is makes taking changed) =
         rw changed (made_houses at point values mode class target entry same is makes)
     rule_houses change (Called at point object cell arguments method target body same is sends there found changed) =
-        rw changed (called_houses at point object cell arguments method target body same is.runner there)
+        rw changed (called_houses at point object cell arguments method target body same is.runner there found)
     rule_houses change (Pushed at point object arguments method target body same is calls there found changed) =
         rw changed (pushed_houses at (successor point.goes true) arguments method target body is.runner)
     rule_houses change (Got at point values slot target future task value same is gets holds there gives changed) =
@@ -380,5 +412,5 @@ pub event_keeps_houses : (program : ProgramTree) (config : Configuration) (index
 event_keeps_houses program config index step housed is =
     let event = event_change program config index step is in
     subst (λ (one : Step). IsHoused program one.config) (sym event.2)
-    (kept_housed program config index event.0 housed
+    (kept_housed program config index event.0 housed (change_stays program config index event.0 event.1)
     (rule_houses program config index housed event.0 (rule_of program config index event.0 event.1)))

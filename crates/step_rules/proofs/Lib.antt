@@ -4,6 +4,7 @@ mod LocalRuleLemmas
 mod RuleLemmas
 pub mod StayLemmas
 mod OutputLemmas
+mod OwnValueLemmas
 mod FrameLemmas
 mod FormedLemmas
 mod FormedPartLemmas
@@ -12,10 +13,12 @@ mod FormedRuleLemmas
 mod GrowthLemmas
 mod UseLemmas
 mod KeepLemmas
+mod OriginLemmas
 mod HouseLemmas
 pub mod InductionLemmas
 mod ReachLemmas
 mod GetLemmas
+mod GuardLemmas
 pub mod CauseLemmas
 pub mod BlockedLemmas
 mod HasStepLemmas

@@ -5,16 +5,16 @@
 --   `results-there`            the values of expressions in such a scope
 --   `fields-there`             the fields of an object
 --   `outputs-there`            the values of the expressions of a frame
-use Rattle.std.proofs.Common.{◌≡◌, ◌<◌, ℕ, List, [], ◌∷◌, ◌++◌, length, slice_get, Option, Some, None, refl, sym, subst}
+use Rattle.std.proofs.Common.{◌≡◌, ◌<◌, ℕ, List, [], ◌∷◌, ◌++◌, length, slice_get, Option, Some, None, refl, sym, ap, subst}
 use Rattle.std.proofs.lemmas.Option.{none-some, same_Some}
 use Rattle.std.specs.Option.{option_map}
-use Rattle.abs_values.proofs.ListOutcomeLemmas.{AreGiven, outcomes_of-each}
+use Rattle.abs_values.proofs.ListOutcomeLemmas.{AreGiven, outcomes_of-each, results_of-gives}
 use Rattle.abs_values.proofs.ReferenceLemmas.{AllComeFrom, own_slot, evaluate-reads}
 use Rattle.abs_values.proofs.ResultLemmas.{IfGives, IfAllGive, IfGives-at, IfAllGive-at, IfGives-then, IfAllGive-then, outcomes_after-gives}
-use Rattle.abs_values.specs.Evaluation.{evaluate, outcomes_of, initial_outcomes, all_outcomes, results_of}
+use Rattle.abs_values.specs.Evaluation.{Outcomes, evaluate, outcomes_of, initial_outcomes, results_of}
 use Rattle.abs_tree.specs.Limits.{level_limit}
 use Rattle.abs_values.specs.References.{IsIn}
-use Rattle.abs_values.specs.Results.{Results, AllGive, OneFails}
+use Rattle.abs_values.specs.Results.{AllGive}
 use Rattle.abs_values.specs.Scopes.{Library, library_of, Scope, own_scope, Location, InSlot, InField, InBound, InThis, value_at}
 use Rattle.abs_tree.specs.Syntax.{ExprTree, ExprTrees, NoExpr, NextExpr, ProgramTree}
 use Rattle.abs_values.specs.ValueTrees.{ValueTree, ObjectValue}
@@ -71,17 +71,13 @@ module _ (config : Configuration) where
   pub results-there : (library : Library) (scope : Scope) (expr_trees initials : ExprTrees) (values : List ValueTree)
       → IsScopeThere scope → results_of library scope expr_trees initials ≡ AllGive values → AreThere config values
   results-there library scope expr_trees initials values there gives =
-      by_arguments (outcomes_of (evaluate library scope level_limit) expr_trees 0).results refl
-    where
-      by_arguments : (found : Results) → (outcomes_of (evaluate library scope level_limit) expr_trees 0).results ≡ found
-          → AreThere config values
-      by_arguments (AllGive arguments) is =
-          let found = outcomes_of (evaluate library scope level_limit) expr_trees 0 in
-          IfAllGive-at (initial_outcomes library initials arguments found.applications).results (AreThere config)
-          values (rw (results_of, all_outcomes, is) at gives)
-          (initial_outcomes-there library initials arguments found.applications
-          (IfAllGive-at found.results (AreThere config) arguments is (outcomes_of-there library scope expr_trees 0 there)))
-      by_arguments (OneFails cause) is = let fails = rw (results_of, all_outcomes, is) at gives in absurd cc
+      let given = (results_of-gives library scope expr_trees initials values).0 gives in
+      let found = outcomes_of (evaluate library scope level_limit) expr_trees 0 in
+      IfAllGive-at (initial_outcomes library initials given.own given.made).results (AreThere config) values
+      given.all_given
+      (initial_outcomes-there library initials given.own given.made
+      (IfAllGive-at found.results (AreThere config) given.own (ap (λ (all : Outcomes). all.results) given.own_given)
+      (outcomes_of-there library scope expr_trees 0 there)))
 
   -- the fields of an object are there
   pub fields-there : IsWellFormed config → (object : Option ℕ) → AreThere config (fields_of (object_at config object))

@@ -1,5 +1,5 @@
 -- Each configuration that a legal history reaches is well-formed, of the program and housed.
-use Rattle.std.proofs.Common.{◌≡◌, ℕ, [], Some, None}
+use Rattle.std.proofs.Common.{◌≡◌, ℕ, [], Some, None, refl}
 use Rattle.abs_tree.specs.Syntax.{ProgramTree}
 use Rattle.abs_program.specs.Whole.{IsWhole}
 use Rattle.abs_program.specs.ProgramBodies.{entry_of_body}
@@ -16,21 +16,26 @@ use Rattle.step_rules.proofs.HouseLemmas.{task_housed, one_frame_housed, event_k
 use Rattle.step_rules.proofs.InductionLemmas.{reachable_has}
 use Rattle.step_rules.proofs.KeepLemmas.{event_keeps_program}
 use Rattle.step_rules.specs.Events.{Step, event_of}
-use Rattle.step_rules.specs.Homes.{IsTaskHoused, IsHoused}
+use Rattle.step_rules.specs.Homes.{IsCogMade, IsTaskHoused, IsCalled, OfMain, IsHoused}
 use Rattle.step_rules.specs.Runs.{IsReachable}
 
 -- A configuration is well-formed, of the program and housed.
 abbrev IsKept : ProgramTree → Configuration → Type 0
 IsKept program config = IsWellFormed config × IsConfigOf program config × IsHoused program config
 
--- the first configuration is housed: it has no object, and its one task has none
+-- the first configuration is housed: it has no object, its one cog has no parent, and its one task is that of the main
+-- block
 first_housed : (program : ProgramTree) → IsHoused program (first program)
 first_housed program = record {
   objects_made = Each-none _;
+  cogs_made = Each-one (λ index cog. (parent : ℕ) → cog.parent ≡ Some parent → IsCogMade program cog) _
+      (λ parent is. absurd cc);
   tasks_housed = Each-one (λ index task. IsTaskHoused (first program) task) _
       (task_housed (first program) _ (λ index is. absurd cc)
       (one_frame_housed (first program) 0 (frame_for (entry_of_body (main_at program)) None None [] Nothing)
       (λ index is. absurd cc)));
+  tasks_called = Each-one (IsCalled program (first program)) _
+      (OfMain refl (record { in_first = refl; no_object = refl; no_method = refl; no_call = refl }));
 }
 
 -- each event keeps this

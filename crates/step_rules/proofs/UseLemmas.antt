@@ -8,15 +8,15 @@
 use Rattle.std.proofs.Common.{◌≡◌, ◌≢◌, ℕ, ◌+◌, Bool, true, false, List, [], ◌∷◌, length, slice_get, Option, Some, None, refl, sym, ap, ◌∙◌, subst, arith, if◌then◌else◌, option_map}
 use Rattle.std.specs.Prelude.{⊤}
 use Rattle.std.proofs.lemmas.Option.{same_Some, option_and_then_some}
-use Rattle.abs_values.proofs.ListOutcomeLemmas.{outcomes_of-count, initial_outcomes-count}
+use Rattle.abs_values.proofs.ListOutcomeLemmas.{outcomes_of-count, initial_outcomes-count, results_of-gives}
 use Rattle.abs_values.proofs.ResultLemmas.{IfAllGive-at}
 use Rattle.abs_program.specs.Bodies.{ClassEntryTree}
 use Rattle.abs_program.specs.Control.{Point, program_points}
-use Rattle.abs_values.specs.Evaluation.{all_end_with, all_outcomes, evaluate, initial_outcomes, outcomes_of, results_of}
+use Rattle.abs_values.specs.Evaluation.{evaluate, initial_outcomes, outcomes_of, results_of}
 use Rattle.abs_program.specs.Instructions.{EffectTree, Skips, Suspends, Awaits, Chooses, Returns, Prints, Clears, Stores, Makes, Sends, CallsOwn, CallsOther, Gets, target_variable, side_expr_trees, side_effect, expr_trees_of, effect_of}
 use Rattle.abs_tree.specs.Limits.{level_limit}
 use Rattle.abs_program.specs.NameSpaces.{NameSpaces, spaces_of}
-use Rattle.abs_values.specs.Results.{Results, AllGive, OneFails}
+use Rattle.abs_values.specs.Results.{AllGive}
 use Rattle.abs_values.specs.Scopes.{Library, Scope, library_of}
 use Rattle.abs_program.specs.Slots.{body_slots, is_this}
 use Rattle.abs_tree.specs.Syntax.{Name, VariableTree, AtSlot, AtField, AtBound, Unresolved, OwnCallOf, ExprTrees, NoExpr, NextExpr, SideTree, NewOf, ValueOf, SendOf, GetOf, CallOf, TargetTree, ToVariable, ToField, NoSide, SomeSide, Statement, BlockOf, SkipOf, SuspendOf, AwaitOf, ReturnOf, PrintOf, IfOf, WhileOf, DeclareOf, AssignOf, DoOf, ProgramTree}
@@ -206,26 +206,16 @@ results_count : (library : Library) (scope : Scope) (expr_trees initials : ExprT
     → results_of library scope expr_trees initials ≡ AllGive values
     → length values ≡ count_exprs expr_trees + count_exprs initials
 results_count library scope expr_trees initials values gives =
-    by_results (outcomes_of (evaluate library scope level_limit) expr_trees 0).results
-    (outcomes_of (evaluate library scope level_limit) expr_trees 0).applications refl
-  where
-    by_results : (results : Results) (made : ℕ)
-        → outcomes_of (evaluate library scope level_limit) expr_trees 0 ≡ all_end_with results made
-        → length values ≡ count_exprs expr_trees + count_exprs initials
-    by_results (AllGive own) made is =
-        let all : (initial_outcomes library initials own made).results ≡ AllGive values =
-        rw (results_of, all_outcomes, is) at gives in
-        omega (
-          arith,
-          IfAllGive-at (outcomes_of (evaluate library scope level_limit) expr_trees 0).results
-              (λ found. length found ≡ count_exprs expr_trees) own (ap (λ found. found.results) is)
-              (outcomes_of-count (evaluate library scope level_limit) expr_trees 0),
-          IfAllGive-at (initial_outcomes library initials own made).results
-              (λ found. length found ≡ length own + count_exprs initials) values all
-              (initial_outcomes-count library initials own made),
-        )
-    by_results (OneFails cause) made is =
-        let none : OneFails cause ≡ AllGive values = rw (results_of, all_outcomes, is) at gives in absurd cc
+    let given = (results_of-gives library scope expr_trees initials values).0 gives in
+    omega (
+      arith,
+      IfAllGive-at (outcomes_of (evaluate library scope level_limit) expr_trees 0).results
+          (λ found. length found ≡ count_exprs expr_trees) given.own (ap (λ found. found.results) given.own_given)
+          (outcomes_of-count (evaluate library scope level_limit) expr_trees 0),
+      IfAllGive-at (initial_outcomes library initials given.own given.made).results
+          (λ found. length found ≡ length given.own + count_exprs initials) values given.all_given
+          (initial_outcomes-count library initials given.own given.made),
+    )
 
 -- the values of `new` are as many as the fields of its class
 pub made_as_many : (program : ProgramTree) (config : Configuration) (frame : FrameState) (point : Point) (mode : Mode)

@@ -6,6 +6,7 @@ pub mod LocalRules
 pub mod NewEntries
 pub mod ObjectRules
 pub mod WaitRules
+pub mod Guards
 pub mod Events
 pub mod Runs
 pub mod RuleParts

@@ -1,8 +1,13 @@
 //! Laws of the table of events, which hold whatever the code does.
-ghost use Rattle.std.specs.Prelude.{◌≡◌, ◌≢◌, ◌↔◌, ℕ, slice_get, Some, None, IsSome};
-ghost use Rattle.abs_tree.specs.Syntax.{ProgramTree};
+ghost use Rattle.std.specs.Prelude.{◌≡◌, ◌≢◌, ◌↔◌, ℕ, List, slice_get, Option, Some, None, IsSome};
+ghost use Rattle.abs_tree.specs.Syntax.{ExprTree, ProgramTree};
+ghost use Rattle.abs_program.specs.Control.{Point};
+ghost use Rattle.abs_program.specs.Instructions.{expr_trees_of};
 ghost use Rattle.abs_program.specs.Whole.{IsWhole};
-ghost use Rattle.config_state.specs.Configurations.{ObjectState, TaskState, Configuration};
+ghost use Rattle.abs_values.specs.References.{Reference, IsIn, ComesFrom, expr_tree_at};
+ghost use Rattle.abs_values.specs.ValueTrees.{ValueTree};
+ghost use Rattle.abs_values.specs.declared.evaluated.Fault.{Fault};
+ghost use Rattle.config_state.specs.Configurations.{ObjectState, TaskState, Configuration, Each};
 ghost use Rattle.config_state.specs.declared.cog.Cog.{Cog};
 ghost use Rattle.config_state.specs.declared.task.State.TheVariants.{Ready, Running, Awaiting};
 ghost use Rattle.config_state.specs.OfProgram.{IsConfigOf};
@@ -10,11 +15,15 @@ ghost use Rattle.config_state.specs.WellFormed.{IsWellFormed};
 ghost use Rattle.step_rules.specs.Blocked.{IsAtOpenGet, IsFree, AreResolved, NeverWaits};
 ghost use Rattle.step_rules.specs.Changes.{Change, Written, configuration_after};
 ghost use Rattle.step_rules.specs.Events.{Step, change_of, event_of};
+ghost use Rattle.step_rules.specs.Guards.{HasResolved, OneIsUnresolved, IsFirstFault};
 ghost use Rattle.step_rules.specs.Homes.{IsHoused};
-ghost use Rattle.step_rules.specs.Inputs.{input_of};
+ghost use Rattle.step_rules.specs.Inputs.{input_of, scope_of};
+ghost use Rattle.step_rules.specs.Lookups.{Runner};
+ghost use Rattle.step_rules.specs.RuleParts.{IsRunningAt};
 ghost use Rattle.step_rules.specs.Rules.{Rule};
 ghost use Rattle.step_rules.specs.Runs.{IsReachable, IsOpen, HasStep};
 ghost use Rattle.step_rules.specs.Stays.{TaskAfter, ObjectAfter, CogAfter, Stays};
+ghost use Rattle.step_rules.specs.WaitRules.{Faulty, Unresolved, Resolved, guard_of};
 
 /// Every event is one of the rules of the table.
 pub fn events_are_rules()
@@ -63,7 +72,9 @@ pub fn events_have_causes()
 
 /// Each event of a well-formed configuration leads to one, and so does each event of a configuration of the program. So
 /// each configuration that a legal history reaches is both. It is also housed: objects were made by a `new` of their
-/// class at their place, each task runs on objects of its cog, and its outermost frame has its own object and method.
+/// class at their place, and cogs with a parent by a `new cog` at theirs. Each task runs on objects of its cog, and its
+/// outermost frame has its own object and method. Task 0 is that of the main block: it is in cog 0, and has no object,
+/// no method and no call. The class of the object of each other task, ended or not, has the task's method.
 pub fn events_keep_configurations()
     ensures formed { (program : ProgramTree) (config : Configuration) (index : ℕ) (step : Step)
         → IsWellFormed config → event_of program config index ≡ Some step → IsWellFormed step.config }
@@ -98,4 +109,27 @@ pub fn events_stay_apart()
 pub fn never_stuck_without_waits()
     ensures { (program : ProgramTree) (config : Configuration) → IsWhole program.source → NeverWaits program
         → IsReachable program config → IsOpen config → HasStep program config }
+{}
+
+/// What a guard reports. It is resolved exactly where each slot that it names holds a future whose task has a result,
+/// and unresolved exactly where each holds a future and the task of one has no result. It is faulty exactly where some
+/// slot holds no future, with the fault of the first such slot: Null where it holds null, and else Mistyped. A future
+/// without a task is none.
+pub fn guards_are_reported()
+    ensures resolved { (config : Configuration) (slots : List ValueTree) (names : List (Option ℕ))
+        → (guard_of config slots names ≡ Resolved) ↔ Each names (λ part name. HasResolved config slots name) }
+    ensures unresolved { (config : Configuration) (slots : List ValueTree) (names : List (Option ℕ))
+        → (guard_of config slots names ≡ Unresolved) ↔ OneIsUnresolved config slots names }
+    ensures faulty { (config : Configuration) (slots : List ValueTree) (names : List (Option ℕ)) (cause : Fault)
+        → (guard_of config slots names ≡ Faulty cause) ↔ IsFirstFault config slots names cause }
+{}
+
+/// Each object and each future inside a value of the next statement comes from what the expression of that value reads,
+/// in the scope of the frame. These are the values of the statement's own expressions, which initial values follow.
+pub fn values_come_from_reads()
+    ensures { (program : ProgramTree) (config : Configuration) (at : Runner) (point : Point) (values : List ValueTree)
+        → IsRunningAt program config at point values
+        → (index : ℕ) (expr_tree : ExprTree) → expr_tree_at (expr_trees_of point.statement) index ≡ Some expr_tree
+        → (value : ValueTree) → slice_get values index ≡ Some value
+        → (reference : Reference) → IsIn reference value → ComesFrom (scope_of config at.frame) expr_tree reference }
 {}

@@ -25,6 +25,6 @@ pub use inputs::{Initials, Input, input_equal};
 pub use kind::{Did, End};
 pub use laws::{
     events_are_rules, events_have_causes, events_keep_configurations, events_leave_the_rest,
-    events_stay_apart, never_stuck_without_waits,
+    events_stay_apart, guards_are_reported, never_stuck_without_waits, values_come_from_reads,
 };
 pub use reading::input;
