@@ -16,3 +16,4 @@ mod CountLemmas
 mod MakerLemmas
 mod BodyRowLemmas
 mod ClassEntryLemmas
+pub mod ShareLemmas

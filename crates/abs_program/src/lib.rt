@@ -7,6 +7,7 @@ pub mod meanings;
 pub mod name_spaces;
 pub mod named;
 pub mod readers;
+pub mod sharing;
 pub mod tables;
 
 pub use laws::{
@@ -16,6 +17,7 @@ pub use laws::{
 pub use meanings::Meanings;
 pub use name_spaces::{ConstructorMeaning, FunctionMeaning, NameSpaces, Taking, TypeMeaning};
 pub use named::Named;
+pub use sharing::expressions_are_shared;
 pub use tables::Tables;
 pub use tables::control::{BodyEntry, ClassEntry, Effect, Exprs, Instruction, Successor};
 pub use tables::members::{FieldAt, SignatureAt};

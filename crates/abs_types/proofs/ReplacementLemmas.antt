@@ -1,11 +1,15 @@
--- Type parameters replaced by types: what fits still fits, and so it does if what they are replaced by fits.
-use Rattle.std.proofs.Common.{◌≡◌, ℕ, zero, suc, true, false, List, [], ◌∷◌, refl, ap, ap₂, get_or}
+-- Type parameters replaced by types: what fits still fits, and so it does if what they are replaced by fits. To replace
+-- them twice is to replace them once.
+use Rattle.std.proofs.Common.{◌≡◌, ℕ, zero, suc, true, false, List, [], ◌∷◌, refl, sym, ap, ap₂, get_or, length, map}
+use Rattle.std.specs.List.{All}
 use Rattle.std.proofs.lemmas.Bool.{and_from, or_parts, true≢false}
+use Rattle.std.proofs.lemmas.List.{get_or-map}
+use Rattle.std.proofs.lemmas.List.Elements.{All-head, All-tail}
 use Rattle.abs_tree.specs.Syntax.{DeclTree}
 use Rattle.abs_types.proofs.SubtypingLemmas.{fits_reflexive, fits_transitive, fits_found, fits_whole}
 use Rattle.abs_types.specs.Applications.{replaced, AllFit}
 use Rattle.abs_types.specs.PlainTypes.{PlainType, PlainInt, PlainString, PlainBottom, PlainNull, PlainFut, PlainData, PlainApplied, PlainInterface, PlainClass, PlainParameter}
-use Rattle.abs_types.specs.Schemes.{has_parameter}
+use Rattle.abs_types.specs.Schemes.{has_parameter, ParametersBelow}
 use Rattle.abs_types.specs.Subtyping.{Fits, fits}
 use Rattle.abs_types.specs.Subtyping.Fits.{equal, bottom, null_interface, null_future, implements, extends, futures, applied}
 
@@ -103,3 +107,28 @@ pub fits_replacement : (declarations : List DeclTree) (types others : List Plain
 fits_replacement declarations types others given takes all reported =
     fits_transitive declarations given (replaced types takes) (replaced others takes) reported
     (replacements_fit declarations types others takes all)
+
+-- type parameters that are replaced twice are replaced once by replaced types
+pub replaced_twice : (first second : List PlainType) (one : PlainType) → ParametersBelow (length first) one
+    → replaced second (replaced first one) ≡ replaced (map (replaced second) first) one
+unfolding replaced
+replaced_twice first second (PlainParameter index) below =
+    sym (get_or-map (replaced second) first index (PlainParameter index) (PlainParameter index) below)
+replaced_twice first second (PlainFut value) below = ap PlainFut (replaced_twice first second value below)
+replaced_twice first second (PlainApplied head argument) below =
+    ap₂ PlainApplied (replaced_twice first second head below.0) (replaced_twice first second argument below.1)
+replaced_twice first second PlainInt below = refl
+replaced_twice first second PlainString below = refl
+replaced_twice first second PlainBottom below = refl
+replaced_twice first second PlainNull below = refl
+replaced_twice first second (PlainData name) below = refl
+replaced_twice first second (PlainInterface name) below = refl
+replaced_twice first second (PlainClass name) below = refl
+
+-- so are those of each type of a list
+pub all_replaced_twice : (first second types : List PlainType) → All (ParametersBelow (length first)) types
+    → map (replaced second) (map (replaced first) types) ≡ map (replaced (map (replaced second) first)) types
+all_replaced_twice first second [] below = refl
+all_replaced_twice first second (one ∷ types) below =
+    ap₂ (◌∷◌) (replaced_twice first second one (All-head (ParametersBelow (length first)) one types below))
+    (all_replaced_twice first second types (All-tail (ParametersBelow (length first)) one types below))

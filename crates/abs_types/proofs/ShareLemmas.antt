@@ -8,58 +8,25 @@ use Rattle.std.proofs.Crossing.{crosses}
 use Rattle.abs_program.specs.contracts.named.Named as Named
 use Rattle.abs_tree.specs.contracts.syntax.declaration.Body as Body
 use Rattle.abs_tree.specs.contracts.syntax.declaration.Decl as Decl
-use Rattle.abs_tree.specs.contracts.syntax.expression.Expr as Expr
 use Rattle.abs_tree.specs.contracts.syntax.declaration.Member as Member
 use Rattle.abs_tree.specs.contracts.syntax.declaration.Param as Param
-use Rattle.abs_tree.specs.contracts.syntax.pattern.Pattern as Pattern
 use Rattle.abs_tree.specs.contracts.syntax.statement.RightSide as RightSide
 use Rattle.abs_tree.specs.contracts.syntax.declaration.Signature as Signature
 use Rattle.abs_tree.specs.contracts.syntax.statement.Stmt as Stmt
 use Rattle.abs_tree.specs.contracts.syntax.statement.Test as Test
-use Rattle.abs_tree.specs.contracts.syntax.types.TypeTerm as TypeTerm
 use Rattle.abs_program.specs.contracts.tables.Tables as Tables
 use Rattle.abs_program.specs.contracts.tables.control.ClassEntry as ClassEntry
 use Rattle.abs_program.specs.contracts.tables.control.Control as Control
 use Rattle.abs_program.specs.contracts.tables.control.Effect as Effect
-use Rattle.abs_program.specs.contracts.tables.control.Exprs as Exprs
 use Rattle.abs_program.specs.contracts.tables.control.Instruction as Instruction
+use Rattle.abs_program.proofs.ShareLemmas.{type_send, type_sync, expression_send, expression_sync, exprs_send, exprs_sync}
 use Rattle.abs_program.proofs.name_spaces.NameSpaces.TheSendSync as SpacesShared
 use Rattle.abs_tree.proofs.symbol.Symbols.TheSendSync as SymbolsShared
 use Rattle.abs_program.proofs.tables.fields.Fields.TheSendSync as FieldsShared
 use Rattle.abs_program.proofs.tables.methods.Methods.TheSendSync as MethodsShared
 use Rattle.abs_program.proofs.tables.signatures.Signatures.TheSendSync as SignaturesShared
-use Rattle.abs_tree.proofs.syntax.expression.Expr.TheLaws.TheKnot as ExprKnot
-use Rattle.abs_tree.proofs.syntax.pattern.Pattern.TheLaws.TheKnot as PatternKnot
 use Rattle.abs_tree.proofs.syntax.statement.Stmt.TheLaws.TheKnot as StmtKnot
-use Rattle.abs_tree.proofs.syntax.types.TypeTerm.TheLaws.TheKnot as TypeTermKnot
 use Rattle.abs_types.specs.contracts.checked.Checked as Checked
-
--- A type as it is written can be handed over
-type_send : IsSend (TypeTerm.the_field).row
-type_send = search (sendable, crosses, TypeTermKnot.crosses) depth 20
-
--- A type as it is written can be shared
-type_sync : IsSync (TypeTerm.the_field).row
-type_sync = search (sendable, crosses, TypeTermKnot.crosses) depth 20
-
--- A pattern can be handed over
-pattern_send : IsSend (Pattern.the_field).row
-pattern_send = search (sendable, crosses, PatternKnot.crosses) depth 20
-
--- A pattern can be shared
-pattern_sync : IsSync (Pattern.the_field).row
-pattern_sync = search (sendable, crosses, PatternKnot.crosses) depth 20
-
--- An expression holds counted ones, and these can be handed over only where they can be shared too, so the search for
--- either law takes both of each part.
-
--- An expression can be handed over
-expression_send : IsSend (Expr.the_field).row
-expression_send = search (sendable, crosses, ExprKnot.crosses_both, type_send, type_sync, pattern_send, pattern_sync) depth 20 fits 20000
-
--- An expression can be shared
-expression_sync : IsSync (Expr.the_field).row
-expression_sync = search (sendable, crosses, ExprKnot.crosses_both, type_send, type_sync, pattern_send, pattern_sync) depth 20 fits 20000
 
 -- A right side can be handed over
 side_send : IsSend (RightSide.the_field).row
@@ -124,14 +91,6 @@ declaration_send = search (sendable, crosses, type_send, expression_send, expres
 -- A declaration can be shared
 declaration_sync : IsSync (Decl.the_field).row
 declaration_sync = search (sendable, crosses, type_sync, expression_send, expression_sync, parameter_sync, signature_sync, member_sync) depth 20
-
--- The expressions of a statement can be handed over
-exprs_send : IsSend (Exprs.the_field).row
-exprs_send = search (sendable, crosses, expression_send, expression_sync) depth 20
-
--- The expressions of a statement can be shared
-exprs_sync : IsSync (Exprs.the_field).row
-exprs_sync = search (sendable, crosses, expression_send, expression_sync) depth 20
 
 -- The effect of a statement can be handed over
 effect_send : IsSend (Effect.the_field).row

@@ -1,6 +1,6 @@
 -- Fitting is an order. The test and the relation agree; the relation is transitive by its sentences, and antisymmetric
 -- where no interface extends itself.
-use Rattle.std.proofs.Common.{◌≡◌, ℕ, ◌<◌, Bool, true, false, List, length, Option, Some, refl, sym, ap, ap₂, ◌∙◌, subst, ◌⊎◌, inl, inr, bytes_eq, arith, ⊎_elim, true≢false, eq-eqb, eqb-true}
+use Rattle.std.proofs.Common.{◌≡◌, ℕ, ◌<◌, Bool, true, false, List, length, Option, Some, refl, sym, ap, ap₂, ◌∙◌, subst, ◌↔◌, ◌⊎◌, inl, inr, bytes_eq, arith, ⊎_elim, true≢false, eq-eqb, eqb-true}
 use Rattle.std.specs.List.{All}
 use Rattle.std.proofs.lemmas.Bool.{and_from, and_parts, or_left, or_right, or_cases}
 use Rattle.std.proofs.lemmas.List.Elements.{All-get_or}
@@ -134,6 +134,12 @@ null_fitting declarations PlainNull reported = inl refl
 null_fitting declarations (PlainInterface name) reported = inr (inl (name, refl))
 null_fitting declarations (PlainFut value) reported = inr (inr (value, refl))
 null_fitting declarations other reported = absurd (true≢false (sym reported))
+
+-- `Fut` of a type fits `Fut` of another type exactly where the first type fits the other
+pub futures_fitting : (declarations : List DeclTree) (one other : PlainType)
+    → (fits declarations (PlainFut one) (PlainFut other) ≡ true) ↔ (fits declarations one other ≡ true)
+unfolding fits
+futures_fitting declarations one other = (λ both. both, λ parts. parts)
 
 -- the test finds a reason to fit
 pub fits_found : (declarations : List DeclTree) (one other : PlainType) → fits declarations one other ≡ true

@@ -1,5 +1,5 @@
 //! Laws of the definitions, which hold whatever the code does.
-ghost use Rattle.std.specs.Prelude.{◌≡◌, ◌↔◌, ◌⊎◌, true, List, ◌∷◌, map, length, Option, Some, option_map, Bool, []};
+ghost use Rattle.std.specs.Prelude.{◌≡◌, ◌↔◌, ◌⊎◌, true, List, ◌∷◌, map, length, All, Option, Some, option_map, Bool, []};
 ghost use Rattle.abs_tree.specs.Syntax.{DeclTree, Name, SourceTree, ExprTree, Statements};
 ghost use Rattle.abs_program.specs.Whole.{IsWhole};
 ghost use Rattle.abs_types.specs.Applications.{applied_type, met_by, replaced, AllFit};
@@ -9,7 +9,7 @@ ghost use Rattle.abs_types.specs.IsTyped.{AreTyped};
 ghost use Rattle.abs_types.specs.Joins.{both_applied, join_all, join_of, IsLeastAbove, IsLeastAboveAll};
 ghost use Rattle.abs_types.specs.PatternTypes.{constructor_parts};
 ghost use Rattle.abs_types.specs.PlainTypes.{applied_to, PlainApplied, PlainBottom, PlainData, PlainFut, PlainInterface, PlainNull, PlainType};
-ghost use Rattle.abs_types.specs.Schemes.{scheme_of_constructor, scheme_of_function, IsClosed, Scheme};
+ghost use Rattle.abs_types.specs.Schemes.{scheme_of_constructor, scheme_of_function, IsClosed, ParametersBelow, Scheme};
 ghost use Rattle.abs_types.specs.StatementOffences.{statements_offences};
 ghost use Rattle.abs_types.specs.Subtyping.{fits, Fits, NoneExtendsItself};
 ghost use Rattle.abs_types.specs.TypeOffences.{type_offences};
@@ -30,7 +30,7 @@ pub fn subtyping_is_an_order()
 {}
 
 /// `null` fits interfaces and `Fut` types, and its own type. Data that fits data has the same name, and its arguments
-/// fit one by one.
+/// fit one by one. `Fut` of a type fits `Fut` of another type exactly where the first type fits the other.
 pub fn types_fit_by_form()
     ensures null { (declarations : List DeclTree) (other : PlainType) → fits declarations PlainNull other ≡ true
         → (other ≡ PlainNull) ⊎ ((name : Name) × other ≡ PlainInterface name)
@@ -38,6 +38,8 @@ pub fn types_fit_by_form()
     ensures applied { (declarations : List DeclTree) (name other_name : Name) (arguments others : List PlainType)
         → fits declarations (applied_to (PlainData name) arguments) (applied_to (PlainData other_name) others) ≡ true
         → (name ≡ other_name) × AllFit declarations arguments others }
+    ensures futures { (declarations : List DeclTree) (one other : PlainType)
+        → (fits declarations (PlainFut one) (PlainFut other) ≡ true) ↔ (fits declarations one other ≡ true) }
 {}
 
 /// A join is the least type that both types fit. In a program whose interfaces do not extend themselves it does not
@@ -71,6 +73,16 @@ pub fn applications_are_least()
         → fits declarations (replaced types one) (replaced types other) ≡ true }
     ensures replacements { (declarations : List DeclTree) (types others : List PlainType) (one : PlainType)
         → AllFit declarations types others → fits declarations (replaced types one) (replaced others one) ≡ true }
+{}
+
+/// Replacing type parameters twice is replacing them once by replaced types, in a type and in each type of a list. The
+/// first replacement must have a type for each parameter.
+pub fn replacements_compose()
+    ensures one { (first second : List PlainType) (type : PlainType) → ParametersBelow (length first) type
+        → replaced second (replaced first type) ≡ replaced (map (replaced second) first) type }
+    ensures several { (first second types : List PlainType) → All (ParametersBelow (length first)) types
+        → map (replaced second) (map (replaced first) types)
+        ≡ map (replaced (map (replaced second) first)) types }
 {}
 
 /// In a resolved program the types that functions and constructors take and give have their own type parameters alone.

@@ -15,8 +15,8 @@ pub use holds::{holds_futures, holds_objects};
 pub use joins::join;
 pub use laws::{
     applications_are_least, constructors_match, expressions_are_typed, joins_are_least,
-    programs_are_typed, schemes_are_closed, statements_are_typed, subtyping_is_an_order,
-    types_fit_by_form,
+    programs_are_typed, replacements_compose, schemes_are_closed, statements_are_typed,
+    subtyping_is_an_order, types_fit_by_form,
 };
 pub use sharing::programs_are_shared;
 pub use subtyping::subtype;

@@ -16,6 +16,7 @@ mod planning;
 pub mod reading;
 mod room;
 mod rules;
+pub mod sharing;
 mod turns;
 mod waits;
 
@@ -28,3 +29,4 @@ pub use laws::{
     events_stay_apart, guards_are_reported, never_stuck_without_waits, values_come_from_reads,
 };
 pub use reading::input;
+pub use sharing::inputs_are_shared;
