@@ -1,6 +1,7 @@
 mod HeadlineLemmas
 mod AnswerLemmas
 mod SourceLemmas
+mod AcceptedLemmas
 mod PromiseLemmas
 mod AgreementLemmas
 mod ResultLemmas

@@ -2,7 +2,9 @@
 ghost use Rattle.std.specs.Prelude.{◌≤◌, ℕ, List, length, All, IfOk, IfErr};
 ghost use Rattle.abs_tree.specs.Limits.{source_limit};
 ghost use Rattle.abs_tree.specs.SourceErrors.{HasCause};
+ghost use Rattle.abs_tree.specs.Syntax.{ProgramTree};
 ghost use Rattle.abs_program.specs.NamedViews.{program_tree};
+ghost use Rattle.abs_profile.specs.Accepted.{IsAcceptedProgram};
 ghost use Rattle.abs_command.specs.Sources.{IsProgramOf, FirstOffence, IsNameOf, HasOneFirstOffence};
 
 pub mod unsupported;
@@ -43,4 +45,9 @@ pub fn program_of<'a>(alloc: Global, text: &'a [u8]) -> Result<Checked<'a>, Sour
 /// A source is refused for at most one offence.
 pub fn one_first_offence()
     ensures { (text : List ℕ) → HasOneFirstOffence text }
+{}
+
+/// The program of a source is accepted. So what holds of the runs of accepted programs holds of its runs.
+pub fn programs_are_accepted()
+    ensures { (text : List ℕ) (program : ProgramTree) → IsProgramOf text program → IsAcceptedProgram program }
 {}

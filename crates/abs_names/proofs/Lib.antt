@@ -27,4 +27,6 @@ mod ThereExpressionLemmas
 mod ThereStatementLemmas
 mod ThereBodyLemmas
 mod ThereLemmas
+mod PreludeLemmas
 pub mod WholeLemmas
+pub mod DeclaredNameLemmas

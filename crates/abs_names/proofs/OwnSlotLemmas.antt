@@ -10,7 +10,7 @@ use Rattle.abs_tree.specs.declared.place.Place.{Place}
 use Rattle.abs_tree.specs.declared.syntax.slot.Slot.{Slot}
 use Rattle.abs_tree.specs.declared.syntax.slot.Slot.TheVariants.{Parameter, Local, Hidden}
 use Rattle.abs_program.specs.NameSpaces.{NameSpaces, spaces_of}
-use Rattle.abs_names.specs.OwnSlots.{Given, numbered, given_params, given_side, given_maybe_side, given_statement, given_else, given_statements, HasOwnSlots, MemberHasOwnSlots, DeclarationHasOwnSlots, AllHaveOwnSlots}
+use Rattle.abs_program.specs.OwnSlots.{Given, numbered, given_params, given_side, given_maybe_side, given_statement, given_else, given_statements, HasOwnSlots, MemberHasOwnSlots, DeclarationHasOwnSlots, AllHaveOwnSlots}
 use Rattle.abs_names.specs.Resolution.{resolved_exprs, resolved_side, resolved_maybe_side, resolved_statement, resolved_else, resolved_statements, resolved_params, resolved_members, resolved_declarations, resolved}
 use Rattle.abs_prelude.specs.Prelude.{prelude}
 use Rattle.abs_names.specs.TypeNames.{Around, around_of}

@@ -17,6 +17,8 @@ use Rattle.abs_names.specs.Scopes.{body_scope}
 use Rattle.abs_names.specs.TypeNames.{around_of}
 use Rattle.abs_names.specs.declared.scope.Routine.TheVariants.{Main}
 use Rattle.abs_names.proofs.ExtensionLemmas.{none_extends_itself}
+use Rattle.abs_names.proofs.OwnSlotLemmas.{all_given}
+use Rattle.abs_names.proofs.PreludeLemmas.{resolved_begins}
 use Rattle.abs_names.proofs.ResolvedLemmas.{spaces_kept, supertypes_kept}
 use Rattle.abs_names.proofs.ThereLemmas.{declarations_there, main_there}
 use Rattle.list_facts.proofs.AppendLemmas.{both_empty}
@@ -55,4 +57,6 @@ resolved_is_whole source none =
       }) main) kept (main_there spaces source.main parts.1);
       no_cycle = subst (λ (graph : Graph). All (λ (b : Bool). b ≡ false) (on_cycles graph))
           (sym (supertypes_kept spaces all)) (no_cycles all used.1);
+      own_slots = all_given source;
+      prelude_first = resolved_begins source;
     }

@@ -9,5 +9,4 @@ pub mod Extension
 pub mod NameOffences
 pub mod Resolution
 pub mod Answers
-pub mod OwnSlots
 pub mod Newest

@@ -3,7 +3,7 @@ ghost use Rattle.std.specs.Prelude.{◌≡◌, ℕ, ◌<◌, List, Some, length,
 ghost use Rattle.abs_tree.specs.Syntax.{Name, VariableTree, SourceTree};
 ghost use Rattle.abs_tree.specs.declared.syntax.slot.Slot.{Slot};
 ghost use Rattle.abs_names.specs.Newest.{StandsFor};
-ghost use Rattle.abs_names.specs.OwnSlots.{numbered, AllHaveOwnSlots};
+ghost use Rattle.abs_program.specs.OwnSlots.{numbered, AllHaveOwnSlots};
 ghost use Rattle.abs_names.specs.Resolution.{resolved};
 ghost use Rattle.abs_names.specs.Scopes.{Scope, use_of};
 

@@ -25,7 +25,7 @@ use crate::scope::Routine;
 use crate::spaces::Declarer;
 use crate::walk::Walk;
 use abs_prelude::{add_names, prelude as prelude_declarations};
-use abs_program::{NameSpaces, Named, Tables};
+use abs_program::{NameSpaces, Named, Tables, knows_names};
 use abs_tree::{Body, Decl, Offence, Program, Symbols};
 use std::alloc::{AllocError, Global};
 
@@ -34,7 +34,8 @@ use std::alloc::{AllocError, Global};
 ///
 /// # Errors
 /// [`NameError::Refused`] if a name offends, for the first offence; [`NameError::Memory`] if an allocation fails, or if
-/// there are too many names, a body has too many slots, or a class has too many fields.
+/// there are too many names, a body has too many slots, a class has too many fields, or a constructor, a class or a
+/// method has a symbol that the table does not have.
 pub fn resolve<'a>(alloc: Global, program: Program<'a>) -> Result<Named<'a>, NameError>
     ensures found { IfOk result (λ named. named_tree named ≡ resolved (source_tree program.entry)) }
     ensures symbols { IfOk result (λ named. named.symbols ≡ fold with_name program.entry.symbols prelude_names) }
@@ -56,6 +57,9 @@ pub fn resolve<'a>(alloc: Global, program: Program<'a>) -> Result<Named<'a>, Nam
     )?;
     if let Some(offence) = first {
         return Err(NameError::Refused(offence.refusal()));
+    }
+    if !knows_names(&symbols, declarations.as_slice()) {
+        return Err(NameError::Memory);
     }
     let tables = Tables::new(alloc, &symbols, spaces, declarations.as_slice(), &main)?;
     Ok(Named {

@@ -1,5 +1,5 @@
 -- Consequences of the grammar: the tokens that a nonterminal may begin with, and what it opens to, given the next
--- token. Also the tokens that fit a token kind.
+-- token. Also the tokens that fit a token kind, and the names that a source declares.
 pub mod KindLemmas
 pub mod DigitLemmas
 pub mod NameLemmas
@@ -13,3 +13,5 @@ pub mod PrimaryLemmas
 pub mod NonterminalLemmas
 pub mod OperatorLemmas
 pub mod FirstPlaceLemmas
+pub mod InsideLemmas
+pub mod DeclaredNameLemmas

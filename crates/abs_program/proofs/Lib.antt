@@ -16,4 +16,5 @@ mod CountLemmas
 mod MakerLemmas
 mod BodyRowLemmas
 mod ClassEntryLemmas
+pub mod KnownNameLemmas
 pub mod ShareLemmas

@@ -23,6 +23,9 @@ pub mod Holdings
 pub mod Members
 pub mod KeptMembers
 pub mod TableFacts
+pub mod OwnSlots
+pub mod PreludeTypes
+pub mod KnownNames
 pub mod Whole
 pub mod NamedDeclarations
 pub mod FieldRows

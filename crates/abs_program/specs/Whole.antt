@@ -1,6 +1,7 @@
 -- Programs in which each name stands for what is there. Every function, constructor, class, interface and type that is
 -- named is declared, and takes as many arguments as it is given; every slot, bound variable and field is there; `this`
--- and `destiny` are used where they mean something. Nothing is left unresolved, and no interface extends itself.
+-- and `destiny` are used where they mean something. Nothing is left unresolved, and no interface extends itself. No two
+-- parameters or locals of a body share a slot, and the types of the prelude are declared first.
 --
 --   `Inside`                                       what a part of a program can use
 --   `TypeIsThere`, `VariableIsThere`               types, variables that are used
@@ -11,6 +12,8 @@
 use Rattle.std.specs.Prelude.{◌≡◌, ⊤, ℕ, ◌+◌, ◌<◌, Bool, true, false, List, [], ◌∷◌, length, All, Option, Some, None, option_map}
 use Rattle.abs_graph.specs.Graphs.{on_cycles}
 use Rattle.abs_program.specs.NameSpaces.{NameSpaces, spaces_of, count_types, data_arity, function_arity, means_interface}
+use Rattle.abs_program.specs.OwnSlots.{AllHaveOwnSlots}
+use Rattle.abs_program.specs.PreludeTypes.{BeginsWithPrelude}
 use Rattle.abs_program.specs.Slots.{body_slots}
 use Rattle.abs_program.specs.Supertypes.{supertypes}
 use Rattle.abs_tree.specs.Syntax.{VariableTree, Unresolved, AtSlot, AtBound, AtField, TypeTree, UnresolvedType, IntType, StringType, FutType, DataType, InterfaceType, ParameterType, BottomType, NullType, ClassType, TypeTrees, NoType, NextType, PatternTree, AnyValue, Binds, SameNumber, SameString, Built, PatternTrees, NoPattern, NextPattern, ExprTree, LetIn, IfElse, OperatorsOf, Prefixed, NumberOf, StringOf, NullOf, DestinyOf, ThisOf, FieldOf, OwnCallOf, VariableOf, ApplyOf, BuildOf, CaseOf, ExprTrees, NoExpr, NextExpr, Operands, NoOperands, NextOperand, Branches, NoBranch, NextBranch, SideTree, NewOf, ValueOf, SendOf, GetOf, CallOf, Tests, NoTest, NextTest, TargetTree, ToVariable, ToField, MaybeSide, NoSide, SomeSide, Statement, BlockOf, SkipOf, SuspendOf, AwaitOf, ReturnOf, PrintOf, IfOf, WhileOf, DeclareOf, AssignOf, DoOf, MaybeStatements, NoElse, Else, Statements, NoStatement, NextStatement, MaybeExpr, NoValue, Value, ParamTree, DeclaredTree, ConstructorTree, SignatureTree, MemberTree, FieldTree, MethodTree, DeclTree, DataTree, FunctionTree, InterfaceTree, ClassTree, SourceTree}
@@ -249,7 +252,8 @@ DeclarationIsThere spaces (ClassTree place name params implemented members) =
     NameInterfaces spaces implemented × ParamsAreThere (inside_types spaces 0) AtField 0 params
     × MembersAreThere spaces (length params + fields_among members) (length params) members
 
--- A program: its declarations and its main block, and no interface extends itself.
+-- A program: its declarations and its main block, and no interface extends itself. Each parameter, each local and each
+-- call by "." on another object has its own slot, so no declaration names a field. The types of the prelude come first.
 pub record IsWhole (source : SourceTree) : Type 0 where
   pub declarations_are : All (DeclarationIsThere (spaces_of source.declarations)) source.declarations
   pub main_is : StatementsAreThere (record {
@@ -261,3 +265,5 @@ pub record IsWhole (source : SourceTree) : Type 0 where
     slots = length (body_slots 0 source.main);
   }) source.main
   pub no_cycle : All (λ is_on_cycle. is_on_cycle ≡ false) (on_cycles (supertypes source.declarations))
+  pub own_slots : AllHaveOwnSlots source
+  pub prelude_first : BeginsWithPrelude source

@@ -1,15 +1,18 @@
 //! Laws of the definitions, which hold whatever the code does.
-ghost use Rattle.std.specs.Prelude.{◌≡◌, ◌<◌, ◌+◌, ℕ, List, [], ◌∷◌, length, slice_get, Some, None};
+ghost use Rattle.std.specs.Prelude.{◌≡◌, ◌<◌, ◌+◌, ℕ, List, [], ◌∷◌, Contains, length, slice_get, Some, None};
 ghost use Rattle.abs_program.specs.declared.name_spaces.ConstructorMeaning.{ConstructorMeaning};
 ghost use Rattle.abs_program.specs.declared.name_spaces.FunctionMeaning.TheVariants.{Defined};
 ghost use Rattle.abs_program.specs.declared.name_spaces.Taking.{Taking};
 ghost use Rattle.abs_program.specs.declared.name_spaces.TypeMeaning.TheVariants.{Data, Interface};
 ghost use Rattle.abs_program.specs.NamedDeclarations.{IsData, IsInterface, IsConstructor, IsFunction, IsClass};
 ghost use Rattle.abs_program.specs.NameSpaces.{spaces_of};
-ghost use Rattle.abs_program.specs.NamedViews.{named_tree};
+ghost use Rattle.abs_program.specs.KnownNames.{KnowsNames};
+ghost use Rattle.abs_program.specs.NamedViews.{named_tree, program_tree};
 ghost use Rattle.abs_program.specs.ProgramBodies.{BodyAt, IsBodyOf};
 ghost use Rattle.abs_program.specs.ProgramFacts.{program_facts};
-ghost use Rattle.abs_tree.specs.Syntax.{Name, DeclTree, SourceTree, Statements};
+ghost use Rattle.abs_tree.specs.DeclaredNames.{declared_names};
+ghost use Rattle.abs_tree.specs.Names.{number_of_name};
+ghost use Rattle.abs_tree.specs.Syntax.{Name, DeclTree, SourceTree, ProgramTree, Statements};
 ghost use Rattle.abs_tree.specs.SyntaxSizes.{statement_count};
 ghost use Rattle.abs_program.specs.Tables.{meaning_of};
 ghost use Rattle.abs_program.specs.Whole.{IsWhole};
@@ -39,9 +42,21 @@ pub fn declared_is_there()
 
 /// In a program whose names are resolved everything that is named is there. Each function, constructor, class,
 /// interface and type is declared, and takes as many arguments as it is given; each slot, bound variable and field is
-/// there; and no interface extends itself.
+/// there; and no interface extends itself. Each parameter and each local has its own slot, and the types of the prelude
+/// come first. The table has the name of each constructor, class and method.
 pub fn named_is_whole(named: &Named<'_>)
-    ensures { ∥ IsWhole (named_tree named.now) ∥₁ }
+    ensures whole { ∥ IsWhole (named_tree named.now) ∥₁ }
+    ensures names { ∥ KnowsNames (program_tree named.now) ∥₁ }
+{}
+
+/// A name that the table of a program has is found by its number. So is the name of each constructor, class and method
+/// of a program that knows them.
+pub fn known_names_are_told()
+    ensures table { (names : List Name) (name : Name) → Contains names name
+        → slice_get names (number_of_name names name) ≡ Some name }
+    ensures program { (program : ProgramTree) (name : Name) → KnowsNames program
+        → Contains (declared_names program.source) name
+        → slice_get program.names (number_of_name program.names name) ≡ Some name }
 {}
 
 /// What is left of a body agrees with where control goes. The first of what is left at a statement is that statement,

@@ -2,6 +2,7 @@
 //! its statements do and where control goes.
 #![tactic(auto)]
 
+pub mod known;
 pub mod laws;
 pub mod meanings;
 pub mod name_spaces;
@@ -10,9 +11,10 @@ pub mod readers;
 pub mod sharing;
 pub mod tables;
 
+pub use known::knows_names;
 pub use laws::{
     bodies_are_in_programs, control_leaves_the_rest, declared_is_there, facts_follow_control,
-    facts_follow_in_programs, named_is_whole,
+    facts_follow_in_programs, known_names_are_told, named_is_whole,
 };
 pub use meanings::Meanings;
 pub use name_spaces::{ConstructorMeaning, FunctionMeaning, NameSpaces, Taking, TypeMeaning};

@@ -1,6 +1,7 @@
 //! A source whose names are resolved, and what its names stand for.
 ghost use Rattle.std.specs.Prelude.{◌≤◌, All, length};
 ghost use Rattle.abs_tree.specs.Limits.{table_limit};
+ghost use Rattle.abs_program.specs.KnownNames.{KnowsNames};
 ghost use Rattle.abs_program.specs.SlotViews.{BodyHasSlots, DeclHasSlots};
 ghost use Rattle.abs_tree.specs.SyntaxSizes.{all_statements, body_sizes, class_sizes};
 ghost use Rattle.abs_tree.specs.SyntaxViews.{tree_of_parts};
@@ -17,7 +18,7 @@ use abs_tree::syntax::{Body, Decl};
 /// field. In an initial value an earlier field is a slot. Each method, and the main block, has the slots of its body.
 ///
 /// Each name stands for what is there ([`named_is_whole`](crate::named_is_whole)), and the readers tell what it is. A
-/// declaration is known by its index.
+/// declaration is known by its index. The table has the name of each constructor, class and method.
 #[derive(Drop)]
 pub struct Named<'a> {
     pub symbols: Symbols<'a>,
@@ -33,5 +34,7 @@ pub struct Named<'a> {
     ghost main_has_slots: { BodyHasSlots symbols 0 main },
     ghost methods_have_slots: { ∥ All (DeclHasSlots symbols) declarations.items ∥₁ },
     ghost is_whole: { ∥ IsWhole (tree_of_parts symbols declarations.items main) ∥₁ },
+    ghost knows_names: { ∥ KnowsNames
+        (record { names = symbols; source = tree_of_parts symbols declarations.items main }) ∥₁ },
     ghost has_tables: { HaveTables symbols declarations.items main tables } by { Prim.hlevel table_props },
 }

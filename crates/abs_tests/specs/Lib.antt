@@ -1,3 +1,4 @@
+pub mod AcceptedExamples
 pub mod ControlExamples
 pub mod Examples
 pub mod ValueExamples

@@ -13,3 +13,4 @@ pub mod SourceNumbers
 pub mod SourceSizes
 pub mod SourceViews
 pub mod SyntaxCounts
+pub mod DeclaredNames
