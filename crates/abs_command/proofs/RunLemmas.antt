@@ -30,7 +30,7 @@ pub IsNext-has_event : (program : ProgramTree) (config : Configuration) (task : 
 IsNext-has_event program config task None (Begins is has) = has
 IsNext-has_event program config task (Some last) (Continues _ is goes) =
     subst (HasEvent program config) (sym is) goes.has_event
-IsNext-has_event program config task (Some last) (Follows _ stops has before) = has
+IsNext-has_event program config task (Some last) (Follows _ stops turn) = turn.goes
 
 -- and it is in the list of the code's tasks
 pub IsNext-there : (program : ProgramTree) (names : List Name) (config : Config) (task : ℕ) (last : Option ℕ)

@@ -1,6 +1,8 @@
 -- The points of a body of a program are those of the program, from its first index on.
 --
 --   `StandsIn`                         the points of a body stand in a list
+--   `stands_whole`                     they stand where they are all
+--   `members_stand`                    those of a method stand among the points of its class
 --   `points_of_body`                   those of a body of a program are points of the program
 use Rattle.std.proofs.Common.{◌≡◌, ℕ, zero, suc, ◌+◌, ◌<◌, ◌≤◌, List, [], ◌∷◌, ◌++◌, Some, None, arith, sym, ap, ◌∙◌, subst, length}
 use Rattle.std.specs.Prelude.{slice_get}
@@ -14,15 +16,15 @@ use Rattle.abs_tree.specs.SyntaxSizes.{statement_count, member_statements, decl_
 use Rattle.list_facts.proofs.EntryLemmas.{slice_get-before, slice_get-after}
 
 -- The points of a body stand in a list of points, of which the first one has this index.
-record StandsIn (start : ℕ) (all : List Point) (body : BodyAt) : Type 0 where
-  place : ℕ
-  begins : body.index ≡ start + place
-  fits : place + statement_count body.statements ≤ length all
-  there : (offset : ℕ) → offset < statement_count body.statements
+pub record StandsIn (start : ℕ) (all : List Point) (body : BodyAt) : Type 0 where
+  pub place : ℕ
+  pub begins : body.index ≡ start + place
+  pub fits : place + statement_count body.statements ≤ length all
+  pub there : (offset : ℕ) → offset < statement_count body.statements
       → slice_get all (place + offset) ≡ slice_get (points body.index body.statements None) offset
 
 -- they stand where they are all
-stands_whole : (index params : ℕ) (statements : Statements)
+pub stands_whole : (index params : ℕ) (statements : Statements)
     → StandsIn index (points index statements None)
     (record { index = index; params = params; statements = statements })
 stands_whole index params statements = record {
@@ -57,7 +59,7 @@ stands_after {start} {next} first others body after stands = record {
 }
 
 -- the points of a method stand among those of its class
-members_stand : (index : ℕ) (members : List MemberTree) (member : ℕ) (body : BodyAt)
+pub members_stand : (index : ℕ) (members : List MemberTree) (member : ℕ) (body : BodyAt)
     → member_body index members member ≡ Some body → StandsIn index (member_points index members) body
 members_stand index [] member body is = absurd (none-some body is)
 members_stand index (MethodTree signature end statements ∷ others) zero body is =

@@ -67,18 +67,24 @@ module _ (program : ProgramTree) (config : Configuration) (count last : ℕ) (co
   -- the task that comes next is the first one with an event among those after the last one
   pub next_after_last : (task : ℕ) → (GoesOn program config last → ⊥)
       → IsFirstWithin program config (last + 1) count task → IsNext program config task (Some last)
-  next_after_last task stops first = Follows last stops first.has_event (λ other has. rw counted
-      (near_place count last task other (omega (arith, first.after)) first.before (counted_there other has)
-      (λ after before. first.none_before other (omega (arith, after)) before has)))
+  next_after_last task stops first = Follows last stops (record {
+    goes = first.has_event;
+    first = λ other has. rw counted
+        (near_place count last task other (omega (arith, first.after)) first.before (counted_there other has)
+        (λ after before. first.none_before other (omega (arith, after)) before has));
+  })
 
   -- if none of those has an event, it is the first one with an event among those up to the last one
   pub next_from_start : (task : ℕ) → last < count → (GoesOn program config last → ⊥)
       → HasNoneWithin program config (last + 1) count → IsFirstWithin program config 0 (last + 1) task
       → IsNext program config task (Some last)
-  next_from_start task there stops none first = Follows last stops first.has_event (λ other has. rw counted
-      (far_place count last task other first.before there (counted_there other has)
-      (λ after. none other (omega (arith, after)) (counted_there other has) has)
-      (λ before. first.none_before other (omega arith) before has)))
+  next_from_start task there stops none first = Follows last stops (record {
+    goes = first.has_event;
+    first = λ other has. rw counted
+        (far_place count last task other first.before there (counted_there other has)
+        (λ after. none other (omega (arith, after)) (counted_there other has) has)
+        (λ before. first.none_before other (omega arith) before has));
+  })
 
   -- if none of all these has an event, no task has one
   pub none_has_event : HasNoneWithin program config (last + 1) count → HasNoneWithin program config 0 (last + 1)
@@ -100,14 +106,14 @@ next_is_one : (program : ProgramTree) (config : Configuration) (one other : ℕ)
 next_is_one program config one other None there (Begins is has) (Begins other_is other_has) = is ∙ sym other_is
 next_is_one program config one other (Some last) there (Continues _ is goes) (Continues _ other_is other_goes) =
     is ∙ sym other_is
-next_is_one program config one other (Some last) there (Continues _ is goes) (Follows _ stops has before) =
+next_is_one program config one other (Some last) there (Continues _ is goes) (Follows _ stops turn) =
     absurd (stops goes)
-next_is_one program config one other (Some last) there (Follows _ stops has before) (Continues _ is goes) =
+next_is_one program config one other (Some last) there (Follows _ stops turn) (Continues _ is goes) =
     absurd (stops goes)
-next_is_one program config one other (Some last) there (Follows _ stops has before)
-    (Follows _ other_stops other_has other_before) =
-    same_place (length config.tasks) last one other (there last refl) (has_event_there program config one has)
-    (has_event_there program config other other_has) (before other other_has) (other_before one has)
+next_is_one program config one other (Some last) there (Follows _ stops turn) (Follows _ other_stops other_turn) =
+    same_place (length config.tasks) last one other (there last refl) (has_event_there program config one turn.goes)
+    (has_event_there program config other other_turn.goes) (turn.first other other_turn.goes)
+    (other_turn.first one turn.goes)
 
 -- a history that is in turn, with the first of its later events put to the earlier ones
 moved : (program : ProgramTree) (earlier later : List ℕ) (task : ℕ) → IsInTurn program (earlier ++ task ∷ later)

@@ -4,6 +4,7 @@
 --   `HasEvent`                 a task has an event
 --   `GoesOn`                   the task of the last event goes on: it runs, and has an event
 --   `tried_before`             how many tasks are tried before this one, after the last one
+--   `IsFirstInTurn`            of the tasks that may go this is the first in turn after the last one
 --   `IsNext`                   the task whose event comes next
 --   `last_of`                  the task of the last event
 --   `IsInTurn`                 a history is in turn
@@ -30,15 +31,20 @@ pub record GoesOn (program : ProgramTree) (config : Configuration) (index : ℕ)
 abbrev pub tried_before : ℕ → ℕ → ℕ → ℕ
 tried_before count last task = if nat_lt last task then task - last - 1 else count + task - last - 1
 
+-- Of those tasks that may go this is the first in turn after the last one: it may go, and no other one that may go is
+-- tried before it. Which tasks may go is a parameter; for one worker they are those that have an event.
+pub record IsFirstInTurn (may : ℕ → Type 0) (count last task : ℕ) : Type 0 where
+  pub goes : may task
+  pub first : (other : ℕ) → may other → tried_before count last task ≤ tried_before count last other
+
 -- The event of this task comes next, after one of the last task, if there was one. The first event is of task 0. Then
--- the last task goes on while it can. Otherwise it is the first task that has an event among those after the last one,
--- going round.
+-- the last task goes on while it can. Otherwise it is the first in turn, after the last one, of the tasks that have an
+-- event.
 pub data IsNext (program : ProgramTree) (config : Configuration) (task : ℕ) : Option ℕ → Type 0 where
   Begins : task ≡ 0 → HasEvent program config task → IsNext program config task None
   Continues : (last : ℕ) → task ≡ last → GoesOn program config last → IsNext program config task (Some last)
-  Follows : (last : ℕ) → (GoesOn program config last → ⊥) → HasEvent program config task
-      → ((other : ℕ) → HasEvent program config other
-      → tried_before (length config.tasks) last task ≤ tried_before (length config.tasks) last other)
+  Follows : (last : ℕ) → (GoesOn program config last → ⊥)
+      → IsFirstInTurn (HasEvent program config) (length config.tasks) last task
       → IsNext program config task (Some last)
 
 -- the task of the last event

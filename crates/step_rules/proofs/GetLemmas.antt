@@ -18,7 +18,7 @@ use Rattle.config_state.specs.declared.task.State.TheVariants.{Running}
 use Rattle.step_rules.specs.Blocked.{IsAtOpenGet}
 use Rattle.step_rules.specs.Events.{statement_change, other_change, with_output, local_or_other, run_change}
 use Rattle.step_rules.specs.Inputs.{scope_of, exprs_at, initials_for, initials_at, input_in, output_of}
-use Rattle.step_rules.specs.LocalRules.{Local, statement_rule, next_rule, local_rule}
+use Rattle.step_rules.specs.LocalRules.{Local, used_of, statement_rule, next_rule, local_rule}
 use Rattle.step_rules.specs.Lookups.{Runner, successor, named_value, class_of}
 use Rattle.step_rules.specs.WaitRules.{get_by_outcome, get_by_task, get_rule}
 use Rattle.abs_program.proofs.InstructionLemmas.{neither_gets}
@@ -56,7 +56,8 @@ module _ (program : ProgramTree) (config : Configuration) (at : Runner)
     (innermost : slice_get at.task.frames 0 ≡ Some at.frame) where
   -- a statement without a change gets a future
   stuck_gets : (class : Option Name) (fields : List ValueTree) (point : Point) (values : List ValueTree)
-      (effect : EffectTree) → statement_rule program class at.frame at.others fields point values effect ≡ None
+      (effect : EffectTree)
+      → statement_rule (used_of program class) at.frame at.others fields point values effect ≡ None
       → statement_change program config at point values effect ≡ None
       → (slot : Option ℕ) × (target : Option VariableTree) × (effect ≡ Gets slot target)
       × (get_rule config at (successor point.goes true) target (named_value at.frame.slots slot) ≡ None)
@@ -119,7 +120,7 @@ module _ (program : ProgramTree) (config : Configuration) (at : Runner)
       → (results : Results) → run_change program config at results ≡ None → IsAtOpenGet program config at.task
   unfolding local_rule
   running_none has_point results none = by_local
-      (local_rule program class (at.frame ∷ at.others) fields results) refl none
+      (local_rule (used_of program class) (at.frame ∷ at.others) fields results) refl none
     where
       class : Option Name
       class = class_of (object_at config at.frame.object)
@@ -128,7 +129,7 @@ module _ (program : ProgramTree) (config : Configuration) (at : Runner)
       fields = fields_of (object_at config at.frame.object)
 
       by_next : (values : List ValueTree) (next : Option ℕ) → at.frame.next ≡ next
-          → next_rule program class at.frame at.others fields values next ≡ None
+          → next_rule (used_of program class) at.frame at.others fields values next ≡ None
           → other_change program config at values next ≡ None → IsAtOpenGet program config at.task
       by_next values None is local other = absurd cc
       by_next values (Some next) is local other =
@@ -138,12 +139,13 @@ module _ (program : ProgramTree) (config : Configuration) (at : Runner)
           stuck_open point.0 (successor point.0.goes true) found.1 found.0
           (ap (option_and_then (slice_get (program_points program.source))) is ∙ point.1) found.2 found.3
 
-      by_results : (results : Results) → local_rule program class (at.frame ∷ at.others) fields results ≡ None
+      by_results : (results : Results) → local_rule (used_of program class) (at.frame ∷ at.others) fields results ≡ None
           → with_output program config at results ≡ None → IsAtOpenGet program config at.task
       by_results (OneFails cause) local other = absurd cc
       by_results (AllGive values) local other = by_next values at.frame.next refl local other
 
-      by_local : (local : Option Local) → local_rule program class (at.frame ∷ at.others) fields results ≡ local
+      by_local : (local : Option Local)
+          → local_rule (used_of program class) (at.frame ∷ at.others) fields results ≡ local
           → local_or_other program config at results local ≡ None → IsAtOpenGet program config at.task
       by_local None is other = by_results results is other
       by_local (Some local) is other = absurd cc
@@ -179,12 +181,12 @@ module _ (program : ProgramTree) (config : Configuration) (at : Runner)
       holds = ap (λ (frame : FrameState). slice_get frame.slots is.slot) same ∙ is.holds
 
       no_rule : (next : Option ℕ) → option_and_then (slice_get (program_points program.source)) next ≡ Some is.point
-          → next_rule program class at.frame at.others fields [] next ≡ None
+          → next_rule (used_of program class) at.frame at.others fields [] next ≡ None
       no_rule None found = absurd cc
       no_rule (Some next) found =
           ap (option_and_then (λ (point : Point).
-          statement_rule program class at.frame at.others fields point [] (effect_of point.statement))) found
-          ∙ ap (statement_rule program class at.frame at.others fields is.point []) is.gets
+          statement_rule (used_of program class) at.frame at.others fields point [] (effect_of point.statement))) found
+          ∙ ap (statement_rule (used_of program class) at.frame at.others fields is.point []) is.gets
 
       no_other : (next : Option ℕ) → option_and_then (slice_get (program_points program.source)) next ≡ Some is.point
           → other_change program config at [] next ≡ None

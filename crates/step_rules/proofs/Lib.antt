@@ -1,6 +1,7 @@
 mod ListLemmas
 mod AfterLemmas
 mod LocalRuleLemmas
+mod OneClassLemmas
 mod RuleLemmas
 pub mod StayLemmas
 mod OutputLemmas

@@ -15,7 +15,7 @@ use Rattle.abs_program.specs.ProgramBodies.{BodyAt}
 use Rattle.config_state.specs.Configurations.{ObjectState, FrameState, Configuration, object_at, fields_of}
 use Rattle.step_rules.specs.Changes.{Change, kept_change, ended_change}
 use Rattle.step_rules.specs.Events.{local_change, with_output, local_or_other}
-use Rattle.step_rules.specs.LocalRules.{Local, Leaves, Faults, store_rule, choose_by, choose_rule, print_rule, push_rule, call_own_rule, pop_rule, return_rule}
+use Rattle.step_rules.specs.LocalRules.{Local, Leaves, Faults, used_of, store_rule, choose_by, choose_rule, print_rule, push_rule, call_own_rule, pop_rule, return_rule}
 use Rattle.step_rules.specs.Lookups.{Runner, successor, callable, class_of, same_object}
 use Rattle.step_rules.specs.ObjectRules.{mistyped, give_rule, return_change}
 use Rattle.step_rules.specs.Plans.{rule_or}
@@ -171,7 +171,7 @@ module _ (program : ProgramTree) (config : Configuration) (at : Runner) (change 
     pub pushed : (method : Name) (target : Option VariableTree) → effect_of point.statement ≡ CallsOwn method target
         → (values : List ValueTree) → IsRunningAt program config at point values → (cell : Option ObjectState)
         → object_at config at.frame.object ≡ cell
-        → local_change at (call_own_rule program (class_of cell) method target (successor point.goes true) at.frame
+        → local_change at (call_own_rule (used_of program (class_of cell)) method target (successor point.goes true) at.frame
         at.others (fields_of (object_at config at.frame.object)) values) ≡ change → Rule program config at.index change
     pushed method target does values is None there h =
         missorted point values (CallsOwn method target) is does (HasNoOwnMethod method target refl

@@ -23,7 +23,7 @@ use Rattle.step_rules.proofs.LocalRuleLemmas.{rule_or_is}
 use Rattle.step_rules.proofs.StatementLemmas.{given}
 use Rattle.step_rules.specs.Changes.{ended_change}
 use Rattle.step_rules.specs.Events.{change_by, change_by_outcome, change_by_state, change_of_task, other_change, run_change, run_frames, statement_change}
-use Rattle.step_rules.specs.LocalRules.{local_rule, next_rule, statement_rule}
+use Rattle.step_rules.specs.LocalRules.{used_of, local_rule, next_rule, statement_rule}
 use Rattle.step_rules.specs.Lookups.{Runner, class_of, unit_value}
 use Rattle.step_rules.specs.ObjectRules.{give_rule}
 use Rattle.step_rules.specs.Plans.{IsNoFault, plan_change, plan_of_task, rule_or, whole_change}
@@ -74,14 +74,14 @@ module _ (program : ProgramTree) (config : Configuration) (at : Runner) where
   -- With values it is by what is next in the innermost frame.
   run_next : (values : List ValueTree) (next : Option ℕ) → at.frame.next ≡ next
       → run_change program config at (AllGive values) ≡ rule_or at
-      (next_rule program (class_of (object_at config at.frame.object)) at.frame at.others
+      (next_rule (used_of program (class_of (object_at config at.frame.object))) at.frame at.others
       (fields_of (object_at config at.frame.object)) values next) (other_change program config at values next)
   unfolding local_rule
   run_next values next is = rule_or_is program config at (AllGive values)
-      (next_rule program (class_of (object_at config at.frame.object)) at.frame at.others
+      (next_rule (used_of program (class_of (object_at config at.frame.object))) at.frame at.others
       (fields_of (object_at config at.frame.object)) values at.frame.next)
       ∙ ap (λ (one : Option ℕ). rule_or at
-      (next_rule program (class_of (object_at config at.frame.object)) at.frame at.others
+      (next_rule (used_of program (class_of (object_at config at.frame.object))) at.frame at.others
       (fields_of (object_at config at.frame.object)) values one) (other_change program config at values one)) is
 
   -- At the end of its body it returns `Unit`.
@@ -94,12 +94,12 @@ module _ (program : ProgramTree) (config : Configuration) (at : Runner) where
   run_by : (values : List ValueTree) (index : ℕ) (found : Option Point) → at.frame.next ≡ Some index
       → slice_get (program_points program.source) index ≡ found
       → run_change program config at (AllGive values) ≡ rule_or at (option_and_then (λ point.
-      statement_rule program (class_of (object_at config at.frame.object)) at.frame at.others
+      statement_rule (used_of program (class_of (object_at config at.frame.object))) at.frame at.others
       (fields_of (object_at config at.frame.object)) point values (effect_of point.statement)) found)
       (option_and_then (λ point. statement_change program config at point values (effect_of point.statement)) found)
   run_by values index found is there = run_next values (Some index) is
       ∙ ap (λ (one : Option Point). rule_or at (option_and_then (λ point.
-      statement_rule program (class_of (object_at config at.frame.object)) at.frame at.others
+      statement_rule (used_of program (class_of (object_at config at.frame.object))) at.frame at.others
       (fields_of (object_at config at.frame.object)) point values (effect_of point.statement)) one)
       (option_and_then (λ point. statement_change program config at point values (effect_of point.statement)) one))
       there

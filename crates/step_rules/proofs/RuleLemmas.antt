@@ -23,7 +23,7 @@ use Rattle.config_state.specs.declared.task.State.TheVariants.{Ready, Running, A
 use Rattle.step_rules.specs.Changes.{Change, ended_change}
 use Rattle.step_rules.specs.Events.{statement_change, other_change, run_change, run_frames, change_by_state, change_by_outcome, change_of_task, change_by, change_of}
 use Rattle.step_rules.specs.Inputs.{Input, scope_of, exprs_at, initials_at, input_in, input_with, input_of_task, input_of, output_of}
-use Rattle.step_rules.specs.LocalRules.{statement_rule, next_rule, local_rule}
+use Rattle.step_rules.specs.LocalRules.{used_of, statement_rule, next_rule, local_rule}
 use Rattle.step_rules.specs.Lookups.{Runner, successor, place_of, callable, named_value, unit_value, class_of}
 use Rattle.step_rules.specs.ObjectRules.{mistyped, new_with, call_with, call_on, call_rule}
 use Rattle.step_rules.specs.Plans.{rule_or}
@@ -220,7 +220,8 @@ module _ (program : ProgramTree) (config : Configuration) (at : Runner) (change 
 
       -- The event of a statement is the rule of its effect.
       rule_by_effect : (effect : EffectTree) → effect_of point.statement ≡ effect
-          → rule_or at (statement_rule program (class_of (object_at config at.frame.object)) at.frame at.others
+          → rule_or at
+          (statement_rule (used_of program (class_of (object_at config at.frame.object))) at.frame at.others
           (fields_of (object_at config at.frame.object)) point values effect)
           (statement_change program config at point values effect) ≡ Some change → Rule program config at.index change
       rule_by_effect Skips does h = Skipped at point values refl is does (sym (same_Some _ _ h))
@@ -254,7 +255,7 @@ module _ (program : ProgramTree) (config : Configuration) (at : Runner) (change 
       → at.frame.next ≡ Some index → (point : Option Point)
       → slice_get (program_points program.source) index ≡ point
       → rule_or at (option_and_then (λ (next : Point).
-      statement_rule program (class_of (object_at config at.frame.object)) at.frame at.others
+      statement_rule (used_of program (class_of (object_at config at.frame.object))) at.frame at.others
       (fields_of (object_at config at.frame.object)) next values (effect_of next.statement)) point)
       (option_and_then (λ (next : Point).
       statement_change program config at next values (effect_of next.statement)) point)
@@ -273,7 +274,7 @@ module _ (program : ProgramTree) (config : Configuration) (at : Runner) (change 
   -- So is that of what is next in the frame, its end or a statement.
   rule_of_next : (values : List ValueTree) → gives_at (next_point program at.frame) ≡ AllGive values → (next : Option ℕ)
       → at.frame.next ≡ next
-      → rule_or at (next_rule program (class_of (object_at config at.frame.object)) at.frame at.others
+      → rule_or at (next_rule (used_of program (class_of (object_at config at.frame.object))) at.frame at.others
       (fields_of (object_at config at.frame.object)) values next) (other_change program config at values next)
       ≡ Some change → Rule program config at.index change
   rule_of_next values gives None is h =
@@ -297,7 +298,7 @@ module _ (program : ProgramTree) (config : Configuration) (at : Runner) (change 
       rule_of_fault cause (next_point program at.frame) refl gives (same_Some _ _ h)
   rule_of_output (AllGive values) gives h = rule_of_next values gives at.frame.next refl
       (sym (rule_or_is program config at (AllGive values)
-      (next_rule program (class_of (object_at config at.frame.object)) at.frame at.others
+      (next_rule (used_of program (class_of (object_at config at.frame.object))) at.frame at.others
       (fields_of (object_at config at.frame.object)) values at.frame.next)) ∙ h)
 
 module _ (program : ProgramTree) (config : Configuration) (index : ℕ) (change : Change) where

@@ -19,7 +19,7 @@ use Rattle.config_state.specs.declared.task.State.{State}
 use Rattle.config_state.specs.declared.task.State.TheVariants.{Ready, Running, Awaiting}
 use Rattle.step_rules.specs.Changes.{Change, kept_change, ended_change, configuration_after}
 use Rattle.step_rules.specs.Inputs.{Input, input_of, output_of}
-use Rattle.step_rules.specs.LocalRules.{Local, Leaves, Faults, local_rule}
+use Rattle.step_rules.specs.LocalRules.{Local, Leaves, Faults, used_of, local_rule}
 use Rattle.step_rules.specs.Lookups.{Runner, successor, place_of, class_of, named_value, unit_value}
 use Rattle.step_rules.specs.ObjectRules.{mistyped, new_rule, call_rule, give_rule, return_change}
 use Rattle.step_rules.specs.WaitRules.{guard_of, take_rule, wake_rule, get_rule, await_rule, suspend_rule}
@@ -64,7 +64,7 @@ local_or_other program config at results None = with_output program config at re
 -- the change of a task that runs
 abbrev pub run_change : ProgramTree → Configuration → Runner → Results → Option Change
 run_change program config at results = local_or_other program config at results
-    (local_rule program (class_of (object_at config at.frame.object)) (at.frame ∷ at.others)
+    (local_rule (used_of program (class_of (object_at config at.frame.object))) (at.frame ∷ at.others)
     (fields_of (object_at config at.frame.object)) results)
 
 abbrev pub run_frames : ProgramTree → Configuration → ℕ → TaskState → Results → List FrameState → Option Change

@@ -3,6 +3,7 @@ pub mod Targets
 pub mod Changes
 pub mod Lookups
 pub mod LocalRules
+pub mod OneClass
 pub mod NewEntries
 pub mod ObjectRules
 pub mod WaitRules

@@ -1,6 +1,11 @@
 -- The rules of the table whose events touch nothing but the frames of their task and the fields of its object. They are
 -- a function of these and of the output alone.
 --
+-- A fault is reported as a fault (`Faults`) whatever the statement is: a fault of the output is one also where the next
+-- statement has no rule here. The task ends by it, its cog is released, and its kind is Finished. So a fault is no
+-- local event.
+--
+--   `Used`, `used_of`              what the rules use of a program
 --   `Local`                        frames, fields and lines after such an event, or a fault
 --   `skip_rule`, `store_rule`      skip, assign
 --   `choose_rule`, `print_rule`    if and while, print
@@ -22,6 +27,21 @@ use Rattle.step_rules.specs.Lookups.{successor, callable, unit_value, same_objec
 use Rattle.step_rules.specs.Targets.{FramesAndFields, target_of, put, advanced}
 use Rattle.step_rules.specs.declared.kind.Did.{Did}
 use Rattle.step_rules.specs.declared.kind.Did.TheVariants as did
+
+-- what the rules use of a program: its names, the statement with an index, and the body of the method of the own class
+-- with a name and a number of parameters
+pub record Used : Type 0 where
+  pub names : List Name
+  pub points : ℕ → Option Point
+  pub bodies : Name → ℕ → Option BodyAt
+
+-- what they use of a whole program, given the name of the class of the own object
+abbrev pub used_of : ProgramTree → Option Name → Used
+used_of program class = record {
+  names = program.names;
+  points = slice_get (program_points program.source);
+  bodies = λ method arguments. option_and_then (λ name. callable program name method arguments) class;
+}
 
 -- what such an event leaves: frames and fields, what it printed, and its kind; or a fault
 pub data Local : Type 0 where
@@ -66,11 +86,10 @@ push_rule method target next frame others fields values (Some body) = Leaves (re
 }) [] did.Called
 push_rule method target next frame others fields values None = Faults fault.Mistyped
 
-abbrev pub call_own_rule : ProgramTree → Option Name → Name → Option VariableTree → Option ℕ → FrameState
-    → List FrameState → List ValueTree → List ValueTree → Local
-call_own_rule program class method target next frame others fields values =
-    push_rule method target next frame others fields values
-    (option_and_then (λ name. callable program name method (length values)) class)
+abbrev pub call_own_rule : Used → Name → Option VariableTree → Option ℕ → FrameState → List FrameState
+    → List ValueTree → List ValueTree → Local
+call_own_rule used method target next frame others fields values =
+    push_rule method target next frame others fields values (used.bodies method (length values))
 
 -- return of an inner frame to one of the same object: the frame is popped, and its value goes to its target
 abbrev pub pop_rule : FrameState → List FrameState → List ValueTree → ValueTree → Option Local
@@ -85,35 +104,35 @@ return_rule frame others fields (value ∷ []) = pop_rule frame others fields va
 return_rule frame others fields values = Some (Faults fault.Mistyped)
 
 -- the rule of a statement, if it is one of these
-abbrev pub statement_rule : ProgramTree → Option Name → FrameState → List FrameState → List ValueTree → Point
+abbrev pub statement_rule : Used → FrameState → List FrameState → List ValueTree → Point
     → List ValueTree → EffectTree → Option Local
-statement_rule program class frame others fields point values Skips =
+statement_rule used frame others fields point values Skips =
     Some (skip_rule (successor point.goes true) frame others fields)
-statement_rule program class frame others fields point values (Stores target) =
+statement_rule used frame others fields point values (Stores target) =
     Some (store_rule target (successor point.goes true) frame others fields values)
-statement_rule program class frame others fields point values (Clears target) =
+statement_rule used frame others fields point values (Clears target) =
     Some (store_rule (Some target) (successor point.goes true) frame others fields (NullValue ∷ []))
-statement_rule program class frame others fields point values Chooses =
-    Some (choose_rule program.names (successor point.goes) frame others fields values)
-statement_rule program class frame others fields point values Prints =
+statement_rule used frame others fields point values Chooses =
+    Some (choose_rule used.names (successor point.goes) frame others fields values)
+statement_rule used frame others fields point values Prints =
     Some (print_rule (successor point.goes true) frame others fields values)
-statement_rule program class frame others fields point values (CallsOwn method target) =
-    Some (call_own_rule program class method target (successor point.goes true) frame others fields values)
-statement_rule program class frame others fields point values Returns = return_rule frame others fields values
-statement_rule program class frame others fields point values effect = None
+statement_rule used frame others fields point values (CallsOwn method target) =
+    Some (call_own_rule used method target (successor point.goes true) frame others fields values)
+statement_rule used frame others fields point values Returns = return_rule frame others fields values
+statement_rule used frame others fields point values effect = None
 
 -- the rule of what is next in a frame: its next statement, or its end, where it returns `Unit`
-abbrev pub next_rule : ProgramTree → Option Name → FrameState → List FrameState → List ValueTree → List ValueTree
+abbrev pub next_rule : Used → FrameState → List FrameState → List ValueTree → List ValueTree
     → Option ℕ → Option Local
-next_rule program class frame others fields values None = pop_rule frame others fields (unit_value program.names)
-next_rule program class frame others fields values (Some index) = option_and_then
-    (λ point. statement_rule program class frame others fields point values (effect_of point.statement))
-    (slice_get (program_points program.source) index)
+next_rule used frame others fields values None = pop_rule frame others fields (unit_value used.names)
+next_rule used frame others fields values (Some index) = option_and_then
+    (λ point. statement_rule used frame others fields point values (effect_of point.statement))
+    (used.points index)
 
--- the rule of what a task does next, given the class of the object of its innermost frame, its frames with the fields
--- of that object, and the output; a fault of the output is its fault
-unfoldable pub local_rule : ProgramTree → Option Name → List FrameState → List ValueTree → Results → Option Local
-local_rule program class [] fields results = None
-local_rule program class (frame ∷ others) fields (OneFails cause) = Some (Faults cause)
-local_rule program class (frame ∷ others) fields (AllGive values) =
-    next_rule program class frame others fields values frame.next
+-- the rule of what a task does next, given what it uses of the program, its frames with the fields of the object of the
+-- innermost one, and the output; a fault of the output is its fault
+unfoldable pub local_rule : Used → List FrameState → List ValueTree → Results → Option Local
+local_rule used [] fields results = None
+local_rule used (frame ∷ others) fields (OneFails cause) = Some (Faults cause)
+local_rule used (frame ∷ others) fields (AllGive values) =
+    next_rule used frame others fields values frame.next

@@ -2,8 +2,11 @@
 --
 --   `frames_of`                the frames of a task, the innermost first
 --   `writing`                  what a value that goes to a target writes
+--   `AreFieldsAfter`           fields that are written in place are those after a value went to a target
 --   `IsTurn`                   what becomes of a task is this change
-use Rattle.std.specs.Prelude.{◌≡◌, ℕ, List, map, reverse, slice_get, Option, Some}
+use Rattle.std.proofs.Common.{inl, inr}
+use Rattle.std.specs.Borrow.{MutBor}
+use Rattle.std.specs.Prelude.{◌≡◌, ℕ, ◌⊎◌, List, map, reverse, slice_get, Option, Some, None}
 use Rattle.std.specs.Option.{option_map}
 use Rattle.abs_tree.specs.Syntax.{Name}
 use Rattle.abs_values.specs.ValueTrees.{ValueTree}
@@ -30,6 +33,15 @@ writing objects object target value = option_map (λ at. record {
   object = at;
   fields = fields_after target value (fields_of (slice_get objects at));
 }) object
+
+-- The fields behind a reference, if there is one, as it comes in and as it is left: they are those after the value went
+-- to the target. Without a reference nothing is said.
+abbrev pub AreFieldsAfter : Target → ValueTree → Option (MutBor (List ValueTree))
+    → Unit {0} ⊎ ((MutBor (List ValueTree) × Unit {0}) ⊎ ⊥) → Type 0
+AreFieldsAfter target value None left = Unit {0}
+AreFieldsAfter target value (Some fields) (inl none) = ⊥
+AreFieldsAfter target value (Some fields) (inr (inl left)) = left.0.now ≡ fields_after target value fields.now
+AreFieldsAfter target value (Some fields) (inr (inr never)) = ⊥
 
 -- In a configuration with these objects, what becomes of this task with an index is the change.
 pub record IsTurn (names : List Name) (objects : List ObjectCell) (index : ℕ) (cell : TaskCell) (turn : Turn)

@@ -28,7 +28,7 @@ use Rattle.config_state.specs.declared.frame.Target.TheVariants.{Nothing}
 use Rattle.config_state.specs.declared.task.State.TheVariants.{Ready, Running, Awaiting}
 use Rattle.step_rules.specs.Changes.{Change, plain_change, kept_change, ended_change}
 use Rattle.step_rules.specs.Events.{local_change, statement_change}
-use Rattle.step_rules.specs.LocalRules.{Local, choose_by, statement_rule}
+use Rattle.step_rules.specs.LocalRules.{Local, used_of, choose_by, statement_rule}
 use Rattle.step_rules.specs.Lookups.{Runner, successor, class_of}
 use Rattle.step_rules.specs.ObjectRules.{mistyped, goes_on, give_rule}
 use Rattle.step_rules.specs.WaitRules.{Guard, Faulty, Unresolved, Resolved}
@@ -142,7 +142,7 @@ rule_or at (Some local) other = Some (local_change at local)
 
 abbrev pub whole_change : ProgramTree → Configuration → Runner → Point → List ValueTree → EffectTree → Option Change
 whole_change program config at point values effect = rule_or at
-    (statement_rule program (class_of (object_at config at.frame.object)) at.frame at.others
+    (statement_rule (used_of program (class_of (object_at config at.frame.object))) at.frame at.others
     (fields_of (object_at config at.frame.object)) point values effect)
     (statement_change program config at point values effect)
 

@@ -1,16 +1,18 @@
 //! Laws of the table of events, which hold whatever the code does.
-ghost use Rattle.std.specs.Prelude.{◌≡◌, ◌≢◌, ◌↔◌, ℕ, List, slice_get, Option, Some, None, IsSome};
-ghost use Rattle.abs_tree.specs.Syntax.{ExprTree, ProgramTree};
+ghost use Rattle.std.specs.Prelude.{◌≡◌, ◌≢◌, ◌↔◌, ◌∷◌, ℕ, List, slice_get, Option, Some, None, IsSome};
+ghost use Rattle.abs_tree.specs.Syntax.{ExprTree, Name, ProgramTree};
 ghost use Rattle.abs_program.specs.Control.{Point};
 ghost use Rattle.abs_program.specs.Instructions.{expr_trees_of};
 ghost use Rattle.abs_program.specs.Whole.{IsWhole};
 ghost use Rattle.abs_values.specs.References.{Reference, IsIn, ComesFrom, expr_tree_at};
+ghost use Rattle.abs_values.specs.Results.{Results};
 ghost use Rattle.abs_values.specs.ValueTrees.{ValueTree};
 ghost use Rattle.abs_values.specs.declared.evaluated.Fault.{Fault};
-ghost use Rattle.config_state.specs.Configurations.{ObjectState, TaskState, Configuration, Each};
+ghost use Rattle.config_state.specs.Bodies.{main_at};
+ghost use Rattle.config_state.specs.Configurations.{ObjectState, FrameState, TaskState, Configuration, Each, object_at};
 ghost use Rattle.config_state.specs.declared.cog.Cog.{Cog};
 ghost use Rattle.config_state.specs.declared.task.State.TheVariants.{Ready, Running, Awaiting};
-ghost use Rattle.config_state.specs.OfProgram.{IsConfigOf};
+ghost use Rattle.config_state.specs.OfProgram.{IsConfigOf, IsFrameOf};
 ghost use Rattle.config_state.specs.WellFormed.{IsWellFormed};
 ghost use Rattle.step_rules.specs.Blocked.{IsAtOpenGet, IsFree, AreResolved, NeverWaits};
 ghost use Rattle.step_rules.specs.Changes.{Change, Written, configuration_after};
@@ -18,7 +20,9 @@ ghost use Rattle.step_rules.specs.Events.{Step, change_of, event_of};
 ghost use Rattle.step_rules.specs.Guards.{HasResolved, OneIsUnresolved, IsFirstFault};
 ghost use Rattle.step_rules.specs.Homes.{IsHoused};
 ghost use Rattle.step_rules.specs.Inputs.{input_of, scope_of};
-ghost use Rattle.step_rules.specs.Lookups.{Runner};
+ghost use Rattle.step_rules.specs.LocalRules.{Used, local_rule, used_of};
+ghost use Rattle.step_rules.specs.Lookups.{Runner, class_of};
+ghost use Rattle.step_rules.specs.OneClass.{ClassAt, class_at, used_in_class, used_in_main};
 ghost use Rattle.step_rules.specs.RuleParts.{IsRunningAt};
 ghost use Rattle.step_rules.specs.Rules.{Rule};
 ghost use Rattle.step_rules.specs.Runs.{IsReachable, IsOpen, HasStep};
@@ -132,4 +136,38 @@ pub fn values_come_from_reads()
         → (index : ℕ) (expr_tree : ExprTree) → expr_tree_at (expr_trees_of point.statement) index ≡ Some expr_tree
         → (value : ValueTree) → slice_get values index ≡ Some value
         → (reference : Reference) → IsIn reference value → ComesFrom (scope_of config at.frame) expr_tree reference }
+{}
+
+/// A local rule depends on what it uses of the program alone: on the names, the next statement of the innermost frame,
+/// and the methods of the class of its object. In a frame of the program this is the class of its object, with the
+/// index of the first statement of the class, or the main block with the index of its first statement. So where the
+/// names are equal, and the class or main is the same with the same first index, the rule is the same.
+pub fn local_rules_use_one_class()
+    ensures used { (one other : Used) (frame : FrameState) (others : List FrameState) (fields : List ValueTree)
+        (results : Results) → one.names ≡ other.names
+        → ((index : ℕ) → frame.next ≡ Some index → one.points index ≡ other.points index)
+        → ((method : Name) (arguments : ℕ) → one.bodies method arguments ≡ other.bodies method arguments)
+        → local_rule one (frame ∷ others) fields results ≡ local_rule other (frame ∷ others) fields results }
+    ensures class { (program : ProgramTree) (config : Configuration) (frame : FrameState) (others : List FrameState)
+        (fields : List ValueTree) (results : Results) (name : Name) (class : ClassAt)
+        → IsFrameOf program config frame → class_of (object_at config frame.object) ≡ Some name
+        → class_at program name ≡ Some class
+        → local_rule (used_of program (Some name)) (frame ∷ others) fields results
+        ≡ local_rule (used_in_class program.names class) (frame ∷ others) fields results }
+    ensures main { (program : ProgramTree) (config : Configuration) (frame : FrameState) (others : List FrameState)
+        (fields : List ValueTree) (results : Results) → IsFrameOf program config frame → frame.object ≡ None
+        → local_rule (used_of program None) (frame ∷ others) fields results
+        ≡ local_rule (used_in_main program.names (main_at program)) (frame ∷ others) fields results }
+    ensures same_class { (one other : ProgramTree) (config : Configuration) (frame : FrameState)
+        (others : List FrameState) (fields : List ValueTree) (results : Results) (name : Name) (class : ClassAt)
+        → one.names ≡ other.names → class_at one name ≡ Some class → class_at other name ≡ Some class
+        → IsFrameOf one config frame → class_of (object_at config frame.object) ≡ Some name
+        → local_rule (used_of one (Some name)) (frame ∷ others) fields results
+        ≡ local_rule (used_of other (Some name)) (frame ∷ others) fields results }
+    ensures same_main { (one other : ProgramTree) (config : Configuration) (frame : FrameState)
+        (others : List FrameState) (fields : List ValueTree) (results : Results)
+        → one.names ≡ other.names → main_at one ≡ main_at other
+        → IsFrameOf one config frame → frame.object ≡ None
+        → local_rule (used_of one None) (frame ∷ others) fields results
+        ≡ local_rule (used_of other None) (frame ∷ others) fields results }
 {}

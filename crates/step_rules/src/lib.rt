@@ -26,7 +26,8 @@ pub use inputs::{Initials, Input, input_equal};
 pub use kind::{Did, End};
 pub use laws::{
     events_are_rules, events_have_causes, events_keep_configurations, events_leave_the_rest,
-    events_stay_apart, guards_are_reported, never_stuck_without_waits, values_come_from_reads,
+    events_stay_apart, guards_are_reported, local_rules_use_one_class, never_stuck_without_waits,
+    values_come_from_reads,
 };
 pub use reading::input;
 pub use sharing::inputs_are_shared;

@@ -14,7 +14,7 @@ ghost use Rattle.config_state.specs.ConfigViews.{configuration};
 ghost use Rattle.config_state.specs.Configurations.{object_at};
 ghost use Rattle.config_state.specs.First.{frame_for as frame_at_start};
 ghost use Rattle.config_state.specs.Views.{frame_state, object_state, task_state};
-ghost use Rattle.step_rules.specs.Lookups.{callable as callable_at, successor as successor_of, unit_value as unit_in};
+ghost use Rattle.step_rules.specs.Lookups.{callable as callable_at, class_of as class_in, successor as successor_of, unit_value as unit_in};
 ghost use Rattle.step_rules.specs.NewEntries.{task_for as task_at_start};
 ghost use Rattle.step_rules.specs.Plans.{only as only_of};
 ghost use Rattle.step_rules.specs.Targets.{target_of as target_in};
@@ -94,6 +94,15 @@ pub(crate) fn object_of(config: &Config, object: Option<u32>) -> Option<&ObjectC
         ≡ object_at (configuration names config.now) object }
 {
     config.objects.items.get(object? as usize)
+}
+
+/// The class of the object with an index, if there is an index and an object with it.
+pub(crate) fn class_of(config: &Config, object: Option<u32>) -> Option<Symbol>
+    ensures { (names : List Name) → option_map (name_of names) result
+        ≡ class_in (object_at (configuration names config.now) object) }
+{
+    let cell = object_of(config, object)?;
+    Some(cell.class)
 }
 
 /// The body of the method with a name of the class with a name.

@@ -4,27 +4,32 @@ ghost use Rattle.std.specs.Option.{option_map};
 ghost use Rattle.abs_program.specs.Control.{Point};
 ghost use Rattle.abs_program.specs.InstructionViews.{instruction_tree};
 ghost use Rattle.abs_program.specs.Instructions.{effect_of, instruction_of};
+ghost use Rattle.abs_tree.specs.Names.{name_of};
+ghost use Rattle.abs_tree.specs.SyntaxViews.{variable_tree};
 ghost use Rattle.abs_values.specs.Results.{results_tree};
 ghost use Rattle.abs_program.specs.NamedViews.{program_tree};
 ghost use Rattle.config_state.specs.ConfigViews.{configuration};
+ghost use Rattle.config_state.specs.Configurations.{fields_of, object_at};
 ghost use Rattle.config_state.specs.OfProgram.{next_point};
 ghost use Rattle.config_state.specs.Views.{frame_state, task_state};
 ghost use Rattle.step_rules.specs.Changes.{Change};
-ghost use Rattle.step_rules.specs.Events.{change_by, run_change};
-ghost use Rattle.step_rules.specs.Lookups.{Runner};
+ghost use Rattle.step_rules.specs.Events.{change_by, local_change, run_change};
+ghost use Rattle.step_rules.specs.LocalRules.{call_own_rule, used_of};
+ghost use Rattle.step_rules.specs.Lookups.{Runner, class_of as class_in, successor as successor_of};
 ghost use Rattle.step_rules.specs.Memory.{MayTakeMemory, takes_memory};
 ghost use Rattle.step_rules.specs.Moves.{Moves, config_of, names_of, program_of};
 ghost use Rattle.step_rules.specs.Plans.{IsNoFault, plan_change, planned, whole_change};
 
 use crate::Did;
 use crate::enabled::innermost;
-use crate::lookups::{only, successor, target_of, unit_value};
+use crate::lookups::{class_of, only, successor, target_of, unit_value};
 use crate::made::{make, send};
 use crate::mover::Mover;
 use crate::plan::{Plan, Turn};
 use crate::rules::{advance, choose, enter, give, print, store};
 use crate::waits::{get, take, wait, wake};
 use abs_program::{Effect, Named};
+use abs_tree::{Symbol, Variable};
 use abs_values::{Fault, Output, Value, Values};
 use config_state::{Config, Frame, State, TaskCell};
 use std::alloc::{AllocError, Global};
@@ -144,9 +149,38 @@ fn statement(alloc: Global, at: Mover<'_>, values: Values) -> Result<Option<Plan
             target,
         } => make(alloc, at, *mode, *class, *target, values)?,
         Effect::Send { method, target } => send(alloc, at, *method, *target, values)?,
-        Effect::CallOwn { method, target } => enter(at, *method, *target, values)?,
+        Effect::CallOwn { method, target } => call_own(at, *method, *target, values)?,
         Effect::CallOther { .. } => Plan::fault(Fault::Mistyped),
         Effect::Get { slot, target } => return get(at, *slot, *target),
     };
     Ok(Some(plan))
+}
+
+/// The plan of an own call.
+///
+/// # Errors
+/// [`AllocError`] if an allocation fails.
+fn call_own(
+    at: Mover<'_>,
+    method: Symbol,
+    target: Option<Variable>,
+    values: Values,
+) -> Result<Plan, AllocError>
+    ensures plan { IfOk result (λ plan. (runner : Runner) (point : Point) → Moves at.entry runner point
+        → planned (names_of at.entry) (config_of at.entry) runner plan ≡ Some (local_change runner
+        (call_own_rule (used_of (program_of at.entry) (class_in (object_at (config_of at.entry) runner.frame.object)))
+        (name_of (names_of at.entry) method) (option_map (variable_tree (names_of at.entry)) target)
+        (successor_of point.goes true) runner.frame runner.others
+        (fields_of (object_at (config_of at.entry) runner.frame.object)) values))) }
+    ensures memory { OnErr result ((runner : Runner) (point : Point) → Moves at.entry runner point
+        → IsNoFault (local_change runner
+        (call_own_rule (used_of (program_of at.entry) (class_in (object_at (config_of at.entry) runner.frame.object)))
+        (name_of (names_of at.entry) method) (option_map (variable_tree (names_of at.entry)) target)
+        (successor_of point.goes true) runner.frame runner.others
+        (fields_of (object_at (config_of at.entry) runner.frame.object)) values))) }
+{
+    let object = at.frame.object;
+    let class = class_of(at.config, object);
+    let next = successor(&at.instruction.goes, true);
+    enter(at.program, class, object, next, method, target, values)
 }

@@ -1,29 +1,30 @@
 //! The plans of the rules that touch nothing but the frames of their task and the fields of its object, and of those by
-//! which frames end.
-ghost use Rattle.std.specs.Prelude.{◌≡◌, suc, true, List, [], length, Some, option_and_then, IfOk, OnErr};
+//! which frames end. None of them looks at a configuration.
+//!
+//! A fault is reported as a fault whatever the statement is: its plan is `Plan::fault`, whose kind is Finished, and its
+//! event is no local one.
+ghost use Rattle.std.specs.Prelude.{◌≡◌, suc, List, [], length, Some, None, option_and_then, IfOk, OnErr};
 ghost use Rattle.std.specs.Option.{option_map};
-ghost use Rattle.abs_program.specs.Control.{Point};
 ghost use Rattle.abs_program.specs.InstructionViews.{goes_tree};
+ghost use Rattle.abs_program.specs.NamedViews.{program_tree};
 ghost use Rattle.abs_tree.specs.Names.{name_of};
 ghost use Rattle.abs_tree.specs.Syntax.{Name};
 ghost use Rattle.abs_tree.specs.SyntaxViews.{variable_tree};
-ghost use Rattle.abs_values.specs.ValueTrees.{NullValue};
+ghost use Rattle.abs_values.specs.ValueTrees.{NullValue, ValueTree};
 ghost use Rattle.abs_values.specs.ValueViews.{value_tree};
 ghost use Rattle.abs_values.specs.declared.value.Value.TheVariants.{Null};
 ghost use Rattle.abs_program.specs.ProgramBodies.{entry_of_body};
 ghost use Rattle.config_state.specs.Configurations.{Configuration, object_at, fields_of};
 ghost use Rattle.config_state.specs.declared.frame.Target.TheVariants.{Nothing};
 ghost use Rattle.step_rules.specs.Events.{local_change};
-ghost use Rattle.step_rules.specs.LocalRules.{call_own_rule};
-ghost use Rattle.step_rules.specs.Lookups.{Runner, callable as callable_at, class_of, successor as successor_of};
-ghost use Rattle.step_rules.specs.Moves.{Moves, config_of, names_of, program_of};
+ghost use Rattle.step_rules.specs.LocalRules.{call_own_rule, used_of};
+ghost use Rattle.step_rules.specs.Lookups.{Runner, callable as callable_at};
 ghost use Rattle.step_rules.specs.ObjectRules.{goes_on};
 ghost use Rattle.step_rules.specs.Plans.{IsNoFault, choose_change, give_change, planned, print_change, store_change};
 ghost use Rattle.step_rules.specs.declared.plan.Turn.TheVariants.{GoesOn};
 
 use crate::Did;
-use crate::lookups::{callable, frame_for, object_of, successor, target_of, truth_of};
-use crate::mover::Mover;
+use crate::lookups::{callable, frame_for, successor, target_of, truth_of};
 use crate::plan::{Plan, Turn};
 use abs_program::{BodyEntry, Named, Successor};
 use abs_tree::{Symbol, Variable};
@@ -114,43 +115,47 @@ pub(crate) fn give(frames: usize, value: Option<Value>) -> Plan
     }
 }
 
-/// own call: a frame of the method is pushed.
+/// own call: a frame of the method is pushed, with the own object. The class is that of this object, if there is one.
 ///
 /// # Errors
 /// [`AllocError`] if an allocation fails.
 pub(crate) fn enter(
-    at: Mover<'_>,
+    program: &Named<'_>,
+    class: Option<Symbol>,
+    object: Option<u32>,
+    next: Option<u32>,
     method: Symbol,
     target: Option<Variable>,
     values: Values,
 ) -> Result<Plan, AllocError>
-    ensures plan { IfOk result (λ plan. (runner : Runner) (point : Point) → Moves at.entry runner point
-        → planned (names_of at.entry) (config_of at.entry) runner plan ≡ Some (local_change runner
-        (call_own_rule (program_of at.entry) (class_of (object_at (config_of at.entry) runner.frame.object))
-        (name_of (names_of at.entry) method) (option_map (variable_tree (names_of at.entry)) target)
-        (successor_of point.goes true) runner.frame runner.others
-        (fields_of (object_at (config_of at.entry) runner.frame.object)) values))) }
-    ensures memory { OnErr result ((runner : Runner) (point : Point) → Moves at.entry runner point
-        → IsNoFault (local_change runner
-        (call_own_rule (program_of at.entry) (class_of (object_at (config_of at.entry) runner.frame.object))
-        (name_of (names_of at.entry) method) (option_map (variable_tree (names_of at.entry)) target)
-        (successor_of point.goes true) runner.frame runner.others
-        (fields_of (object_at (config_of at.entry) runner.frame.object)) values))) }
+    ensures plan { IfOk result (λ plan. (config : Configuration) (at : Runner) → at.frame.object ≡ object
+        → planned program.now.symbols config at plan ≡ Some (local_change at
+        (call_own_rule (used_of (program_tree program.now) (option_map (name_of program.now.symbols) class))
+        (name_of program.now.symbols method) (option_map (variable_tree program.now.symbols) target)
+        next at.frame at.others (fields_of (object_at config at.frame.object)) values))) }
+    ensures memory { OnErr result ((at : Runner) (fields : List ValueTree) → at.task.outcome ≡ None
+        → IsNoFault (local_change at
+        (call_own_rule (used_of (program_tree program.now) (option_map (name_of program.now.symbols) class))
+        (name_of program.now.symbols method) (option_map (variable_tree program.now.symbols) target)
+        next at.frame at.others fields values))) }
 {
-    let Some(body) = own_method(at, method, values.len()) else {
+    let Some(body) = own_method(program, class, method, values.len()) else {
         return Ok(Plan::fault(Fault::Mistyped));
     };
-    let frame = frame_for(body, method, at.frame.object, values, target_of(target))?;
-    let next = successor(&at.instruction.goes, true);
+    let frame = frame_for(body, method, object, values, target_of(target))?;
     Ok(Plan::of(Turn::Enters { frame, next }, Did::Called))
 }
 
-/// The body of the method with a name of the own object, if there is one with this number of parameters.
-fn own_method(at: Mover<'_>, method: Symbol, arguments: usize) -> Option<BodyEntry>
+/// The body of the method with a name of the class of the own object, if there is one with this number of parameters.
+fn own_method(
+    program: &Named<'_>,
+    class: Option<Symbol>,
+    method: Symbol,
+    arguments: usize,
+) -> Option<BodyEntry>
     ensures { result ≡ option_map entry_of_body (option_and_then
-        (λ name. callable_at (program_of at.entry) name (name_of (names_of at.entry) method) arguments)
-        (class_of (object_at (config_of at.entry) at.entry.frame.now.object))) }
+        (λ name. callable_at (program_tree program.now) name (name_of program.now.symbols method) arguments)
+        (option_map (name_of program.now.symbols) class)) }
 {
-    let object = object_of(at.config, at.frame.object)?;
-    callable(at.program, object.class, method, arguments)
+    callable(program, class?, method, arguments)
 }

@@ -6,9 +6,8 @@ ghost use Rattle.abs_values.specs.ValueViews.{value_tree};
 ghost use Rattle.config_state.specs.Configurations.{FrameState};
 ghost use Rattle.config_state.specs.Views.{frame_state, object_state, task_state};
 ghost use Rattle.config_state.specs.declared.frame.Frame.{Frame};
-ghost use Rattle.config_state.specs.declared.frame.Target.TheVariants.{Field};
 ghost use Rattle.step_rules.specs.Changes.{Change, with_fields};
-ghost use Rattle.step_rules.specs.Placing.{IsTurn, frames_of, writing};
+ghost use Rattle.step_rules.specs.Placing.{AreFieldsAfter, IsTurn, frames_of, writing};
 ghost use Rattle.step_rules.specs.Targets.{slots_after};
 ghost use Rattle.step_rules.specs.declared.plan.Turn.TheVariants.{Enters};
 
@@ -47,7 +46,7 @@ pub(crate) fn take_turn(
             next,
         } => {
             advance(&mut frames.items, next);
-            put(&mut frames.items, objects, target, value);
+            put_in_frame(&mut frames.items, objects, target, value);
         }
         Turn::Enters { frame, next } => enter(&mut frames.items, frame, next)?,
         Turn::Leaves(value) => leave(&mut frames.items, objects, value),
@@ -78,8 +77,8 @@ fn advance(frames: &mut [Frame], next: Option<u32>)
     }
 }
 
-/// A value goes to a target of the innermost frame.
-fn put(frames: &mut [Frame], objects: &mut [ObjectCell], target: Target, value: Value)
+/// A value goes to a target of the innermost frame, whose object is one of these.
+fn put_in_frame(frames: &mut [Frame], objects: &mut [ObjectCell], target: Target, value: Value)
     ensures frames { (names : List Name) (frame : FrameState) (others : List FrameState)
         → frames_of names frames.old ≡ frame ∷ others → frames_of names frames.new
         ≡ record frame { slots = slots_after target (value_tree value) frame.slots } ∷ others }
@@ -88,27 +87,49 @@ fn put(frames: &mut [Frame], objects: &mut [ObjectCell], target: Target, value: 
         → map (object_state names) objects.new ≡ with_fields (map (object_state names) objects.old)
         (writing (map (object_state names) objects.old) frame.object target (value_tree value)) }
 {
-    let Some(frame) = frames.last_mut() else {
-        return;
-    };
-    match target {
-        Target::Nothing => {}
-        Target::Local(slot) => put_at(&mut frame.slots, slot, value),
-        Target::Field(field) => put_in_field(objects, frame.object, field, value),
+    if let Some(frame) = frames.last_mut() {
+        put_in_object(&mut frame.slots, objects, frame.object, target, value);
     }
 }
 
-/// A value goes to a field of an object, if there is one.
-fn put_in_field(objects: &mut [ObjectCell], object: Option<u32>, field: u32, value: Value)
-    ensures { (names : List Name)
+/// A value goes to a target: to one of these slots, or to a field of the object with an index, if there is one.
+fn put_in_object(
+    slots: &mut Values,
+    objects: &mut [ObjectCell],
+    object: Option<u32>,
+    target: Target,
+    value: Value,
+)
+    ensures slots { slots.new ≡ slots_after target (value_tree value) slots.old }
+    ensures objects { (names : List Name)
         → map (object_state names) objects.new ≡ with_fields (map (object_state names) objects.old)
-        (writing (map (object_state names) objects.old) object (Field field) (value_tree value)) }
+        (writing (map (object_state names) objects.old) object target (value_tree value)) }
 {
     let Some(object) = object else {
+        put(slots, None, target, value);
         return;
     };
     if (object as usize) < objects.len() {
-        put_at(&mut objects[object as usize].fields, field, value);
+        let fields = &mut objects[object as usize].fields;
+        put(slots, Some(fields), target, value);
+    } else {
+        put(slots, None, target, value);
+    }
+}
+
+/// A value goes to a target: to one of these slots, or to one of these fields, if there are fields.
+fn put(slots: &mut Values, fields: Option<&mut Values>, target: Target, value: Value)
+    ensures slots { slots.new ≡ slots_after target (value_tree value) slots.old }
+    ensures fields { AreFieldsAfter target (value_tree value) fields.entry fields.exit }
+{
+    match target {
+        Target::Nothing => {}
+        Target::Local(slot) => put_at(slots, slot, value),
+        Target::Field(field) => {
+            if let Some(fields) = fields {
+                put_at(fields, field, value);
+            }
+        }
     }
 }
 
@@ -149,6 +170,6 @@ fn leave(frames: &mut Vec<Frame>, objects: &mut [ObjectCell], value: Value)
         (writing (map (object_state names) objects.old) below.object frame.target (value_tree value)) }
 {
     if let Some(frame) = frames.pop() {
-        put(frames, objects, frame.target, value);
+        put_in_frame(frames, objects, frame.target, value);
     }
 }

@@ -9,8 +9,8 @@ returns-in-GoesOn-clause-objects c = λ names index change is.
     let before : c.deref_mut.result.now ≡ c.args.cell.now.frames = c.deref_mut.ensures.value ∙ c.frames.view_is in
     let after : c.deref_mut-in-GoesOn.result.now ≡ c.advance.new.frames = c.deref_mut-in-GoesOn.ensures.value
     ∙ with_items_is c.frames.inside.items c.advance.new.frames (c.advance.auto.frames ∙ c.deref_mut.ensures.len) in
-    goes_on-objects names c.args.objects.now c.put.new.objects index c.args.cell.now c.args.turn _ _ _ change
-    c.in-GoesOn.is is (λ frame others order. c.put.ensures.objects names
+    goes_on-objects names c.args.objects.now c.put_in_frame.new.objects index c.args.cell.now c.args.turn _ _ _ change
+    c.in-GoesOn.is is (λ frame others order. c.put_in_frame.ensures.objects names
     (record frame { next = c.in-GoesOn.next }) others
     (ap (frames_of names) after ∙ c.advance.ensures names frame others (ap (frames_of names) before ∙ order)))
 
