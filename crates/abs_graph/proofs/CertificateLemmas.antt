@@ -36,7 +36,7 @@ reaches_along graph goal middle node on (in_more _ next edge far) =
     in_more node next edge (reaches_along graph goal middle next on far)
 
 -- a node is the root of its component, or reaches it
-to_root : (graph : Graph) (places : List Place) → HasNodes graph → HasWays graph places → (bound node : ℕ)
+pub to_root : (graph : Graph) (places : List Place) → HasNodes graph → HasWays graph places → (bound node : ℕ)
     → node < length graph → (place_of places node).toward_rank < bound
     → ((place_of places node).root ≡ node) ⊎ Reaches graph (place_of places node).root node
 to_root graph places nodes ways zero node there less = absurd (omega arith)
@@ -55,7 +55,7 @@ to_root graph places nodes ways (suc bound) node there less = elim (ways.toward 
 ]
 
 -- a node is the root of its component, or the root reaches it
-from_root : (graph : Graph) (places : List Place) → HasWays graph places → (bound node : ℕ)
+pub from_root : (graph : Graph) (places : List Place) → HasWays graph places → (bound node : ℕ)
     → node < length graph → (place_of places node).from_rank < bound
     → ((place_of places node).root ≡ node) ⊎ Reaches graph node (place_of places node).root
 from_root graph places ways zero node there less = absurd (omega arith)
@@ -75,7 +75,7 @@ from_root graph places ways (suc bound) node there less = elim (ways.from node t
 ]
 
 -- along a path the component never falls
-path_rises : (graph : Graph) (places : List Place) (goal node : ℕ) → Rises graph places → Reaches graph goal node
+pub path_rises : (graph : Graph) (places : List Place) (goal node : ℕ) → Rises graph places → Reaches graph goal node
     → (place_of places node).component ≤ (place_of places goal).component
 path_rises graph places goal node rises (in_one _ edge) = (rises.rises node goal edge).never_falls
 path_rises graph places goal node rises (in_more _ next edge far) =

@@ -158,7 +158,7 @@ nodes_have_rows graph nodes rows node whole inside is count =
     (subst (λ (ns : List ℕ). All (λ next. next < length graph) ns) (sym is) (whole node [] inside))
 
 -- what is no node of a graph reaches nothing
-reaches_past : (graph : Graph) (node goal : ℕ) → length graph ≤ node → reaches graph node goal ≡ false
+pub reaches_past : (graph : Graph) (node goal : ℕ) → length graph ≤ node → reaches graph node goal ≡ false
 reaches_past graph node goal past =
     sym (reaches_step graph node goal)
     ∙ ap (list_any (λ next. nat_eq next goal || reaches graph next goal)) (get_or_past graph node [] past)

@@ -1,7 +1,9 @@
 pub mod BitSets
 pub mod Certificates
 pub mod Columns
+pub mod Components
 pub mod Graphs
 pub mod Reaching
+pub mod RootEdges
 pub mod Tables
 pub mod Views

@@ -169,7 +169,7 @@ fn table(alloc: Global, graph: &[Vec<u32>], columns: &Columns) -> Result<Vec<Bit
 ///
 /// # Errors
 /// [`AllocError`] if an allocation fails.
-fn copy(alloc: Global, graph: &[Vec<u32>]) -> Result<Vec<Vec<u32>>, AllocError>
+pub fn copy(alloc: Global, graph: &[Vec<u32>]) -> Result<Vec<Vec<u32>>, AllocError>
     ensures { IfOk result (λ copied. graph_of copied.items ≡ graph_of graph.now) }
 {
     let mut copied = Vec::with_capacity(alloc, graph.len())?;

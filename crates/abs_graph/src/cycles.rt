@@ -105,7 +105,7 @@ fn has_root(places: &[Place], root: usize, row: &[u32]) -> bool
 ///
 /// # Errors
 /// [`AllocError`] if an allocation fails.
-fn stays(alloc: Global, graph: &[Vec<u32>], places: &[Place]) -> Result<Vec<bool>, AllocError>
+pub fn stays(alloc: Global, graph: &[Vec<u32>], places: &[Place]) -> Result<Vec<bool>, AllocError>
     requires nodes { HasNodes (graph_of graph.now) }
     requires rises { Rises (graph_of graph.now) places.now }
     requires ways { HasWays (graph_of graph.now) places.now }
@@ -118,6 +118,21 @@ fn stays(alloc: Global, graph: &[Vec<u32>], places: &[Place]) -> Result<Vec<bool
     Ok(found)
 }
 
+/// The places of the nodes of a graph, checked.
+///
+/// # Errors
+/// [`AllocError`] if an allocation fails, or if the check refuses what the search found, which does not happen.
+pub fn checked_places(alloc: Global, graph: &[Vec<u32>]) -> Result<Vec<Place>, AllocError>
+    ensures rises { IfOk result (λ places. Rises (graph_of graph.now) places.items) }
+    ensures ways { IfOk result (λ places. HasWays (graph_of graph.now) places.items) }
+{
+    let places = certificate(alloc, graph)?;
+    if !rows_rise(graph, places.as_slice()) || !has_ways(graph, places.as_slice()) {
+        return Err(AllocError);
+    }
+    Ok(places)
+}
+
 /// For each node of a graph, whether it reaches itself. The graph has for each node the nodes to which an edge leads.
 ///
 /// # Errors
@@ -126,9 +141,6 @@ pub fn on_cycles(alloc: Global, graph: &[Vec<u32>]) -> Result<Vec<bool>, AllocEr
     requires { HasNodes (graph_of graph.now) }
     ensures { IfOk result (λ found. found.items ≡ on_cycles_of (graph_of graph.now)) }
 {
-    let places = certificate(alloc, graph)?;
-    if !rows_rise(graph, places.as_slice()) || !has_ways(graph, places.as_slice()) {
-        return Err(AllocError);
-    }
+    let places = checked_places(alloc, graph)?;
     stays(alloc, graph, places.as_slice())
 }
