@@ -1,4 +1,5 @@
--- When a program is accepted. A law on the runs of programs takes this as its one premise about the program.
+-- When a program is accepted. Laws on the types of what runs are to take this as their one premise
+-- about the program.
 --
 --   `IsAcceptedProgram`        a program is accepted
 use Rattle.std.specs.Prelude.{◌≡◌, []}

@@ -8,9 +8,9 @@ mod SignatureLemmas
 mod MethodLemmas
 pub mod PointLemmas
 mod LeftLemmas
-mod FlowLemmas
+pub mod FlowLemmas
 pub mod ProgramPointLemmas
-mod ProgramFactLemmas
+pub mod ProgramFactLemmas
 pub mod InstructionLemmas
 mod CountLemmas
 mod MakerLemmas

@@ -1,6 +1,7 @@
 -- Facts at the statements of a whole program follow control.
 --
 --   `program_follows`                  no more is said where control goes than after a statement
+--   `body_stands`                      the facts of a body stand from its first index on
 --   `program_starts`                   no more is said at the beginning of a body than before it
 --   `facts_at_program_points`          there are as many facts as points
 use Rattle.std.proofs.Common.{◌≡◌, ℕ, zero, suc, ◌+◌, List, [], ◌∷◌, Some, None, arith, refl, sym, ◌∙◌, subst, length}
@@ -150,8 +151,8 @@ module _ (flow : Flow) (before : ℕ → Slots) where
       second_stands own (facts flow (before 0) program.main)
       (omega (arith, length-decl_facts program.declarations)) (whole_stands (program_facts flow before program))
 
-  -- those of a body stand from its first index on
-  body_stands : (program : SourceTree) (body : BodyAt) → IsBodyOf program body
+  -- Those of a body stand from its first index on.
+  pub body_stands : (program : SourceTree) (body : BodyAt) → IsBodyOf program body
       → StandsAt (program_facts flow before program) body.index (facts flow (before body.params) body.statements)
   unfolding program_facts
   body_stands program body (OfMain is) =

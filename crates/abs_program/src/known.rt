@@ -9,7 +9,7 @@ ghost use Rattle.abs_tree.specs.SyntaxViews.{constructor_tree, signature_tree, m
 use abs_tree::Symbols;
 use abs_tree::syntax::{Constructor, Decl, Declared, Member, Signature};
 
-/// Whether the table has a name that is declared. A symbol that it does not have stands for the empty name.
+/// Whether the table has a name that is declared. A symbol that it does not have has the empty name.
 fn is_known(symbols: &Symbols<'_>, name: Declared) -> bool
     ensures { result ≡ has_name symbols.now (name_of symbols.now name.name) }
 {

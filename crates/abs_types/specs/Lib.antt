@@ -23,5 +23,6 @@ pub mod InterfacesMet
 pub mod TypeOffences
 pub mod IsTyped
 pub mod TypedProgram
+pub mod SlotTypes
 pub mod TypeParts
 pub mod Heads

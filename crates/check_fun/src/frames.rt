@@ -29,6 +29,7 @@ impl<'a> Checker<'a> {
           frame = value_frame [];
           bound = [];
         }) }
+        ensures program { result.table.program.now ≡ program.now }
         ensures first { result.first ≡ None }
     {
         Checker {

@@ -34,8 +34,8 @@ writing objects object target value = option_map (λ at. record {
   fields = fields_after target value (fields_of (slice_get objects at));
 }) object
 
--- The fields behind a reference, if there is one, as it comes in and as it is left: they are those after the value went
--- to the target. Without a reference nothing is said.
+-- The fields that a reference leads to, if there is one, as it comes in and as it is left: they are those after the value
+-- went to the target. Without a reference nothing is said.
 abbrev pub AreFieldsAfter : Target → ValueTree → Option (MutBor (List ValueTree))
     → Unit {0} ⊎ ((MutBor (List ValueTree) × Unit {0}) ⊎ ⊥) → Type 0
 AreFieldsAfter target value None left = Unit {0}
