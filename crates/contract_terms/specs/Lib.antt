@@ -1,0 +1,9 @@
+pub mod Settled
+pub mod Accepts
+pub mod BodyContexts
+pub mod OwnCalls
+pub mod Made
+pub mod Reading
+pub mod Terms
+pub mod Views
+pub mod ProgramTerms

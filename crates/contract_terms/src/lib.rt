@@ -1,0 +1,15 @@
+//! What the analysis takes from a program before it computes facts: for each body its contract terms, which say what a
+//! statement passes on and which futures are known to be resolved there.
+#![tactic(auto)]
+
+mod accepts;
+mod contracted;
+pub mod laws;
+mod term;
+mod terms;
+
+pub use accepts::{Accepts, Objects};
+pub use contracted::Contracted;
+pub use laws::settled_follows_control;
+pub use term::{ClassTerms, MethodTerms, Reads, Term};
+pub use terms::Terms;
