@@ -1,0 +1,4 @@
+mod SettledEffectLemmas
+mod SettledRowLemmas
+mod SettledStepLemmas
+mod SettledWalkLemmas

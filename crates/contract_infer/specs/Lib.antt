@@ -1,0 +1,2 @@
+pub mod SettledRows
+pub mod SettledWalk

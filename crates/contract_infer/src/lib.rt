@@ -1,0 +1,4 @@
+//! The contract of each method and of main: its contract terms, found in one walk over the program.
+#![tactic(auto)]
+
+mod settled;
