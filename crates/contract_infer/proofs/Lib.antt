@@ -1,3 +1,8 @@
+mod AcceptsLemmas
+mod AddLemmas
+mod CollectingLemmas
+mod FoundReadsLemmas
+mod IndexLemmas
 mod SettledEffectLemmas
 mod SettledRowLemmas
 mod SettledStepLemmas

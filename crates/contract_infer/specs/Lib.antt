@@ -1,2 +1,4 @@
 pub mod SettledRows
 pub mod SettledWalk
+pub mod DeclaredTypes
+pub mod Collecting
