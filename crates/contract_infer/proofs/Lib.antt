@@ -1,9 +1,13 @@
 mod AcceptsLemmas
 mod AddLemmas
+mod BodyTermLemmas
+mod CallLemmas
 mod CollectingLemmas
 mod FoundReadsLemmas
 mod IndexLemmas
+mod MadeLemmas
 mod SettledEffectLemmas
 mod SettledRowLemmas
 mod SettledStepLemmas
 mod SettledWalkLemmas
+mod ViewLemmas

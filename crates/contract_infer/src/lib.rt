@@ -2,7 +2,10 @@
 #![tactic(auto)]
 
 mod accepts;
+mod bodies;
+mod calls;
 mod declared_types;
 mod indices;
+mod made;
 mod reads;
 mod settled;
