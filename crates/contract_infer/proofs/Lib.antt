@@ -1,11 +1,16 @@
 mod AcceptsLemmas
 mod AddLemmas
+mod BodyPlaceLemmas
 mod BodyTermLemmas
 mod CallLemmas
+mod ClassTermLemmas
 mod CollectingLemmas
 mod FoundReadsLemmas
+mod GatheringLemmas
 mod IndexLemmas
 mod MadeLemmas
+mod MethodTermLemmas
+mod ReachedLemmas
 mod SettledEffectLemmas
 mod SettledRowLemmas
 mod SettledStepLemmas

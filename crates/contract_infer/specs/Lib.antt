@@ -6,3 +6,4 @@ pub mod CallsWithin
 pub mod Collecting
 pub mod MadeEntries
 pub mod BodyViews
+pub mod ClassViews

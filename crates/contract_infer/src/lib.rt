@@ -4,8 +4,13 @@
 mod accepts;
 mod bodies;
 mod calls;
+mod classes;
 mod declared_types;
 mod indices;
 mod made;
+mod program;
 mod reads;
 mod settled;
+
+pub use abs_tree::SourceError as ProfileError;
+pub use program::infer;
