@@ -196,28 +196,6 @@ first_refused offences refusal is = some_if (first_offence offences) refl is
       refusal_is = same_Some refusal (refusal_of first) is;
     }
 
--- of two offences that may be there none is, if the first of them is not
-pub neither : (one other : Option Offence) → option_or one other ≡ None → (one ≡ None) × (other ≡ None)
-neither None other is = (refl, is)
-neither (Some offence) other is = absurd cc
-
--- the offence that is left when names and types have none is one of the profile, or of a statement that gets a future
-pub left_refused : {text : List ℕ} {names : List Name} (tree : SourceTree) (offence : Offence) (refusal : Refusal)
-    → IsTree text names tree → name_offences tree ≡ [] → type_offences (resolved tree) ≡ []
-    → option_or (first_outside tree) (first_get tree) ≡ Some offence → refusal ≡ refusal_of offence
-    → FirstOffence text refusal
-left_refused {text} {names} tree offence refusal read named typed first is =
-    by (first_outside tree) refl first
-  where
-    by : (outside : Option Offence) → first_outside tree ≡ outside
-        → option_or outside (first_get tree) ≡ Some offence → FirstOffence text refusal
-    by (Some own) own_is first =
-        outside_profile names tree read named typed
-        (record { first = offence; is_first = own_is ∙ first; refusal_is = is })
-    by None none first =
-        unsupported names tree read named typed (no_such_offence (profile_offences (resolved tree)) none)
-        (record { first = offence; is_first = first; refusal_is = is })
-
 -- if tokens are pieces of a source, the names that they write are pieces of it too
 names_are_pieces : {text : List ℕ} (tokens : List Lexed) (names : List (List ℕ)) → All (IsPieceAt text) tokens
     → All (IsWritten tokens) names → All (IsPiece text) names

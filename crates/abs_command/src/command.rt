@@ -243,7 +243,7 @@ fn answer<K: Sink>(alloc: Global, bytes: &[u8], sink: &mut K) -> Result<Ended, A
         return Ok(deliver(sink, TOO_LARGE.as_bytes(), ended));
     }
     match program_of(alloc, bytes) {
-        Ok(checked) => answer_program(alloc, checked.named(), sink),
+        Ok(contracted) => answer_program(alloc, contracted.checked().named(), sink),
         Err(SourceError::Refused(refusal)) => refuse(alloc, refusal, sink),
         Err(SourceError::Memory) => Err(AllocError),
     }

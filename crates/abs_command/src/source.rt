@@ -13,32 +13,32 @@ use crate::source::unsupported::unsupported;
 use abs_lexer::lexer::tokens;
 use abs_names::resolve;
 use abs_parser::parse;
-use abs_profile::profile_offence;
 use abs_tree::SourceError;
-use abs_types::Checked;
 use check_obj::check;
+use contract_infer::infer;
+use contract_terms::Contracted;
 use std::alloc::Global;
 
-/// The program of a source, with its names resolved and its types checked.
+/// The program of a source, with its names resolved, its types checked and its contracts.
 ///
 /// # Errors
 /// [`SourceError::Refused`] if the source has an offence, with the refusal for the first one.
 /// [`SourceError::Memory`] if an allocation fails, or if there are too many names, slots, fields, declarations or
 /// types.
-pub fn program_of<'a>(alloc: Global, text: &'a [u8]) -> Result<Checked<'a>, SourceError>
+pub fn program_of<'a>(alloc: Global, text: &'a [u8]) -> Result<Contracted<'a>, SourceError>
     requires { length text.now ≤ source_limit }
-    ensures found { IfOk result (λ checked. IsProgramOf text.now (program_tree checked.named)) }
-    ensures names { IfOk result (λ checked. All (IsNameOf text.now) checked.named.symbols) }
+    ensures found { IfOk result (λ found. IsProgramOf text.now (program_tree found.checked.named)) }
+    ensures names { IfOk result (λ found. All (IsNameOf text.now) found.checked.named.symbols) }
     ensures refused { IfErr result (HasCause (FirstOffence text.now)) }
 {
     let list = tokens(alloc, text)?;
     let tree = parse(alloc, &list)?;
     let program = resolve(alloc, tree)?;
     let checked = check(alloc, program)?;
-    let named = checked.named();
-    match profile_offence(named).or(unsupported(named)) {
+    let contracted = infer(alloc, checked)?;
+    match unsupported(contracted.checked().named()) {
         Some(offence) => Err(SourceError::Refused(offence.refusal())),
-        None => Ok(checked),
+        None => Ok(contracted),
     }
 }
 

@@ -19,7 +19,8 @@ fn interface(program: &Named<'_>, name: &[u8]) -> TypeTerm {
 #[test]
 fn interfaces_join(rt: HostRuntime) -> Result<(), Fail> {
     let alloc = rt.alloc();
-    let program = program_of(alloc, b"interface I { } interface J extends I { } { }")?;
+    let contracted = program_of(alloc, b"interface I { } interface J extends I { } { }")?;
+    let program = contracted.checked();
     let above = interface(program.named(), b"I");
     let below = interface(program.named(), b"J");
     assert!(rt; subtype(program.named(), &below, &above));

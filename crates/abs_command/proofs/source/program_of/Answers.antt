@@ -1,9 +1,8 @@
-use Rattle.std.proofs.Common.{◌≡◌, Some, subst, sym, ap, ap₂, ◌∙◌}
+use Rattle.std.proofs.Common.{◌≡◌, [], subst, sym, ap, ◌∙◌}
 use Rattle.std.proofs.lemmas.Result.{err_from_is_err_and}
-use Rattle.std.specs.Option.{option_or}
 use Rattle.abs_tree.proofs.OffenceLemmas.{no_offence}
-use Rattle.abs_tree.specs.Offences.{first_offence}
 use Rattle.abs_program.specs.declared.named.Named.{Named}
+use Rattle.abs_tree.specs.Offences.{first_offence}
 use Rattle.abs_tree.specs.SourceErrors.{HasCause}
 use Rattle.abs_program.specs.NamedViews.{named_tree}
 use Rattle.abs_tree.specs.SourceViews.{source_tree}
@@ -11,39 +10,40 @@ use Rattle.abs_tree.specs.Syntax.{SourceTree}
 use Rattle.abs_names.specs.Answers.{RefusesFirst}
 use Rattle.abs_names.specs.Resolution.{resolved}
 use Rattle.abs_types.specs.TypeOffences.{type_offences}
+use Rattle.abs_types.specs.declared.checked.Checked.{Checked}
 use Rattle.abs_profile.specs.Profile.{profile_offences}
 use Rattle.abs_command.specs.Sources.{IsTree, FirstOffence}
-use Rattle.abs_command.specs.Sources.FirstOffence.{unread, misnamed, mistyped}
+use Rattle.abs_command.specs.Sources.FirstOffence.{unread, misnamed, mistyped, outside_profile, unsupported}
 use Rattle.abs_command.specs.Unsupported.{get_offences}
 use Rattle.abs_command.proofs.ResultLemmas.{cause_follows}
-use Rattle.abs_command.proofs.SourceLemmas.{first_refused, neither, left_refused, program_names}
+use Rattle.abs_command.proofs.SourceLemmas.{first_refused, program_names}
 use Rattle.abs_command.proofs.source.program_of.Goals as goal
 
 pub returns-clause-names : goal.returns-clause-names
 returns-clause-names c =
-    rw c.in_ok-checked.ensures.same
+    rw (c.in_ok-contracted.ensures.same, c.in_ok-checked.ensures.same)
     (program_names c.in_ok-list.list.tokens c.in_ok-tree.tree.symbols c.in_ok-program.program.symbols
     c.in_ok-list.ensures.slices c.in_ok-tree.ensures.names c.in_ok-program.ensures.symbols)
 
 pub returns-clause-found : goal.returns-clause-found
 returns-clause-found c =
     let tree = c.in_ok-tree.tree in
-    let none = neither c.profile_offence.result c.unsupported.result (sym c.or.ensures ∙ c.in-None.is) in
+    let checked = ap (λ (it : Checked). it.named) c.in_ok-contracted.ensures.same in
+    let same = checked ∙ c.in_ok-checked.ensures.same in
+    let asked = c.named.ensures.program ∙ ap (λ (it : Checked). it.named) c.checked.ensures.program in
     record {
       names = tree.symbols;
       tree = source_tree tree;
       read =
           record { list = c.in_ok-list.list; tokens = c.in_ok-list.ensures.found; is = c.in_ok-tree.ensures.found };
       no_offence = c.in_ok-program.ensures.accepted;
-      is = ap named_tree c.in_ok-checked.ensures.same ∙ c.in_ok-program.ensures.found;
-      names_are = ap (λ (named : Named). named.symbols) c.in_ok-checked.ensures.same ∙ c.in_ok-program.ensures.symbols;
-      typed = rw c.in_ok-checked.ensures.same c.in_ok-checked.ensures.accepted;
-      profiled =
-          ap (λ (program : Named). profile_offences (named_tree program)) (sym c.named-named.ensures.program)
-          ∙ no_offence _ (sym c.profile_offence.ensures ∙ none.0);
-      runs =
-          ap (λ (program : Named). get_offences (named_tree program)) (sym c.named-named.ensures.program)
-          ∙ no_offence _ (sym c.unsupported.ensures ∙ none.1);
+      is = ap named_tree same ∙ c.in_ok-program.ensures.found;
+      names_are = ap (λ (named : Named). named.symbols) same ∙ c.in_ok-program.ensures.symbols;
+      typed = ap (λ (named : Named). type_offences (named_tree named)) same ∙ c.in_ok-checked.ensures.accepted;
+      profiled = ap (λ (named : Named). profile_offences (named_tree named)) checked
+          ∙ c.in_ok-contracted.ensures.in_profile;
+      runs = ap (λ (named : Named). get_offences (named_tree named)) (sym asked)
+          ∙ no_offence _ (sym c.unsupported.ensures ∙ c.in-None.is);
     }
 
 pub returns-in_err-tree-clause-refused : goal.returns-in_err-tree-clause-refused
@@ -75,19 +75,40 @@ returns-in_err-checked-clause-refused c =
     (subst (λ (program : SourceTree). RefusesFirst (type_offences program) refusal) c.in_ok-program.ensures.found
     (first_refused _ refusal first)))))
 
+pub returns-in_err-contracted-clause-refused : goal.returns-in_err-contracted-clause-refused
+returns-in_err-contracted-clause-refused c =
+    let tree = c.in_ok-tree.tree in
+    let read : IsTree c.args.text.now tree.symbols (source_tree tree) =
+    record { list = c.in_ok-list.list; tokens = c.in_ok-list.ensures.found; is = c.in_ok-tree.ensures.found } in
+    let same : named_tree c.in_ok-checked.checked.named ≡ resolved (source_tree tree) =
+    ap named_tree c.in_ok-checked.ensures.same ∙ c.in_ok-program.ensures.found in
+    let typed : type_offences (resolved (source_tree tree)) ≡ [] =
+    ap type_offences (sym c.in_ok-program.ensures.found) ∙ c.in_ok-checked.ensures.accepted in
+    let error =
+    err_from_is_err_and c.from_residual-in_err-contracted.result c.from_residual-in_err-contracted.ensures.1 in
+    rw error.1 (subst (HasCause (FirstOffence c.args.text.now)) (sym error.2)
+    (cause_follows c.in_err-contracted.field-0.0 c.in_err-contracted.ensures.refused
+    (λ refusal first. outside_profile tree.symbols (source_tree tree) read c.in_ok-program.ensures.accepted typed
+    (subst (λ (program : SourceTree). RefusesFirst (profile_offences program) refusal) same
+    (first_refused _ refusal first)))))
+
 pub returns-in-Some-clause-refused : goal.returns-in-Some-clause-refused
 returns-in-Some-clause-refused c =
     let tree = c.in_ok-tree.tree in
     let read : IsTree c.args.text.now tree.symbols (source_tree tree) =
     record { list = c.in_ok-list.list; tokens = c.in_ok-list.ensures.found; is = c.in_ok-tree.ensures.found } in
-    let same : named_tree c.named-named.result.now ≡ resolved (source_tree tree) =
-    ap named_tree (c.named-named.ensures.program ∙ c.in_ok-checked.ensures.same) ∙ c.in_ok-program.ensures.found in
-    let first : option_or (first_offence (profile_offences (resolved (source_tree tree))))
-    (first_offence (get_offences (resolved (source_tree tree)))) ≡ Some c.in-Some.offence =
-    ap₂ option_or (ap (λ (source : SourceTree). first_offence (profile_offences source)) (sym same)
-    ∙ sym c.profile_offence.ensures)
-    (ap (λ (source : SourceTree). first_offence (get_offences source)) (sym same) ∙ sym c.unsupported.ensures)
-    ∙ (sym c.or.ensures ∙ c.in-Some.is) in
-    let typed = ap type_offences (sym same) ∙ c.named-named.ensures.accepted in
-    left_refused (source_tree tree) c.in-Some.offence _ read c.in_ok-program.ensures.accepted typed first
-    c.refusal.ensures
+    let asked = c.named.ensures.program ∙ ap (λ (it : Checked). it.named) c.checked.ensures.program in
+    let checked : named_tree c.in_ok-checked.checked.named ≡ resolved (source_tree tree) =
+    ap named_tree c.in_ok-checked.ensures.same ∙ c.in_ok-program.ensures.found in
+    let same : named_tree c.named.result.now ≡ resolved (source_tree tree) =
+    ap named_tree (asked ∙ ap (λ (it : Checked). it.named) c.in_ok-contracted.ensures.same) ∙ checked in
+    let typed : type_offences (resolved (source_tree tree)) ≡ [] =
+    ap type_offences (sym c.in_ok-program.ensures.found) ∙ c.in_ok-checked.ensures.accepted in
+    let profiled : profile_offences (resolved (source_tree tree)) ≡ [] =
+    ap profile_offences (sym checked) ∙ c.in_ok-contracted.ensures.in_profile in
+    unsupported tree.symbols (source_tree tree) read c.in_ok-program.ensures.accepted typed profiled (record {
+      first = c.in-Some.offence;
+      is_first = ap (λ (program : SourceTree). first_offence (get_offences program)) (sym same)
+          ∙ (sym c.unsupported.ensures ∙ c.in-Some.is);
+      refusal_is = c.refusal.ensures;
+    })
