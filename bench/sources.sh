@@ -417,6 +417,73 @@ inherited_of() {
     }'
 }
 
+# Prints a main block of $1 times `get` of one local.
+gets_of() {
+    LC_ALL=C awk -v gets="$1" 'BEGIN {
+        print "{\nFut<Int> f = null;"
+        for (n = 0; n < gets; n++) print "f.get;"
+        print "}"
+    }'
+}
+
+# Prints a main block of $1 locals of type Fut, and as many branches: each gets one of them and assigns another one.
+branches_of() {
+    LC_ALL=C awk -v locals="$1" 'BEGIN {
+        print "{\nBool b=True;"
+        for (n = 0; n < locals; n++) print "Fut<Int> f" n "=null;"
+        for (n = 0; n < locals; n++) print "if(b)f" n ".get;else f" n * 7 % locals "=null;"
+        print "}"
+    }'
+}
+
+# Prints a main block of 96 nested loops, as many as the nesting limit allows around a block of assignments. In the
+# innermost one are $1 statements: of 100 locals each is assigned or got.
+loops_of() {
+    LC_ALL=C awk -v statements="$1" 'BEGIN {
+        print "{\nBool b=True;"
+        for (n = 0; n < 100; n++) print "Fut<Int> f" n "=null;"
+        for (n = 0; n < 96; n++) printf "while(b)"
+        print "{"
+        for (n = 0; n < statements; n++) print (n % 3 ? "f" n % 100 ".get;" : "f" n * 7 % 100 "=f" n % 100 ";")
+        print "}\n}"
+    }'
+}
+
+# Prints a class of $1 methods. Each calls on `this` the one that comes this many ($2) places after it, if there is one;
+# in a ring ($3) the first one follows the last.
+calls_of() {
+    LC_ALL=C awk -v methods="$1" -v step="$2" -v ring="$3" 'BEGIN {
+        print "class C {"
+        for (n = 0; n < methods; n++) {
+            called = ring ? (n + step) % methods : n + step
+            print "Int m" n "(){" (called >= 0 && called < methods ? "this.m" called "();" : "") "return 1;}"
+        }
+        print "}\n{\n}"
+    }'
+}
+forward_of() {
+    calls_of "$1" 1 0
+}
+backward_of() {
+    calls_of "$1" -1 0
+}
+ring_of() {
+    calls_of "$1" 1 1
+}
+
+# Prints a main block of $1 assignments, each of an expression that reads one local 10,000 times.
+reads_of() {
+    LC_ALL=C awk -v assignments="$1" 'BEGIN {
+        print "{\nInt x=0;"
+        for (n = 0; n < assignments; n++) {
+            printf "x=x"
+            for (m = 1; m < 10000; m++) printf "-x"
+            print ";"
+        }
+        print "}"
+    }'
+}
+
 # Prints a main block of $1 statements, in hundreds: $2 nested `if`, and assignments in the innermost one. Before them
 # are a `skip` and the declaration of `x`, and after them is an assignment to the local $3.
 control_of() {

@@ -1,0 +1,79 @@
+//! The program `show_analysis terms FILE`: prints what the analysis takes from a source, for tests to compare. A source
+//! that is refused prints its refusal, and ends with status 4. With `checked` or `inferred` in the place of `terms` the
+//! work ends with the types or the contracts, and nothing is printed: `bench/run` measures it.
+#![tactic(auto)]
+
+mod failure;
+mod printer;
+mod terms;
+
+use crate::failure::Failure;
+use crate::terms::{What, shown};
+use abs_tree::limits::SOURCE_LIMIT;
+use std::io::{ErrorKind, Read};
+use std::process::ExitCode;
+use std::rt::{Env, Files};
+use std::{env, fs};
+
+/// What is asked for, and of which file.
+///
+/// # Errors
+/// [`Failure::Usage`] for any other words, also for some that are not UTF-8; [`Failure::Memory`] where memory runs out.
+fn asked(rt: &(impl Env + AllocGlobal)) -> Result<(What, String), Failure> {
+    let mut words = match env::args(rt) {
+        Ok(words) => words,
+        Err(error) if error.kind() == ErrorKind::OutOfMemory => return Err(Failure::Memory),
+        Err(_) => return Err(Failure::Usage),
+    };
+    let (Some(_), Some(what), Some(file), None) = (
+        words.next(),
+        words.next(),
+        words.next(),
+        words.next(),
+    ) else {
+        return Err(Failure::Usage);
+    };
+    match What::named(what.as_str()) {
+        Some(what) => Ok((what, file)),
+        None => Err(Failure::Usage),
+    }
+}
+
+/// The bytes of a file; of more than the limit, one more than the limit.
+///
+/// # Errors
+/// [`Failure::Unreadable`] where the file cannot be opened or read, and [`Failure::Memory`] where memory runs out.
+fn read(rt: &(impl Files + AllocGlobal), file: &str) -> Result<Vec<u8>, Failure> {
+    let mut bytes = Vec::new(rt.alloc());
+    let file = fs::open(rt, file)?;
+    file.take(SOURCE_LIMIT as u64 + 1).read_to_end(&mut bytes)?;
+    Ok(bytes)
+}
+
+/// Prints what is asked for of the file that the command line names.
+///
+/// # Errors
+/// Each [`Failure`]; a refusal is among them.
+fn run(rt: &(impl Env + Files + Print + AllocGlobal)) -> Result<(), Failure> {
+    let (what, file) = asked(rt)?;
+    let source = read(rt, file.as_str())?;
+    if source.len() > SOURCE_LIMIT {
+        return Err(Failure::TooLarge);
+    }
+    let shown = shown(rt.alloc(), what, source.as_slice())?;
+    rt.print(shown.as_str()).map_err(|_| Failure::Unwritable)
+}
+
+fn main(rt: HostRuntime) -> ExitCode {
+    let Err(failure) = run(&rt) else {
+        return ExitCode::SUCCESS;
+    };
+    let reported = match failure {
+        Failure::Refused(..) => println!(rt; "{failure}"),
+        _ => eprintln!(rt; "show_analysis: {failure}"),
+    };
+    match reported {
+        Ok(()) => ExitCode::from(failure.status()),
+        Err(_) => ExitCode::from(Failure::Unwritable.status()),
+    }
+}
