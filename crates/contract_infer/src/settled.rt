@@ -1,5 +1,5 @@
 //! The settled slots that each statement of a body names.
-ghost use Rattle.std.specs.Prelude.{◌≡◌, ◌∷◌, List, [], false, IfOk, Option, option_to_list, slice_index_or};
+ghost use Rattle.std.specs.Prelude.{◌≡◌, ◌≤◌, ◌∷◌, ◌&&◌, ℕ, List, [], false, length, IfOk, Option, option_to_list, slice_index_or};
 ghost use Rattle.abs_program.specs.Instructions.{effect_of, side_effect, slot_of as slot_of_expr, waits_of};
 ghost use Rattle.abs_program.specs.MadeInstructions.{begins_with_this};
 ghost use Rattle.abs_tree.specs.Syntax.{Name, VariableTree};
@@ -130,6 +130,17 @@ fn target_of(stmt: &Stmt) -> Option<u32>
             ..
         } => slot_at(*variable),
         _ => None,
+    }
+}
+
+/// Makes each slot unsettled that is not among these.
+fn narrow(settled: &mut [bool], others: &[bool])
+    requires { length settled.old ≤ length others.now }
+    ensures { (slot : ℕ) → slice_index_or settled.new slot false
+        ≡ (slice_index_or others.now slot false && slice_index_or settled.old slot false) }
+{
+    for index in 0..settled.len() {
+        settled[index] &= others[index];
     }
 }
 
@@ -321,11 +332,8 @@ impl Walk {
     fn keep(&mut self, others: &[bool])
         ensures { Does (kept (λ slot. slice_index_or others.now slot false)) self.old self.new }
     {
-        for index in 0..self.settled.len() {
-            if !matches!(others.get(index), Some(true)) {
-                self.settled[index] = false;
-            }
-        }
+        self.settled.truncate(others.len());
+        narrow(self.settled.as_mut_slice(), others);
     }
 
     /// Passes statements.
