@@ -1,8 +1,8 @@
 //! Examples of definitions: what type and what result an expression has by them, where a program offends, how values
-//! are printed, where control goes, which programs are not accepted, what the components and the paths of a graph are.
-//! A proof shows that the code does what a definition says; an example shows what the definition says. Those on graphs
-//! are compared when the tests run, the others by their proofs. What the programs do is tested from outside, by the
-//! files of `tests/`.
+//! are printed, where control goes, which programs are not accepted, what the components and the paths of a graph are,
+//! how names are bounded. A proof shows that the code does what a definition says; an example shows what the definition
+//! says. Those on graphs and names are compared when the tests run, the others by their proofs. What the programs do is
+//! tested from outside, by the files of `tests/`.
 #![tactic(auto)]
 
 #[cfg(test)]
@@ -11,6 +11,8 @@ mod accepted;
 mod control;
 #[cfg(test)]
 mod graphs;
+#[cfg(test)]
+mod names;
 #[cfg(test)]
 mod typing;
 #[cfg(test)]
