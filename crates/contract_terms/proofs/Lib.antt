@@ -1,2 +1,3 @@
 mod ChoiceLemmas
+pub mod DerivedLemmas
 mod SettledLemmas

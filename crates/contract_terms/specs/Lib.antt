@@ -7,3 +7,7 @@ pub mod Reading
 pub mod Terms
 pub mod Views
 pub mod ProgramTerms
+pub mod KindBodies
+pub mod Atoms
+pub mod Asks
+pub mod Derived

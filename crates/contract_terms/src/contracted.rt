@@ -40,7 +40,8 @@ impl<'a> Contracted<'a> {
 
     /// The contracts.
     pub fn terms(&self) -> &Terms
-        ensures { ∥ AreTermsOf (program_tree self.now.checked.named) result.now ∥₁ }
+        ensures same { result.now ≡ self.now.terms }
+        ensures are { ∥ AreTermsOf (program_tree self.now.checked.named) result.now ∥₁ }
     {
         &self.terms
     }

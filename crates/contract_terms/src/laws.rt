@@ -1,11 +1,14 @@
 //! Laws of the definitions, which hold whatever the code does.
-ghost use Rattle.std.specs.Prelude.{◌≡◌, ◌⊎◌, ℕ, true, false, length, slice_get, Some, None};
+ghost use Rattle.std.specs.Prelude.{◌≡◌, ◌≤◌, ◌⊎◌, ◌↔◌, ℕ, true, false, List, [], ◌∷◌, ◌++◌, length, slice_get, Some, None, Contains, All};
 ghost use Rattle.abs_program.specs.Control.{Point, entry, program_points};
 ghost use Rattle.abs_program.specs.Flows.{Slots, IsFlow};
 ghost use Rattle.abs_program.specs.Instructions.{effect_of};
 ghost use Rattle.abs_program.specs.ProgramBodies.{BodyAt, IsBodyOf};
-ghost use Rattle.abs_tree.specs.Syntax.{SourceTree};
+ghost use Rattle.abs_tree.specs.Syntax.{SourceTree, ProgramTree};
+ghost use Rattle.contract_terms.specs.Asks.{Rests, IsClosedFor, IsDerivedIn};
+ghost use Rattle.contract_terms.specs.Derived.{AllHold, IsHandled, MoreThan};
 ghost use Rattle.contract_terms.specs.Settled.{settles, assigns, settled, settled_facts, IsSuccessor};
+ghost use Rattle.contract_terms.specs.declared.fact.Fact.{Fact};
 
 use abs_program::facts_follow_in_programs;
 
@@ -27,3 +30,28 @@ pub fn settled_follows_control()
 {
     facts_follow_in_programs();
 }
+
+/// What is derived. The derived facts have all that rests on them, and a list of derived facts that has all that rests
+/// on it has just the derived ones. Where more than so many facts are derived, no list of so many has all that rests on
+/// it.
+pub fn derived_facts_are_closed()
+    ensures closed { (program : ProgramTree) (depth : ℕ) → IsClosedFor program depth (IsDerivedIn program depth) }
+    ensures exact { (program : ProgramTree) (depth : ℕ) (facts : List Fact)
+        → IsClosedFor program depth (Contains facts) → All (IsDerivedIn program depth) facts
+        → (fact : Fact) → Contains facts fact ↔ IsDerivedIn program depth fact }
+    ensures many { (program : ProgramTree) (depth count : ℕ) (facts : List Fact) → MoreThan (Rests program depth) count
+        → IsClosedFor program depth (Contains facts) → length facts ≤ count → ⊥ }
+{}
+
+/// What is asked for in a list of facts is asked for in each list that has them. If what rests on some facts is in a
+/// list, and what rests on them and on one fact more is, then what rests on all of these is.
+pub fn facts_are_handled_one_by_one()
+    ensures kept { (facts more premises : List Fact) → ((fact : Fact) → Contains facts fact → Contains more fact)
+        → AllHold (Contains facts) premises → AllHold (Contains more) premises }
+    ensures step { (program : ProgramTree) (depth : ℕ) (done : List Fact) (last : Fact) (facts more : List Fact)
+        → IsHandled (Rests program depth) done facts
+        → ((fact : Fact) → Contains facts fact → Contains more fact)
+        → ((before after : List Fact) (fact : Fact) → Rests program depth (before ++ last ∷ after) fact
+        → AllHold (Contains (done ++ last ∷ [])) (before ++ last ∷ after) → Contains more fact)
+        → IsHandled (Rests program depth) (done ++ last ∷ []) more }
+{}

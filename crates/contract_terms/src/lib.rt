@@ -4,12 +4,14 @@
 
 mod accepts;
 mod contracted;
+mod fact;
 pub mod laws;
 mod term;
 mod terms;
 
 pub use accepts::{Accepts, Objects};
 pub use contracted::Contracted;
-pub use laws::settled_follows_control;
+pub use fact::{Atom, Fact};
+pub use laws::{derived_facts_are_closed, facts_are_handled_one_by_one, settled_follows_control};
 pub use term::{ClassTerms, MethodTerms, Reads, Term};
 pub use terms::Terms;
