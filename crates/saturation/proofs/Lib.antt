@@ -1,0 +1,4 @@
+mod KeyLemmas
+mod LatestLemmas
+mod LinkLemmas
+mod WalkLemmas
