@@ -1,4 +1,9 @@
+mod AddedLemmas
+mod BodyUseLemmas
+mod IsUseLemmas
 mod KeyLemmas
 mod LatestLemmas
 mod LinkLemmas
+mod PushLemmas
+mod UseKeyLemmas
 mod WalkLemmas

@@ -1,2 +1,4 @@
 pub mod Keys
+pub mod Uses
 pub mod Links
+pub mod UsesAdded

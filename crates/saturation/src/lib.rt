@@ -1,7 +1,9 @@
 //! The facts of a program: from the contracts of its methods, each derived fact once and no other.
 #![tactic(auto)]
 
+mod body;
 mod facts;
 mod key;
+mod uses;
 
 pub use facts::Facts;
