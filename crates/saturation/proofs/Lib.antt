@@ -1,9 +1,13 @@
 mod AddedLemmas
 mod BodyUseLemmas
+mod FindLemmas
+mod HoldingLemmas
+mod ImageLemmas
 mod IsUseLemmas
 mod KeyLemmas
 mod LatestLemmas
 mod LinkLemmas
 mod PushLemmas
+mod StepLemmas
 mod UseKeyLemmas
 mod WalkLemmas

@@ -1,4 +1,5 @@
 pub mod Keys
 pub mod Uses
+pub mod Steps
 pub mod Links
 pub mod UsesAdded

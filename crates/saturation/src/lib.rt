@@ -2,6 +2,7 @@
 #![tactic(auto)]
 
 mod body;
+mod derivation;
 mod facts;
 mod key;
 mod uses;
