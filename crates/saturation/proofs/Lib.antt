@@ -1,5 +1,6 @@
 mod AddedLemmas
 mod BodyUseLemmas
+mod EachLemmas
 mod FindLemmas
 mod HoldingLemmas
 mod ImageLemmas
@@ -7,6 +8,7 @@ mod IsUseLemmas
 mod KeyLemmas
 mod LatestLemmas
 mod LinkLemmas
+mod MakeLemmas
 mod PushLemmas
 mod StepLemmas
 mod UseKeyLemmas

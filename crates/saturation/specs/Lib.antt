@@ -1,5 +1,11 @@
 pub mod Keys
 pub mod Uses
 pub mod Steps
+pub mod Rows
+pub mod RuleViews
+pub mod MakeSteps
 pub mod Links
 pub mod UsesAdded
+pub mod Handling
+pub mod Initials
+pub mod Passing

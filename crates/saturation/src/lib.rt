@@ -5,6 +5,7 @@ mod body;
 mod derivation;
 mod facts;
 mod key;
+mod rules;
 mod uses;
 
 pub use facts::Facts;
