@@ -19,5 +19,5 @@ pub use laws::{
     subtyping_is_an_order, types_fit_by_form,
 };
 pub use sharing::programs_are_shared;
-pub use subtyping::subtype;
+pub use subtyping::{implements, same_name, subtype};
 pub use table::{Shape, TypeIndex, TypeTable};

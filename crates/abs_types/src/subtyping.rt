@@ -121,7 +121,7 @@ pub(crate) fn extends(program: &Named<'_>, one: Symbol, other: Symbol) -> bool
 
 /// Whether the class with a name implements the interface with another name, directly or through `extends`.
 #[tactic(auto, unfolding(crate::specs::Subtyping::implements_name))]
-pub(crate) fn implements(program: &Named<'_>, class: Symbol, interface: Symbol) -> bool
+pub fn implements(program: &Named<'_>, class: Symbol, interface: Symbol) -> bool
     ensures { result ≡ implements_name (named_tree program.now).declarations
         (name_of program.now.symbols class) (name_of program.now.symbols interface) }
 {

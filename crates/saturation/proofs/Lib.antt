@@ -1,4 +1,6 @@
 mod AddedLemmas
+mod ArrivalLemmas
+mod AtomLemmas
 mod BodyUseLemmas
 mod EachLemmas
 mod FindLemmas
@@ -6,10 +8,15 @@ mod HoldingLemmas
 mod ImageLemmas
 mod IsUseLemmas
 mod KeyLemmas
+mod KindBodyLemmas
 mod LatestLemmas
 mod LinkLemmas
+mod MadeLemmas
 mod MakeLemmas
+mod ObjectLemmas
+mod PassLemmas
 mod PushLemmas
+mod StatementLemmas
 mod StepLemmas
 mod UseKeyLemmas
 mod WalkLemmas

@@ -4,8 +4,11 @@
 mod body;
 mod derivation;
 mod facts;
+mod handling;
 mod key;
+mod objects;
 mod rules;
+mod statements;
 mod uses;
 
 pub use facts::Facts;
