@@ -3,7 +3,9 @@ mod ArrivalLemmas
 mod AtomLemmas
 mod BodyUseLemmas
 mod EachLemmas
+mod FactLemmas
 mod FindLemmas
+mod HandlingLemmas
 mod HoldingLemmas
 mod ImageLemmas
 mod IsUseLemmas
@@ -16,6 +18,7 @@ mod MakeLemmas
 mod ObjectLemmas
 mod PassLemmas
 mod PushLemmas
+mod StartLemmas
 mod StatementLemmas
 mod StepLemmas
 mod UseKeyLemmas

@@ -8,6 +8,7 @@ mod handling;
 mod key;
 mod objects;
 mod rules;
+mod starting;
 mod statements;
 mod uses;
 
