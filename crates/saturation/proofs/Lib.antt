@@ -9,6 +9,7 @@ mod CompleteLemmas
 mod EachLemmas
 mod FactLemmas
 mod FindLemmas
+mod FinishedLemmas
 mod GivenLemmas
 mod HandlingLemmas
 mod HoldingLemmas
@@ -35,3 +36,4 @@ mod StepLemmas
 mod UseKeyLemmas
 mod UsedLemmas
 mod WalkLemmas
+mod WorkLemmas

@@ -9,3 +9,4 @@ pub mod UsesAdded
 pub mod Handling
 pub mod Initials
 pub mod Passing
+pub mod Finished

@@ -11,5 +11,7 @@ mod rules;
 mod starting;
 mod statements;
 mod uses;
+mod work_list;
 
 pub use facts::Facts;
+pub use work_list::{SaturateError, saturate};
