@@ -471,6 +471,34 @@ ring_of() {
     calls_of "$1" 1 1
 }
 
+# Prints a main block of $1 objects in a list, and a message with this list to its head. The list is made by statements
+# of at most 40 objects each.
+listed_of() {
+    LC_ALL=C awk -v objects="$1" 'BEGIN {
+        print "interface I { Unit m(List<I> l); }\nclass C implements I { Unit m(List<I> l) { } }\n{"
+        for (n = 0; n < objects; n++) print "I o" n " = new cog C();"
+        print "List<I> l = Nil;"
+        for (n = 0; n < objects; n += 40) {
+            printf "l = "
+            for (m = n; m < n + 40 && m < objects; m++) printf "Cons(o" m ", "
+            printf "l"
+            for (m = n; m < n + 40 && m < objects; m++) printf ")"
+            print ";"
+        }
+        print "head(l)!m(l);\n}"
+    }'
+}
+
+# Prints a main block of $1 locals, each of which is assigned from the next one, and the last one from `new`.
+assigned_of() {
+    LC_ALL=C awk -v locals="$1" 'BEGIN {
+        print "interface I { }\nclass C implements I { }\n{"
+        for (n = 1; n <= locals; n++) print "I v" n ";"
+        for (n = 1; n < locals; n++) print "v" n " = v" n + 1 ";"
+        print "v" locals " = new C();\n}"
+    }'
+}
+
 # Prints a main block of $1 assignments, each of an expression that reads one local 10,000 times.
 reads_of() {
     LC_ALL=C awk -v assignments="$1" 'BEGIN {

@@ -1,5 +1,6 @@
 //! Why nothing is shown of a source.
 use abs_tree::{Code, Refusal, SourceError};
+use saturation::SaturateError;
 use std::io;
 use std::io::ErrorKind;
 use thiserror::Error;
@@ -11,11 +12,14 @@ pub(crate) enum Failure {
     #[error("refused: {0} at {1}:{2}")]
     Refused(Code, u32, u32),
     /// The words are not of this program.
-    #[error("usage: show_analysis checked|inferred|terms FILE")]
+    #[error("usage: show_analysis checked|inferred|terms FILE, or saturated|facts FILE [DEPTH [LIMIT]]")]
     Usage,
     /// The source has more bytes than a source may have.
     #[error("the source has too many bytes")]
     TooLarge,
+    /// More facts are derived than the limit.
+    #[error("too large: facts")]
+    TooManyFacts,
     /// The file cannot be opened or read.
     #[error("the file cannot be read")]
     Unreadable,
@@ -33,7 +37,7 @@ impl Failure {
         match self {
             Failure::Refused(..) => 4,
             Failure::Usage => 5,
-            Failure::TooLarge => 6,
+            Failure::TooLarge | Failure::TooManyFacts => 6,
             Failure::Unreadable => 7,
             Failure::Unwritable => 8,
             Failure::Memory => 9,
@@ -57,6 +61,15 @@ impl From<SourceError> for Failure {
                 Failure::Refused(code, line, column)
             }
             SourceError::Memory => Failure::Memory,
+        }
+    }
+}
+
+impl From<SaturateError> for Failure {
+    fn from(error: SaturateError) -> Self {
+        match error {
+            SaturateError::TooMany => Failure::TooManyFacts,
+            SaturateError::Memory => Failure::Memory,
         }
     }
 }

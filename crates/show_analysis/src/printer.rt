@@ -10,6 +10,8 @@ pub(crate) struct Printer<'s, 'a> {
     pub(crate) alloc: Global,
     pub(crate) program: &'s Named<'a>,
     pub(crate) terms: &'s Terms,
+    /// The line and the column of each byte of the source, where they are needed.
+    pub(crate) places: Vec<(u32, u32)>,
     pub(crate) out: String,
     /// Whether a part is missing, since memory ran out.
     pub(crate) failed: bool,

@@ -12,6 +12,7 @@
 ghost use Rattle.std.specs.Prelude.{◌≤◌, length};
 ghost use Rattle.abs_tree.specs.Limits.{source_limit};
 
+use crate::bounds::Bounds;
 use crate::failure::Failure;
 use crate::printer::Printer;
 use abs_lexer::lexer::tokens;
@@ -22,10 +23,11 @@ use abs_tree::{Body, Decl, Member, Param, Signature, Slot};
 use check_obj::check;
 use contract_infer::infer;
 use contract_terms::{Accepts, ClassTerms, Term};
+use saturation::saturate;
 use std::alloc::Global;
 
 /// What is done with a source.
-#[derive(Clone, Copy)]
+#[derive(Clone, Copy, PartialEq, Eq)]
 pub(crate) enum What {
     /// Its types are checked, and nothing is shown.
     Checked,
@@ -33,6 +35,10 @@ pub(crate) enum What {
     Inferred,
     /// Its contracts are shown.
     Terms,
+    /// Its facts are found, and their number is shown.
+    Saturated,
+    /// Its facts are shown.
+    Facts,
 }
 
 impl What {
@@ -42,16 +48,29 @@ impl What {
             "checked" => Some(What::Checked),
             "inferred" => Some(What::Inferred),
             "terms" => Some(What::Terms),
+            "saturated" => Some(What::Saturated),
+            "facts" => Some(What::Facts),
             _ => None,
         }
     }
+
+    /// Whether bounds of facts may follow.
+    pub(crate) fn has_bounds(self) -> bool {
+        matches!(self, What::Saturated | What::Facts)
+    }
 }
 
-/// The lines of a source, if its contracts are asked for; else nothing, once the work is done.
+/// The lines of a source that are asked for, once the work is done.
 ///
 /// # Errors
-/// [`Failure::Refused`] where the source is refused, and [`Failure::Memory`] where memory runs out.
-pub(crate) fn shown(alloc: Global, what: What, source: &[u8]) -> Result<String, Failure>
+/// [`Failure::Refused`] where the source is refused, [`Failure::TooManyFacts`] where facts are asked for and there are
+/// more than their limit, and [`Failure::Memory`] where memory runs out.
+pub(crate) fn shown(
+    alloc: Global,
+    what: What,
+    bounds: &Bounds,
+    source: &[u8],
+) -> Result<String, Failure>
     requires { length source.now ≤ source_limit }
 {
     let list = tokens(alloc, source)?;
@@ -64,13 +83,23 @@ pub(crate) fn shown(alloc: Global, what: What, source: &[u8]) -> Result<String, 
         alloc,
         program: found.checked().named(),
         terms: found.terms(),
+        places: Vec::new(alloc),
         out: String::new(alloc),
         failed: false,
         class: None,
         method: None,
     };
-    if let What::Terms = what {
+    if what == What::Terms {
         printer.program();
+    }
+    if what.has_bounds() {
+        let facts = saturate(alloc, &found, bounds.depth, bounds.limit)?;
+        if what == What::Facts {
+            printer.facts(source, &facts);
+        } else {
+            printer.number("facts: ", facts.len());
+            printer.push("\n");
+        }
     }
     if printer.failed {
         return Err(Failure::Memory);
