@@ -2,7 +2,7 @@
 use name_bounding::{Name, bound};
 use std::test::Fail;
 
-// The name of the cog made at 3 by the one made at 2 by the one made at 1.
+// The name of the cog made at 1 by the one made at 2 by the one made at 3.
 fn deep() -> Name {
     bound(1, &bound(2, &bound(3, &Name::of_main(), 3), 3), 3)
 }

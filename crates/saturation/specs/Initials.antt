@@ -15,6 +15,7 @@ use Rattle.contract_terms.specs.declared.fact.Fact.{Fact}
 use Rattle.contract_terms.specs.declared.fact.Fact.TheVariants.{Field, Live}
 use Rattle.contract_terms.specs.declared.terms.Terms.{Terms}
 use Rattle.name_bounding.specs.declared.kind.Sign.{Sign}
+use Rattle.saturation.specs.Passing.{HoldsInField}
 use Rattle.saturation.specs.Rows.{ClassIs, FieldLetsIn, InitialGives, IsActiveClass}
 use Rattle.saturation.specs.Steps.{ForThere}
 
@@ -24,14 +25,10 @@ pub record FillsWith (program : ProgramTree) (terms : Terms) (class : ℕ) (sign
   pub let_in : FieldLetsIn program terms class field atom
   pub is : fact ≡ Field sign field atom
 
--- the fact that a field holds an atom is known
-abbrev pub FieldHolds : Sign → ℕ → List Fact → Atom → Type 0
-FieldHolds sign slot known atom = Contains known (Field sign slot atom)
-
 -- A field holds the atoms of another one of the same object that it lets in.
 abbrev pub FillsFromSlot : ProgramTree → Terms → ℕ → Sign → ℕ → ℕ → List Fact → Fact → Type 0
 FillsFromSlot program terms class sign field slot =
-    ForThere (FieldHolds sign slot) (λ atom. FillsWith program terms class sign field atom)
+    ForThere (HoldsInField sign slot) (λ atom. FillsWith program terms class sign field atom)
 
 abbrev pub field_if : Option ClassTree → ℕ → Option AcceptsTree
 field_if None field = None

@@ -347,7 +347,7 @@ fn number(index: usize) -> Result<u32, AllocError>
 /// The uses of each location of each body of a program.
 ///
 /// # Errors
-/// [`AllocError`] if an allocation fails. So it is for each function here.
+/// [`AllocError`] if an allocation fails, or an index takes more than 32 bits. So it is for each function here.
 pub(crate) fn uses_of(alloc: Global, program: &Named<'_>, terms: &Terms) -> Result<Uses, AllocError>
     ensures { IfOk result (λ uses. AreUses (program_tree program.now) terms.now uses) }
 {

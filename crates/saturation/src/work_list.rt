@@ -27,7 +27,7 @@ use std::alloc::{AllocError, Global};
 pub enum SaturateError {
     /// More facts are derived than the limit.
     TooMany,
-    /// An allocation failed.
+    /// An allocation failed, or an index takes more than 32 bits.
     Memory,
 }
 
@@ -43,7 +43,7 @@ impl From<AllocError> for SaturateError {
 ///
 /// # Errors
 /// [`SaturateError::TooMany`] where more facts are derived than the limit, and [`SaturateError::Memory`] if an
-/// allocation fails.
+/// allocation fails, or an index takes more than 32 bits, as none of a source does.
 pub fn saturate(
     alloc: Global,
     program: &Contracted<'_>,
