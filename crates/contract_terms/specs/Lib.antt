@@ -11,3 +11,6 @@ pub mod KindBodies
 pub mod Atoms
 pub mod Asks
 pub mod Derived
+pub mod Pairs
+pub mod PairLinks
+pub mod Chains

@@ -6,9 +6,13 @@ ghost use Rattle.abs_program.specs.Instructions.{effect_of};
 ghost use Rattle.abs_program.specs.ProgramBodies.{BodyAt, IsBodyOf};
 ghost use Rattle.abs_tree.specs.Syntax.{SourceTree, ProgramTree};
 ghost use Rattle.contract_terms.specs.Asks.{Rests, IsClosedFor, IsDerivedIn};
+ghost use Rattle.contract_terms.specs.Chains.{steps_of, IsCircular, ClosesAt, IsReport, IsListed};
 ghost use Rattle.contract_terms.specs.Derived.{AllHold, IsHandled, MoreThan};
+ghost use Rattle.contract_terms.specs.PairLinks.{Continues, IsHeld, IsLinked};
 ghost use Rattle.contract_terms.specs.Settled.{settles, assigns, settled, settled_facts, IsSuccessor};
 ghost use Rattle.contract_terms.specs.declared.fact.Fact.{Fact};
+ghost use Rattle.contract_terms.specs.declared.pair.Mode.TheVariants.{Get, Await};
+ghost use Rattle.contract_terms.specs.declared.pair.Pair.{Pair};
 
 use abs_program::facts_follow_in_programs;
 
@@ -54,4 +58,33 @@ pub fn facts_are_handled_one_by_one()
         → ((before after : List Fact) (fact : Fact) → Rests program depth (before ++ last ∷ after) fact
         → AllHold (Contains (done ++ last ∷ [])) (before ++ last ∷ after) → Contains more fact)
         → IsHandled (Rests program depth) (done ++ last ∷ []) more }
+{}
+
+/// Links and circular chains. A link into a `get` is held, and one into an `await` continues. So a list has a circular
+/// chain exactly where a closed chain leads back to one of its pairs, and the last link of this is held.
+pub fn links_and_chains()
+    ensures into_get { (program : ProgramTree) (one other : Pair) → other.mode ≡ Get → IsLinked program one other
+        → IsHeld one other }
+    ensures into_await { (program : ProgramTree) (one other : Pair) → other.mode ≡ Await → IsLinked program one other
+        → Continues program one other }
+    ensures turns { (program : ProgramTree) (pairs : List Pair)
+        → ((chain : List Pair) × IsCircular program pairs chain)
+        ↔ ((first : Pair) × (chain : List Pair) × ClosesAt program pairs first chain) }
+{}
+
+/// Reports. Each list of pairs has at most one. It is empty exactly where there is no circular chain. Each chain that
+/// it lists is circular and begins with a `get` that no earlier one lists, and each `get` into which a circular chain
+/// has a held link is in one that it lists.
+pub fn reports_are_exact()
+    ensures one { (program : ProgramTree) (pairs : List Pair) (chains others : List (List Pair))
+        → IsReport program pairs chains → IsReport program pairs others → chains ≡ others }
+    ensures empty { (program : ProgramTree) (pairs : List Pair) (chains : List (List Pair))
+        → IsReport program pairs chains
+        → (chains ≡ []) ↔ ((chain : List Pair) → IsCircular program pairs chain → ⊥) }
+    ensures lists { (program : ProgramTree) (pairs : List Pair) (before after : List (List Pair)) (chain : List Pair)
+        → IsReport program pairs (before ++ chain ∷ after) → IsListed program pairs before chain }
+    ensures all { (program : ProgramTree) (pairs : List Pair) (chains : List (List Pair)) (chain : List Pair)
+        → IsReport program pairs chains → IsCircular program pairs chain
+        → (one get : Pair) → Contains (steps_of chain) (one, get) → IsHeld one get
+        → (listed : List Pair) × Contains chains listed × Contains listed get }
 {}
