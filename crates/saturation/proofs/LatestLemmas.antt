@@ -3,14 +3,20 @@
 --   `latest_is`                            `latest` gives the last element that has a property
 --   `latest_push`                          the last of a list with one more element
 --   `latest_with_key`, `latest_of_all`     what is found is the latest fact with a key
-use Rattle.std.proofs.Common.{◌≡◌, ◌<◌, ℕ, zero, suc, Bool, true, false, cond, List, [], ◌∷◌, ◌++◌, length, take, Option, Some, None, slice_get, refl, sym, ap, subst, ◌∙◌, arith, true≢false}
+--   `latest_of_slot`                       the latest fact with the key of a slot is the latest of that slot
+use Rattle.std.proofs.Common.{◌≡◌, ◌<◌, ℕ, zero, suc, Bool, true, false, cond, List, [], ◌∷◌, ◌++◌, length, take, Option, Some, None, slice_get, refl, sym, ap, subst, ◌∙◌, arith, true≢false, inl, inr}
 use Rattle.std.proofs.lemmas.List.{take_all}
 use Rattle.std.proofs.lemmas.Option.{none-some, same_Some}
+use Rattle.contract_terms.specs.declared.fact.Atom.TheVariants.{Object, Future}
 use Rattle.contract_terms.specs.declared.fact.Fact.{Fact}
+use Rattle.contract_terms.specs.declared.fact.Fact.TheVariants as fact
+use Rattle.name_bounding.specs.declared.kind.Kind.{Kind}
+use Rattle.name_bounding.specs.declared.kind.Kind.TheVariants as kind
 use Rattle.saturation.proofs.KeyLemmas.{has_key_sound, has_key_complete}
-use Rattle.saturation.specs.Keys.{IsOf, IsLatest}
+use Rattle.saturation.specs.Keys.{IsOf, IsOfSlot, IsLatest, key_of}
 use Rattle.saturation.specs.Links.{has_key, or_first, latest}
 use Rattle.saturation.specs.declared.key.Key.{Key}
+use Rattle.saturation.specs.declared.key.Key.TheVariants as key
 
 -- `latest` gives the last of the first elements that has a property, if the test tells which have it
 pub latest_is : {A : Type 0} (test : A → Bool) (Has : A → Type 0) → ((one : A) → test one ≡ true → Has one)
@@ -72,3 +78,41 @@ pub latest_of_all : (facts : List Fact) (asked : Key) (found : Option ℕ) → f
 latest_of_all facts asked found is =
     latest_with_key facts asked (length facts) found
     (is ∙ ap (latest (has_key asked)) (sym (take_all (length facts) facts (omega arith))))
+
+-- the last element with a property has another one, if each has the one where it has the other
+latest_as : {A : Type 0} (Has Other : A → Type 0) → ((one : A) → Has one → Other one) → ((one : A) → Other one
+    → Has one)
+    → (list : List A) (bound : ℕ) (found : Option ℕ) → IsLatest Has list bound found → IsLatest Other list bound found
+latest_as Has Other to from list bound None none = λ index one below there is. none index one below there (from one is)
+latest_as Has Other to from list bound (Some latest) last = (
+  last.0,
+  (last.1.0, last.1.1, to last.1.0 last.1.2),
+  (λ index one later below there is. last.2 index one later below there (from one is)),
+)
+
+slot_in_key : Key → Option (Kind × ℕ)
+slot_in_key (key.Slot holder slot) = Some (holder, slot)
+slot_in_key _ = None
+
+-- a fact with the key of a slot says that the slot holds something
+slot_of_key : (holder : Kind) (slot : ℕ) (one : Fact) → IsOf (key.Slot holder slot) one → IsOfSlot holder slot one
+unfolding slot_in_key
+slot_of_key holder slot (fact.Live kind.Main) (inl own) = absurd (none-some _ (ap slot_in_key own))
+slot_of_key holder slot (fact.Live (kind.Method sign method)) (inl own) = absurd (none-some _ (ap slot_in_key own))
+slot_of_key holder slot (fact.Holds by at atom) (inl own) =
+    (atom, ap (λ it. fact.Holds it.0 it.1 atom) (same_Some (by, at) (holder, slot) (ap slot_in_key own)))
+slot_of_key holder slot (fact.Field sign field atom) (inl own) = absurd (none-some _ (ap slot_in_key own))
+slot_of_key holder slot (fact.Gives giver atom) (inl own) = absurd (none-some _ (ap slot_in_key own))
+slot_of_key holder slot (fact.Live lives) (inr future) = absurd (none-some _ future)
+slot_of_key holder slot (fact.Holds by at (Object sign)) (inr future) = absurd (none-some _ future)
+slot_of_key holder slot (fact.Holds by at (Future call task)) (inr future) =
+    absurd (none-some _ (ap slot_in_key (same_Some (key.Future task) (key.Slot holder slot) future)))
+slot_of_key holder slot (fact.Field sign field atom) (inr future) = absurd (none-some _ future)
+slot_of_key holder slot (fact.Gives giver atom) (inr future) = absurd (none-some _ future)
+
+-- The latest fact with the key of a slot is the latest of that slot.
+pub latest_of_slot : (holder : Kind) (slot : ℕ) (facts : List Fact) (bound : ℕ) (found : Option ℕ)
+    → IsLatest (IsOf (key.Slot holder slot)) facts bound found → IsLatest (IsOfSlot holder slot) facts bound found
+latest_of_slot holder slot facts bound found last =
+    latest_as (IsOf (key.Slot holder slot)) (IsOfSlot holder slot) (slot_of_key holder slot)
+    (λ one is. inl (ap key_of is.1)) facts bound found last

@@ -13,7 +13,7 @@ mod FinishedLemmas
 mod GivenLemmas
 mod HandlingLemmas
 mod HoldingLemmas
-mod ImageLemmas
+pub mod ImageLemmas
 mod InitialLemmas
 mod IsUseLemmas
 mod KeyLemmas
@@ -24,7 +24,7 @@ mod MadeLemmas
 mod MakeLemmas
 mod ObjectLemmas
 mod PassLemmas
-mod PlaceLemmas
+pub mod PlaceLemmas
 mod PushLemmas
 mod ReadLemmas
 mod RowLemmas

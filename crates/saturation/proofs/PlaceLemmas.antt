@@ -37,6 +37,7 @@ pub record Placed (program : ProgramTree) (terms : Terms) (kind : Kind) (own : B
   pub inside : IsStatementOf context.body term.index
   pub there : slice_get (program_points program.source) term.index ≡ Some point
   pub settled : Slots
+  pub settled_is : slice_get (settled_facts program.source) term.index ≡ Some settled
   pub is : IsTerm program.source.declarations context (effect_of point.statement) (expr_trees_of point.statement)
       settled term
 
@@ -68,24 +69,26 @@ module _ (program : ProgramTree) (terms : Terms) (are : AreTermsOf program terms
   term_is : (context : BodyContext) (list : List TermTree) → AreTerms program.source context list → (place : ℕ)
       (term : TermTree) → slice_get list place ≡ Some term → (point : Point)
       → slice_get (program_points program.source) term.index ≡ Some point
-      → (slots : Slots) × IsTerm program.source.declarations context (effect_of point.statement)
-      (expr_trees_of point.statement) slots term
+      → (slots : Slots) × (slice_get (settled_facts program.source) term.index ≡ Some slots)
+      × IsTerm program.source.declarations context (effect_of point.statement) (expr_trees_of point.statement) slots term
   term_is context list list_are place term there point point_is =
       let slots = settled_there program.source term.index point point_is in (
         slots.0,
+        slots.1,
         All-slice_get (IsTermThere program.source context) list place term list_are.each there point slots.0 point_is
             slots.1,
       )
 
   -- A statement of a kind that has a term has a place among the terms.
-  pub record PlacedHere (kind : Kind) (context : BodyContext) (point : Point) : Type 0 where
+  pub record PlacedHere (kind : Kind) (context : BodyContext) (index : ℕ) (point : Point) : Type 0 where
     pub own : Body
     pub place : ℕ
     pub term : TermTree
+    pub index_is : term.index ≡ index
     pub placed : Placed program terms kind own context place point term
 
   pub placed_by_statement : (kind : Kind) (index : ℕ) (here : KindStatement program kind index)
-      → has_term (effect_of here.point.statement) ≡ true → PlacedHere kind here.context here.point
+      → has_term (effect_of here.point.statement) ≡ true → PlacedHere kind here.context index here.point
   placed_by_statement kind index here has_it =
       let body = body_found program kind here.context here.body_is in
       let list_are = terms_are program terms are body.own here.context body.context_of in
@@ -106,6 +109,7 @@ module _ (program : ProgramTree) (terms : Terms) (are : AreTermsOf program terms
         own = body.own;
         place = found.0;
         term = found.1;
+        index_is = found.3;
         placed = record {
           has = body.has;
           body_is = here.body_is;
@@ -116,7 +120,8 @@ module _ (program : ProgramTree) (terms : Terms) (are : AreTermsOf program terms
           inside = rw found.3 here.inside;
           there = point_is;
           settled = is.0;
-          is = is.1;
+          settled_is = is.1;
+          is = is.2;
         };
       }
 
@@ -153,6 +158,7 @@ module _ (program : ProgramTree) (terms : Terms) (are : AreTermsOf program terms
           inside = record { after_start = kept.after_start; before_end = kept.before_end };
           there = point.1;
           settled = is.0;
-          is = is.1;
+          settled_is = is.1;
+          is = is.2;
         };
       }

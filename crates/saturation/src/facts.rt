@@ -1,13 +1,15 @@
 //! Facts, each once, and how they are found by their keys.
-ghost use Rattle.std.specs.Prelude.{◌≡◌, ◌<◌, ◌≤◌, ◌+◌, ◌∷◌, ◌++◌, ◌⊎◌, if◌then◌else◌, [], true, length, slice_get, take, vec_capacity, List, Some, IsSomeAnd, Contains, IfOk, MatchBool, OnOk, OnErr};
+ghost use Rattle.std.specs.Prelude.{◌≡◌, ◌<◌, ◌≤◌, ◌+◌, ◌∷◌, ◌++◌, ◌⊎◌, ℕ, if◌then◌else◌, [], true, length, slice_get, take, vec_capacity, List, Some, IsSomeAnd, Contains, IfOk, MatchBool, OnOk, OnErr};
 ghost use Rattle.indexmap.specs.IndexMap.{get, spare as spare_entries};
 ghost use Rattle.indexmap.specs.IndexSet.{spare};
 ghost use Rattle.contract_terms.specs.Derived.{AreDistinct};
+ghost use Rattle.contract_terms.specs.declared.fact.Atom.{Atom as AnAtom};
 ghost use Rattle.contract_terms.specs.declared.fact.Fact.{Fact as One};
-ghost use Rattle.saturation.specs.Keys.{IsLatest, IsOf, key_of};
+ghost use Rattle.contract_terms.specs.declared.fact.Fact.TheVariants.{Holds};
+ghost use Rattle.name_bounding.specs.declared.kind.Kind.{Kind as AKind};
+ghost use Rattle.saturation.specs.Keys.{IsLatest, IsOf, IsOfSlot};
 ghost use Rattle.saturation.specs.Links.{key_eq, latest, link_of, has_key, AreNewest};
 ghost use Rattle.saturation.specs.declared.key.Key.{Key as OneKey};
-ghost use Rattle.saturation.specs.declared.key.Key.TheVariants as key;
 
 use crate::key::Key;
 use contract_terms::Fact;
@@ -76,17 +78,16 @@ impl Facts {
 
     /// The newest fact that a slot of a kind holds something, by its index.
     pub fn newest_of_slot(&self, kind: &Kind, slot: u32) -> Option<u32>
-        ensures { IsLatest (IsOf (key.Slot kind.now slot)) self.now (length self.now) result }
+        ensures { IsLatest (IsOfSlot kind.now slot) self.now (length self.now) result }
     {
         self.newest(&Key::Slot(kind.copied(), slot))
     }
 
-    /// The next earlier fact of the same kind and slot, of the same sign and field, of the results of the same kind, or
-    /// on the tasks of objects with the same sign. Each is an index.
-    pub fn earlier(&self, index: u32) -> Option<u32>
+    /// For a fact that a slot of a kind holds something, the next earlier one. Each is an index.
+    pub fn earlier_of_slot(&self, index: u32) -> Option<u32>
         requires { index < length self.now }
-        ensures { (one : One) → slice_get self.now index ≡ Some one
-            → IsLatest (IsOf (key_of one)) self.now index result }
+        ensures { (kind : AKind) (slot : ℕ) (atom : AnAtom) → slice_get self.now index ≡ Some (Holds kind slot atom)
+            → IsLatest (IsOfSlot kind slot) self.now index result }
     {
         self.earlier[index as usize].same_key
     }

@@ -1,5 +1,5 @@
 //! What rests on a fact, handled once for each.
-ghost use Rattle.std.specs.Prelude.{◌≡◌, ◌⊎◌, ◌↔◌, List, map, Contains, Some, IfSome, IfNone};
+ghost use Rattle.std.specs.Prelude.{◌≡◌, ◌⊎◌, List, map, Contains, Some, IfSome, IfNone};
 ghost use Rattle.abs_program.specs.Instructions.{InstructionTree};
 ghost use Rattle.abs_tree.specs.Names.{name_of};
 ghost use Rattle.contract_terms.specs.Terms.{TermTree};
@@ -13,7 +13,6 @@ ghost use Rattle.saturation.specs.Rows.{Handles, HasBody, MakesObject, MethodIs,
 ghost use Rattle.saturation.specs.RuleViews.{instruction_of, names_of, program_of, term_of, terms_of};
 ghost use Rattle.saturation.specs.Steps.{Adds, Finds};
 ghost use Rattle.saturation.specs.Uses.{AreUses, TermAt, body_params, body_terms};
-ghost use Rattle.saturation.specs.declared.body.Body.{Body as ABody};
 
 use crate::body::Body;
 use crate::derivation::Derivation;
@@ -230,19 +229,11 @@ impl<'p, 'a> Rules<'p, 'a> {
     }
 
     /// The terms of a body. Initial values have none.
-    #[tactic(auto, unfolding(crate::specs::Uses::body_terms))]
     pub(crate) fn terms_of(&self, body: Body) -> &'p [Term]
         ensures { map (term_tree (names_of self.now)) result.now
             ≡ body_terms (names_of self.now) (terms_of self.now) body }
     {
-        match body {
-            Body::Main => self.terms.main(),
-            Body::Method { class, member } => match self.terms.method(class, member) {
-                Some(method) => method.terms.as_slice(),
-                None => &[],
-            },
-            Body::Initials { .. } => &[],
-        }
+        body.terms(self.terms)
     }
 
     /// What the parameters of a body let in.
@@ -300,19 +291,9 @@ impl<'p, 'a> Rules<'p, 'a> {
             (name_of (names_of self.now) class) (name_of (names_of self.now) method) own) bodies.new.items
             derivation.old derivation.new }
     {
-        match self.method_body(class, method) {
+        match Body::of_method(self.program, class, method) {
             Some(body) => derivation.push_body(bodies, body),
             None => {}
         }
-    }
-
-    /// The method with a name of the class with a name.
-    fn method_body(&self, class: Symbol, method: Symbol) -> Option<Body>
-        ensures { (own : ABody) → (result ≡ Some own) ↔ MethodIs (program_of self.now)
-            (name_of (names_of self.now) class) (name_of (names_of self.now) method) own }
-    {
-        let class = self.program.class(class)?.declaration;
-        let member = self.program.method(class, method)?;
-        Some(Body::Method { class, member })
     }
 }

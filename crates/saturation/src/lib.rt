@@ -13,5 +13,6 @@ mod statements;
 mod uses;
 mod work_list;
 
+pub use body::Body;
 pub use facts::Facts;
 pub use work_list::{SaturateError, saturate};
