@@ -31,7 +31,7 @@ impl Printer<'_, '_> {
     }
 
     /// Finds the line and the column of each byte of a source.
-    fn locate(&mut self, source: &[u8]) {
+    pub(crate) fn locate(&mut self, source: &[u8]) {
         let (mut line, mut column) = (1u32, 1u32);
         for byte in source {
             self.failed = self.failed || self.places.push((line, column)).is_err();
@@ -79,7 +79,7 @@ impl Printer<'_, '_> {
     }
 
     /// A piece, and after it the kind of a task.
-    fn kind(&mut self, before: &str, kind: &Kind) {
+    pub(crate) fn kind(&mut self, before: &str, kind: &Kind) {
         self.push(before);
         match kind {
             Kind::Main => self.push("main"),
@@ -108,7 +108,7 @@ impl Printer<'_, '_> {
     }
 
     /// A piece, and after it the line and the column of a byte of the source.
-    fn position(&mut self, before: &str, offset: u32) {
+    pub(crate) fn position(&mut self, before: &str, offset: u32) {
         match self.places.get(offset as usize) {
             Some(place) => {
                 let (line, column) = *place;

@@ -1,6 +1,7 @@
 //! Why nothing is shown of a source.
 use abs_tree::{Code, Refusal, SourceError};
 use saturation::SaturateError;
+use std::alloc::AllocError;
 use std::io;
 use std::io::ErrorKind;
 use thiserror::Error;
@@ -12,7 +13,8 @@ pub(crate) enum Failure {
     #[error("refused: {0} at {1}:{2}")]
     Refused(Code, u32, u32),
     /// The words are not of this program.
-    #[error("usage: show_analysis checked|inferred|terms FILE, or saturated|facts FILE [DEPTH [LIMIT]]")]
+    #[error("usage: show_analysis checked|inferred|terms FILE, or \
+        saturated|facts|paired|pairs|links FILE [DEPTH [LIMIT]]")]
     Usage,
     /// The source has more bytes than a source may have.
     #[error("the source has too many bytes")]
@@ -71,5 +73,11 @@ impl From<SaturateError> for Failure {
             SaturateError::TooMany => Failure::TooManyFacts,
             SaturateError::Memory => Failure::Memory,
         }
+    }
+}
+
+impl From<AllocError> for Failure {
+    fn from(_: AllocError) -> Self {
+        Failure::Memory
     }
 }

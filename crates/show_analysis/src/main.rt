@@ -4,12 +4,15 @@
 //!
 //! `show_analysis facts FILE [DEPTH [LIMIT]]` prints the facts of a source. The depth of names is 1 where none is
 //! given, and the limit a million. Where there are more facts than the limit, it prints `too large: facts`, and ends
-//! with status 6. With `saturated` in the place of `facts` it prints how many there are.
+//! with status 6. With `saturated` in the place of `facts` it prints how many there are. `show_analysis pairs` prints
+//! the dependency pairs by these facts, and `links` the links between them; with `paired` it prints how many pairs
+//! there are.
 #![tactic(auto)]
 
 mod bounds;
 mod facts;
 mod failure;
+mod pairs;
 mod printer;
 mod terms;
 

@@ -21,9 +21,10 @@ use abs_parser::parse;
 use abs_program::BodyEntry;
 use abs_tree::{Body, Decl, Member, Param, Signature, Slot};
 use check_obj::check;
+use circularity_test::pairs;
 use contract_infer::infer;
-use contract_terms::{Accepts, ClassTerms, Term};
-use saturation::saturate;
+use contract_terms::{Accepts, ClassTerms, Contracted, Term};
+use saturation::{Facts, saturate};
 use std::alloc::Global;
 
 /// What is done with a source.
@@ -39,6 +40,12 @@ pub(crate) enum What {
     Saturated,
     /// Its facts are shown.
     Facts,
+    /// Its pairs are found, and their number is shown.
+    Paired,
+    /// Its pairs are shown.
+    Pairs,
+    /// The links between its pairs are shown.
+    Links,
 }
 
 impl What {
@@ -50,13 +57,19 @@ impl What {
             "terms" => Some(What::Terms),
             "saturated" => Some(What::Saturated),
             "facts" => Some(What::Facts),
+            "paired" => Some(What::Paired),
+            "pairs" => Some(What::Pairs),
+            "links" => Some(What::Links),
             _ => None,
         }
     }
 
     /// Whether bounds of facts may follow.
     pub(crate) fn has_bounds(self) -> bool {
-        matches!(self, What::Saturated | What::Facts)
+        matches!(
+            self,
+            What::Saturated | What::Facts | What::Paired | What::Pairs | What::Links
+        )
     }
 }
 
@@ -94,12 +107,7 @@ pub(crate) fn shown(
     }
     if what.has_bounds() {
         let facts = saturate(alloc, &found, bounds.depth, bounds.limit)?;
-        if what == What::Facts {
-            printer.facts(source, &facts);
-        } else {
-            printer.number("facts: ", facts.len());
-            printer.push("\n");
-        }
+        printer.analysis(what, source, &found, &facts)?;
     }
     if printer.failed {
         return Err(Failure::Memory);
@@ -108,6 +116,35 @@ pub(crate) fn shown(
 }
 
 impl Printer<'_, '_> {
+    /// What is asked for of facts, and of the pairs that they give.
+    ///
+    /// # Errors
+    /// [`Failure::Memory`] where memory runs out.
+    fn analysis(
+        &mut self,
+        what: What,
+        source: &[u8],
+        program: &Contracted<'_>,
+        facts: &Facts,
+    ) -> Result<(), Failure> {
+        match what {
+            What::Saturated => {
+                self.number("facts: ", facts.len());
+                self.push("\n");
+            }
+            What::Facts => self.facts(source, facts),
+            What::Paired => self.counts(facts, &pairs(self.alloc, program, facts)?),
+            What::Pairs => {
+                let pairs = pairs(self.alloc, program, facts)?;
+                self.counts(facts, &pairs);
+                self.pairs(source, &pairs);
+            }
+            What::Links => self.links(program, &pairs(self.alloc, program, facts)?),
+            What::Checked | What::Inferred | What::Terms => {}
+        }
+        Ok(())
+    }
+
     /// The lines of all classes, and of main.
     fn program(&mut self) {
         for (class, declaration) in self.program.declarations.iter().enumerate() {

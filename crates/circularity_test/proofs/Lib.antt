@@ -1,0 +1,5 @@
+mod AddingLemmas
+mod FindingLemmas
+mod LinkingLemmas
+mod PairLemmas
+mod WalkingLemmas

@@ -1,0 +1,10 @@
+//! Circularity: the dependency pairs of a program, the links between them, and the circular chains that a report lists.
+#![tactic(auto)]
+
+mod finding;
+mod linking;
+mod pair_list;
+
+pub use finding::pairs;
+pub use linking::{Link, linked};
+pub use pair_list::Pairs;
