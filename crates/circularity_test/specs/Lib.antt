@@ -1,3 +1,4 @@
 pub mod Adding
+pub mod Distances
 pub mod Finding
 pub mod Linking

@@ -1,6 +1,7 @@
 //! Circularity: the dependency pairs of a program, the links between them, and the circular chains that a report lists.
 #![tactic(auto)]
 
+mod distances;
 mod finding;
 mod linking;
 mod pair_list;
