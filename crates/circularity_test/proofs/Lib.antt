@@ -1,7 +1,12 @@
 mod AddingLemmas
+mod EdgeLemmas
 mod FindingLemmas
+mod GroupLemmas
 mod LevelLemmas
 mod LinkingLemmas
 mod MarkLemmas
+mod NetworkLemmas
+mod NodeLemmas
 mod PairLemmas
+mod TableLemmas
 mod WalkingLemmas

@@ -2,3 +2,5 @@ pub mod Adding
 pub mod Distances
 pub mod Finding
 pub mod Linking
+pub mod Network
+pub mod Tables

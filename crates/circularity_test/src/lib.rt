@@ -4,7 +4,9 @@
 mod distances;
 mod finding;
 mod linking;
+mod network;
 mod pair_list;
+mod tables;
 
 pub use finding::pairs;
 pub use linking::{Link, linked};
