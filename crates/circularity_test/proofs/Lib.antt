@@ -5,8 +5,13 @@ mod GroupLemmas
 mod LevelLemmas
 mod LinkingLemmas
 mod MarkLemmas
+mod NearLemmas
 mod NetworkLemmas
+mod NextLemmas
 mod NodeLemmas
 mod PairLemmas
+mod PickLemmas
+mod RouteLemmas
 mod TableLemmas
 mod WalkingLemmas
+mod WayLemmas

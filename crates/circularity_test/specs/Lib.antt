@@ -3,4 +3,5 @@ pub mod Distances
 pub mod Finding
 pub mod Linking
 pub mod Network
+pub mod Routes
 pub mod Tables

@@ -6,6 +6,7 @@ mod finding;
 mod linking;
 mod network;
 mod pair_list;
+mod routes;
 mod tables;
 
 pub use finding::pairs;
