@@ -6,13 +6,13 @@
 --   `class_waits`, `no_class_waits`            a method of a class, and where there is none
 --   `main_waits`, `methods_wait`               a kind
 --   `live_waits`, `others_wait`                a fact
-use Rattle.std.proofs.Common.{◌≡◌, ◌∙◌, ◌⊎◌, inl, inr, ⊎_elim, ℕ, true, List, [], ◌∷◌, map, length, Contains, Some, None, ◌↔◌, refl, sym, ap, subst, arith, nat_eq, eq-eqb}
+use Rattle.std.proofs.Common.{◌≡◌, ◌∙◌, ⊎_elim, ℕ, true, List, [], ◌∷◌, map, Contains, Some, None, ◌↔◌, refl, sym, ap, subst, arith, nat_eq, eq-eqb}
 use Rattle.std.specs.List.{flat_map, list_any}
-use Rattle.std.specs.Prelude.{Option, slice_get, option_to_list, option_map}
+use Rattle.std.specs.Prelude.{Option, slice_get, option_to_list}
 use Rattle.std.proofs.lemmas.Bool.{or_left, or_right}
 use Rattle.std.proofs.lemmas.List.Elements.{Contains-append_cases, Contains-append_left, Contains-append_right}
 use Rattle.std.proofs.lemmas.Option.{none-some, same_Some}
-use Rattle.abs_program.specs.Instructions.{EffectTree, Awaits, Gets, InstructionTree, instructions}
+use Rattle.abs_program.specs.Instructions.{Awaits, Gets, InstructionTree, instructions}
 use Rattle.abs_tree.specs.Names.{name_of}
 use Rattle.abs_tree.specs.Syntax.{Name, ProgramTree, VariableTree}
 use Rattle.abs_tree.specs.declared.symbol.Symbol.{Symbol}
@@ -28,7 +28,6 @@ use Rattle.contract_terms.specs.Views.{made_in}
 use Rattle.contract_terms.specs.declared.fact.Atom.TheVariants.{Future}
 use Rattle.contract_terms.specs.declared.fact.Fact.{Fact}
 use Rattle.contract_terms.specs.declared.fact.Fact.TheVariants.{Live, Holds}
-use Rattle.contract_terms.specs.declared.pair.Mode.{Mode}
 use Rattle.contract_terms.specs.declared.pair.Mode.TheVariants.{Get, Await}
 use Rattle.contract_terms.specs.declared.pair.Pair.{Pair}
 use Rattle.contract_terms.specs.declared.terms.Terms.{Terms}

@@ -5,13 +5,12 @@
 --   `reached_by_calls`, `calls_reach`          a kind is reached from another one of the same sign
 use denote.Struct.Props as logic
 use mathlib.Core.Logic.{∥∥₁_elim}
-use Rattle.std.proofs.Common.{◌≡◌, ◌∙◌, ◌⊎◌, inl, inr, ⊎_elim, ◌↔◌, ℕ, Bool, true, false, List, ◌+◌, ◌<◌, length, map, take, Contains, Some, None, refl, rules, sym, ap, subst}
+use Rattle.std.proofs.Common.{◌≡◌, ◌∙◌, ⊎_elim, ◌↔◌, ℕ, Bool, true, List, ◌+◌, ◌<◌, length, map, take, Contains, Some, None, refl, rules, sym, ap, subst}
 use Rattle.std.proofs.Math.Bool.{Bool-set}
 use Rattle.std.proofs.Math.Logic.{∥∥₁_map}
-use Rattle.std.specs.Prelude.{Option, get_or}
-use Rattle.std.proofs.lemmas.Bool.{false≢true}
+use Rattle.std.specs.Prelude.{get_or}
 use Rattle.std.proofs.lemmas.List.{take_more}
-use Rattle.std.proofs.lemmas.List.Elements.{Contains-get_or, Contains-push_cases}
+use Rattle.std.proofs.lemmas.List.Elements.{Contains-push_cases}
 use Rattle.std.proofs.lemmas.Option.{none-some, same_Some}
 use Rattle.abs_program.specs.Members.{method_of}
 use Rattle.abs_program.specs.NamedViews.{program_tree}
@@ -33,7 +32,7 @@ use Rattle.contract_terms.specs.declared.terms.Terms.{Terms}
 use Rattle.name_bounding.specs.contracts.kind.KindPartialEq.TheImpl as kind_equality
 use Rattle.name_bounding.specs.contracts.kind.SignPartialEq.TheImpl as sign_equality
 use Rattle.name_bounding.specs.declared.kind.Kind.{Kind}
-use Rattle.name_bounding.specs.declared.kind.Kind.TheVariants.{Main, Method}
+use Rattle.name_bounding.specs.declared.kind.Kind.TheVariants.{Method}
 use Rattle.name_bounding.specs.declared.kind.Sign.{Sign}
 use Rattle.saturation.proofs.ImageLemmas.{contains_map, contains_mapped}
 

@@ -4,14 +4,14 @@
 --   `contains_merely`              a pair that is merely there is there
 --   `pairs_are`                    the pairs that were found, sorted and each once
 use mathlib.Core.Logic.{∥∥₁_elim, ∥∥₁_prop}
-use Rattle.std.proofs.Common.{◌≡◌, ◌∙◌, ◌⊎◌, inl, inr, ⊎_elim, ◌↔◌, ℕ, Bool, true, false, not, ◌&&◌, List, [], ◌∷◌, ◌+◌, Contains, Some, None, refl, sym, ap, subst, arith, nat_eq, cond, eqb-true, rules}
+use Rattle.std.proofs.Common.{◌≡◌, ◌∙◌, ◌⊎◌, inl, inr, ⊎_elim, ℕ, Bool, true, false, not, ◌&&◌, List, [], ◌∷◌, ◌+◌, Contains, Some, refl, sym, ap, subst, arith, nat_eq, eqb-true, rules}
 use Rattle.std.proofs.Math.Bool.{Bool-set}
 use Rattle.std.proofs.Math.Logic.{∥∥₁_map}
 use Rattle.std.specs.Cmp.{IsEquivalence, Equal-is, eq_by_cmp_equiv}
 use Rattle.std.specs.List.{dedup}
 use Rattle.std.specs.List.Sorted.{IsPermutation, IsSorted, IsStrictlySortedBy}
 use Rattle.std.specs.Ordering.{eq_by_cmp, is_eq, is_lt, nat_cmp, ordering_then}
-use Rattle.std.specs.Prelude.{Option, get_or, slice_get}
+use Rattle.std.specs.Prelude.{get_or, slice_get}
 use Rattle.std.specs.declared.cmp.Ordering.{Ordering}
 use Rattle.std.specs.declared.cmp.Ordering.TheVariants.{Less, Equal, Greater}
 use Rattle.std.specs.Cmp.Lexicographic.{slice_cmp}
@@ -25,12 +25,12 @@ use Rattle.abs_program.specs.Flows.{Slots}
 use Rattle.abs_program.specs.Instructions.{EffectTree, Skips, Suspends, Awaits, Chooses, Returns, Prints, Clears, Stores, Makes, Sends, CallsOwn, CallsOther, Gets, effect_of, instruction_of}
 use Rattle.abs_tree.specs.Syntax.{ProgramTree}
 use Rattle.circularity_test.specs.Adding.{Adds, OfEach}
-use Rattle.circularity_test.specs.Finding.{BodyOf, KindWaits, LiveWaits, StatementWaits, TermWaits}
+use Rattle.circularity_test.specs.Finding.{BodyOf, KindWaits, LiveWaits}
 use Rattle.circularity_test.specs.Finding.BodyOf.{of_main, of_method}
 use Rattle.contract_terms.proofs.PairOrderLemmas.{pair_order_total, pairs_same}
 use Rattle.contract_terms.specs.Pairs.{ArePairs, IsPair, kind_order, mode_of, mode_order, pair_order}
 use Rattle.contract_terms.specs.ProgramTerms.{AreTermsOf}
-use Rattle.contract_terms.specs.Settled.{named_slots, once_among, settled_names, without}
+use Rattle.contract_terms.specs.Settled.{named_slots, once_among, without}
 use Rattle.contract_terms.specs.Terms.{has_term}
 use Rattle.contract_terms.specs.contracts.pair.ModeOrd.TheImpl as mode_ordering
 use Rattle.contract_terms.specs.contracts.pair.PairOrd.TheImpl as pair_ordering

@@ -3,7 +3,7 @@
 --   `stand`                                    how far a walk is from the first fact
 --   `adds_pair`, `adds_no_pair`                what a fact gives
 --   `walk_begins`, `walk_at`, `walk_turns`, `walk_falls`, `walk_ends`      the walk: its start, a turn, its end
-use Rattle.std.proofs.Common.{◌≡◌, ◌∙◌, ◌⊎◌, inl, inr, ⊎_elim, ℕ, suc, ◌<◌, ◌≤◌, List, [], ◌∷◌, ◌++◌, length, Contains, Some, None, refl, sym, ap, subst, arith, eq-or-lt_of_le, leb, true, false}
+use Rattle.std.proofs.Common.{◌≡◌, ◌∙◌, ◌⊎◌, inl, inr, ⊎_elim, ℕ, suc, ◌<◌, ◌≤◌, List, [], ◌∷◌, ◌++◌, length, Some, None, sym, ap, subst, arith, eq-or-lt_of_le, leb, true, false}
 use Rattle.std.specs.Prelude.{Option, slice_get}
 use Rattle.std.proofs.lemmas.Bool.Decides.{leb_tells}
 use Rattle.std.proofs.lemmas.Option.{none-some, same_Some, slice_get_within}

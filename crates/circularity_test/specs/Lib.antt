@@ -3,5 +3,6 @@ pub mod Distances
 pub mod Finding
 pub mod Linking
 pub mod Network
+pub mod Reporting
 pub mod Routes
 pub mod Tables

@@ -6,9 +6,11 @@ mod finding;
 mod linking;
 mod network;
 mod pair_list;
+mod report;
 mod routes;
 mod tables;
 
 pub use finding::pairs;
 pub use linking::{Link, linked};
 pub use pair_list::Pairs;
+pub use report::{Report, chains};

@@ -1,9 +1,9 @@
-use Rattle.std.proofs.Common.{◌≡◌, ◌∙◌, ◌↔◌, true, false, sym, ap, subst}
+use Rattle.std.proofs.Common.{◌≡◌, ◌∙◌, ◌↔◌, true, sym, ap, subst}
 use Rattle.std.proofs.lemmas.Bool.{false≢true}
 use Rattle.abs_program.specs.NamedViews.{program_tree}
 use Rattle.abs_program.specs.declared.named.Named.{Named}
 use Rattle.abs_tree.specs.Names.{name_of}
-use Rattle.circularity_test.proofs.LinkingLemmas.{leads_by_class, no_class_leads, no_first_leads, no_second_leads}
+use Rattle.circularity_test.proofs.LinkingLemmas.{leads_by_class, no_first_leads, no_second_leads}
 use Rattle.circularity_test.specs.Linking.{LeadsIn}
 use Rattle.contract_terms.specs.ProgramTerms.{AreTermsOf}
 use Rattle.circularity_test.proofs.linking.leads_in.Goals as goal

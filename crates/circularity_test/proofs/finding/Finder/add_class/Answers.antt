@@ -1,4 +1,4 @@
-use Rattle.std.proofs.Common.{◌≡◌, ◌↔◌, Some, None, refl, subst}
+use Rattle.std.proofs.Common.{◌≡◌, ◌↔◌, Some, refl, subst}
 use Rattle.abs_tree.specs.Names.{name_of}
 use Rattle.circularity_test.proofs.AddingLemmas.{on_ok}
 use Rattle.circularity_test.proofs.FindingLemmas.{class_waits, no_class_waits}

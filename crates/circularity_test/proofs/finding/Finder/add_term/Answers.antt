@@ -1,4 +1,4 @@
-use Rattle.std.proofs.Common.{◌∙◌, ap, sym, subst}
+use Rattle.std.proofs.Common.{sym, subst}
 use Rattle.abs_program.specs.InstructionViews.{instruction_tree}
 use Rattle.circularity_test.proofs.AddingLemmas.{on_ok}
 use Rattle.circularity_test.proofs.FindingLemmas.{term_waits}
