@@ -1,0 +1,5 @@
+pub mod ClassLemmas
+pub mod FeedLemmas
+pub mod LineLemmas
+pub mod LoopLemmas
+pub mod WritingLemmas
