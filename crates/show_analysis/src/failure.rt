@@ -14,7 +14,7 @@ pub(crate) enum Failure {
     Refused(Code, u32, u32),
     /// The words are not of this program.
     #[error("usage: show_analysis checked|inferred|terms FILE, or \
-        saturated|facts|paired|pairs|links FILE [DEPTH [LIMIT]]")]
+        saturated|facts|paired|pairs|links|chained|report FILE [DEPTH [LIMIT]]")]
     Usage,
     /// The source has more bytes than a source may have.
     #[error("the source has too many bytes")]

@@ -6,7 +6,7 @@
 //! given, and the limit a million. Where there are more facts than the limit, it prints `too large: facts`, and ends
 //! with status 6. With `saturated` in the place of `facts` it prints how many there are. `show_analysis pairs` prints
 //! the dependency pairs by these facts, and `links` the links between them; with `paired` it prints how many pairs
-//! there are.
+//! there are. `show_analysis report` prints the report of these pairs, and `chained` how many chains it lists.
 #![tactic(auto)]
 
 mod bounds;

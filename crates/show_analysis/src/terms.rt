@@ -21,9 +21,10 @@ use abs_parser::parse;
 use abs_program::BodyEntry;
 use abs_tree::{Body, Decl, Member, Param, Signature, Slot};
 use check_obj::check;
-use circularity_test::pairs;
+use circularity_test::{chains, pairs};
 use contract_infer::infer;
 use contract_terms::{Accepts, ClassTerms, Contracted, Term};
+use report_printer::report_text;
 use saturation::{Facts, saturate};
 use std::alloc::Global;
 
@@ -46,6 +47,10 @@ pub(crate) enum What {
     Pairs,
     /// The links between its pairs are shown.
     Links,
+    /// Its circular chains are found, and their number is shown.
+    Chained,
+    /// The report of its circular chains is shown.
+    Report,
 }
 
 impl What {
@@ -60,16 +65,24 @@ impl What {
             "paired" => Some(What::Paired),
             "pairs" => Some(What::Pairs),
             "links" => Some(What::Links),
+            "chained" => Some(What::Chained),
+            "report" => Some(What::Report),
             _ => None,
         }
     }
 
     /// Whether bounds of facts may follow.
     pub(crate) fn has_bounds(self) -> bool {
-        matches!(
-            self,
-            What::Saturated | What::Facts | What::Paired | What::Pairs | What::Links
-        )
+        match self {
+            What::Checked | What::Inferred | What::Terms => false,
+            What::Saturated
+            | What::Facts
+            | What::Paired
+            | What::Pairs
+            | What::Links
+            | What::Chained
+            | What::Report => true,
+        }
     }
 }
 
@@ -133,14 +146,42 @@ impl Printer<'_, '_> {
                 self.push("\n");
             }
             What::Facts => self.facts(source, facts),
-            What::Paired => self.counts(facts, &pairs(self.alloc, program, facts)?),
+            _ => self.waits(what, source, program, facts)?,
+        }
+        Ok(())
+    }
+
+    /// What is asked for of the pairs that facts give.
+    ///
+    /// # Errors
+    /// [`Failure::Memory`] where memory runs out.
+    fn waits(
+        &mut self,
+        what: What,
+        source: &[u8],
+        program: &Contracted<'_>,
+        facts: &Facts,
+    ) -> Result<(), Failure> {
+        let pairs = pairs(self.alloc, program, facts)?;
+        match what {
+            What::Paired => self.counts(facts, &pairs),
             What::Pairs => {
-                let pairs = pairs(self.alloc, program, facts)?;
                 self.counts(facts, &pairs);
                 self.pairs(source, &pairs);
             }
-            What::Links => self.links(program, &pairs(self.alloc, program, facts)?),
-            What::Checked | What::Inferred | What::Terms => {}
+            What::Links => self.links(program, &pairs),
+            What::Chained | What::Report => {
+                let report = chains(self.alloc, program, &pairs)?;
+                if what == What::Chained {
+                    self.counts(facts, &pairs);
+                    self.number("chains: ", report.len());
+                    self.push("\n");
+                } else {
+                    let text = report_text(self.alloc, program, source, &report)?;
+                    self.push(str::from_utf8(text.as_bytes()).unwrap_or("?"));
+                }
+            }
+            _ => {}
         }
         Ok(())
     }
