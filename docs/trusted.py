@@ -63,23 +63,30 @@ class Specs:
 
 
 def definitions(text):
-    """The text of each definition by its name, and of each name, that of a constructor too, its definition."""
-    texts, current, base = {}, None, 0
+    """The text of each definition by its name, and of each name, that of a constructor too, its definition.
+
+    The definitions of a `module _ (..) where` are indented, and its parameters are part of the text of each."""
+    texts, current, outer, base, header = {}, None, 0, 0, []
     for line in filter(str.strip, text.split("\n")):
         indent = len(line) - len(line.lstrip())
         if indent == 0:
-            base = 2 if re.fullmatch(r"(\w+ )?mutual\s*", line) else 0
+            outer, header = (2, []) if line.startswith("module ") else (0, [])
+            current = None if outer else current
+        if indent <= outer:
+            base = outer + 2 if re.fullmatch(r"(\w+ )?mutual\s*", line.strip()) else outer
         head = HEAD.match(line.strip()) if indent == base else None
         if head:
             current = head[2]
-            texts.setdefault(current, [head[1]])
+            texts.setdefault(current, (head[1], header, []))
         if current is not None and indent >= base:
-            texts[current].append(line)
+            texts[current][2].append(line)
+        elif current is None and outer:
+            header.append(line)
     owners = {name: name for name in texts}
-    for name, (modifiers, *lines) in texts.items():
+    for name, (modifiers, _, lines) in texts.items():
         if "data" in modifiers:
             owners.update({it: name for it in CONSTRUCTOR.findall("\n".join(lines[1:]))})
-    return {name: "\n".join(lines) for name, (_, *lines) in texts.items()}, owners
+    return {name: "\n".join(header + lines) for name, (_, header, lines) in texts.items()}, owners
 
 
 def imports(text):

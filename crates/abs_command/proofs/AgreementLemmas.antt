@@ -3,7 +3,7 @@
 --   `done_stays`               where every task has a result, none has an event
 --   `ended_stays`              a run that ended does not go on
 --   `one_history`, `one_end`   two runs of a program that ended have one history, and ended in one way
---   `same_misused`, `same_oversized`, `same_refused`, `same_run`
+--   `same_misused`, `same_oversized`, `same_refused`, `same_overfull`, `same_run`
 --                              two calls that went the same way came to the same
 --   `calls_agree`              so did any two
 use Rattle.std.proofs.Common.{◌≡◌, ◌⊎◌, inl, inr, ℕ, ◌≤◌, List, [], ◌∷◌, ◌++◌, Option, Some, None, refl, sym, ap, subst, ◌∙◌, length, slice_get, arith}
@@ -25,14 +25,23 @@ use Rattle.step_rules.specs.declared.kind.End.TheVariants.{Done, Stalled, Spent}
 use Rattle.abs_command.proofs.PromiseLemmas.{due_is}
 use Rattle.abs_command.proofs.RunLemmas.{IsNext-has_event}
 use Rattle.abs_command.proofs.SourceLemmas.{one_program, no_offence, one_first_offence}
-use Rattle.abs_command.specs.Analysis.{report_of}
+use Rattle.abs_command.specs.Analysis.{AreFindings, HasTooMany, SameFindings}
 use Rattle.abs_command.specs.Promises.{IsSame}
-use Rattle.abs_command.specs.Ways.{SourceView, HoldsOnly, IsMisused, IsOversized, IsRefused, HasRun, CameTo}
-use Rattle.abs_command.specs.Ways.CameTo.{misused, unread, oversized, refused, reported, ran}
+use Rattle.abs_command.specs.Ways.{SourceView, HoldsOnly, IsMisused, IsOversized, IsRefused, IsOverfull, HasRun, CameTo}
+use Rattle.abs_command.specs.Ways.CameTo.{misused, unread, oversized, refused, overfull, reported, ran}
 use Rattle.abs_command.specs.Statuses.{status_of, WasRead}
-use Rattle.abs_command.specs.Texts.{refusal_line, report_lines, end_text}
+use Rattle.abs_command.specs.Texts.{end_text}
 use Rattle.abs_command.specs.declared.command.Ended.{Ended}
+use Rattle.contract_terms.specs.declared.pair.Pair.{Pair}
 use Rattle.list_facts.proofs.EntryLemmas.{slice_get-there}
+use Rattle.report_printer.specs.RefusalTexts.{refusal_line}
+use Rattle.report_printer.specs.ReportTexts.{report_lines}
+
+-- two findings of a program are the same
+abbrev FindingsAgree : Type 0
+FindingsAgree = (program : ProgramTree) (facts pairs facts' pairs' : ℕ) (report report' : List (List Pair))
+    → AreFindings program facts pairs report → AreFindings program facts' pairs' report'
+    → SameFindings facts pairs report facts' pairs' report'
 
 module _ (program : ProgramTree) where
   -- where every task has a result, none has an event
@@ -114,6 +123,8 @@ module _ {one two : Ended} {output output' : List ℕ} where
     output_is = written;
     status = status;
     refusal = x.refusal_is ∙ (refusal ∙ sym y.refusal_is);
+    facts = x.facts ∙ sym y.facts;
+    pairs = x.pairs ∙ sym y.pairs;
     report = x.report ∙ sym y.report;
     history = x.history ∙ sym y.history;
     end = x.end ∙ sym y.end;
@@ -140,10 +151,16 @@ module _ {words : List (List ℕ)} {bytes : List ℕ} {one two : Ended} {output 
       same_before x.fields y.fields (ap Some first) (due_is x.status ∙ sym (due_is y.status))
       (x.printed ∙ (ap refusal_line first ∙ sym y.printed))
 
+  -- and two of whose program too many facts are derived
+  same_overfull : IsOverfull words bytes one (Some one.status) output
+      → IsOverfull words bytes two (Some two.status) output' → IsSame one output two output'
+  same_overfull x y =
+      same_before x.fields y.fields refl (due_is x.status ∙ sym (due_is y.status)) (x.printed ∙ sym y.printed)
+
   -- and two that ran the program of a source
-  same_run : HasRun words bytes one (Some one.status) output → HasRun words bytes two (Some two.status) output'
-      → IsSame one output two output'
-  same_run x y =
+  same_run : FindingsAgree → HasRun words bytes one (Some one.status) output
+      → HasRun words bytes two (Some two.status) output' → IsSame one output two output'
+  same_run agree x y =
       let same_program : x.program ≡ y.program = one_program x.analysed.accepted.read y.analysed.accepted.read in
       let legal = subst (λ (p : ProgramTree). run_of p two.history.tasks ≡ Some y.ran) (sym same_program) y.legal in
       let ends = subst (λ (p : ProgramTree). EndsAs p event_limit two.history.tasks y.ran.config y.end)
@@ -156,50 +173,70 @@ module _ {words : List (List ℕ)} {bytes : List ℕ} {one two : Ended} {output 
       let same_end : x.end ≡ y.end = one_end x.program event_limit two.history.tasks y.ran.config x.end y.end
       (subst (λ (r : Ran). EndsAs x.program event_limit two.history.tasks r.config x.end) same_ran
       (subst (λ (h : List ℕ). EndsAs x.program event_limit h x.ran.config x.end) history x.ends)) ends in
-      let report : one.report ≡ two.report =
-      x.analysed.report ∙ (ap report_of same_program ∙ sym y.analysed.report) in
+      let same = agree x.program one.facts one.pairs two.facts two.pairs one.report two.report x.analysed.findings
+      (subst (λ (p : ProgramTree). AreFindings p two.facts two.pairs two.report) (sym same_program)
+      y.analysed.findings) in
+      let report : one.report ≡ two.report = same.report_same in
       record {
-        output_is = x.printed ∙ (same_text x.ran y.ran x.end y.end one.history.tasks two.history.tasks report
-            same_ran same_end history ∙ sym y.printed);
-        status = due_is x.status ∙ (ap (λ (e : End). status_of e x.ran.config) same_end
-            ∙ (ap (λ (r : Ran). status_of y.end r.config) same_ran ∙ sym (due_is y.status)));
+        output_is = x.printed ∙ (same_text x.program y.program x.ran y.ran x.end y.end one.history.tasks
+            two.history.tasks same_program report same_ran same_end history ∙ sym y.printed);
+        status = due_is x.status ∙ (ap (λ (r : List (List Pair)). status_of r x.end x.ran.config) report
+            ∙ (ap (λ (e : End). status_of two.report e x.ran.config) same_end
+            ∙ (ap (λ (r : Ran). status_of two.report y.end r.config) same_ran ∙ sym (due_is y.status))));
         refusal = x.analysed.refusal ∙ sym y.analysed.refusal;
+        facts = same.facts_same;
+        pairs = same.pairs_same;
         report = report;
         history = history;
         end = x.end_is ∙ (ap Some same_end ∙ sym y.end_is);
       }
     where
-      same_text : (own own' : Ran) (end end' : End) (history others : List ℕ) → one.report ≡ two.report
-          → own ≡ own' → end ≡ end' → history ≡ others
-          → report_lines one.report ++ end_text own.lines end (length history) own.config.tasks
-          ≡ report_lines two.report ++ end_text own'.lines end' (length others) own'.config.tasks
-      same_text own own' end end' history others report_is ran_is end_is history_is = cc
+      same_text : (program program' : ProgramTree) (own own' : Ran) (end end' : End) (history others : List ℕ)
+          → program ≡ program' → one.report ≡ two.report → own ≡ own' → end ≡ end' → history ≡ others
+          → report_lines bytes program one.report ++ end_text own.lines end (length history) own.config.tasks
+          ≡ report_lines bytes program' two.report ++ end_text own'.lines end' (length others) own'.config.tasks
+      same_text program program' own own' end end' history others program_is report_is ran_is end_is history_is = cc
 
 -- Two calls with the same words and the same bytes that both read their source came to the same.
-pub calls_agree : {words : List (List ℕ)} {bytes : List ℕ} {source source' other other' : SourceView} {one two : Ended}
-    {output output' : List ℕ}
+pub calls_agree : FindingsAgree → {words : List (List ℕ)} {bytes : List ℕ} {source source' other other' : SourceView}
+    {one two : Ended} {output output' : List ℕ}
     → CameTo words bytes source source' one (Some one.status) output
     → CameTo words bytes other other' two (Some two.status) output' → WasRead one.status → WasRead two.status
     → IsSame one output two output'
-calls_agree (unread x) came was was' = absurd (subst WasRead (due_is x.status) was)
-calls_agree (reported x) came was was' = let none = x.status in absurd (cc)
-calls_agree came (unread y) was was' = absurd (subst WasRead (due_is y.status) was')
-calls_agree came (reported y) was was' = let none = y.status in absurd (cc)
-calls_agree (misused x) (misused y) was was' = same_misused x y
-calls_agree (misused x) (oversized y) was was' = absurd (x.cause y.named)
-calls_agree (misused x) (refused y) was was' = absurd (x.cause y.named)
-calls_agree (misused x) (ran y) was was' = absurd (x.cause y.named)
-calls_agree (oversized x) (misused y) was was' = absurd (y.cause x.named)
-calls_agree (oversized x) (oversized y) was was' = same_oversized x y
-calls_agree (oversized x) (refused y) was was' = let large = x.cause in let small = y.small in absurd (omega arith)
-calls_agree (oversized x) (ran y) was was' =
+calls_agree agree (unread x) came was was' = absurd (subst WasRead (due_is x.status) was)
+calls_agree agree (reported x) came was was' = let none = x.status in absurd (cc)
+calls_agree agree came (unread y) was was' = absurd (subst WasRead (due_is y.status) was')
+calls_agree agree came (reported y) was was' = let none = y.status in absurd (cc)
+calls_agree agree (misused x) (misused y) was was' = same_misused x y
+calls_agree agree (misused x) (oversized y) was was' = absurd (x.cause y.named)
+calls_agree agree (misused x) (refused y) was was' = absurd (x.cause y.named)
+calls_agree agree (misused x) (overfull y) was was' = absurd (x.cause y.named)
+calls_agree agree (misused x) (ran y) was was' = absurd (x.cause y.named)
+calls_agree agree (oversized x) (misused y) was was' = absurd (y.cause x.named)
+calls_agree agree (oversized x) (oversized y) was was' = same_oversized x y
+calls_agree agree (oversized x) (refused y) was was' =
+    let large = x.cause in let small = y.small in absurd (omega arith)
+calls_agree agree (oversized x) (overfull y) was was' =
+    let large = x.cause in let small = y.accepted.small in absurd (omega arith)
+calls_agree agree (oversized x) (ran y) was was' =
     let large = x.cause in let small = y.analysed.accepted.small in absurd (omega arith)
-calls_agree (refused x) (misused y) was was' = absurd (y.cause x.named)
-calls_agree (refused x) (oversized y) was was' = let large = y.cause in let small = x.small in absurd (omega arith)
-calls_agree (refused x) (refused y) was was' = same_refused x y
-calls_agree (refused x) (ran y) was was' = absurd (no_offence y.analysed.accepted.read x.refusal)
-calls_agree (ran x) (misused y) was was' = absurd (y.cause x.named)
-calls_agree (ran x) (oversized y) was was' =
+calls_agree agree (refused x) (misused y) was was' = absurd (y.cause x.named)
+calls_agree agree (refused x) (oversized y) was was' =
+    let large = y.cause in let small = x.small in absurd (omega arith)
+calls_agree agree (refused x) (refused y) was was' = same_refused x y
+calls_agree agree (refused x) (overfull y) was was' = absurd (no_offence y.accepted.read x.refusal)
+calls_agree agree (refused x) (ran y) was was' = absurd (no_offence y.analysed.accepted.read x.refusal)
+calls_agree agree (overfull x) (misused y) was was' = absurd (y.cause x.named)
+calls_agree agree (overfull x) (oversized y) was was' =
+    let large = y.cause in let small = x.accepted.small in absurd (omega arith)
+calls_agree agree (overfull x) (refused y) was was' = absurd (no_offence x.accepted.read y.refusal)
+calls_agree agree (overfull x) (overfull y) was was' = same_overfull x y
+calls_agree agree (overfull x) (ran y) was was' =
+    absurd (y.analysed.few (subst HasTooMany (one_program x.accepted.read y.analysed.accepted.read) x.cause))
+calls_agree agree (ran x) (misused y) was was' = absurd (y.cause x.named)
+calls_agree agree (ran x) (oversized y) was was' =
     let large = y.cause in let small = x.analysed.accepted.small in absurd (omega arith)
-calls_agree (ran x) (refused y) was was' = absurd (no_offence x.analysed.accepted.read y.refusal)
-calls_agree (ran x) (ran y) was was' = same_run x y
+calls_agree agree (ran x) (refused y) was was' = absurd (no_offence x.analysed.accepted.read y.refusal)
+calls_agree agree (ran x) (overfull y) was was' =
+    absurd (x.analysed.few (subst HasTooMany (one_program y.accepted.read x.analysed.accepted.read) y.cause))
+calls_agree agree (ran x) (ran y) was was' = same_run agree x y

@@ -8,15 +8,18 @@ use Rattle.abs_tree.specs.declared.refusal.Refusal.{Refusal}
 use Rattle.abs_command.specs.declared.command.Ended.{Ended}
 use Rattle.abs_command.specs.declared.command.Status.{Status}
 use Rattle.abs_command.specs.declared.command.Status.TheVariants as status
-use Rattle.abs_command.specs.Analysis.{report_of}
+use Rattle.abs_command.specs.Analysis.{AreFindings, TellsChains}
 use Rattle.abs_command.specs.Bytes.{WritesPrefix}
+use Rattle.abs_command.specs.Machine.{IsAnalysis}
 use Rattle.abs_command.specs.Promises.{Answer}
-use Rattle.abs_command.specs.Ways.{SourceView, HoldsOnly, IsMisused, IsUnread, IsOversized, IsRefused, IsAnalysed, IsReported, HasRun, CameTo, IsAccepted}
-use Rattle.abs_command.specs.Ways.CameTo.{misused, unread, oversized, refused, reported, ran}
+use Rattle.abs_command.specs.Ways.{SourceView, HoldsOnly, IsMisused, IsUnread, IsOversized, IsRefused, IsOverfull, IsAnalysed, IsReported, HasRun, CameTo}
+use Rattle.abs_command.specs.Ways.CameTo.{misused, unread, oversized, refused, overfull, reported, ran}
 use Rattle.abs_command.specs.Promises.Answer.{whole, prefix}
 use Rattle.abs_command.specs.Taking.{Delivers}
 use Rattle.abs_command.specs.Words.{Names}
+use Rattle.abs_command.specs.declared.analysis.Analysis.{Analysis}
 use Rattle.abs_command.proofs.HeadlineLemmas.{accepted_never_stuck}
+use Rattle.contract_terms.specs.declared.pair.Pair.{Pair}
 use Rattle.list_facts.proofs.StreamLemmas.{Appends-then}
 
 -- a call with another status, and the same otherwise
@@ -80,12 +83,27 @@ refused_as ended other h = record {
   printed = h.printed;
 }
 
+overfull_as : (ended : Ended) (other : Status) {words : List (List ℕ)} {bytes : List ℕ} {due : Option Status}
+    {output : List ℕ}
+    → IsOverfull words bytes ended due output → IsOverfull words bytes (as_status ended other) due output
+overfull_as ended other h = record {
+  named = h.named;
+  program = h.program;
+  accepted = h.accepted;
+  cause = h.cause;
+  fields = holds_as ended other h.fields;
+  status = h.status;
+  printed = h.printed;
+}
+
 analysed_as : (ended : Ended) (other : Status) {bytes : List ℕ} {program : ProgramTree} → IsAnalysed bytes ended program
     → IsAnalysed bytes (as_status ended other) program
 analysed_as ended other h = record {
   accepted = h.accepted;
+  few = h.few;
   refusal = h.refusal;
-  report = h.report;
+  findings = h.findings;
+  chains = h.chains;
   headline = h.headline;
 }
 
@@ -128,6 +146,7 @@ came_as ended other (misused h) = misused (misused_as ended other h)
 came_as ended other (unread h) = unread (unread_as ended other h)
 came_as ended other (oversized h) = oversized (oversized_as ended other h)
 came_as ended other (refused h) = refused (refused_as ended other h)
+came_as ended other (overfull h) = overfull (overfull_as ended other h)
 came_as ended other (reported h) = reported (reported_as ended other h)
 came_as ended other (ran h) = ran (run_as ended other h)
 
@@ -163,15 +182,26 @@ delivered words bytes source source' ended result before old new first second fa
     (prefix (Some ended.status) (first ++ second) (came_as ended status.WriteFault came) refl
     (prefix_after before old new first second written failed.1) (rises failed.2))
 
--- The analysis found this of the program, which is never stuck if no statement of it is an `await`.
-pub analysed_by : (bytes : List ℕ) (ended : Ended) (program : ProgramTree) → IsAccepted bytes program
-    → ended.refusal ≡ None → ended.report ≡ report_of program → IsAnalysed bytes ended program
-analysed_by bytes ended program accepted refusal report = record {
-  accepted = accepted;
-  refusal = refusal;
-  report = report;
-  headline = λ empty. accepted_never_stuck bytes program accepted.read;
-}
+-- The analysis found this of the program, which is never stuck if no statement of it is an `await` or a `get`.
+pub analysed_by : ((program : ProgramTree) (facts pairs : ℕ) (report : List (List Pair))
+    → (findings : AreFindings program facts pairs report) → TellsChains program findings.found report)
+    → (bytes : List ℕ) (ended : Ended) (program : ProgramTree) (analysis : Analysis)
+    → IsAnalysis bytes program analysis → ended.refusal ≡ None → ended.facts ≡ analysis.facts
+    → ended.pairs ≡ analysis.pairs → ended.report ≡ analysis.report → IsAnalysed bytes ended program
+analysed_by tells bytes ended program analysis is refusal facts pairs report =
+    let findings : AreFindings program ended.facts ended.pairs ended.report =
+    subst (λ (n : ℕ). AreFindings program n ended.pairs ended.report) (sym facts)
+    (subst (λ (n : ℕ). AreFindings program analysis.facts n ended.report) (sym pairs)
+    (subst (λ (chains : List (List Pair)). AreFindings program analysis.facts analysis.pairs chains) (sym report)
+    is.findings)) in
+    record {
+      accepted = is.accepted;
+      few = is.few;
+      refusal = refusal;
+      findings = findings;
+      chains = tells program ended.facts ended.pairs ended.report findings;
+      headline = λ empty. accepted_never_stuck bytes program is.accepted.read;
+    }
 
 -- The words name at most one file.
 pub named_once : (words : List (List ℕ)) (a b : List ℕ) → Names words a → Names words b → a ≡ b

@@ -2,9 +2,11 @@ mod HeadlineLemmas
 mod AnswerLemmas
 mod SourceLemmas
 mod AcceptedLemmas
+mod FindingsLemmas
 mod PromiseLemmas
 mod AgreementLemmas
 mod ResultLemmas
 pub mod RunLemmas
+mod StatusLemmas
 mod TakingLemmas
 mod TaskLemmas

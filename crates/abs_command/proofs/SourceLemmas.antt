@@ -3,9 +3,7 @@ use Rattle.std.proofs.Common.{◌≡◌, ℕ, List, [], ◌++◌, refl, sym, ap,
 use Rattle.std.proofs.lemmas.List.Elements.{All-weaker, All-contains, All-contains_itself}
 use Rattle.std.specs.List.{All, Contains}
 use Rattle.std.proofs.lemmas.Option.{none-some, same_Some}
-use Rattle.std.specs.Option.{option_or}
 use Rattle.std.specs.Prelude.{Option, Some, None}
-use Rattle.abs_tree.proofs.OffenceLemmas.{no_offence as no_such_offence}
 use Rattle.abs_tree.specs.Names.{by_first_appearance, with_name}
 use Rattle.abs_tree.specs.Syntax.{Name, SourceTree, ProgramTree}
 use Rattle.abs_tree.specs.declared.refusal.Code.{Code}
@@ -32,8 +30,7 @@ use Rattle.abs_names.specs.Resolution.{resolved}
 use Rattle.abs_types.specs.TypeOffences.{type_offences}
 use Rattle.abs_profile.specs.Profile.{profile_offences}
 use Rattle.abs_command.specs.Sources.{IsTree, IsProgramOf, IsPiece, IsNameOf, FirstOffence, HasOneFirstOffence}
-use Rattle.abs_command.specs.Sources.FirstOffence.{unlexed, unread, misnamed, mistyped, outside_profile, unsupported}
-use Rattle.abs_command.specs.Unsupported.{get_offences}
+use Rattle.abs_command.specs.Sources.FirstOffence.{unlexed, unread, misnamed, mistyped, outside_profile}
 
 -- the names of two trees are equal, and so are the trees
 record OneTree (names others : List Name) (tree next : SourceTree) : Type 0 where
@@ -83,20 +80,17 @@ abbrev in_turn : Option Offence → Option Offence → Option Offence
 in_turn (Some offence) second = Some offence
 in_turn None second = second
 
--- the first offences of a tree by its types, of the profile, and of the statements that get a future
+-- the first offences of a tree by its types, and of the profile
 abbrev first_mistyped : SourceTree → Option Offence
 first_mistyped tree = first_offence (type_offences (resolved tree))
 
 abbrev first_outside : SourceTree → Option Offence
 first_outside tree = first_offence (profile_offences (resolved tree))
 
-abbrev first_get : SourceTree → Option Offence
-first_get tree = first_offence (get_offences (resolved tree))
-
--- the first offence of a tree: of its names, else by its types, else of the profile, else of a `get`
+-- the first offence of a tree: of its names, else by its types, else of the profile
 abbrev first_of_tree : SourceTree → Option Offence
 first_of_tree tree = in_turn (first_offence (name_offences tree))
-    (in_turn (first_mistyped tree) (in_turn (first_outside tree) (first_get tree)))
+    (in_turn (first_mistyped tree) (first_outside tree))
 
 -- A source is refused in one of three ways: for a token, for what the parser meets, or for an offence of its tree.
 data Refused (text : List ℕ) (refusal : Refusal) : Type 0 where
@@ -115,8 +109,6 @@ in_three_ways (mistyped names tree read named first) =
     offending_tree names tree first.first read (rw (named, first.is_first) refl) first.refusal_is
 in_three_ways (outside_profile names tree read named typed first) =
     offending_tree names tree first.first read (rw (named, typed, first.is_first) refl) first.refusal_is
-in_three_ways (unsupported names tree read named typed profiled first) =
-    offending_tree names tree first.first read (rw (named, typed, profiled, first.is_first) refl) first.refusal_is
 
 -- the tree of a source with a program has no offence
 none_of_tree : {text : List ℕ} {program : ProgramTree} (accepted : IsProgramOf text program)
@@ -124,8 +116,7 @@ none_of_tree : {text : List ℕ} {program : ProgramTree} (accepted : IsProgramOf
 none_of_tree {text} {program} accepted =
     let typed = ap type_offences (sym accepted.is) ∙ accepted.typed in
     let profiled = ap profile_offences (sym accepted.is) ∙ accepted.profiled in
-    let runs = ap get_offences (sym accepted.is) ∙ accepted.runs in
-    rw (accepted.no_offence, typed, profiled, runs) refl
+    rw (accepted.no_offence, typed, profiled) refl
 
 -- the parser does not fail on an accepted source
 no_stop : {text : List ℕ} {names : List Name} {tree : SourceTree} {list : TokenList} {refusal : Refusal}

@@ -3,7 +3,6 @@ pub mod Bytes
 pub mod Headline
 pub mod Machine
 pub mod Promises
-pub mod Unsupported
 pub mod Sources
 pub mod Statuses
 pub mod Taking

@@ -6,8 +6,9 @@
 --   `BytesIn`                       what was taken from the source
 --   `Answer`                        what was written: a whole output, a prefix of one, or nothing
 --   `IsSame`                        two calls came to the same
+--   `HasChain`, `HasNoChain`        the program of a call has a circular chain, or none
 --   `Causes`                        each status is returned when its cause holds
-use Rattle.std.specs.Prelude.{◌≡◌, ◌≢◌, ◌<◌, ◌≤◌, ◌+◌, ◌⊎◌, ℕ, List, [], length, take, Option, Some}
+use Rattle.std.specs.Prelude.{◌≡◌, ◌≢◌, ◌<◌, ◌≤◌, ◌+◌, ◌⊎◌, ◌↔◌, ℕ, List, [], length, take, Contains, Option, Some}
 use Rattle.std.specs.Io.KnownBytes.{Appends, Consumes}
 use Rattle.abs_outside.specs.Counts.{Rose}
 use Rattle.abs_outside.specs.Names.{Absent, Holding}
@@ -15,15 +16,18 @@ use Rattle.abs_tree.specs.Syntax.{ProgramTree}
 use Rattle.abs_command.specs.declared.command.Ended.{Ended}
 use Rattle.abs_command.specs.declared.command.Status.{Status}
 use Rattle.abs_command.specs.declared.command.Status.TheVariants as status
-use Rattle.abs_command.specs.Analysis.{report_of}
+use Rattle.abs_command.specs.Analysis.{AreFindings, HasTooMany}
 use Rattle.abs_tree.specs.Limits.{source_limit}
 use Rattle.abs_command.specs.Bytes.{WritesPrefix}
-use Rattle.abs_command.specs.Headline.{NeverAwaits}
+use Rattle.abs_command.specs.Headline.{NeverAwaits, NeverGets}
 use Rattle.abs_command.specs.Sources.{HasOffence}
 use Rattle.abs_command.specs.Statuses.{IsOfRun, GivesUp, WasRead}
-use Rattle.abs_command.specs.Texts.{report_lines}
 use Rattle.abs_command.specs.Words.{Names, AreCommandWords}
-use Rattle.abs_command.specs.Ways.{SourceView, IsAccepted, HasRun, CameTo}
+use Rattle.abs_command.specs.Ways.{SourceView, IsAccepted, IsAnalysed, HasRun, CameTo}
+use Rattle.contract_terms.specs.Chains.{IsCircular}
+use Rattle.contract_terms.specs.declared.pair.Pair.{Pair}
+use Rattle.report_printer.specs.ReportTexts.{report_lines}
+use Rattle.step_rules.specs.declared.kind.End.TheVariants as ends
 
 -- What a sink tells of itself at one moment: the bytes that were written to it, and its count of faults.
 pub record SinkView : Type 0 where
@@ -33,11 +37,13 @@ pub record SinkView : Type 0 where
 abbrev pub sink_view : Option (List ℕ) → ℕ → SinkView
 sink_view written faults = record { written = written; faults = faults }
 
--- Two calls came to the same: what they wrote, and what they hand back but for the counts of facts and pairs.
+-- Two calls came to the same: what they wrote, and what they hand back.
 pub record IsSame (one : Ended) (output : List ℕ) (other : Ended) (output' : List ℕ) : Type 0 where
   pub output_is : output ≡ output'
   pub status : one.status ≡ other.status
   pub refusal : one.refusal ≡ other.refusal
+  pub facts : one.facts ≡ other.facts
+  pub pairs : one.pairs ≡ other.pairs
   pub report : one.report ≡ other.report
   pub history : one.history.tasks ≡ other.history.tasks
   pub end : one.end ≡ other.end
@@ -45,8 +51,9 @@ pub record IsSame (one : Ended) (output : List ℕ) (other : Ended) (output' : L
 -- Before memory ran out, nothing was written, or the whole report of the source's own program.
 pub data WrittenBefore (words : List (List ℕ)) (bytes : List ℕ) (old new : Option (List ℕ)) : Type 0 where
   nothing : Appends old new [] → WrittenBefore words bytes old new
-  report : AreCommandWords words → (program : ProgramTree) → IsAccepted bytes program
-      → Appends old new (report_lines (report_of program))
+  report : AreCommandWords words → (program : ProgramTree) → IsAccepted bytes program → (HasTooMany program → ⊥)
+      → (facts pairs : ℕ) (report : List (List Pair)) → AreFindings program facts pairs report
+      → Appends old new (report_lines bytes program report)
       → WrittenBefore words bytes old new
 
 -- The whole output was written, and the status is the one that is due; or the sink failed, and a prefix was written; or
@@ -91,20 +98,44 @@ pub record NoneRose (source source' : SourceView) (sink sink' : SinkView) : Type
   pub missing : Rose source.missing source'.missing → ⊥
   pub sink_faults : Rose sink.faults sink'.faults → ⊥
 
+-- The program of the source was analysed, and this is a circular chain of its pairs, which the report lists.
+pub record HasChain (bytes : List ℕ) (ended : Ended) : Type 0 where
+  pub program : ProgramTree
+  pub analysed : IsAnalysed bytes ended program
+  pub chain : List Pair
+  pub listed : Contains ended.report chain
+  pub circular : IsCircular program analysed.findings.found chain
+
+-- The program of the source was analysed, its pairs have no circular chain, and the report lists none.
+pub record HasNoChain (bytes : List ℕ) (ended : Ended) : Type 0 where
+  pub program : ProgramTree
+  pub analysed : IsAnalysed bytes ended program
+  pub empty : ended.report ≡ []
+  pub none : (chain : List Pair) → IsCircular program analysed.findings.found chain → ⊥
+
 -- Each status is returned when its cause holds, unless the call gave up. By the ways above it is returned only then;
--- out of memory alone needs no cause.
+-- out of memory alone needs no cause. Of a source with a program the status is one of a run, or too many facts are
+-- derived. It is `Chains` exactly where the report lists a chain and the run ended with a result of each task, and
+-- `Stalled` exactly where the run stalled. With `Clean` and `Failed` there is no circular chain.
 pub record Causes (words : List (List ℕ)) (bytes : List ℕ) (source source' : SourceView) (sink sink' : SinkView)
     (ended : Ended) : Type 0 where
   pub usage : (AreCommandWords words → ⊥) → ComesTo ended.status status.Usage
   pub too_large : AreCommandWords words → source_limit < length bytes → ComesTo ended.status status.TooLarge
   pub refused : AreCommandWords words → length bytes ≤ source_limit → HasOffence bytes
       → ComesTo ended.status status.Refused
+  pub overfull : AreCommandWords words → (program : ProgramTree) → IsAccepted bytes program → HasTooMany program
+      → ComesTo ended.status status.TooLarge
   pub accepted : AreCommandWords words → (program : ProgramTree) → IsAccepted bytes program
-      → IsOfRun ended.status ⊎ GivesUp ended.status
+      → IsOfRun ended.status ⊎ (((ended.status ≡ status.TooLarge) × HasTooMany program) ⊎ GivesUp ended.status)
   pub ran : (due : Status) (output : List ℕ) → HasRun words bytes ended (Some due) output → ComesTo ended.status due
-  pub stalled : (program : ProgramTree) → IsAccepted bytes program → NeverAwaits program
+  pub stalled : (program : ProgramTree) → IsAccepted bytes program → NeverAwaits program → NeverGets program
       → ended.status ≢ status.Stalled
-  pub chains : ended.status ≢ status.Chains
+  pub stalls : (GivesUp ended.status → ⊥) → (ended.status ≡ status.Stalled) ↔ (ended.end ≡ Some ends.Stalled)
+  pub chains : (GivesUp ended.status → ⊥)
+      → (ended.status ≡ status.Chains) ↔ ((ended.report ≢ []) × (ended.end ≡ Some ends.Done))
+  pub circular : ended.status ≡ status.Chains → HasChain bytes ended
+  pub clean : ended.status ≡ status.Clean → HasNoChain bytes ended
+  pub failed : ended.status ≡ status.Failed → HasNoChain bytes ended
   pub memory_alone : NoneRose source source' sink sink' → GivesUp ended.status → ended.status ≡ status.Memory
 
 -- All that a call promises about these words, this source and this sink, each before and after it, and about what it

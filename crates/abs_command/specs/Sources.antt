@@ -19,7 +19,6 @@ use Rattle.abs_prelude.specs.Prelude.{prelude_names}
 use Rattle.abs_names.specs.Resolution.{resolved}
 use Rattle.abs_types.specs.TypeOffences.{type_offences}
 use Rattle.abs_profile.specs.Profile.{profile_offences}
-use Rattle.abs_command.specs.Unsupported.{get_offences}
 
 -- The source has tokens and is accepted; these are its names and its tree.
 pub record IsTree (text : List ℕ) (names : List Name) (tree : SourceTree) : Type 0 where
@@ -28,8 +27,7 @@ pub record IsTree (text : List ℕ) (names : List Name) (tree : SourceTree) : Ty
   pub is : IsTextOf list names tree
 
 -- The source has a tree in which no name offends. This is its program, whose names are resolved; its table has the
--- names of the source, followed by those of the prelude. It has no offence by its types and none of the profile, and no
--- statement of it gets a future.
+-- names of the source, followed by those of the prelude. It has no offence by its types and none of the profile.
 pub record IsProgramOf (text : List ℕ) (program : ProgramTree) : Type 0 where
   pub names : List Name
   pub tree : SourceTree
@@ -39,13 +37,11 @@ pub record IsProgramOf (text : List ℕ) (program : ProgramTree) : Type 0 where
   pub names_are : program.names ≡ fold with_name names prelude_names
   pub typed : type_offences program.source ≡ []
   pub profiled : profile_offences program.source ≡ []
-  pub runs : get_offences program.source ≡ []
 
--- The source is refused for its first offence, in one of six ways. It has a lexical offence, and this is the first. It
+-- The source is refused for its first offence, in one of five ways. It has a lexical offence, and this is the first. It
 -- has tokens, and the parser fails at one of them or at the end. It has a tree, and this is the first of its name
 -- offences. It has a tree without name offences, and this is the first of its offences by types. It has a tree without
--- any of these, and this is the first of its profile offences. It has a tree without any offence, and this is the first
--- of its statements that get a future.
+-- any of these, and this is the first of its profile offences.
 pub data FirstOffence (text : List ℕ) (refusal : Refusal) : Type 0 where
   unlexed : RefusesLexing text refusal → FirstOffence text refusal
   unread : (list : TokenList) → TokensOf text list → StopsWith list refusal → FirstOffence text refusal
@@ -56,9 +52,6 @@ pub data FirstOffence (text : List ℕ) (refusal : Refusal) : Type 0 where
   outside_profile : (names : List Name) (tree : SourceTree) → IsTree text names tree → name_offences tree ≡ []
       → type_offences (resolved tree) ≡ [] → RefusesFirst (profile_offences (resolved tree)) refusal
       → FirstOffence text refusal
-  unsupported : (names : List Name) (tree : SourceTree) → IsTree text names tree → name_offences tree ≡ []
-      → type_offences (resolved tree) ≡ [] → profile_offences (resolved tree) ≡ []
-      → RefusesFirst (get_offences (resolved tree)) refusal → FirstOffence text refusal
 
 -- the source has an offence
 abbrev pub HasOffence : List ℕ → Type 0

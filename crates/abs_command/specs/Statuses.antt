@@ -1,9 +1,10 @@
 -- What the exit statuses mean: which of them a run ends with, and which say that the call gave up.
-use Rattle.std.specs.Prelude.{⊤, Bool, true, false, Option, Some, None, slice_get}
+use Rattle.std.specs.Prelude.{⊤, Bool, true, false, List, [], ◌∷◌, Option, Some, None, slice_get}
 use Rattle.abs_values.specs.Results.{Result, Gives, Fails}
 use Rattle.abs_command.specs.declared.command.Status.{Status}
 use Rattle.abs_command.specs.declared.command.Status.TheVariants as status
 use Rattle.config_state.specs.Configurations.{TaskState, Configuration}
+use Rattle.contract_terms.specs.declared.pair.Pair.{Pair}
 use Rattle.step_rules.specs.declared.kind.End.{End}
 use Rattle.step_rules.specs.declared.kind.End.TheVariants as ends
 
@@ -22,19 +23,32 @@ ended_by_fault (Some task) = is_fault task.outcome
 abbrev pub main_failed : Configuration → Bool
 main_failed config = ended_by_fault (slice_get config.tasks 0)
 
--- the status of a run without a circular chain, by its end and whether the main block failed
-abbrev pub status_by : End → Bool → Status
-status_by ends.Done true = status.Failed
-status_by ends.Done false = status.Clean
-status_by ends.Stalled failed = status.Stalled
-status_by ends.Spent failed = status.Spent
+-- whether a report lists a circular chain
+abbrev pub has_chain : List (List Pair) → Bool
+has_chain [] = false
+has_chain (chain ∷ others) = true
 
-abbrev pub status_of : End → Configuration → Status
-status_of end config = status_by end (main_failed config)
+-- the status of a run in which each task has a result: first comes whether there is a circular chain, then whether the
+-- main block failed
+abbrev pub status_when_done : Bool → Bool → Status
+status_when_done true failed = status.Chains
+status_when_done false true = status.Failed
+status_when_done false false = status.Clean
+
+-- the status of a run, by whether there is a circular chain, by its end, and by whether the main block failed
+abbrev pub status_by : Bool → End → Bool → Status
+status_by chained ends.Done failed = status_when_done chained failed
+status_by chained ends.Stalled failed = status.Stalled
+status_by chained ends.Spent failed = status.Spent
+
+-- the status of a run, by its report, its end and its last configuration
+abbrev pub status_of : List (List Pair) → End → Configuration → Status
+status_of report end config = status_by (has_chain report) end (main_failed config)
 
 -- a status that a run may end with
 abbrev pub IsOfRun : Status → Type 0
 IsOfRun status.Clean = ⊤
+IsOfRun status.Chains = ⊤
 IsOfRun status.Failed = ⊤
 IsOfRun status.Spent = ⊤
 IsOfRun status.Stalled = ⊤

@@ -1,16 +1,12 @@
--- The bytes of all output of the command. Each line ends with a line feed.
+-- The bytes of the output of the command, but for reports and refusals. Each line ends with a line feed.
 --
 --   `usage_line`, `too_large_line`     the lines for other words, and for a source that is too large
---   `refusal_line`                     the line of a refusal
---   `report_lines`                     the lines of a report
+--   `too_many_line`                    the line for a program of which too many facts are derived
 --   `end_text`                         what a run printed, how it ended, and the faults of its tasks
 use Rattle.std.specs.Prelude.{ℕ, ◌+◌, List, [], ◌∷◌, ◌++◌, length, Option, Some, None, codes, decimal, count_by, is_none}
 use Rattle.std.specs.List.{flat_map}
-use Rattle.abs_tree.specs.declared.refusal.Refusal.{Refusal}
 use Rattle.abs_values.specs.Results.{Result, Gives, Fails}
 use Rattle.abs_values.specs.Faults.{fault_name}
-use Rattle.abs_tree.specs.Refusals.{code_name, code_words}
-use Rattle.abs_command.specs.declared.analysis.report.Chain.{Chain}
 use Rattle.config_state.specs.Configurations.{TaskState}
 use Rattle.step_rules.specs.declared.kind.End.{End}
 use Rattle.step_rules.specs.declared.kind.End.TheVariants.{Done, Stalled, Spent}
@@ -24,17 +20,9 @@ usage_line =
 abbrev pub too_large_line : List ℕ
 too_large_line = codes "too large: source\n"
 
--- `refused: CODE at LINE:COLUMN: WORDS`
-abbrev pub refusal_line : Refusal → List ℕ
-refusal_line refusal =
-    codes "refused: " ++ (code_name refusal.code
-    ++ (codes " at " ++ (decimal refusal.line
-    ++ (codes ":" ++ (decimal refusal.column ++ (codes ": " ++ (code_words refusal.code ++ codes "\n")))))))
-
--- the lines of a report; a chain has no value yet, so each report is the one that names no chain
-abbrev pub report_lines : List Chain → List ℕ
-report_lines [] = codes "no circular chain\n"
-report_lines (chain ∷ chains) = elim chain [ ]
+-- the line for a program of which too many facts are derived
+abbrev pub too_many_line : List ℕ
+too_many_line = codes "too large: facts\n"
 
 -- the printed strings, a line each
 abbrev pub lines_text : List (List ℕ) → List ℕ

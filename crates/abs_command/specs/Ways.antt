@@ -6,11 +6,12 @@
 --     `IsUnread`                    the source failed
 --     `IsOversized`                 the source has too many bytes
 --     `IsRefused`                   the source is refused, for its first offence
+--     `IsOverfull`                  more facts are derived of its program than the limit
 --     `IsReported`                  the program was analysed and not run
 --     `HasRun`                      the program was analysed and run
 --   `IsAccepted`, `IsAnalysed`      the program of a source, with its report, and the headline of the project
 --   `SourceView`                    what a source says of itself
-use Rattle.std.specs.Prelude.{◌≡◌, ◌<◌, ◌≤◌, ◌+◌, ◌⊎◌, ℕ, List, [], ◌++◌, length, Option, Some, None}
+use Rattle.std.specs.Prelude.{◌≡◌, ◌<◌, ◌≤◌, ◌⊎◌, ℕ, List, [], ◌++◌, length, Option, Some, None}
 use Rattle.abs_outside.specs.Counts.{Rose}
 use Rattle.abs_outside.specs.Names.{Under, IsNotHeld}
 use Rattle.abs_tree.specs.Syntax.{ProgramTree}
@@ -18,13 +19,15 @@ use Rattle.abs_tree.specs.declared.refusal.Refusal.{Refusal}
 use Rattle.abs_command.specs.declared.command.Ended.{Ended}
 use Rattle.abs_command.specs.declared.command.Status.{Status}
 use Rattle.abs_command.specs.declared.command.Status.TheVariants as status
-use Rattle.abs_command.specs.Analysis.{report_of}
+use Rattle.abs_command.specs.Analysis.{AreFindings, HasTooMany, TellsChains}
 use Rattle.abs_tree.specs.Limits.{event_limit, source_limit}
-use Rattle.abs_command.specs.Headline.{NeverAwaits, NeverStuck}
+use Rattle.abs_command.specs.Headline.{NeverAwaits, NeverGets, NeverStuck}
 use Rattle.abs_command.specs.Sources.{IsProgramOf, FirstOffence}
 use Rattle.abs_command.specs.Statuses.{status_of}
-use Rattle.abs_command.specs.Texts.{usage_line, too_large_line, refusal_line, report_lines, end_text}
+use Rattle.abs_command.specs.Texts.{usage_line, too_large_line, too_many_line, end_text}
 use Rattle.abs_command.specs.Words.{Names, AreCommandWords}
+use Rattle.report_printer.specs.RefusalTexts.{refusal_line}
+use Rattle.report_printer.specs.ReportTexts.{report_lines}
 use Rattle.run_history.specs.Turns.{IsInTurn}
 use Rattle.step_rules.specs.Runs.{Ran, run_of, EndsAs}
 use Rattle.step_rules.specs.declared.kind.End.{End}
@@ -92,14 +95,28 @@ pub record IsAccepted (bytes : List ℕ) (program : ProgramTree) : Type 0 where
   pub small : length bytes ≤ source_limit
   pub read : IsProgramOf bytes program
 
--- The program was analysed. If its report names no circular chain, and no statement of it is an `await`, every
--- configuration that a legal history reaches has a step while a task in it is unfinished. Nothing is said of facts and
--- pairs yet.
+-- The source is accepted, and more facts are derived of its program than the limit.
+pub record IsOverfull (words : List (List ℕ)) (bytes : List ℕ) (ended : Ended) (due : Option Status) (output : List ℕ)
+    : Type 0 where
+  pub named : AreCommandWords words
+  pub program : ProgramTree
+  pub accepted : IsAccepted bytes program
+  pub cause : HasTooMany program
+  pub fields : HoldsOnly ended None
+  pub status : due ≡ Some status.TooLarge
+  pub printed : output ≡ too_many_line
+
+-- The program was analysed. The facts, pairs and report are those of the program, of which no more facts are derived
+-- than the limit. The report is empty exactly where there is no circular chain of these pairs, and lists just circular
+-- chains of them. If it is empty, and no statement of the program is an `await` or a `get`, every configuration that a
+-- legal history reaches has a step while a task in it is unfinished.
 pub record IsAnalysed (bytes : List ℕ) (ended : Ended) (program : ProgramTree) : Type 0 where
   pub accepted : IsAccepted bytes program
+  pub few : HasTooMany program → ⊥
   pub refusal : ended.refusal ≡ None
-  pub report : ended.report ≡ report_of program
-  pub headline : ended.report ≡ [] → NeverAwaits program → NeverStuck program
+  pub findings : AreFindings program ended.facts ended.pairs ended.report
+  pub chains : TellsChains program findings.found ended.report
+  pub headline : ended.report ≡ [] → NeverAwaits program → NeverGets program → NeverStuck program
 
 -- The program was analysed and nothing was run. No status is due yet: a fault of the sink leaves a call like this.
 pub record IsReported (words : List (List ℕ)) (bytes : List ℕ) (ended : Ended) (due : Option Status) (output : List ℕ)
@@ -110,7 +127,7 @@ pub record IsReported (words : List (List ℕ)) (bytes : List ℕ) (ended : Ende
   pub history : ended.history.tasks ≡ []
   pub end : ended.end ≡ None
   pub status : due ≡ None
-  pub printed : output ≡ report_lines ended.report
+  pub printed : output ≡ report_lines bytes program ended.report
 
 -- The program was analysed and run. Its recorded history is legal, in the order of one worker, and has at most the
 -- permitted events. The run ended in this way, and printed this.
@@ -126,8 +143,8 @@ pub record HasRun (words : List (List ℕ)) (bytes : List ℕ) (ended : Ended) (
   pub end : End
   pub end_is : ended.end ≡ Some end
   pub ends : EndsAs program event_limit ended.history.tasks ran.config end
-  pub status : due ≡ Some (status_of end ran.config)
-  pub printed : output ≡ report_lines ended.report
+  pub status : due ≡ Some (status_of ended.report end ran.config)
+  pub printed : output ≡ report_lines bytes program ended.report
       ++ end_text ran.lines end (length ended.history.tasks) ran.config.tasks
 
 -- A call went one of these ways; this status is due for it, and this is its whole output.
@@ -137,5 +154,6 @@ pub data CameTo (words : List (List ℕ)) (bytes : List ℕ) (source source' : S
   unread : IsUnread words source source' ended due output → CameTo words bytes source source' ended due output
   oversized : IsOversized words bytes ended due output → CameTo words bytes source source' ended due output
   refused : IsRefused words bytes ended due output → CameTo words bytes source source' ended due output
+  overfull : IsOverfull words bytes ended due output → CameTo words bytes source source' ended due output
   reported : IsReported words bytes ended due output → CameTo words bytes source source' ended due output
   ran : HasRun words bytes ended due output → CameTo words bytes source source' ended due output

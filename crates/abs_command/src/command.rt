@@ -9,34 +9,36 @@ ghost use Rattle.config_state.specs.ConfigViews.{configuration};
 ghost use Rattle.abs_command.specs.Promises.{Promises, sink_view, Answer, IsSame, WrittenBefore};
 ghost use Rattle.abs_command.specs.Ways.{SourceView, source_view, CameTo, IsAccepted};
 ghost use Rattle.abs_command.specs.Sources.{IsProgramOf, FirstOffence};
-ghost use Rattle.abs_command.specs.Statuses.{status_of as status_for, main_failed as main_failed_in, WasRead};
+ghost use Rattle.abs_command.specs.Machine.{IsAnalysis};
+ghost use Rattle.abs_command.specs.Statuses.{has_chain, status_of as status_for, main_failed as main_failed_in, WasRead};
 ghost use Rattle.abs_command.specs.Taking.{Delivers, TookWhole, TookSome, SourceFailed};
 ghost use Rattle.abs_command.specs.Words.{spelled, Names, AreCommandWords};
 
-use crate::analysis::report::Report;
-use crate::analysis::{Analysis, analyse};
+use crate::analysis::{Analysis, analyse, findings_are_exact};
 use crate::edge::read::{ReadError, read_rest};
 use crate::edge::write::write_all;
 use crate::run::{Ran, run};
 use crate::source::program_of;
-use crate::texts::outcome::{end_text, report_text};
-use crate::texts::refusal::refusal_text;
+use crate::texts::outcome::end_text;
 use abs_outside::{Sink, Source};
-use abs_program::Named;
 use abs_tree::limits::{EVENT_LIMIT, SOURCE_LIMIT};
 use abs_tree::{Refusal, SourceError};
 use abs_values::Evaluated;
+use circularity_test::Report;
 use config_state::Config;
+use contract_terms::Contracted;
+use report_printer::{refusal_text, report_text};
 use run_history::History;
+use saturation::SaturateError;
 use std::alloc::{AllocError, Global};
 use step_rules::End;
 
 /// How a call of the command ended. Its number is the exit status of the process.
 #[derive(Clone, Copy, Debug, PartialEq, Eq)]
 pub enum Status {
-    /// 0: there is no circular chain, and the run ended without a fault of the main block.
+    /// 0: there is no circular chain, and each task has a result, that of the main block without a fault.
     Clean,
-    /// 1: there is a circular chain, and the run ended.
+    /// 1: there is a circular chain, and each task has a result.
     Chains,
     /// 2: the run stalled.
     Stalled,
@@ -46,7 +48,7 @@ pub enum Status {
     Refused,
     /// 5: the words are not of the command.
     Usage,
-    /// 6: the source has too many bytes.
+    /// 6: the source has too many bytes, or more facts are derived of its program than 1,000,000.
     TooLarge,
     /// 7: the source failed, or does not have the file.
     ReadFault,
@@ -54,7 +56,7 @@ pub enum Status {
     WriteFault,
     /// 9: memory ran out.
     Memory,
-    /// 10: there is no circular chain, and the main block ended by a fault.
+    /// 10: there is no circular chain, and each task has a result, that of the main block a fault.
     Failed,
 }
 
@@ -64,11 +66,11 @@ pub struct Ended {
     pub status: Status,
     /// The first offence of a refused source.
     pub refusal: Option<Refusal>,
-    /// How many facts the analysis derived.
+    /// How many facts are derived of the program.
     pub facts: u64,
-    /// How many pairs of dependencies it found.
+    /// How many pairs of dependencies there are.
     pub pairs: u64,
-    /// The circular chains.
+    /// The circular chains that are listed.
     pub report: Report,
     /// The task of each event of the run.
     pub history: History,
@@ -99,6 +101,8 @@ impl Ended {
     fn unwritten(alloc: Global, analysis: Analysis) -> Ended
         ensures status { result.status ≡ Status.WriteFault }
         ensures refusal { result.refusal ≡ None }
+        ensures facts { result.facts ≡ analysis.facts }
+        ensures pairs { result.pairs ≡ analysis.pairs }
         ensures report { result.report ≡ analysis.report }
         ensures history { result.history.tasks ≡ [] }
         ensures end { result.end ≡ None }
@@ -116,14 +120,17 @@ impl Ended {
 
     /// A call whose program was analysed and run.
     fn ran(analysis: Analysis, history: History, end: End, config: &Config) -> Ended
-        ensures status { (names : List Name) → result.status ≡ status_for end (configuration names config.now) }
+        ensures status { (names : List Name)
+            → result.status ≡ status_for analysis.report end (configuration names config.now) }
         ensures refusal { result.refusal ≡ None }
+        ensures facts { result.facts ≡ analysis.facts }
+        ensures pairs { result.pairs ≡ analysis.pairs }
         ensures report { result.report ≡ analysis.report }
         ensures history { result.history ≡ history }
         ensures end { result.end ≡ Some end }
     {
         Ended {
-            status: status_of(end, config),
+            status: status_of(&analysis.report, end, config),
             refusal: None,
             facts: analysis.facts,
             pairs: analysis.pairs,
@@ -141,15 +148,20 @@ const USAGE: &str =
 /// The line for a source that is too large.
 const TOO_LARGE: &str = "too large: source\n";
 
+/// The line for a program of which too many facts are derived.
+const TOO_MANY: &str = "too large: facts\n";
+
 /// Two calls with the same words and the same bytes come to the same, where each wrote its whole output and neither
-/// gave up: what they write, and what they hand back but for the counts of facts and pairs.
+/// gave up: what they write, and what they hand back.
 pub fn calls_agree()
     ensures { (words : List (List ℕ)) (bytes : List ℕ) (source source' : SourceView) (ended : Ended)
         (output : List ℕ) (other other' : SourceView) (ended' : Ended) (output' : List ℕ)
         → CameTo words bytes source source' ended (Some ended.status) output
         → CameTo words bytes other other' ended' (Some ended'.status) output'
         → WasRead ended.status → WasRead ended'.status → IsSame ended output ended' output' }
-{}
+{
+    findings_are_exact();
+}
 
 /// Does what the words say: reads the file that they name from the source, analyses and runs its program, and writes
 /// what came of it to the sink. The words are the program's name and one file.
@@ -243,7 +255,7 @@ fn answer<K: Sink>(alloc: Global, bytes: &[u8], sink: &mut K) -> Result<Ended, A
         return Ok(deliver(sink, TOO_LARGE.as_bytes(), ended));
     }
     match program_of(alloc, bytes) {
-        Ok(contracted) => answer_program(alloc, contracted.checked().named(), sink),
+        Ok(program) => answer_program(alloc, &program, bytes, sink),
         Err(SourceError::Refused(refusal)) => refuse(alloc, refusal, sink),
         Err(SourceError::Memory) => Err(AllocError),
     }
@@ -263,23 +275,52 @@ fn refuse<K: Sink>(alloc: Global, refusal: Refusal, sink: &mut K) -> Result<Ende
     Ok(deliver(sink, text.as_bytes(), ended))
 }
 
-/// Writes the report of a program, runs it, and writes what came of that.
+/// Answers for the program of a source: analyses it first.
 fn answer_program<K: Sink>(
     alloc: Global,
-    program: &Named<'_>,
+    program: &Contracted<'_>,
+    source: &[u8],
     sink: &mut K,
 ) -> Result<Ended, AllocError>
-    ensures answered { IfOk result (λ ended. (words : List (List ℕ)) (bytes : List ℕ) (source source' : SourceView)
+    ensures answered { IfOk result (λ ended. (words : List (List ℕ)) (before after : SourceView)
         → AreCommandWords words
-        → IsAccepted bytes (program_tree program.now) → Answer words bytes source source'
+        → IsAccepted source.now (program_tree program.now.checked.named) → Answer words source.now before after
         (sink_view (K.written sink.old) (K.faults sink.old))
         (sink_view (K.written sink.new) (K.faults sink.new)) ended) }
-    ensures exhausted { OnErr result ((words : List (List ℕ)) (bytes : List ℕ) → AreCommandWords words
-        → IsAccepted bytes (program_tree program.now)
-        → WrittenBefore words bytes (K.written sink.old) (K.written sink.new)) }
+    ensures exhausted { OnErr result ((words : List (List ℕ)) → AreCommandWords words
+        → IsAccepted source.now (program_tree program.now.checked.named)
+        → WrittenBefore words source.now (K.written sink.old) (K.written sink.new)) }
 {
-    let analysis = analyse(alloc, program);
-    let text = report_text(alloc, &analysis.report)?;
+    match analyse(alloc, program) {
+        Ok(analysis) => answer_analysed(alloc, program, source, analysis, sink),
+        Err(SaturateError::TooMany) => {
+            let ended = Ended::before_analysis(alloc, Status::TooLarge, None);
+            Ok(deliver(sink, TOO_MANY.as_bytes(), ended))
+        }
+        Err(SaturateError::Memory) => Err(AllocError),
+    }
+}
+
+/// Writes the report of a program, runs it, and writes what came of that.
+fn answer_analysed<K: Sink>(
+    alloc: Global,
+    program: &Contracted<'_>,
+    source: &[u8],
+    analysis: Analysis,
+    sink: &mut K,
+) -> Result<Ended, AllocError>
+    ensures answered { IfOk result (λ ended. (words : List (List ℕ)) (before after : SourceView)
+        → AreCommandWords words
+        → IsAnalysis source.now (program_tree program.now.checked.named) analysis
+        → Answer words source.now before after
+        (sink_view (K.written sink.old) (K.faults sink.old))
+        (sink_view (K.written sink.new) (K.faults sink.new)) ended) }
+    ensures exhausted { OnErr result ((words : List (List ℕ)) → AreCommandWords words
+        → IsAnalysis source.now (program_tree program.now.checked.named) analysis
+        → WrittenBefore words source.now (K.written sink.old) (K.written sink.new)) }
+{
+    findings_are_exact();
+    let text = report_text(alloc, program, source, &analysis.report)?;
     let Ok(()) = write_all(sink, text.as_bytes()) else {
         return Ok(Ended::unwritten(alloc, analysis));
     };
@@ -288,22 +329,30 @@ fn answer_program<K: Sink>(
         history,
         lines,
         end,
-    } = run(alloc, program, EVENT_LIMIT)?;
+    } = run(alloc, program.checked().named(), EVENT_LIMIT)?;
     let text = end_text(alloc, &lines, end, history.len(), &config)?;
     let ended = Ended::ran(analysis, history, end, &config);
     Ok(deliver(sink, text.as_bytes(), ended))
 }
 
-/// The status of a run that ended so.
-fn status_of(end: End, config: &Config) -> Status
-    ensures { (names : List Name) → result ≡ status_for end (configuration names config.now) }
+/// The status of a run that ended so, of a program with this report.
+fn status_of(report: &Report, end: End, config: &Config) -> Status
+    ensures { (names : List Name) → result ≡ status_for report.now end (configuration names config.now) }
 {
     match end {
+        End::Done if lists_chain(report) => Status::Chains,
         End::Done if main_failed(config) => Status::Failed,
         End::Done => Status::Clean,
         End::Stalled => Status::Stalled,
         End::Spent => Status::Spent,
     }
+}
+
+/// Whether a report lists a circular chain.
+fn lists_chain(report: &Report) -> bool
+    ensures { result ≡ has_chain report.now }
+{
+    !report.is_empty()
 }
 
 /// Whether the main block's task ended by a fault.

@@ -7,9 +7,6 @@ ghost use Rattle.abs_program.specs.NamedViews.{program_tree};
 ghost use Rattle.abs_profile.specs.Accepted.{IsAcceptedProgram};
 ghost use Rattle.abs_command.specs.Sources.{IsProgramOf, FirstOffence, IsNameOf, HasOneFirstOffence};
 
-pub mod unsupported;
-
-use crate::source::unsupported::unsupported;
 use abs_lexer::lexer::tokens;
 use abs_names::resolve;
 use abs_parser::parse;
@@ -36,10 +33,7 @@ pub fn program_of<'a>(alloc: Global, text: &'a [u8]) -> Result<Contracted<'a>, S
     let program = resolve(alloc, tree)?;
     let checked = check(alloc, program)?;
     let contracted = infer(alloc, checked)?;
-    match unsupported(contracted.checked().named()) {
-        Some(offence) => Err(SourceError::Refused(offence.refusal())),
-        None => Ok(contracted),
-    }
+    Ok(contracted)
 }
 
 /// A source is refused for at most one offence.

@@ -1,4 +1,3 @@
 //! The output of the command.
 
 pub mod outcome;
-pub mod refusal;

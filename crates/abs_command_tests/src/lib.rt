@@ -1,9 +1,10 @@
-//! Tests of what no call of the built programs shows: a source and a sink over memory whose calls fail midway, and
-//! questions about types that the programs do not ask yet. They are a crate of their own, since a crate with tests is
-//! proved once more with them.
+//! Tests of what no call of the built programs shows: a source and a sink over memory whose calls fail midway,
+//! questions about types that the programs do not ask yet, and what follows from the promises of the command. They are
+//! a crate of their own, since a crate with tests is proved once more with them.
 #![tactic(auto)]
 
 #[cfg(test)]
 mod failing;
+pub mod promises;
 #[cfg(test)]
 mod types;

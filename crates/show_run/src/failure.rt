@@ -14,8 +14,9 @@ pub(crate) enum Failure {
     /// The words are not of this program.
     #[error("usage: show_run (history | steps | outputs) FILE, or show_run replay FILE TASKS")]
     Usage,
-    /// The source has more bytes than a source may have.
-    #[error("the source has too many bytes")]
+    /// The source has more bytes than a source may have; for a history it is also that more facts are derived than may
+    /// be.
+    #[error("the source is too large")]
     TooLarge,
     /// The file cannot be opened or read.
     #[error("the file cannot be read")]

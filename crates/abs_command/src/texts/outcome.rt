@@ -1,29 +1,17 @@
-//! The output for a report, and for a run.
+//! The output for a run, after its report.
 ghost use Rattle.std.specs.Prelude.{◌≡◌, ◌++◌, ℕ, List, length, map, IfOk, OnOk, codes, string_bytes};
 ghost use Rattle.std.specs.Option.{option_map};
 ghost use Rattle.abs_values.specs.Results.{result_tree};
 ghost use Rattle.abs_tree.specs.Syntax.{Name};
 ghost use Rattle.config_state.specs.ConfigViews.{configuration};
 ghost use Rattle.config_state.specs.Views.{task_state};
-ghost use Rattle.abs_command.specs.Texts.{report_lines, lines_text, end_line, fault_line as line_of, fault_lines, end_text as text_of, unfinished_of};
+ghost use Rattle.abs_command.specs.Texts.{lines_text, end_line, fault_line as line_of, fault_lines, end_text as text_of, unfinished_of};
 
-use crate::analysis::report::Report;
 use abs_tree::Text;
 use abs_values::Evaluated;
 use config_state::{Config, Lines, TaskCell};
 use std::alloc::{AllocError, Global};
 use step_rules::End;
-
-/// The lines of a report.
-///
-/// # Errors
-/// [`AllocError`] where memory runs out.
-pub fn report_text(alloc: Global, report: &Report) -> Result<Text, AllocError>
-    ensures { IfOk result (λ text. text ≡ report_lines report.now) }
-{
-    let text = format!(in alloc; "no circular chain\n")?;
-    Text::new(alloc, text.into_bytes())
-}
 
 /// The output for a run, after its report: what it printed, how it ended, and the faults of its tasks. `events` is how
 /// many events it had.

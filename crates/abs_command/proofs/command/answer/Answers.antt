@@ -23,15 +23,13 @@ returns-then-bytes-gt-SOURCE_LIMIT-clause-answered g c = λ words source source'
 
 pub returns-in-Ok-clause-answered : goal.returns-in-Ok-clause-answered
 returns-in-Ok-clause-answered g c = IfOk-weaker c.answer_program.result _ _
-    (λ ended answer words source source' named.
-    answer words c.args.bytes.now source source' named
-    (rw (c.named.ensures.program, c.checked.ensures.program) (record { small = omega arith; read = c.in-Ok.ensures.found })))
+    (λ ended answer words source source' named. answer words source source' named
+    (record { small = omega arith; read = c.in-Ok.ensures.found }))
     c.answer_program.ensures.answered
 
 pub returns-in-Ok-clause-exhausted : goal.returns-in-Ok-clause-exhausted
 returns-in-Ok-clause-exhausted g c = on_err_weaker c.answer_program.result
-    (λ written words named. written words c.args.bytes.now named
-    (rw (c.named.ensures.program, c.checked.ensures.program) (record { small = omega arith; read = c.in-Ok.ensures.found })))
+    (λ written words named. written words named (record { small = omega arith; read = c.in-Ok.ensures.found }))
     c.answer_program.ensures.exhausted
 
 pub returns-in-Err-Refused-clause-answered : goal.returns-in-Err-Refused-clause-answered

@@ -1,82 +1,34 @@
-use Rattle.std.proofs.Common.{◌≡◌, ◌≤◌, ◌∙◌, ◌++◌, refl, ap, sym, subst, ℕ, List, length, arith}
-use Rattle.std.specs.Io.KnownBytes.{Appends}
-use Rattle.std.specs.Prelude.{Some, None}
+use Rattle.std.proofs.Common.{ap, []}
+use Rattle.std.proofs.lemmas.Result.{IfOk-weaker, on_err_weaker}
+use Rattle.std.specs.Prelude.{Some}
 use Rattle.abs_program.specs.NamedViews.{program_tree}
-use Rattle.abs_tree.specs.Limits.{event_limit}
-use Rattle.abs_command.specs.Promises.Answer.{prefix}
-use Rattle.abs_command.specs.Ways.CameTo.{reported, ran}
-use Rattle.abs_command.specs.Promises.WrittenBefore.{report}
-use Rattle.config_state.specs.ConfigViews.{configuration}
-use Rattle.run_history.specs.Recorded.{Recorded}
-use Rattle.run_history.specs.Turns.{IsInTurn}
-use Rattle.step_rules.specs.Runs.{run_of, EndsAs}
-use Rattle.abs_command.specs.Texts.{report_lines, end_text}
-use Rattle.abs_command.proofs.AnswerLemmas.{delivered, analysed_by}
+use Rattle.abs_command.specs.Ways.CameTo.{overfull}
+use Rattle.abs_command.proofs.AnswerLemmas.{delivered}
 use Rattle.abs_command.proofs.command.answer_program.Goals as goal
-use Rattle.list_facts.proofs.ResultLemmas.{OnErr-always}
+use Rattle.list_facts.proofs.StreamLemmas.{Appends-nothing}
 
-pub returns-in_default-clause-answered : goal.returns-in_default-clause-answered
-returns-in_default-clause-answered g c = λ words bytes source source' named accepted.
-    prefix None c.as_bytes.result.now
-    (reported (record {
+pub returns-in-Ok-clause-answered : goal.returns-in-Ok-clause-answered
+returns-in-Ok-clause-answered g c = IfOk-weaker c.answer_analysed.result _ _
+    (λ ended answer words before after named accepted. answer words before after named
+    (record { accepted = accepted; few = c.in-Ok.ensures.few; findings = c.in-Ok.ensures.found }))
+    c.answer_analysed.ensures.answered
+
+pub returns-in-Ok-clause-exhausted : goal.returns-in-Ok-clause-exhausted
+returns-in-Ok-clause-exhausted g c = on_err_weaker c.answer_analysed.result
+    (λ written words named accepted. written words named
+    (record { accepted = accepted; few = c.in-Ok.ensures.few; findings = c.in-Ok.ensures.found }))
+    c.answer_analysed.ensures.exhausted
+
+pub returns-in-Err-TooMany-clause-answered : goal.returns-in-Err-TooMany-clause-answered
+returns-in-Err-TooMany-clause-answered g c = λ words before after named accepted.
+    delivered words c.args.source.now before after c.before_analysis-ended.result c.deliver.result _ _ _ []
+    c.as_bytes.result.now _ _ _
+    (overfull (record {
       named = named;
-      program = program_tree c.args.program.now;
-      analysed = analysed_by bytes c.unwritten.result (program_tree c.args.program.now) accepted
-          c.unwritten.ensures.refusal (c.unwritten.ensures.report ∙ c.analyse-analysis.ensures);
-      history = c.unwritten.ensures.history;
-      end = c.unwritten.ensures.end;
-      status = refl;
-      printed = c.as_bytes.ensures ∙ (c.in_ok-text.ensures ∙ sym (ap report_lines c.unwritten.ensures.report));
-    }))
-    c.unwritten.ensures.status c.in_default.ensures.prefix c.in_default.ensures.counted
-
-pub returns-in_err-config-clause-exhausted : goal.returns-in_err-config-clause-exhausted
-returns-in_err-config-clause-exhausted g c =
-    OnErr-always c.from_residual-in_err-config.result (λ words bytes named accepted.
-    report named (program_tree c.args.program.now) accepted
-    (subst (Appends (g.K.Sink.written c.args.sink.now) (g.K.Sink.written c.write_all.new.sink))
-    (c.as_bytes.ensures ∙ (c.in_ok-text.ensures ∙ ap report_lines c.analyse-analysis.ensures))
-    c.in-Ok.ensures.whole))
-
-pub returns-in_err-text-2-clause-exhausted : goal.returns-in_err-text-2-clause-exhausted
-returns-in_err-text-2-clause-exhausted g c =
-    OnErr-always c.from_residual-in_err-text-2.result (λ words bytes named accepted.
-    report named (program_tree c.args.program.now) accepted
-    (subst (Appends (g.K.Sink.written c.args.sink.now) (g.K.Sink.written c.write_all.new.sink))
-    (c.as_bytes.ensures ∙ (c.in_ok-text.ensures ∙ ap report_lines c.analyse-analysis.ensures))
-    c.in-Ok.ensures.whole))
-
-pub returns-clause-answered : goal.returns-clause-answered
-returns-clause-answered g c = λ words bytes source source' named accepted.
-    let run = c.in_ok-config.field-0 in
-    let names = c.args.program.now.symbols in
-    let config = configuration names run.config in
-    let outcome : c.as_bytes-2.result.now ≡ end_text run.lines run.end (length run.history.tasks) config.tasks =
-    c.as_bytes-2.ensures ∙ (c.in_ok-text-2.ensures names
-    ∙ ap (λ (n : ℕ). end_text run.lines run.end n config.tasks) c.len.ensures) in
-    let tasks : run.history.tasks ≡ c.ran-ended.result.history.tasks =
-    ap (λ (history : Recorded). history.tasks) (sym c.ran-ended.ensures.history) in
-    let program = program_tree c.args.program.now in
-    delivered words bytes source source' c.ran-ended.result c.deliver.result _ _ _ c.as_bytes.result.now
-    c.as_bytes-2.result.now _ _ _
-    (ran (record {
-      named = named;
-      program = program;
-      analysed = analysed_by bytes c.ran-ended.result program accepted c.ran-ended.ensures.refusal
-          (c.ran-ended.ensures.report ∙ c.analyse-analysis.ensures);
-      ran = record { config = config; lines = run.lines };
-      legal = subst (λ (history : List ℕ). run_of program history
-          ≡ Some (record { config = config; lines = run.lines })) tasks c.in_ok-config.ensures.legal;
-      in_turn = subst (IsInTurn program) tasks c.in_ok-config.ensures.in_turn;
-      few = subst (λ (history : List ℕ). length history ≤ event_limit) tasks c.in_ok-config.ensures.few;
-      end = run.end;
-      end_is = c.ran-ended.ensures.end;
-      ends = subst (λ (history : List ℕ). EndsAs program event_limit history config run.end) tasks
-          c.in_ok-config.ensures.ends;
-      status = ap Some (c.ran-ended.ensures.status names);
-      printed = ap (λ (output : List ℕ). output ++ c.as_bytes-2.result.now)
-          (c.as_bytes.ensures ∙ (c.in_ok-text.ensures ∙ sym (ap report_lines c.ran-ended.ensures.report)))
-          ∙ ap (λ (output : List ℕ). report_lines c.ran-ended.result.report ++ output) (outcome
-          ∙ ap (λ (history : List ℕ). end_text run.lines run.end (length history) config.tasks) tasks);
-    })) c.in-Ok.ensures.whole c.deliver.ensures.delivered
-    (λ rose room. let more = rose room in let kept = c.in-Ok.ensures.never_falls in omega arith)
+      program = program_tree c.args.program.now.checked.named;
+      accepted = accepted;
+      cause = c.in-Err-TooMany.ensures.too_many c.in-Err-TooMany.field-0-is;
+      fields = c.before_analysis-ended.ensures.fields;
+      status = ap Some c.before_analysis-ended.ensures.status;
+      printed = c.as_bytes.ensures.value;
+    })) (Appends-nothing _) c.deliver.ensures.delivered (λ rose. rose)

@@ -1,8 +1,6 @@
 use Rattle.std.proofs.Common.{◌≡◌, [], subst, sym, ap, ◌∙◌}
 use Rattle.std.proofs.lemmas.Result.{err_from_is_err_and}
-use Rattle.abs_tree.proofs.OffenceLemmas.{no_offence}
 use Rattle.abs_program.specs.declared.named.Named.{Named}
-use Rattle.abs_tree.specs.Offences.{first_offence}
 use Rattle.abs_tree.specs.SourceErrors.{HasCause}
 use Rattle.abs_program.specs.NamedViews.{named_tree}
 use Rattle.abs_tree.specs.SourceViews.{source_tree}
@@ -13,8 +11,7 @@ use Rattle.abs_types.specs.TypeOffences.{type_offences}
 use Rattle.abs_types.specs.declared.checked.Checked.{Checked}
 use Rattle.abs_profile.specs.Profile.{profile_offences}
 use Rattle.abs_command.specs.Sources.{IsTree, FirstOffence}
-use Rattle.abs_command.specs.Sources.FirstOffence.{unread, misnamed, mistyped, outside_profile, unsupported}
-use Rattle.abs_command.specs.Unsupported.{get_offences}
+use Rattle.abs_command.specs.Sources.FirstOffence.{unread, misnamed, mistyped, outside_profile}
 use Rattle.abs_command.proofs.ResultLemmas.{cause_follows}
 use Rattle.abs_command.proofs.SourceLemmas.{first_refused, program_names}
 use Rattle.abs_command.proofs.source.program_of.Goals as goal
@@ -30,7 +27,6 @@ returns-clause-found c =
     let tree = c.in_ok-tree.tree in
     let checked = ap (λ (it : Checked). it.named) c.in_ok-contracted.ensures.same in
     let same = checked ∙ c.in_ok-checked.ensures.same in
-    let asked = c.named.ensures.program ∙ ap (λ (it : Checked). it.named) c.checked.ensures.program in
     record {
       names = tree.symbols;
       tree = source_tree tree;
@@ -42,8 +38,6 @@ returns-clause-found c =
       typed = ap (λ (named : Named). type_offences (named_tree named)) same ∙ c.in_ok-checked.ensures.accepted;
       profiled = ap (λ (named : Named). profile_offences (named_tree named)) checked
           ∙ c.in_ok-contracted.ensures.in_profile;
-      runs = ap (λ (named : Named). get_offences (named_tree named)) (sym asked)
-          ∙ no_offence _ (sym c.unsupported.ensures ∙ c.in-None.is);
     }
 
 pub returns-in_err-tree-clause-refused : goal.returns-in_err-tree-clause-refused
@@ -91,24 +85,3 @@ returns-in_err-contracted-clause-refused c =
     (λ refusal first. outside_profile tree.symbols (source_tree tree) read c.in_ok-program.ensures.accepted typed
     (subst (λ (program : SourceTree). RefusesFirst (profile_offences program) refusal) same
     (first_refused _ refusal first)))))
-
-pub returns-in-Some-clause-refused : goal.returns-in-Some-clause-refused
-returns-in-Some-clause-refused c =
-    let tree = c.in_ok-tree.tree in
-    let read : IsTree c.args.text.now tree.symbols (source_tree tree) =
-    record { list = c.in_ok-list.list; tokens = c.in_ok-list.ensures.found; is = c.in_ok-tree.ensures.found } in
-    let asked = c.named.ensures.program ∙ ap (λ (it : Checked). it.named) c.checked.ensures.program in
-    let checked : named_tree c.in_ok-checked.checked.named ≡ resolved (source_tree tree) =
-    ap named_tree c.in_ok-checked.ensures.same ∙ c.in_ok-program.ensures.found in
-    let same : named_tree c.named.result.now ≡ resolved (source_tree tree) =
-    ap named_tree (asked ∙ ap (λ (it : Checked). it.named) c.in_ok-contracted.ensures.same) ∙ checked in
-    let typed : type_offences (resolved (source_tree tree)) ≡ [] =
-    ap type_offences (sym c.in_ok-program.ensures.found) ∙ c.in_ok-checked.ensures.accepted in
-    let profiled : profile_offences (resolved (source_tree tree)) ≡ [] =
-    ap profile_offences (sym checked) ∙ c.in_ok-contracted.ensures.in_profile in
-    unsupported tree.symbols (source_tree tree) read c.in_ok-program.ensures.accepted typed profiled (record {
-      first = c.in-Some.offence;
-      is_first = ap (λ (program : SourceTree). first_offence (get_offences program)) (sym same)
-          ∙ (sym c.unsupported.ensures ∙ c.in-Some.is);
-      refusal_is = c.refusal.ensures;
-    })
