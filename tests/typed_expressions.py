@@ -48,7 +48,7 @@ def parens(items):
 
 class Expressions:
     """Makes the expressions and the right sides of one program: of any one, or of one that runs, which keeps to the
-    profile of the language and has no `get`."""
+    profile of the language."""
 
     def __init__(self, rng, runs):
         self.rng, self.runs, self.number = rng, runs, 0
@@ -348,8 +348,8 @@ class Expressions:
     def right_side(self, scope):
         """Some right side that is no expression: its type, and its tokens; None where there is none of that kind."""
         ways = [lambda: self.call_of(scope, "!"), lambda: self.new_of(scope)]
-        if not self.runs:
-            ways += [lambda: self.call_of(scope, "."), lambda: self.get_of(scope)]
+        ways += [] if self.runs else [lambda: self.call_of(scope, ".")]
+        ways.append(lambda: self.get_of(scope))
         if scope.kind == "method":
             ways += [lambda: self.own_call_of(scope, "!"), lambda: self.own_call_of(scope, ".")]
         return self.rng.choice(ways)()

@@ -1,0 +1,3 @@
+#!/bin/sh
+# the source recursive_new_cog.abs among the trees
+exec cat "$(dirname "$0")/../trees/recursive_new_cog.abs"
