@@ -499,6 +499,54 @@ assigned_of() {
     }'
 }
 
+# Prints $1 objects, each in a cog of its own, in rings of $2: a method of each calls the same method of the next one, and
+# waits for it by the statement $3. The main block calls one of each ring.
+rings_of() {
+    LC_ALL=C awk -v objects="$1" -v size="$2" -v waits="$3" 'BEGIN {
+        print "interface I { Unit set(I n); Unit go(); }\nclass C implements I {\nI next;"
+        print "Unit set(I n) { next = n; }\nUnit go() { Fut<Unit> f = next!go(); " waits " }\n}\n{"
+        for (n = 1; n <= objects; n++) print "I o" n " = new cog C();"
+        for (n = 1; n <= objects; n++) print "o" n "!set(o" (n % size ? n + 1 : n - size + 1) ");"
+        for (n = 1; n <= objects; n += size) print "o" n "!go();"
+        print "}"
+    }'
+}
+await_ring_of() {
+    rings_of "$1" "$1" "await f?;"
+}
+get_ring_of() {
+    rings_of "$1" "$1" "f.get;"
+}
+twos_of() {
+    rings_of $((2 * $1)) 2 "f.get;"
+}
+
+# Prints a ring of $1 objects that get from one another, each of a class of its own. The classes are spread over most of
+# a megabyte, since 14 lines of comments come after each.
+long_ring_of() {
+    LC_ALL=C awk -v objects="$1" 'BEGIN {
+        print "interface I { Unit set(I n); Unit go(); }"
+        for (n = 1; n <= objects; n++) {
+            print "class C" n " implements I { I next; Unit set(I n) { next = n; }"
+            print "  Unit go() { Fut<Unit> f = next!go(); f.get; }\n}"
+            for (m = 0; m < 14; m++) print "// the next class comes after these lines, of which none is it"
+        }
+        print "{"
+        for (n = 1; n <= objects; n++) print "I o" n " = new cog C" n "();"
+        for (n = 1; n <= objects; n++) print "o" n "!set(o" n % objects + 1 ");"
+        print "o1!go();\n}"
+    }'
+}
+
+# Prints a main block of $1 calls of an object in its own cog, each with a `get` of what it gives.
+alone_of() {
+    LC_ALL=C awk -v calls="$1" 'BEGIN {
+        print "interface I { Unit m(); }\nclass C implements I { Unit m() { } }\n{\nI o = new C();"
+        for (n = 1; n <= calls; n++) print "Fut<Unit> f" n " = o!m(); f" n ".get;"
+        print "}"
+    }'
+}
+
 # Prints a main block of $1 assignments, each of an expression that reads one local 10,000 times.
 reads_of() {
     LC_ALL=C awk -v assignments="$1" 'BEGIN {
