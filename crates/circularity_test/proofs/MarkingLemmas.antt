@@ -2,6 +2,7 @@
 --
 --   `AreMarked-chain`          the marks once a chain is listed
 --   `comes_by_way`, `awaits_are_free`      what comes next of a `get`, and why nothing does of an `await`
+--   `no_get_no_chain`          nothing is listed where no pair is a `get`
 --   `report_begins`            what is listed for no pair
 --   `none_next`, `chain_next`  what is listed for one more pair: nothing, or its chain
 --   `report_ends`              what is listed for all pairs
@@ -19,7 +20,7 @@ use Rattle.std.specs.declared.vec.Vec.{Vec}
 use Rattle.abs_graph.specs.Graphs.{is_marked}
 use Rattle.abs_tree.specs.Syntax.{ProgramTree}
 use Rattle.circularity_test.proofs.IndexLemmas.{one_index}
-use Rattle.circularity_test.specs.Reporting.{AreMarked, ComesNext, mark_all, IsReported}
+use Rattle.circularity_test.specs.Reporting.{AreAwaits, AreMarked, ComesNext, mark_all, IsReported}
 use Rattle.circularity_test.specs.Routes.{IsWayBack, Picks}
 use Rattle.contract_terms.specs.Chains.{Closes, ClosesAt, IsLeast, Reports, done, passed, free, listed, IsReport}
 use Rattle.contract_terms.specs.Pairs.{pair_order}
@@ -98,6 +99,18 @@ pub awaits_are_free : (program : ProgramTree) (pairs : List Pair) (pair : Pair) 
 awaits_are_free program pairs pair awaits chain closes =
     let both : Get ≡ Await = sym (closes_gets program pair pair closes.others closes.closes) ∙ awaits in
     absurd (cc)
+
+-- the report of pairs without a `get` lists nothing
+awaits_report : (program : ProgramTree) (pairs left : List Pair)
+    → ((index : ℕ) (pair : Pair) → slice_get left index ≡ Some pair → pair.mode ≡ Await)
+    → Reports program pairs left [] []
+awaits_report program pairs [] awaits = done []
+awaits_report program pairs (pair ∷ left) awaits =
+    free pair left [] [] (awaits_are_free program pairs pair (awaits 0 pair refl))
+    (awaits_report program pairs left (λ index one there. awaits (suc index) one there))
+
+pub no_get_no_chain : (program : ProgramTree) (pairs : List Pair) → AreAwaits pairs → IsReport program pairs []
+no_get_no_chain program pairs awaits = awaits_report program pairs pairs awaits
 
 unmarked_at : (count index : ℕ) → is_marked (replicate count false) index ≡ false
 unmarked_at zero index = refl

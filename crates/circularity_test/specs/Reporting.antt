@@ -1,5 +1,6 @@
 -- Which pairs are listed already, and what is listed for the pairs before an index. It serves proofs only.
 --
+--   `AreAwaits`                no pair is a `get`
 --   `AreMarked`, `mark_all`    just the pairs that are listed have a mark; marks are set at some indices
 --   `ComesNext`                which chain is listed for a pair, by its mark
 --   `IsReported`               the chains for the pairs before an index are listed
@@ -10,7 +11,12 @@ use Rattle.abs_graph.specs.Graphs.{is_marked}
 use Rattle.abs_tree.specs.Syntax.{ProgramTree}
 use Rattle.circularity_test.specs.Routes.{IsWayBack}
 use Rattle.contract_terms.specs.Chains.{ClosesAt, Reports, IsReport}
+use Rattle.contract_terms.specs.declared.pair.Mode.TheVariants.{Await}
 use Rattle.contract_terms.specs.declared.pair.Pair.{Pair}
+
+-- each pair is an `await`
+abbrev pub AreAwaits : List Pair → Type 0
+AreAwaits pairs = (index : ℕ) (pair : Pair) → slice_get pairs index ≡ Some pair → pair.mode ≡ Await
 
 -- just the pairs that are listed have a mark
 abbrev pub AreMarked : List Pair → List Bool → List Pair → Type 0

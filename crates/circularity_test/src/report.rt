@@ -5,7 +5,7 @@ ghost use Rattle.abs_graph.specs.Graphs.{is_marked as is_marked_in};
 ghost use Rattle.abs_program.specs.NamedViews.{program_tree};
 ghost use Rattle.abs_tree.specs.Syntax.{ProgramTree};
 ghost use Rattle.circularity_test.specs.Network.{IsNetwork};
-ghost use Rattle.circularity_test.specs.Reporting.{ComesNext, IsReported, mark_all};
+ghost use Rattle.circularity_test.specs.Reporting.{AreAwaits, ComesNext, IsReported, mark_all};
 ghost use Rattle.circularity_test.specs.Routes.{Picks};
 ghost use Rattle.contract_terms.specs.Chains.{IsReport};
 ghost use Rattle.contract_terms.specs.Pairs.{pair_order};
@@ -165,6 +165,18 @@ fn mark_one(marked: &mut Vec<bool>, index: usize)
     }
 }
 
+/// Whether no pair is a `get`, so that there is no chain.
+fn never_gets(pairs: &Pairs) -> bool
+    ensures { result ≡ true → AreAwaits pairs.now }
+{
+    for index in 0..pairs.len() {
+        if pairs.at(index).mode == Mode::Get {
+            return false;
+        }
+    }
+    true
+}
+
 /// The report of some pairs: for each `get` that no chain before lists, the first circular chain that leads back to it.
 ///
 /// # Errors
@@ -172,6 +184,9 @@ fn mark_one(marked: &mut Vec<bool>, index: usize)
 pub fn chains(alloc: Global, program: &Contracted<'_>, list: &Pairs) -> Result<Report, AllocError>
     ensures { IfOk result (λ report. IsReport (program_tree program.now.checked.named) list.now report) }
 {
+    if never_gets(list) {
+        return Ok(Report::new(alloc));
+    }
     let network = Network::new(alloc, program, list)?;
     let mut report = Report::new(alloc);
     let mut marked = unmarked(alloc, list.len())?;

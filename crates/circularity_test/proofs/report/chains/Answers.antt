@@ -1,9 +1,16 @@
 use Rattle.std.proofs.Common.{◌≤◌, ◌∙◌, List, false, ap, replicate, subst, sym}
 use Rattle.abs_program.specs.NamedViews.{program_tree}
-use Rattle.circularity_test.proofs.MarkingLemmas.{report_begins, report_ends}
+use Rattle.circularity_test.proofs.MarkingLemmas.{no_get_no_chain, report_begins, report_ends}
 use Rattle.circularity_test.proofs.report.chains.Goals as goal
 use Rattle.circularity_test.specs.Reporting.{IsReported}
+use Rattle.contract_terms.specs.Chains.{IsReport}
 use Rattle.contract_terms.specs.declared.pair.Pair.{Pair}
+
+pub returns-then-never_gets : goal.returns-then-never_gets
+returns-then-never_gets c =
+    subst (IsReport (program_tree c.args.program.now.checked.named) c.args.list.now) (sym c.new.ensures)
+    (no_get_no_chain (program_tree c.args.program.now.checked.named) c.args.list.now
+    (c.never_gets.ensures c.if-never_gets.true))
 
 pub loop-index-init : goal.loop-index-init
 loop-index-init c =
