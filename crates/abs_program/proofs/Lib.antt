@@ -18,3 +18,9 @@ mod BodyRowLemmas
 mod ClassEntryLemmas
 pub mod KnownNameLemmas
 pub mod ShareLemmas
+pub mod EqualNameLemmas
+pub mod EqualTypeLemmas
+pub mod EqualPatternLemmas
+pub mod EqualExprLemmas
+pub mod EqualStatementLemmas
+pub mod EqualDeclarationLemmas

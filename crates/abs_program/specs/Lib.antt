@@ -31,3 +31,4 @@ pub mod NamedDeclarations
 pub mod FieldRows
 pub mod SignatureRows
 pub mod MethodEntries
+pub mod Comparisons

@@ -2,6 +2,7 @@
 //! its statements do and where control goes.
 #![tactic(auto)]
 
+pub mod comparing;
 pub mod known;
 pub mod laws;
 pub mod meanings;
@@ -11,6 +12,7 @@ pub mod readers;
 pub mod sharing;
 pub mod tables;
 
+pub use comparing::{functions_equal, named_equal};
 pub use known::knows_names;
 pub use laws::{
     bodies_are_in_programs, control_leaves_the_rest, declared_is_there, facts_follow_control,

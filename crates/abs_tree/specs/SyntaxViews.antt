@@ -191,7 +191,7 @@ abbrev mutual
   statement_row names (code_stmt.more_of-Stmt stmt others) =
       NextStatement (statement names stmt) (statement_row names others)
 
-  else_held : List Name → code_stmt.Held-Stmt-If-4 → MaybeStatements
+  pub else_held : List Name → code_stmt.Held-Stmt-If-4 → MaybeStatements
   else_held names code_stmt.None' = NoElse
   else_held names (code_stmt.Some' shape other) = Else (statement_row names other)
 

@@ -1,5 +1,5 @@
 //! Symbols: the names of a source as numbers.
-ghost use Rattle.std.specs.Prelude.{◌≡◌, ◌^◌, ◌<◌, ◌≤◌, [], length, IfOk, OnOk, OnErr};
+ghost use Rattle.std.specs.Prelude.{◌≡◌, ◌↔◌, ◌^◌, ◌<◌, ◌≤◌, [], length, IsTrue, IfOk, OnOk, OnErr};
 ghost use Rattle.abs_tree.specs.Names.{with_name, number_of_name, symbol_in, name_of};
 
 use indexmap::IndexSet;
@@ -40,6 +40,13 @@ impl<'a> Symbols<'a> {
         ensures { result ≡ length self.now }
     {
         self.names.len()
+    }
+
+    /// Whether two tables have the same names in the same order. It takes no memory.
+    pub fn same_names(&self, other: &Symbols<'_>) -> bool
+        ensures { IsTrue result ↔ (self.now ≡ other.now) }
+    {
+        self.names.as_slice() == other.names.as_slice()
     }
 
     /// The name of a symbol. A symbol that this table does not have gets the empty name.

@@ -8,7 +8,7 @@ use Rattle.std.specs.Option.{option_eq}
 use Rattle.abs_values.proofs.SameValueLemmas.{same_value-Decides}
 use Rattle.abs_values.specs.Scopes.{Scope}
 use Rattle.abs_values.specs.ValueTrees.{ValueTree, same_value}
-use Rattle.step_rules.proofs.EqualNameLemmas.{decided}
+use Rattle.abs_program.proofs.EqualNameLemmas.{decided}
 
 -- lists of values
 values_equal-Decides : (ones others : List ValueTree) → Decides (pointwise same_value ones others) (ones ≡ others)

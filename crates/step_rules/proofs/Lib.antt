@@ -39,8 +39,4 @@ mod PlanningLemmas
 mod PlacingLemmas
 mod FormedNamesLemmas
 mod InstallLemmas
-mod EqualNameLemmas
-mod EqualTypeLemmas
-mod EqualPatternLemmas
-mod EqualExprLemmas
 mod EqualScopeLemmas

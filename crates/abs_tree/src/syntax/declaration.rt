@@ -18,7 +18,7 @@ pub struct Declared {
 }
 
 /// A parameter: `T x`, with the place of the name.
-#[derive(Drop)]
+#[derive(PartialEq, Eq, Drop)]
 pub struct Param {
     pub type_of: TypeTerm,
     pub place: Place,
@@ -26,14 +26,14 @@ pub struct Param {
 }
 
 /// A constructor of data, with the types of its arguments.
-#[derive(Drop)]
+#[derive(PartialEq, Eq, Drop)]
 pub struct Constructor {
     pub name: Declared,
     pub types: Vec<TypeTerm>,
 }
 
 /// The head of a method.
-#[derive(Drop)]
+#[derive(PartialEq, Eq, Drop)]
 pub struct Signature {
     pub result: TypeTerm,
     pub name: Declared,
@@ -41,16 +41,18 @@ pub struct Signature {
 }
 
 /// The statements of a method or of the main block, and the place of its closing brace. Once variables are resolved, it
-/// also has its slots.
+/// also has its slots. They follow from its parameters and its statements, so `==` leaves them out.
 #[derive(Drop)]
+#[derive_where(PartialEq, Eq)]
 pub struct Body {
     pub statements: Vec<Stmt>,
     pub end: Place,
+    #[derive_where(skip(EqHashOrd))]
     pub slots: Vec<Slot>,
 }
 
 /// A member of a class.
-#[derive(Drop)]
+#[derive(PartialEq, Eq, Drop)]
 pub enum Member {
     /// `T x;` or `T x = e;`
     Field {
@@ -63,7 +65,7 @@ pub enum Member {
 }
 
 /// A declaration.
-#[derive(Drop)]
+#[derive(PartialEq, Eq, Drop)]
 pub enum Decl {
     /// `data D<A, ..> = C(T, ..) | ..;`
     Data {

@@ -21,7 +21,7 @@ pub enum Mode {
 
 /// The right side of `=`, which may also be a statement of its own. The operands of a call on an object are its
 /// receiver, and after it its arguments.
-#[derive(Drop)]
+#[derive(PartialEq, Eq, Drop)]
 pub enum RightSide {
     /// `new C(es)`, with the place of the class.
     New {
@@ -70,7 +70,7 @@ impl RightSide {
 }
 
 /// A part of a guard.
-#[derive(Drop)]
+#[derive(PartialEq, Eq, Drop)]
 pub struct Test {
     pub place: Place,
     pub value: Arc<Expr>,
@@ -93,7 +93,7 @@ pub enum Target {
 
 /// A statement, with the place of its first token. Each statement that is not a block has an index: statements are
 /// numbered from 0 in the order in which they begin. A branch is a list of statements; without braces it has one.
-#[derive(Drop)]
+#[derive(PartialEq, Eq, Drop)]
 #[cycle(statements)]
 pub enum Stmt {
     /// `{ s .. }`

@@ -1,6 +1,6 @@
 use Rattle.std.proofs.Common.{sym, ◌∙◌}
-use Rattle.step_rules.proofs.EqualNameLemmas.{decided}
-use Rattle.step_rules.proofs.EqualExprLemmas.{exprs_equal-Decides}
+use Rattle.abs_program.proofs.EqualNameLemmas.{decided}
+use Rattle.abs_program.proofs.EqualExprLemmas.{exprs_equal-Decides}
 use Rattle.step_rules.proofs.inputs.exprs_equal.Goals as goal
 
 pub returns : goal.returns

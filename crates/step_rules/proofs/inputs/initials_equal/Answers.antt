@@ -1,6 +1,6 @@
 use Rattle.std.proofs.Common.{sym, ◌∙◌}
-use Rattle.step_rules.proofs.EqualNameLemmas.{decided}
-use Rattle.step_rules.proofs.EqualExprLemmas.{shared_equal-Decides}
+use Rattle.abs_program.proofs.EqualNameLemmas.{decided}
+use Rattle.abs_program.proofs.EqualExprLemmas.{shared_equal-Decides}
 use Rattle.step_rules.proofs.inputs.initials_equal.Goals as goal
 
 pub returns : goal.returns

@@ -1,16 +1,17 @@
 -- The derived comparison of types is true exactly where their trees are the same whatever names the symbols have.
 --
 --   `type_equal-Decides`       the comparison of types
-use Rattle.std.proofs.Common.{◌≡◌, ℕ, false, eqb, List, [], Decides, refl}
+--   `types_equal-Decides`      that of lists of types
+use Rattle.std.proofs.Common.{◌≡◌, ℕ, false, eqb, List, [], ◌∷◌, Decides, refl}
 use Rattle.std.proofs.lemmas.Bool.Decides.{Decides-and, Decides-at, Decides-eqb}
 use Rattle.std.specs.Cmp.Lexicographic.{pointwise}
 use Rattle.abs_tree.specs.Syntax.{Name, TypeTree, UnresolvedType, IntType, StringType, FutType, DataType, InterfaceType, ParameterType, BottomType, NullType, ClassType, TypeTrees, NoType, NextType}
-use Rattle.abs_tree.specs.SyntaxViews.{type_tree, type_row}
+use Rattle.abs_tree.specs.SyntaxViews.{type_tree, type_row, type_trees}
 use Rattle.abs_tree.specs.contracts.syntax.types.TypeTermPartialEq.TheImpl as type_impl
 use Rattle.abs_tree.specs.contracts.syntax.types.TypeTermPartialEq.TheImpl.Laws as type_laws
 use Rattle.abs_tree.specs.declared.syntax.types.TypeTerm as code
 use Rattle.abs_tree.specs.declared.syntax.types.TypeTerm.{TypeTerm, out-TypeTerm, Row_of-TypeTerm, end_of-TypeTerm, more_of-TypeTerm, items-the_row-TypeTerm, items_shown-the_row-TypeTerm-0}
-use Rattle.step_rules.proofs.EqualNameLemmas.{apart_by, decided, decided_items, place_equal-Decides, symbol_equal-Decides}
+use Rattle.abs_program.proofs.EqualNameLemmas.{apart_by, decided, decided_items, place_equal-Decides, symbol_equal-Decides}
 use denote.Hole.Carrier.{out}
 
 -- a number for each constructor of a type
@@ -101,3 +102,14 @@ mutual
       (λ same. (λ names. cc (same names), λ names. cc (same names)))
   types_in_row-Decides n row m others =
       apart_by types_number (λ names. type_row names row) (λ names. type_row names others) _ refl refl
+
+-- lists of types
+pub types_equal-Decides : (ones others : List TypeTerm) → Decides (pointwise type_impl.ghosts.eq ones others)
+    ((names : List Name) → type_trees names ones ≡ type_trees names others)
+types_equal-Decides [] [] = (λ reported names. refl, λ same. refl)
+types_equal-Decides (one ∷ ones) (other ∷ others) =
+    decided refl (Decides-and _ _ (type_equal-Decides one other) (types_equal-Decides ones others))
+    (λ same names i. NextType (same.0 names i) (same.1 names i))
+    (λ same. (λ names. cc (same names), λ names. cc (same names)))
+types_equal-Decides ones others =
+    apart_by types_number (λ names. type_trees names ones) (λ names. type_trees names others) _ refl refl

@@ -11,7 +11,7 @@ use Rattle.abs_tree.specs.contracts.syntax.pattern.PatternPartialEq.TheImpl as p
 use Rattle.abs_tree.specs.contracts.syntax.pattern.PatternPartialEq.TheImpl.Laws as pattern_laws
 use Rattle.abs_tree.specs.declared.syntax.pattern.Pattern as code
 use Rattle.abs_tree.specs.declared.syntax.pattern.Pattern.{Pattern, out-Pattern, Row_of-Pattern, end_of-Pattern, more_of-Pattern, items-the_row-Pattern, items_shown-the_row-Pattern-0}
-use Rattle.step_rules.proofs.EqualNameLemmas.{apart_by, decided, decided_items, place_equal-Decides, symbol_equal-Decides, variable_equal-Decides}
+use Rattle.abs_program.proofs.EqualNameLemmas.{apart_by, decided, decided_items, place_equal-Decides, symbol_equal-Decides, variable_equal-Decides}
 use denote.Hole.Carrier.{out}
 
 -- a number for each constructor of a pattern, and of a list of patterns

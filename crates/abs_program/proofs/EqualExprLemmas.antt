@@ -19,9 +19,9 @@ use Rattle.abs_tree.specs.declared.syntax.expression.Expr as code
 use Rattle.abs_tree.specs.declared.syntax.expression.Expr.{Expr, out-Expr, Row_of-Expr, end_of-Expr, more_of-Expr, items-the_row-Expr, items_shown-the_row-Expr-1, Row_of-Operand, end_of-Operand, more_of-Operand, items-the_row-Operand, items_shown-the_row-Operand-0, Row_of-Branch, end_of-Branch, more_of-Branch, items-the_row-Branch, items_shown-the_row-Branch-2}
 use Rattle.abs_tree.specs.declared.syntax.expression.Expr.TheBlock as block
 use Rattle.abs_tree.specs.declared.syntax.expression.Operand.{Operand}
-use Rattle.step_rules.proofs.EqualNameLemmas.{apart_by, decided, decided_items, place_equal-Decides, symbol_equal-Decides, variable_equal-Decides, operator_equal-Decides, prefix_equal-Decides}
-use Rattle.step_rules.proofs.EqualPatternLemmas.{pattern_equal-Decides}
-use Rattle.step_rules.proofs.EqualTypeLemmas.{type_equal-Decides}
+use Rattle.abs_program.proofs.EqualNameLemmas.{apart_by, decided, decided_items, place_equal-Decides, symbol_equal-Decides, variable_equal-Decides, operator_equal-Decides, prefix_equal-Decides}
+use Rattle.abs_program.proofs.EqualPatternLemmas.{pattern_equal-Decides}
+use Rattle.abs_program.proofs.EqualTypeLemmas.{type_equal-Decides}
 use denote.Hole.Carrier.{Values, out}
 use denote.Hole.Compared.{compared_is}
 
