@@ -1,28 +1,30 @@
--- Which tasks have an event, as the code finds it: from the innermost frame, and from what its next statement does.
+-- Which future a task waits for, as the code finds it: from the innermost frame, and from what its next statement does.
 --
 --   `next_effect_found`                what the next statement does is the effect of its instruction
 --   `task_found`                       the task with an index
 --   `open_by_outcome`, `none_open`     a task is unfinished where it is there and has no result
---   `open_get_by`                      whether a task is at an open `get`, by the slot that its next statement gets
---   `resolved_by`                      whether the futures of a guard are resolved, by the slots that it names
-use Rattle.std.proofs.Common.{◌≡◌, ◌≢◌, ◌≤◌, ℕ, Bool, true, false, not, is_some, MatchBool, All, List, length, slice_get, Option, Some, None, option_and_then, option_map, refl, sym, ap, ◌∙◌}
-use Rattle.std.proofs.lemmas.Option.{same_Some, slice_get-map, slice_get_past}
+--   `slot_open`, `no_slot_open`        which unresolved future a slot holds, by its value; a slot past the end holds none
+--   `NoneOpenBefore`, `none_open_more`, `none_open_all`, `one_open`    which of several slots hold an unresolved future
+--   `open_get_by`                      which future a task gets, by the slot that its next statement names
+--   `open_await_by`                    which future a task awaits, by the slots that its next statement names
+--   `waits_at_get`, `waits_at_await`   this is the future that it waits for
+--   `waits_there`, `never_waits_there`     the same of the task at its index
+use Rattle.std.proofs.Common.{◌≡◌, ◌<◌, ◌≤◌, ℕ, ◌+◌, Bool, true, false, not, is_some, MatchBool, IfSome, IfNone, List, length, slice_get, get_or, Option, Some, None, option_and_then, option_map, refl, sym, ap, ◌∙◌, subst, below_more, arith}
+use Rattle.std.proofs.lemmas.Option.{none-some, same_Some, slice_get-get_or, slice_get-map, slice_get_past, slice_get_within}
 use Rattle.abs_program.specs.Control.{Point, program_points}
 use Rattle.abs_program.specs.Instructions.{EffectTree, Awaits, Gets, effect_of, InstructionTree, instruction_of, instructions}
 use Rattle.abs_values.specs.Results.{result_tree}
 use Rattle.abs_tree.specs.Syntax.{Name, VariableTree, ProgramTree}
-use Rattle.abs_values.specs.ValueTrees.{ValueTree, IntValue, StringValue, BuiltValue, ObjectValue, FutureValue, NullValue}
+use Rattle.abs_values.specs.ValueTrees.{ValueTree, FutureValue}
 use Rattle.abs_values.specs.declared.evaluated.Evaluated.{Evaluated}
 use Rattle.config_state.specs.ConfigViews.{configuration}
 use Rattle.config_state.specs.Configurations.{FrameState, TaskState, Configuration, IsUnfinished}
 use Rattle.config_state.specs.OfProgram.{next_point}
 use Rattle.config_state.specs.Views.{task_state}
 use Rattle.config_state.specs.declared.config.Config.{Config}
+use Rattle.config_state.specs.declared.task.State.TheVariants.{Running, Awaiting}
 use Rattle.config_state.specs.declared.task.TaskCell.{TaskCell}
-use Rattle.step_rules.specs.Blocked.{IsAtOpenGet, AreResolved}
-use Rattle.step_rules.specs.Lookups.{named_value}
-use Rattle.step_rules.specs.WaitRules.{Unresolved, guard_by_outcome, guard_by_task, guard_by_value}
-use Rattle.list_facts.proofs.AllLemmas.{All-slice_get, All-from_slice_get}
+use Rattle.step_rules.specs.Blocked.{IsAtOpenGet, IsAtOpenAwait, WaitsFor, AtGet, AtAwait, HoldsOpen, OneHoldsOpen, FindsOne}
 
 -- what the next statement of a frame does is the effect of its instruction
 pub next_effect_found : (program : ProgramTree) (frame : FrameState) (index : ℕ) (found : Option InstructionTree)
@@ -82,31 +84,65 @@ none_open names config index past unfinished =
     let there = unfinished.there in
     absurd (cc (found, there))
 
--- a future is unresolved where its task is unfinished
-unresolved_by : (config : Configuration) (future : ℕ) → IsUnfinished config future
-    → guard_by_value config (Some (FutureValue future)) ≡ Unresolved
-unresolved_by config future is = ap guard_by_task is.there ∙ ap guard_by_outcome is.open_still
+-- which unresolved future a slot holds, by its value
+pub slot_open : (config : Configuration) (slots : List ValueTree) (name : Option ℕ) (slot : ℕ) (value : ValueTree)
+    (found : Option ℕ) → name ≡ Some slot → slice_get slots slot ≡ Some value
+    → FindsOne found (λ future. (value ≡ FutureValue future) × IsUnfinished config future)
+    → FindsOne found (HoldsOpen config slots name)
+slot_open config slots name slot value None named there none = λ future holds.
+    let same = same_Some _ _ (sym named ∙ holds.named) in
+    none future (same_Some _ _ (sym there ∙ (ap (slice_get slots) same ∙ holds.holds)), holds.unresolved)
+slot_open config slots name slot value (Some future) named there found = record {
+  slot = slot;
+  named = named;
+  holds = there ∙ ap Some found.0;
+  unresolved = found.1;
+}
 
--- a value that is unresolved is a future whose task is unfinished
-unresolved_future : (config : Configuration) (value : Option ValueTree) → guard_by_value config value ≡ Unresolved
-    → (future : ℕ) × (value ≡ Some (FutureValue future)) × IsUnfinished config future
-unresolved_future config None is = absurd cc
-unresolved_future config (Some (IntValue number)) is = absurd cc
-unresolved_future config (Some (StringValue string)) is = absurd cc
-unresolved_future config (Some (BuiltValue constructor parts)) is = absurd cc
-unresolved_future config (Some (ObjectValue object)) is = absurd cc
-unresolved_future config (Some NullValue) is = absurd cc
-unresolved_future config (Some (FutureValue future)) is = (future, refl, by (slice_get config.tasks future) refl is)
-  where
-    of : (task : TaskState) → slice_get config.tasks future ≡ Some task → (outcome : Option _) → task.outcome ≡ outcome
-        → guard_by_outcome outcome ≡ Unresolved → IsUnfinished config future
-    of task there None still is = record { task = task; there = there; open_still = still }
-    of task there (Some result) ended is = absurd cc
+-- a slot that is not there holds no future
+pub no_slot_open : (config : Configuration) (slots : List ValueTree) (name : Option ℕ) (slot : ℕ) → name ≡ Some slot
+    → slice_get slots slot ≡ None → FindsOne None (HoldsOpen config slots name)
+no_slot_open config slots name slot named past future holds =
+    let same = same_Some _ _ (sym named ∙ holds.named) in
+    none-some _ (sym past ∙ (ap (slice_get slots) same ∙ holds.holds))
 
-    by : (found : Option TaskState) → slice_get config.tasks future ≡ found → guard_by_task found ≡ Unresolved
-        → IsUnfinished config future
-    by None there is = absurd cc
-    by (Some task) there is = of task there task.outcome refl is
+-- none of the first slots that are named holds an unresolved future
+abbrev pub NoneOpenBefore : Configuration → List ValueTree → List (Option ℕ) → ℕ → Type 0
+NoneOpenBefore config slots names index = (part : ℕ) → part < index → (name : Option ℕ)
+    → slice_get names part ≡ Some name → (future : ℕ) → HoldsOpen config slots name future → ⊥
+
+-- so it is with one more slot, if that holds none
+pub none_open_more : (config : Configuration) (slots : List ValueTree) (names : List (Option ℕ)) (index : ℕ)
+    (found : Option ℕ) → index < length names → is_some found ≡ false
+    → FindsOne found (HoldsOpen config slots (get_or names index None))
+    → NoneOpenBefore config slots names index → NoneOpenBefore config slots names (index + 1)
+none_open_more config slots names index (Some future) within is found before = absurd cc
+none_open_more config slots names index None within is none before = below_more
+    (λ (part : ℕ). (name : Option ℕ) → slice_get names part ≡ Some name → (future : ℕ)
+    → HoldsOpen config slots name future → ⊥) index before (λ name there future holds.
+    none future (subst (λ (one : Option ℕ). HoldsOpen config slots one future)
+    (same_Some _ _ (sym there ∙ slice_get-get_or names index None within)) holds))
+
+-- where none of the first slots holds one, and they are all, none does
+pub none_open_all : (config : Configuration) (slots : List ValueTree) (names : List (Option ℕ)) (index : ℕ)
+    → length names ≤ index → NoneOpenBefore config slots names index
+    → FindsOne None (OneHoldsOpen config slots names)
+none_open_all config slots names index all before future one =
+    let within = slice_get_within names one.part one.name one.there in
+    before one.part (omega (arith, all, within)) one.name one.there future one.open_there
+
+-- one of the slots holds the future that the slot with an index holds
+pub one_open : (config : Configuration) (slots : List ValueTree) (names : List (Option ℕ)) (index : ℕ)
+    (found : Option ℕ) → index < length names → is_some found ≡ true
+    → FindsOne found (HoldsOpen config slots (get_or names index None))
+    → FindsOne found (OneHoldsOpen config slots names)
+one_open config slots names index None within is none = absurd cc
+one_open config slots names index (Some future) within is holds = record {
+  part = index;
+  name = get_or names index None;
+  there = slice_get-get_or names index None within;
+  open_there = holds;
+}
 
 -- the next statement of the innermost frame, by what it does
 point_of : (program : ProgramTree) (frame : FrameState) (effect : EffectTree)
@@ -120,108 +156,129 @@ point_of program frame effect is = by (next_point program frame) refl is
     by None there is = absurd cc
     by (Some point) there is = (point, there, same_Some _ _ (sym is))
 
--- what a task that is at an open `get` does
-open_get_effect : (program : ProgramTree) (config : Configuration) (task : TaskState) (frame : FrameState)
-    → Some frame ≡ slice_get task.frames 0 → (gets : IsAtOpenGet program config task)
-    → option_map (λ (point : Point). effect_of point.statement) (next_point program frame)
-    ≡ Some (Gets (Some gets.slot) gets.target)
-open_get_effect program config task frame innermost gets =
-    ap (λ (one : FrameState). option_map (λ (point : Point). effect_of point.statement) (next_point program one))
-    (same_Some _ _ (innermost ∙ gets.innermost))
-    ∙ (ap (option_map (λ (point : Point). effect_of point.statement)) gets.point_there ∙ ap Some gets.gets)
+module _ (program : ProgramTree) (config : Configuration) (task : TaskState) (frame : FrameState)
+    (innermost : Some frame ≡ slice_get task.frames 0) where
+  -- what the next statement of the task does, by its innermost frame and its next statement
+  effect_there : (other : FrameState) → slice_get task.frames 0 ≡ Some other → (point : Point)
+      → next_point program other ≡ Some point → (effect : EffectTree) → effect_of point.statement ≡ effect
+      → option_map (λ (one : Point). effect_of one.statement) (next_point program frame) ≡ Some effect
+  effect_there other there point point_there effect does =
+      ap (λ (one : FrameState). option_map (λ (at : Point). effect_of at.statement) (next_point program one))
+      (same_Some _ _ (innermost ∙ there))
+      ∙ (ap (option_map (λ (at : Point). effect_of at.statement)) point_there ∙ ap Some does)
 
--- a task is at an open `get` exactly where its next statement gets a future that is unresolved
-pub open_get_by : (program : ProgramTree) (config : Configuration) (task : TaskState) (frame : FrameState)
-    (slot : Option ℕ) (target : Option VariableTree) (open_still : Bool) → Some frame ≡ slice_get task.frames 0
-    → Some (Gets slot target)
-    ≡ option_map (λ (point : Point). effect_of point.statement) (next_point program frame)
-    → MatchBool open_still (guard_by_value config (named_value frame.slots slot) ≡ Unresolved)
-    (guard_by_value config (named_value frame.slots slot) ≢ Unresolved)
-    → MatchBool open_still (IsAtOpenGet program config task) (IsAtOpenGet program config task → ⊥)
-open_get_by program config task frame slot target true innermost effect is = by slot effect is
-  where
-    by : (slot : Option ℕ)
-        → Some (Gets slot target)
-        ≡ option_map (λ (point : Point). effect_of point.statement) (next_point program frame)
-        → guard_by_value config (named_value frame.slots slot) ≡ Unresolved → IsAtOpenGet program config task
-    by None effect is = absurd cc
-    by (Some slot) effect is =
-        let point = point_of program frame (Gets (Some slot) target) effect in
-        let future = unresolved_future config (slice_get frame.slots slot) is in
+  -- which unresolved future a task gets, by the slot that its next statement names
+  pub open_get_by : (slot : Option ℕ) (target : Option VariableTree) (found : Option ℕ)
+      → Some (Gets slot target)
+      ≡ option_map (λ (point : Point). effect_of point.statement) (next_point program frame)
+      → FindsOne found (HoldsOpen config frame.slots slot)
+      → FindsOne found (λ future. (at : IsAtOpenGet program config task) × (at.future ≡ future))
+  open_get_by slot target None effect none = λ future gets. none gets.0.future (record {
+    slot = gets.0.slot;
+    named = same_gets _ _ _ _ (same_Some _ _ (effect
+        ∙ effect_there gets.0.frame gets.0.innermost gets.0.point gets.0.point_there _ gets.0.gets));
+    holds = ap (λ (one : FrameState). slice_get one.slots gets.0.slot)
+        (same_Some _ _ (innermost ∙ gets.0.innermost)) ∙ gets.0.holds;
+    unresolved = gets.0.unresolved;
+  })
+    where
+      same_gets : (one other : Option ℕ) (target goal : Option VariableTree) → Gets one target ≡ Gets other goal
+          → one ≡ other
+      same_gets one other target goal is = cc
+  open_get_by slot target (Some future) effect is =
+      let point = point_of program frame (Gets slot target) effect in (
         record {
           frame = frame;
           innermost = sym innermost;
           point = point.0;
           point_there = point.1;
-          slot = slot;
+          slot = is.slot;
           target = target;
-          gets = point.2;
-          future = future.0;
-          holds = future.1;
-          unresolved = future.2;
-        }
-open_get_by program config task frame slot target false innermost effect no_future = λ gets.
-    let same = same_gets _ _ _ _ (same_Some _ _ (effect ∙ open_get_effect program config task frame innermost gets)) in
-    let holds : slice_get frame.slots gets.slot ≡ Some (FutureValue gets.future) =
-    ap (λ (one : FrameState). slice_get one.slots gets.slot) (same_Some _ _ (innermost ∙ gets.innermost))
-    ∙ gets.holds in
-    no_future (ap (λ (one : Option ℕ). guard_by_value config (named_value frame.slots one)) same
-    ∙ (ap (guard_by_value config) holds ∙ unresolved_by config gets.future gets.unresolved))
-  where
-    same_gets : (one other : Option ℕ) (target goal : Option VariableTree) → Gets one target ≡ Gets other goal
-        → one ≡ other
-    same_gets one other target goal is = cc
+          gets = point.2 ∙ ap (λ (one : Option ℕ). Gets one target) is.named;
+          future = future;
+          holds = is.holds;
+          unresolved = is.unresolved;
+        },
+        refl,
+      )
 
--- what a task whose futures are resolved does
-resolved_effect : (program : ProgramTree) (config : Configuration) (task : TaskState) (frame : FrameState)
-    → Some frame ≡ slice_get task.frames 0 → (resolved : AreResolved program config task)
-    → option_map (λ (point : Point). effect_of point.statement) (next_point program frame)
-    ≡ Some (Awaits resolved.names)
-resolved_effect program config task frame innermost resolved =
-    ap (λ (one : FrameState). option_map (λ (point : Point). effect_of point.statement) (next_point program one))
-    (same_Some _ _ (innermost ∙ resolved.innermost))
-    ∙ (ap (option_map (λ (point : Point). effect_of point.statement)) resolved.point_there
-    ∙ ap Some resolved.awaits)
+  -- which unresolved future a task awaits, by the slots that its next statement names
+  pub open_await_by : (names : List (Option ℕ)) (found : Option ℕ)
+      → Some (Awaits names) ≡ option_map (λ (point : Point). effect_of point.statement) (next_point program frame)
+      → FindsOne found (OneHoldsOpen config frame.slots names)
+      → FindsOne found (λ future. (at : IsAtOpenAwait program config task) × (at.future ≡ future))
+  open_await_by names None effect none = λ future awaits. none awaits.0.future (record {
+    part = awaits.0.part;
+    name = Some awaits.0.slot;
+    there = ap (λ (all : List (Option ℕ)). slice_get all awaits.0.part) (same_awaits _ _ (same_Some _ _ (effect
+        ∙ effect_there awaits.0.frame awaits.0.innermost awaits.0.point awaits.0.point_there _ awaits.0.awaits)))
+        ∙ awaits.0.named;
+    open_there = record {
+      slot = awaits.0.slot;
+      named = refl;
+      holds = ap (λ (one : FrameState). slice_get one.slots awaits.0.slot)
+          (same_Some _ _ (innermost ∙ awaits.0.innermost)) ∙ awaits.0.holds;
+      unresolved = awaits.0.unresolved;
+    };
+  })
+    where
+      same_awaits : (one other : List (Option ℕ)) → Awaits one ≡ Awaits other → one ≡ other
+      same_awaits one other is = cc
+  open_await_by names (Some future) effect is =
+      let point = point_of program frame (Awaits names) effect in (
+        record {
+          frame = frame;
+          innermost = sym innermost;
+          point = point.0;
+          point_there = point.1;
+          names = names;
+          awaits = point.2;
+          part = is.part;
+          slot = is.open_there.slot;
+          named = is.there ∙ ap Some is.open_there.named;
+          future = future;
+          holds = is.open_there.holds;
+          unresolved = is.open_there.unresolved;
+        },
+        refl,
+      )
 
--- the futures of a guard are resolved exactly where none of its slots holds an unresolved one
-pub resolved_by : (program : ProgramTree) (config : Configuration) (task : TaskState) (frame : FrameState)
-    (names : List (Option ℕ)) (none : Bool) → Some frame ≡ slice_get task.frames 0
-    → Some (Awaits names) ≡ option_map (λ (point : Point). effect_of point.statement) (next_point program frame)
-    → MatchBool none
-    (All (λ (name : Option ℕ). guard_by_value config (named_value frame.slots name) ≢ Unresolved) names)
-    (All (λ (name : Option ℕ). guard_by_value config (named_value frame.slots name) ≢ Unresolved) names → ⊥)
-    → MatchBool none (AreResolved program config task) (AreResolved program config task → ⊥)
-resolved_by program config task frame names true innermost effect all =
-    let point = point_of program frame (Awaits names) effect in
-    record {
-      frame = frame;
-      innermost = sym innermost;
-      point = point.0;
-      point_there = point.1;
-      names = names;
-      awaits = point.2;
-      resolved = λ part name there slot future named holds unfinished.
-          All-slice_get (λ (one : Option ℕ). guard_by_value config (named_value frame.slots one) ≢ Unresolved) names
-          part name
-          all there (ap (λ (one : Option ℕ). guard_by_value config (named_value frame.slots one)) named
-          ∙ (ap (guard_by_value config) holds ∙ unresolved_by config future unfinished));
-    }
-resolved_by program config task frame names false innermost effect not_all = λ resolved.
-    let same = same_awaits _ _
-    (same_Some _ _ (effect ∙ resolved_effect program config task frame innermost resolved)) in
-    let same_frame = same_Some _ _ (innermost ∙ resolved.innermost) in
-    not_all (All-from_slice_get (λ (one : Option ℕ). guard_by_value config (named_value frame.slots one) ≢ Unresolved)
-    names
-    (λ part name there is. by resolved same same_frame part name there name refl is))
-  where
-    same_awaits : (one other : List (Option ℕ)) → Awaits one ≡ Awaits other → one ≡ other
-    same_awaits one other is = cc
+module _ (program : ProgramTree) (config : Configuration) (index : ℕ) (task : TaskState)
+    (there : slice_get config.tasks index ≡ Some task) where
+  -- the future that a task gets is the one that it waits for
+  pub waits_at_get : (found : Option ℕ) → task.state ≡ Running
+      → FindsOne found (λ future. (at : IsAtOpenGet program config task) × (at.future ≡ future))
+      → FindsOne found (WaitsFor program config task)
+  waits_at_get None runs none = by
+    where
+      by : (future : ℕ) → WaitsFor program config task future → ⊥
+      by future (AtGet also at is) = none future (at, is)
+      by future (AtAwait awaits at is) = absurd cc
+  waits_at_get (Some future) runs is = AtGet runs is.0 is.1
 
-    by : (resolved : AreResolved program config task) → names ≡ resolved.names → frame ≡ resolved.frame
-        → (part : ℕ) (name : Option ℕ) → slice_get names part ≡ Some name → (named : Option ℕ) → name ≡ named
-        → guard_by_value config (named_value frame.slots named) ≡ Unresolved → ⊥
-    by resolved same same_frame part name there None is unresolved = absurd cc
-    by resolved same same_frame part name there (Some slot) is unresolved =
-        let future = unresolved_future config (slice_get frame.slots slot) unresolved in
-        resolved.resolved part name (ap (λ (all : List (Option ℕ)). slice_get all part) (sym same) ∙ there) slot
-        future.0 is (ap (λ (one : FrameState). slice_get one.slots slot) (sym same_frame) ∙ future.1) future.2
+  -- the future that a task awaits is one that it waits for
+  pub waits_at_await : (found : Option ℕ) → task.state ≡ Awaiting
+      → FindsOne found (λ future. (at : IsAtOpenAwait program config task) × (at.future ≡ future))
+      → FindsOne found (WaitsFor program config task)
+  waits_at_await None awaits none = by
+    where
+      by : (future : ℕ) → WaitsFor program config task future → ⊥
+      by future (AtGet runs at is) = absurd cc
+      by future (AtAwait also at is) = none future (at, is)
+  waits_at_await (Some future) awaits is = AtAwait awaits is.0 is.1
+
+  -- what is so of the task is so of the task at its index
+  pub waits_there : (found : Option ℕ) → FindsOne found (WaitsFor program config task)
+      → IfSome found (λ future. (state : TaskState) → slice_get config.tasks index ≡ Some state
+      → WaitsFor program config state future)
+  waits_there None none = tt
+  waits_there (Some future) is = λ state also.
+      subst (λ (one : TaskState). WaitsFor program config one future) (same_Some _ _ (sym there ∙ also)) is
+
+  pub never_waits_there : (found : Option ℕ) → FindsOne found (WaitsFor program config task)
+      → IfNone found ((state : TaskState) → slice_get config.tasks index ≡ Some state → (future : ℕ)
+      → WaitsFor program config state future → ⊥)
+  never_waits_there None none = λ state also future waits.
+      none future (subst (λ (one : TaskState). WaitsFor program config one future) (same_Some _ _ (sym also ∙ there))
+      waits)
+  never_waits_there (Some future) is = tt

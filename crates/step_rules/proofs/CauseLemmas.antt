@@ -2,7 +2,7 @@
 --
 --   `event_none`, `change_none`, `event_some`  a task has an event where it has a change
 --   `ended_has_none`                           a task with a result has none
---   `IsGoing`, `change_going`                  a task that has no result, and its change, by its state
+--   `IsGoing`, `going`, `change_going`         a task that has no result, and its change, by its state
 --   `ready_has_iff`, `awaiting_has_iff`        when a ready and an awaiting task have an event
 --   `running_has_none_iff`                     when a task that runs has none
 use Rattle.std.proofs.Common.{◌≡◌, ◌≢◌, ◌↔◌, ℕ, zero, suc, true, is_some, IsSome, List, [], ◌∷◌, slice_get, Option, Some, None, option_and_then, refl, sym, ap, ◌∙◌}
@@ -87,7 +87,7 @@ pub record IsGoing (config : Configuration) (index : ℕ) (task : TaskState) (fr
   pub frames_are : task.frames ≡ frame ∷ others
 
 -- an unfinished task has an innermost frame
-going : (config : Configuration) (index : ℕ) (task : TaskState) → IsTaskFormed config index task
+pub going : (config : Configuration) (index : ℕ) (task : TaskState) → IsTaskFormed config index task
     → slice_get config.tasks index ≡ Some task → task.outcome ≡ None
     → (frame : FrameState) × (others : List FrameState) × IsGoing config index task frame others
 going config index task formed there still = by task.frames refl

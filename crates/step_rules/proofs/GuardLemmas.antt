@@ -10,7 +10,6 @@ use Rattle.std.proofs.lemmas.Option.{none-some, same_Some}
 use Rattle.abs_values.specs.Results.{Result}
 use Rattle.abs_values.specs.ValueTrees.{ValueTree, IntValue, StringValue, BuiltValue, ObjectValue, FutureValue, NullValue}
 use Rattle.abs_values.specs.declared.evaluated.Fault.{Fault}
-use Rattle.abs_values.specs.declared.evaluated.Fault.TheVariants as fault
 use Rattle.config_state.proofs.EachLemmas.{Each-none, Each-more}
 use Rattle.config_state.specs.Configurations.{TaskState, Configuration, Each}
 use Rattle.step_rules.specs.Guards.{HasFuture, HasResolved, HasUnresolved, OneIsUnresolved, IsFirstFault, fault_of_slot}

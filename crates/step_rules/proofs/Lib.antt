@@ -2,7 +2,7 @@ mod ListLemmas
 mod AfterLemmas
 mod LocalRuleLemmas
 mod OneClassLemmas
-mod RuleLemmas
+pub mod RuleLemmas
 pub mod StayLemmas
 mod OutputLemmas
 mod OwnValueLemmas
@@ -21,6 +21,7 @@ mod ReachLemmas
 mod GetLemmas
 mod GuardLemmas
 pub mod CauseLemmas
+pub mod WaitLemmas
 pub mod BlockedLemmas
 mod HasStepLemmas
 mod ApartLemmas

@@ -1,19 +1,19 @@
-//! Whether a task has an event. It takes no memory, and constant time but for the futures of a guard.
-ghost use Rattle.std.specs.Prelude.{◌≡◌, ◌≢◌, ◌<◌, All, List, MatchBool, Some, length, slice_get, is_some};
+//! Whether a task has an event, and the future that it waits for. It takes no memory, and constant time but for the
+//! futures of a guard.
+ghost use Rattle.std.specs.Prelude.{◌≡◌, ◌<◌, ℕ, IfNone, IfSome, List, MatchBool, Some, length, slice_get, is_some};
 ghost use Rattle.std.specs.Option.{option_map};
 ghost use Rattle.abs_program.specs.InstructionViews.{effect_tree};
 ghost use Rattle.abs_program.specs.Instructions.{effect_of};
 ghost use Rattle.abs_program.specs.NamedViews.{program_tree};
 ghost use Rattle.abs_tree.specs.Syntax.{Name};
+ghost use Rattle.abs_values.specs.ValueTrees.{FutureValue};
 ghost use Rattle.abs_values.specs.ValueViews.{value_tree};
 ghost use Rattle.config_state.specs.ConfigViews.{configuration};
-ghost use Rattle.config_state.specs.Configurations.{IsUnfinished};
+ghost use Rattle.config_state.specs.Configurations.{TaskState, IsUnfinished};
 ghost use Rattle.config_state.specs.OfProgram.{next_point, IsConfigOf};
 ghost use Rattle.config_state.specs.Views.{frame_state, task_state};
-ghost use Rattle.step_rules.specs.Blocked.{IsAtOpenGet, IsFree, AreResolved};
+ghost use Rattle.step_rules.specs.Blocked.{IsAtOpenGet, IsAtOpenAwait, IsFreeFor, WaitsFor, HoldsOpen, OneHoldsOpen, FindsOne};
 ghost use Rattle.step_rules.specs.Events.{event_of};
-ghost use Rattle.step_rules.specs.Lookups.{named_value};
-ghost use Rattle.step_rules.specs.WaitRules.{Unresolved, guard_by_value};
 
 use abs_program::{Effect, Named};
 use abs_values::{Value, Values};
@@ -27,20 +27,42 @@ pub fn has_step(program: &Named<'_>, config: &Config, task: u32) -> bool
         task) }
 {
     let cell = config.tasks.at(task as usize);
+    if cell.outcome.is_some() {
+        return false;
+    }
+    is_free_for(config, cell.cog, task) && waited_future(program, config, task).is_none()
+}
+
+/// The first unresolved future that the next statement of a task names, if the task has no event before it is resolved:
+/// of the `get` of a running task, or of the `await` of an awaiting one. It takes no memory.
+pub fn waited_future(program: &Named<'_>, config: &Config, task: u32) -> Option<u32>
+    requires of_program { ∥ IsConfigOf (program_tree program.now) (configuration program.now.symbols config.now) ∥₁ }
+    requires there { task < length config.now.tasks }
+    ensures some { IfSome result (λ future. (state : TaskState)
+        → slice_get (configuration program.now.symbols config.now).tasks task ≡ Some state
+        → WaitsFor (program_tree program.now) (configuration program.now.symbols config.now) state future) }
+    ensures none { IfNone result ((state : TaskState)
+        → slice_get (configuration program.now.symbols config.now).tasks task ≡ Some state → (future : ℕ)
+        → WaitsFor (program_tree program.now) (configuration program.now.symbols config.now) state future → ⊥) }
+{
+    let cell = config.tasks.at(task as usize);
     match cell.state {
-        State::Ready => cell.outcome.is_none() && is_free(config, cell.cog),
-        State::Running => !is_at_open_get(program, config, cell),
-        State::Awaiting => is_free(config, cell.cog) && are_resolved(program, config, cell),
+        State::Ready => None,
+        State::Running => waited_at_get(program, config, cell),
+        State::Awaiting => waited_at_await(program, config, cell),
     }
 }
 
-/// Whether nobody holds a cog.
-fn is_free(config: &Config, cog: u32) -> bool
-    ensures { (names : List Name) → MatchBool result (IsFree (configuration names config.now) cog)
-        (IsFree (configuration names config.now) cog → ⊥) }
+/// Whether nobody holds a cog, or this task does.
+fn is_free_for(config: &Config, cog: u32, task: u32) -> bool
+    ensures { (names : List Name) → MatchBool result (IsFreeFor (configuration names config.now) cog task)
+        (IsFreeFor (configuration names config.now) cog task → ⊥) }
 {
     match config.cogs.items.get(cog as usize) {
-        Some(cog) => cog.holder.is_none(),
+        Some(cog) => match cog.holder {
+            Some(holder) => holder == task,
+            None => true,
+        },
         None => false,
     }
 }
@@ -63,80 +85,72 @@ fn next_effect<'p>(program: &'p Named<'_>, frame: &Frame) -> Option<&'p Effect>
     Some(&instruction.effect)
 }
 
-/// Whether the next statement of a task gets a future that is unresolved.
-fn is_at_open_get(program: &Named<'_>, config: &Config, cell: &TaskCell) -> bool
-    ensures { MatchBool result
-        (IsAtOpenGet (program_tree program.now) (configuration program.now.symbols config.now)
-        (task_state program.now.symbols cell.now))
-        (IsAtOpenGet (program_tree program.now) (configuration program.now.symbols config.now)
-        (task_state program.now.symbols cell.now) → ⊥) }
+/// The unresolved future that the next statement of a task gets, if it gets one.
+fn waited_at_get(program: &Named<'_>, config: &Config, cell: &TaskCell) -> Option<u32>
+    ensures { FindsOne result (λ future. (at : IsAtOpenGet (program_tree program.now)
+        (configuration program.now.symbols config.now) (task_state program.now.symbols cell.now))
+        × (at.future ≡ future)) }
 {
     let Some(frame) = innermost(cell) else {
-        return false;
+        return None;
     };
     match next_effect(program, frame) {
-        Some(Effect::Get { slot, .. }) => is_unresolved(config, &frame.slots, *slot),
-        _ => false,
+        Some(Effect::Get { slot, .. }) => open_future(config, &frame.slots, *slot),
+        _ => None,
     }
 }
 
-/// Whether the next statement of a task is an `await`, and no future that it names is unresolved.
-fn are_resolved(program: &Named<'_>, config: &Config, cell: &TaskCell) -> bool
-    ensures { MatchBool result
-        (AreResolved (program_tree program.now) (configuration program.now.symbols config.now)
-        (task_state program.now.symbols cell.now))
-        (AreResolved (program_tree program.now) (configuration program.now.symbols config.now)
-        (task_state program.now.symbols cell.now) → ⊥) }
+/// The first unresolved future that the next statement of a task names, if it is an `await` that names one.
+fn waited_at_await(program: &Named<'_>, config: &Config, cell: &TaskCell) -> Option<u32>
+    ensures { FindsOne result (λ future. (at : IsAtOpenAwait (program_tree program.now)
+        (configuration program.now.symbols config.now) (task_state program.now.symbols cell.now))
+        × (at.future ≡ future)) }
 {
     let Some(frame) = innermost(cell) else {
-        return false;
+        return None;
     };
     match next_effect(program, frame) {
-        Some(Effect::Await(names)) => none_unresolved(config, &frame.slots, names.as_slice()),
-        _ => false,
+        Some(Effect::Await(names)) => first_open(config, &frame.slots, names.as_slice()),
+        _ => None,
     }
 }
 
-/// Whether none of these slots holds a future that is unresolved.
-fn none_unresolved(config: &Config, slots: &Values, names: &[Option<u32>]) -> bool
-    ensures { (symbols : List Name) → MatchBool result
-        (All (λ name. guard_by_value (configuration symbols config.now) (named_value slots.now name) ≢ Unresolved)
-        names.now)
-        (All (λ name. guard_by_value (configuration symbols config.now) (named_value slots.now name) ≢ Unresolved)
-        names.now → ⊥) }
+/// The first unresolved future that one of these slots holds, if one does.
+fn first_open(config: &Config, slots: &Values, names: &[Option<u32>]) -> Option<u32>
+    ensures { (symbols : List Name)
+        → FindsOne result (OneHoldsOpen (configuration symbols config.now) slots.now names.now) }
 {
     for name in names {
-        if is_unresolved(config, slots, *name) {
-            return false;
+        let future = open_future(config, slots, *name);
+        if future.is_some() {
+            return future;
         }
     }
-    true
+    None
 }
 
-/// Whether a slot holds a future that is unresolved.
-fn is_unresolved(config: &Config, slots: &Values, name: Option<u32>) -> bool
-    ensures { (symbols : List Name) → MatchBool result
-        (guard_by_value (configuration symbols config.now) (named_value slots.now name) ≡ Unresolved)
-        (guard_by_value (configuration symbols config.now) (named_value slots.now name) ≢ Unresolved) }
+/// The future that a slot holds, if it is unresolved.
+fn open_future(config: &Config, slots: &Values, name: Option<u32>) -> Option<u32>
+    ensures { (symbols : List Name)
+        → FindsOne result (HoldsOpen (configuration symbols config.now) slots.now name) }
 {
     let Some(slot) = name else {
-        return false;
+        return None;
     };
     match slots.as_slice().get(slot as usize) {
-        Some(value) => is_open_future(config, value),
-        None => false,
+        Some(value) => if_open(config, value),
+        None => None,
     }
 }
 
-/// Whether a value is a future that is unresolved.
-fn is_open_future(config: &Config, value: &Value) -> bool
-    ensures { (symbols : List Name) → MatchBool result
-        (guard_by_value (configuration symbols config.now) (Some (value_tree value.now)) ≡ Unresolved)
-        (guard_by_value (configuration symbols config.now) (Some (value_tree value.now)) ≢ Unresolved) }
+/// The future that a value is, if it is unresolved.
+fn if_open(config: &Config, value: &Value) -> Option<u32>
+    ensures { (symbols : List Name) → FindsOne result (λ future. (value_tree value.now ≡ FutureValue future)
+        × IsUnfinished (configuration symbols config.now) future) }
 {
     match value {
-        Value::Future(task) => is_open(config, *task),
-        _ => false,
+        Value::Future(task) => is_open(config, *task).then_some(*task),
+        _ => None,
     }
 }
 

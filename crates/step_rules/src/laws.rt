@@ -14,7 +14,7 @@ ghost use Rattle.config_state.specs.declared.cog.Cog.{Cog};
 ghost use Rattle.config_state.specs.declared.task.State.TheVariants.{Ready, Running, Awaiting};
 ghost use Rattle.config_state.specs.OfProgram.{IsConfigOf, IsFrameOf};
 ghost use Rattle.config_state.specs.WellFormed.{IsWellFormed};
-ghost use Rattle.step_rules.specs.Blocked.{IsAtOpenGet, IsFree, AreResolved, NeverWaits};
+ghost use Rattle.step_rules.specs.Blocked.{IsAtOpenGet, IsFree, IsFreeFor, AreResolved, NeverWaits, WaitsFor};
 ghost use Rattle.step_rules.specs.Changes.{Change, Written, configuration_after};
 ghost use Rattle.step_rules.specs.Events.{Step, change_of, event_of};
 ghost use Rattle.step_rules.specs.Guards.{HasResolved, OneIsUnresolved, IsFirstFault};
@@ -72,6 +72,15 @@ pub fn events_have_causes()
         → IsWellFormed config → IsConfigOf program config → slice_get config.tasks index ≡ Some task
         → task.state ≡ Awaiting → IsSome (event_of program config index)
         ↔ (IsFree config task.cog × AreResolved program config task) }
+{}
+
+/// Who has an event, by waits: a task without a result has one exactly where it waits for no future and nobody else
+/// holds its cog.
+pub fn events_wait_for_futures()
+    ensures { (program : ProgramTree) (config : Configuration) (index : ℕ) (task : TaskState)
+        → IsWellFormed config → IsConfigOf program config → slice_get config.tasks index ≡ Some task
+        → task.outcome ≡ None → IsSome (event_of program config index)
+        ↔ (((future : ℕ) → WaitsFor program config task future → ⊥) × IsFreeFor config task.cog index) }
 {}
 
 /// Each event of a well-formed configuration leads to one, and so does each event of a configuration of the program. So

@@ -1,35 +1,22 @@
 use Rattle.std.proofs.Common.{rules, ◌∙◌}
 use Rattle.abs_program.specs.NamedViews.{program_tree}
-use Rattle.step_rules.proofs.HasStepLemmas.{ended_step, ready_step, running_step, awaiting_step, held_step}
+use Rattle.step_rules.proofs.HasStepLemmas.{ended_step, held_step, free_step}
 use Rattle.step_rules.proofs.enabled.has_step.Goals as goal
 
-pub returns-then-is_none : goal.returns-then-is_none
-returns-then-is_none c =
-    ready_step (program_tree c.args.program.now) c.args.program.now.symbols c.args.config.now c.args.task
-    c.at-cell.result.now c.at-cell.ensures c.is_free.result (search rules) c.in-Ready.is
-    (c.is_free.ensures c.args.program.now.symbols)
+pub returns-then-is_some : goal.returns-then-is_some
+returns-then-is_some c =
+    ended_step (program_tree c.args.program.now) c.args.program.now.symbols c.args.config.now c.args.task
+    c.at-cell.result.now c.at-cell.ensures (search rules)
 
-pub returns-else-is_none : goal.returns-else-is_none
-returns-else-is_none c =
-    c.if-is_none.false ∙ ended_step (program_tree c.args.program.now) c.args.program.now.symbols c.args.config.now
-    c.args.task c.at-cell.result.now c.at-cell.ensures (search rules)
+pub returns-then-is_free_for : goal.returns-then-is_free_for
+returns-then-is_free_for c =
+    free_step (program_tree c.args.program.now) c.args.program.now.symbols c.args.config.now c.args.task
+    c.at-cell.result.now c.at-cell.ensures c.requires.of_program (search rules)
+    (c.if-is_free_for.ensures c.args.program.now.symbols) c.is_none.result c.waited_future.result c.is_none.ensures
+    c.waited_future.ensures.some c.waited_future.ensures.none
 
-pub returns-in-Running : goal.returns-in-Running
-returns-in-Running c =
-    running_step (program_tree c.args.program.now) c.args.program.now.symbols c.args.config.now c.args.task
-    c.at-cell.result.now c.at-cell.ensures c.is_at_open_get.result c.requires.of_program c.in-Running.is
-    c.is_at_open_get.ensures
-
-pub returns-then-is_free : goal.returns-then-is_free
-returns-then-is_free c =
-    let free = c.is_free-in-Awaiting.ensures c.args.program.now.symbols in
-    awaiting_step (program_tree c.args.program.now) c.args.program.now.symbols c.args.config.now c.args.task
-    c.at-cell.result.now c.at-cell.ensures c.are_resolved.result c.requires.of_program c.in-Awaiting.is
-    (rw c.if-is_free.true at free) c.are_resolved.ensures
-
-pub returns-else-is_free : goal.returns-else-is_free
-returns-else-is_free c =
-    let free = c.is_free-in-Awaiting.ensures c.args.program.now.symbols in
-    c.if-is_free.false ∙ held_step (program_tree c.args.program.now) c.args.program.now.symbols
-    c.args.config.now c.args.task c.at-cell.result.now c.at-cell.ensures c.requires.of_program c.in-Awaiting.is
-    (rw c.if-is_free.false at free)
+pub returns-else-is_free_for : goal.returns-else-is_free_for
+returns-else-is_free_for c =
+    c.if-is_free_for.false ∙ held_step (program_tree c.args.program.now) c.args.program.now.symbols
+    c.args.config.now c.args.task c.at-cell.result.now c.at-cell.ensures c.requires.of_program (search rules)
+    (c.if-is_free_for.ensures c.args.program.now.symbols)
