@@ -1,0 +1,6 @@
+mod ItemLemmas
+mod RisingLemmas
+mod TreeLemmas
+mod WithLemmas
+mod WithoutLemmas
+mod FirstLemmas

@@ -1,0 +1,3 @@
+pub mod TaskSets
+pub mod TaskTrees
+pub mod TaskLists
