@@ -1,6 +1,10 @@
 mod ItemLemmas
 mod RisingLemmas
 mod TreeLemmas
+mod SeatLemmas
 mod WithLemmas
 mod WithoutLemmas
 mod FirstLemmas
+mod SetLemmas
+mod PostLemmas
+mod CandidateLemmas

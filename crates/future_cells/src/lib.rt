@@ -1,5 +1,10 @@
 //! The ready set: the tasks that have an event, kept exactly while events come.
 #![tactic(auto)]
 
+mod candidates;
+mod posts;
+mod set_lists;
 mod task_set;
+mod turns;
 
+pub use posts::{Post, Standing};
