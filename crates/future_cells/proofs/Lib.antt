@@ -8,3 +8,4 @@ mod FirstLemmas
 mod SetLemmas
 mod PostLemmas
 mod CandidateLemmas
+mod SearchLemmas

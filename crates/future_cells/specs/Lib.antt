@@ -6,3 +6,5 @@ pub mod Turns
 pub mod Posts
 pub mod Seats
 pub mod SeatViews
+pub mod Ready
+pub mod Search

@@ -3,6 +3,7 @@
 
 mod candidates;
 mod posts;
+mod search;
 mod set_lists;
 mod task_set;
 mod turns;
