@@ -8,4 +8,6 @@ mod FirstLemmas
 mod SetLemmas
 mod PostLemmas
 mod CandidateLemmas
+mod ReseatLemmas
+mod TurnLemmas
 mod SearchLemmas

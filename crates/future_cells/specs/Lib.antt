@@ -7,4 +7,5 @@ pub mod Posts
 pub mod Seats
 pub mod SeatViews
 pub mod Ready
+pub mod Reseats
 pub mod Search

@@ -2,10 +2,14 @@
 #![tactic(auto)]
 
 mod candidates;
+mod growth;
 mod posts;
+mod ready;
+mod reseat;
 mod search;
 mod set_lists;
 mod task_set;
 mod turns;
 
 pub use posts::{Post, Standing};
+pub use ready::Ready;
