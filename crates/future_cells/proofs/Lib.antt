@@ -11,3 +11,8 @@ mod CandidateLemmas
 mod ReseatLemmas
 mod TurnLemmas
 mod SearchLemmas
+mod StandingLemmas
+mod CodeStandingLemmas
+mod AbleLemmas
+mod StandsForLemmas
+mod MovedLemmas

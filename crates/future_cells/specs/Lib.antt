@@ -9,3 +9,6 @@ pub mod SeatViews
 pub mod Ready
 pub mod Reseats
 pub mod Search
+pub mod Standings
+pub mod TaskEvents
+pub mod Moved
