@@ -13,6 +13,10 @@ mod TurnLemmas
 mod SearchLemmas
 mod StandingLemmas
 mod CodeStandingLemmas
+mod BuildLemmas
 mod AbleLemmas
 mod StandsForLemmas
+mod WakeLemmas
 mod MovedLemmas
+mod FollowedLemmas
+mod CodeFollowedLemmas

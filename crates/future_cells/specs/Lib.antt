@@ -12,3 +12,4 @@ pub mod Search
 pub mod Standings
 pub mod TaskEvents
 pub mod Moved
+pub mod Following

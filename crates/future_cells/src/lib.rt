@@ -2,6 +2,7 @@
 #![tactic(auto)]
 
 mod candidates;
+mod events;
 mod growth;
 mod posts;
 mod ready;
