@@ -20,3 +20,5 @@ mod WakeLemmas
 mod MovedLemmas
 mod FollowedLemmas
 mod CodeFollowedLemmas
+mod OrderLemmas
+pub mod StepLemmas

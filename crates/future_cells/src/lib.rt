@@ -4,6 +4,7 @@
 mod candidates;
 mod events;
 mod growth;
+mod order;
 mod posts;
 mod ready;
 mod reseat;
@@ -12,5 +13,6 @@ mod set_lists;
 mod task_set;
 mod turns;
 
+pub use order::next_task;
 pub use posts::{Post, Standing};
 pub use ready::Ready;
