@@ -1,12 +1,16 @@
 -- Histories that are recorded event by event.
 --
 --   `IsNext-has_event`, `IsNext-there`     the task whose event comes next has an event, and is in the code's list
+--   `stands_reserved`          a ready set with more room stands for the same configuration
+--   `moved_in_set`             it can follow an event that was made
 --   `last_of-more`             the last task of a history with one more event
 --   `in_turn_none`, `in_turn_more`     an empty history is in turn, and one with one more event that comes next
 --   `begins_first`             where no event was made, the configuration is the first one
+--   `next_of_run`              the task that is named is next
 --   `ran_more`                 where one more event leads
 --   `ends_done`, `ends_open`   how a run ended, by whether every task has a result
 --   `run_ended`                what is returned for a run that ended
+use mathlib.Core.Logic.{∥∥₁_map₂}
 use Rattle.std.proofs.Common.{◌≡◌, ◌<◌, ◌≤◌, ◌⊎◌, inl, inr, ⊎_elim, ℕ, Bool, true, false, MatchBool, List, [], ◌∷◌, ◌++◌, length, Option, Some, None, refl, sym, ap, ◌∙◌, subst}
 use Rattle.std.proofs.lemmas.Option.{same_Some}
 use Rattle.abs_tree.specs.Syntax.{Name, ProgramTree}
@@ -14,10 +18,16 @@ use Rattle.config_state.specs.ConfigViews.{configuration}
 use Rattle.config_state.specs.Configurations.{Configuration}
 use Rattle.config_state.specs.First.{first}
 use Rattle.config_state.specs.declared.config.Config.{Config}
+use Rattle.future_cells.specs.Ready.{KeptReady}
+use Rattle.future_cells.specs.Standings.{StandsFor, tasks_with_event}
+use Rattle.future_cells.proofs.StepLemmas.{moved_by_event, tasks_listed}
+use Rattle.future_cells.specs.TaskEvents.{HasMoved}
 use Rattle.run_history.proofs.RunLemmas.{run_with_event, event_found, has_event_there, there_in_code}
 use Rattle.run_history.specs.Recorded.{Recorded}
 use Rattle.run_history.specs.Turns.{HasEvent, IsNext, Begins, Continues, Follows, last_of, IsInTurn}
-use Rattle.step_rules.specs.Events.{Step, event_of}
+use Rattle.step_rules.specs.Changes.{Change}
+use Rattle.step_rules.specs.Events.{Step, change_of, event_of}
+use Rattle.step_rules.specs.declared.kind.Did.{Did}
 use Rattle.step_rules.specs.Runs.{Ran, run_of, IsDone, IsOpen, EndsAs}
 use Rattle.step_rules.specs.declared.kind.End.{End}
 use Rattle.step_rules.specs.declared.kind.End.TheVariants.{Done}
@@ -38,6 +48,29 @@ pub IsNext-there : (program : ProgramTree) (names : List Name) (config : Config)
 IsNext-there program names config task last next =
     there_in_code names config task (has_event_there program (configuration names config) task
     (IsNext-has_event program (configuration names config) task last next))
+
+-- a ready set with more room stands for the same configuration
+stands_reserved : (program : ProgramTree) (config : Configuration) (ready roomy : KeptReady)
+    → roomy ≡ record ready { spare = roomy.spare } → StandsFor program config ready → StandsFor program config roomy
+stands_reserved program config ready roomy rest stood = subst (StandsFor program config) (sym rest) (record {
+  tasks_are = stood.tasks_are;
+  post_for_each = stood.post_for_each;
+  posts_are = stood.posts_are;
+  holders_are = stood.holders_are;
+})
+
+-- a ready set that stood for the configuration before the event, and for which room was made since, can follow it
+pub moved_in_set : (program : ProgramTree) (names : List Name) (config after : Config) (task : ℕ) (did : Did)
+    (ready roomy : KeptReady) → ∥ StandsFor program (configuration names config) ready ∥₁
+    → roomy ≡ record ready { spare = roomy.spare } → HasEvent program (configuration names config) task
+    → ((step : Step) → event_of program (configuration names config) task ≡ Some step
+    → configuration names after ≡ step.config)
+    → ((change : Change) → change_of program (configuration names config) task ≡ Some change → did ≡ change.did)
+    → ∥ HasMoved program (configuration names after) task did roomy ∥₁
+moved_in_set program names config after task did ready roomy stood rest has config_is kind_is =
+    ∥∥₁_map₂ config.well_formed stood (λ formed stands.
+    moved_by_event program (configuration names config) (configuration names after) task did roomy (formed names)
+    (stands_reserved program (configuration names config) ready roomy rest stands) has config_is kind_is)
 
 -- one more event is the last one
 pub last_of-more : (history : List ℕ) (task : ℕ) → last_of (history ++ task ∷ []) ≡ Some task
@@ -84,7 +117,7 @@ module _ (program : ProgramTree) where
       )
 
   -- where no event was made, the configuration is the first one
-  pub begins_first : (history : List ℕ) (ran : Ran) → run_of program history ≡ Some ran → last_of history ≡ None
+  begins_first : (history : List ℕ) (ran : Ran) → run_of program history ≡ Some ran → last_of history ≡ None
       → ran.config ≡ first program
   unfolding run_of
   begins_first [] ran leads none = sym (ap (λ (one : Ran). one.config) (same_Some _ _ leads))
@@ -94,6 +127,21 @@ module _ (program : ProgramTree) where
       some_last : (one : ℕ) (others : List ℕ) → last_of (one ∷ others) ≡ None → ⊥
       some_last one [] none = cc
       some_last one (second ∷ others) none = some_last second others none
+
+  -- the task that is named is next, for this program
+  pub next_of_run : (names : List Name) (config : Config) (ready : KeptReady) (history : List ℕ)
+      (lines : List (List ℕ)) (last : Option ℕ) (task : ℕ)
+      → ((other : ProgramTree) (known : List Name)
+      → ready.tasks ≡ tasks_with_event other (configuration known config)
+      → (last ≡ None → configuration known config ≡ first other)
+      → IsNext other (configuration known config) task last)
+      → run_of program history ≡ Some (record { config = configuration names config; lines = lines })
+      → ∥ StandsFor program (configuration names config) ready ∥₁ → last ≡ last_of history
+      → IsNext program (configuration names config) task last
+  next_of_run names config ready history lines last task named leads stands last_is =
+      named program names (tasks_listed program (configuration names config) ready stands)
+      (λ none. begins_first history (record { config = configuration names config; lines = lines }) leads
+      (sym last_is ∙ none))
 
   -- one more event leads to the configuration that it makes, and prints its lines
   pub ran_more : (history : List ℕ) (task : ℕ) (ran : Ran) (config : Configuration) (lines : List (List ℕ))

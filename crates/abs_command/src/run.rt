@@ -8,7 +8,8 @@ ghost use Rattle.abs_command.specs.Machine.{IsRun};
 
 use abs_program::Named;
 use config_state::{Config, Lines, first};
-use run_history::{History, next_task};
+use future_cells::{Ready, next_task};
+use run_history::History;
 use std::alloc::{AllocError, Global};
 use step_rules::{End, step};
 
@@ -33,12 +34,15 @@ pub fn run(alloc: Global, program: &Named<'_>, limit: u64) -> Result<Ran, AllocE
     let mut lines = Lines {
         items: Vec::new(alloc),
     };
+    let mut ready = Ready::build(alloc, program, &config)?;
     let mut last = None;
     while history.len() < limit {
-        let Some(task) = next_task(program, &config, last) else {
+        let Some(task) = next_task(&config, &ready, last) else {
             return Ok(ended(config, history, lines, End::Stalled));
         };
-        step(alloc, program, &mut config, task, &mut lines)?;
+        ready.reserve(1)?;
+        let did = step(alloc, program, &mut config, task, &mut lines)?;
+        ready.after(program, &config, task, &did);
         history.push(task);
         last = Some(task);
     }

@@ -1,97 +1,16 @@
 -- The order of one worker.
 --
---   `first_has_event`          in the first configuration task 0 has an event
---   `goes_on_if`               whether a task that runs goes on
---   `near_place`, `far_place`  a task after the last one, and one up to it, is tried no later than another
---   `next_after_last`          the task that comes next is found after the last one
---   `next_from_start`          otherwise it is found from task 0 on
---   `none_has_event`           no task has an event, if none is found there either
 --   `same_place`               tasks that are tried after equally many are one
 --   `next_is_one`              the task whose event comes next is the only one
 --   `turns_agree`              of two histories that are in turn one begins the other
-use Rattle.std.proofs.Common.{◌≡◌, ◌<◌, ◌≤◌, ◌+◌, ◌⊎◌, inl, inr, ℕ, Bool, true, false, is_some, MatchBool, List, [], ◌∷◌, ◌++◌, length, slice_get, Option, Some, None, refl, sym, ◌∙◌, subst, arith, append_assoc}
+use Rattle.std.proofs.Common.{◌≡◌, ◌<◌, ◌≤◌, ◌⊎◌, inl, inr, ℕ, List, [], ◌∷◌, ◌++◌, length, Option, Some, None, refl, sym, ◌∙◌, subst, arith, append_assoc}
 use Rattle.std.proofs.lemmas.Option.{same_Some}
 use Rattle.std.proofs.lemmas.Bool.Decides.{nat_tests}
-use Rattle.abs_tree.specs.Syntax.{Name, ProgramTree}
-use Rattle.config_state.proofs.FirstLemmas.{first-well_formed}
-use Rattle.config_state.specs.ConfigViews.{configuration}
+use Rattle.abs_tree.specs.Syntax.{ProgramTree}
 use Rattle.config_state.specs.Configurations.{Configuration}
-use Rattle.config_state.specs.First.{first}
-use Rattle.config_state.specs.Views.{task_state}
-use Rattle.config_state.specs.declared.config.Config.{Config}
-use Rattle.config_state.specs.declared.task.State.TheVariants.{Running}
-use Rattle.config_state.specs.declared.task.TaskCell.{TaskCell}
-use Rattle.step_rules.proofs.BlockedLemmas.{task_found}
-use Rattle.step_rules.proofs.CauseLemmas.{ready_has_iff}
-use Rattle.step_rules.specs.Events.{event_of}
-use Rattle.step_rules.specs.Runs.{Ran, HasStep}
+use Rattle.step_rules.specs.Runs.{Ran}
 use Rattle.run_history.proofs.RunLemmas.{has_event_there, last_there}
-use Rattle.run_history.specs.Ranges.{HasNoneWithin, IsFirstWithin}
-use Rattle.run_history.specs.Turns.{HasEvent, GoesOn, tried_before, IsNext, Begins, Continues, Follows, last_of, IsInTurn}
-
--- in the first configuration task 0 has an event
-pub first_has_event : (program : ProgramTree) → HasEvent program (first program) 0
-first_has_event program =
-    (ready_has_iff program (first program) 0 _ (first-well_formed program) refl refl refl).1
-    (record { cog = _; there = refl; free = refl })
-
--- a task that runs goes on where it has an event
-pub goes_on_if : (program : ProgramTree) (names : List Name) (config : Config) (index : ℕ) (cell : TaskCell)
-    (answer : Bool) → slice_get config.tasks index ≡ Some cell → cell.state ≡ Running
-    → answer ≡ is_some (event_of program (configuration names config) index)
-    → MatchBool answer (GoesOn program (configuration names config) index)
-    (GoesOn program (configuration names config) index → ⊥)
-goes_on_if program names config index cell true there runs is = record {
-  task = task_state names cell;
-  there = task_found names config index cell there;
-  runs = runs;
-  has_event = sym is;
-}
-goes_on_if program names config index cell false there runs is = λ goes. let has = goes.has_event in absurd cc
-
--- a task after the last one is tried no later than another, if that is not between them
-near_place : (count last task other : ℕ) → last < task → task < count → other < count
-    → (last < other → other < task → ⊥) → tried_before count last task ≤ tried_before count last other
-near_place count last task other after there other_there none = grind (arith, nat_tests)
-
--- a task up to the last one is tried no later than another, if that is neither after the last one nor before the task
-far_place : (count last task other : ℕ) → task < last + 1 → last < count → other < count → (last < other → ⊥)
-    → (other < task → ⊥) → tried_before count last task ≤ tried_before count last other
-far_place count last task other before last_there other_there not_after none = grind (arith, nat_tests)
-
-module _ (program : ProgramTree) (config : Configuration) (count last : ℕ) (counted : length config.tasks ≡ count) where
-  -- a task that has an event is one of so many
-  counted_there : (task : ℕ) → HasEvent program config task → task < count
-  counted_there task has = subst (λ (all : ℕ). task < all) counted (has_event_there program config task has)
-
-  -- the task that comes next is the first one with an event among those after the last one
-  pub next_after_last : (task : ℕ) → (GoesOn program config last → ⊥)
-      → IsFirstWithin program config (last + 1) count task → IsNext program config task (Some last)
-  next_after_last task stops first = Follows last stops (record {
-    goes = first.has_event;
-    first = λ other has. rw counted
-        (near_place count last task other (omega (arith, first.after)) first.before (counted_there other has)
-        (λ after before. first.none_before other (omega (arith, after)) before has));
-  })
-
-  -- if none of those has an event, it is the first one with an event among those up to the last one
-  pub next_from_start : (task : ℕ) → last < count → (GoesOn program config last → ⊥)
-      → HasNoneWithin program config (last + 1) count → IsFirstWithin program config 0 (last + 1) task
-      → IsNext program config task (Some last)
-  next_from_start task there stops none first = Follows last stops (record {
-    goes = first.has_event;
-    first = λ other has. rw counted
-        (far_place count last task other first.before there (counted_there other has)
-        (λ after. none other (omega (arith, after)) (counted_there other has) has)
-        (λ before. first.none_before other (omega arith) before has));
-  })
-
-  -- if none of all these has an event, no task has one
-  pub none_has_event : HasNoneWithin program config (last + 1) count → HasNoneWithin program config 0 (last + 1)
-      → HasStep program config → ⊥
-  none_has_event none_after none_before (task, has) =
-      let up_to_last : last + 1 ≤ task → ⊥ = λ after. none_after task after (counted_there task has) has in
-      none_before task (omega arith) (omega arith) has
+use Rattle.run_history.specs.Turns.{tried_before, IsNext, Begins, Continues, Follows, last_of, IsInTurn}
 
 -- of two tasks that are there, that which is tried before as many as the other is the other
 same_place : (count last one other : ℕ) → last < count → one < count → other < count

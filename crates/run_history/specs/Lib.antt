@@ -1,4 +1,3 @@
 pub mod Recorded
 pub mod Replays
 pub mod Turns
-pub mod Ranges

@@ -7,6 +7,6 @@ pub mod replays;
 pub mod sharing;
 
 pub use history::History;
-pub use order::{next_task, turns_are_one_order};
+pub use order::turns_are_one_order;
 pub use replays::{Replayed, replay};
 pub use sharing::histories_are_shared;

@@ -80,7 +80,7 @@ impl<'s, 'a> Printer<'s, 'a> {
     }
 
     /// The lines of a configuration, and of the strings that were printed.
-    pub(crate) fn configuration(&mut self, config: &Config, lines: &Lines) {
+    fn configuration(&mut self, config: &Config, lines: &Lines) {
         self.cogs(&config.cogs);
         self.objects(&config.objects);
         self.tasks(&config.tasks);

@@ -12,7 +12,7 @@ pub(crate) enum Failure {
     #[error("refused: {0} at {1}:{2}")]
     Refused(Code, u32, u32),
     /// The words are not of this program.
-    #[error("usage: show_run (history | steps | outputs) FILE, or show_run replay FILE TASKS")]
+    #[error("usage: show_run (history | steps | outputs | greatest | scattered) FILE, or show_run replay FILE TASKS")]
     Usage,
     /// The source has more bytes than a source may have; for a history it is also that more facts are derived than may
     /// be.
@@ -33,6 +33,9 @@ pub(crate) enum Failure {
     /// Two inputs of one configuration are not the same.
     #[error("an input differs from itself")]
     Differs,
+    /// The ready set has other tasks than those with an event, or takes another one for the next.
+    #[error("the ready set is not that of the configuration")]
+    Strays,
 }
 
 impl Failure {
@@ -47,6 +50,7 @@ impl Failure {
             Failure::Memory => 9,
             Failure::Changed => 10,
             Failure::Differs => 11,
+            Failure::Strays => 12,
         }
     }
 }

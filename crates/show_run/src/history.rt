@@ -41,7 +41,7 @@ fn ended(alloc: Global, source: &[u8]) -> Result<Ended, AllocError> {
 ///
 /// # Errors
 /// [`AllocError`] if memory runs out.
-fn runs_line(alloc: Global, history: &History) -> Result<String, AllocError> {
+pub(crate) fn runs_line(alloc: Global, history: &History) -> Result<String, AllocError> {
     let mut line = Sink::new(alloc);
     let mut count: u64 = 0;
     let mut between = "";

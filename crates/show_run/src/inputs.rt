@@ -4,7 +4,8 @@ ghost use Rattle.abs_values.specs.Results.{results_tree};
 ghost use Rattle.abs_program.specs.NamedViews.{program_tree};
 ghost use Rattle.config_state.specs.ConfigViews.{configuration};
 ghost use Rattle.config_state.specs.OfProgram.{IsConfigOf};
-ghost use Rattle.step_rules.specs.Events.{event_of};
+ghost use Rattle.step_rules.specs.Changes.{Change};
+ghost use Rattle.step_rules.specs.Events.{Step, change_of, event_of};
 ghost use Rattle.step_rules.specs.InputViews.{input_tree};
 ghost use Rattle.step_rules.specs.Inputs.{input_of, output_of};
 
@@ -33,6 +34,12 @@ pub(crate) fn apply_output(
     requires has_step { IsSome (event_of (program_tree program.now) (configuration program.now.symbols config.old)
         task) }
     ensures of_program { ∥ IsConfigOf (program_tree program.now) (configuration program.now.symbols config.new) ∥₁ }
+    ensures config { OnOk result ((step : Step)
+        → event_of (program_tree program.now) (configuration program.now.symbols config.old) task ≡ Some step
+        → configuration program.now.symbols config.new ≡ step.config) }
+    ensures kind { IfOk result (λ did. (change : Change)
+        → change_of (program_tree program.now) (configuration program.now.symbols config.old) task ≡ Some change
+        → did ≡ change.did) }
     ensures there { OnOk result (task < length config.new.tasks) }
 {
     let asked = asked_twice(alloc, program, config, task)?;

@@ -1,13 +1,16 @@
 //! The program `show_run WHAT FILE`: prints the run of a source, for tests to compare. WHAT is `history`, `steps` or
-//! `outputs`. `show_run replay FILE TASKS` prints what becomes of a history, whose tasks are one word, as `"0 0 1"`. A
-//! source that is refused prints its refusal, and ends with status 4.
+//! `outputs`; or `greatest` or `scattered`, for the history of a run by another schedule than that of one worker.
+//! `show_run replay FILE TASKS` prints what becomes of a history, whose tasks are one word, as `"0 0 1"`. A source that
+//! is refused prints its refusal, and ends with status 4.
 #![tactic(auto)]
 
 mod configurations;
 mod failure;
 mod history;
 mod inputs;
+mod ready_sets;
 mod replays;
+mod schedules;
 mod show;
 mod sink;
 mod steps;

@@ -1,10 +1,12 @@
-//! What is shown of the run of a source, as whole lines: its history, its events, or what becomes of a given history.
+//! What is shown of the run of a source, as whole lines: its history, also by other schedules, its events, or what
+//! becomes of a given history.
 ghost use Rattle.std.specs.Prelude.{◌≤◌, length};
 ghost use Rattle.abs_tree.specs.Limits.{source_limit};
 
 use crate::failure::Failure;
 use crate::history::history_line;
 use crate::replays::replay_lines;
+use crate::schedules::{Schedule, schedule_line};
 use crate::steps::{Way, step_lines};
 use abs_lexer::lexer::tokens;
 use abs_names::resolve;
@@ -22,6 +24,8 @@ pub(crate) enum What {
     Outputs,
     /// What becomes of a given history of the source.
     Replay,
+    /// Its history by another schedule than that of one worker.
+    Scheduled(Schedule),
 }
 
 impl What {
@@ -32,6 +36,8 @@ impl What {
             "steps" => Some(What::Steps),
             "outputs" => Some(What::Outputs),
             "replay" => Some(What::Replay),
+            "greatest" => Some(What::Scheduled(Schedule::Greatest)),
+            "scattered" => Some(What::Scheduled(Schedule::Scattered)),
             _ => None,
         }
     }
@@ -41,9 +47,9 @@ impl What {
 ///
 /// # Errors
 /// [`Failure::Refused`] where the lexer, the parser or the resolver refuses the source; for a history, where the
-/// command does. [`Failure::Usage`] where a task of a replay is no number. [`Failure::Changed`] and
-/// [`Failure::Differs`] where a run event by event shows that, as [`step_lines`] says. [`Failure::Memory`] where memory
-/// runs out.
+/// command does. [`Failure::Usage`] where a task of a replay is no number. [`Failure::Changed`], [`Failure::Differs`]
+/// and [`Failure::Strays`] where a run event by event shows that, as [`step_lines`] and [`schedule_line`] say.
+/// [`Failure::Memory`] where memory runs out.
 pub(crate) fn show(alloc: Global, what: What, source: &[u8], tasks: &str) -> Result<String, Failure>
     requires { length source.now ≤ source_limit }
 {
@@ -55,6 +61,7 @@ pub(crate) fn show(alloc: Global, what: What, source: &[u8], tasks: &str) -> Res
     match what {
         What::Steps => step_lines(alloc, &program, Way::InPlace),
         What::Outputs => step_lines(alloc, &program, Way::Apart),
+        What::Scheduled(schedule) => schedule_line(alloc, &program, schedule),
         What::Replay | What::History => replay_lines(alloc, &program, tasks),
     }
 }

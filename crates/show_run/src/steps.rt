@@ -7,11 +7,15 @@
 //! Where an event that is made in place is refused memory, the configuration and the printed lines have to be as
 //! before. Both are written as text before and after it, and compared. Then the event is tried once more. So where a
 //! single allocation fails, the program prints all or nothing.
-ghost use Rattle.std.specs.Prelude.{◌≡◌, ◌<◌, length, Some, IsSome, OnOk};
+//!
+//! Which tasks have an event is told by a ready set, which follows the events. After each event it is compared with
+//! what comes of trying each task.
+ghost use Rattle.std.specs.Prelude.{◌≡◌, ◌<◌, length, Some, IsSome, IfOk, OnOk};
 ghost use Rattle.abs_program.specs.NamedViews.{program_tree};
 ghost use Rattle.config_state.specs.ConfigViews.{configuration};
 ghost use Rattle.config_state.specs.OfProgram.{IsConfigOf};
-ghost use Rattle.step_rules.specs.Events.{event_of};
+ghost use Rattle.step_rules.specs.Changes.{Change};
+ghost use Rattle.step_rules.specs.Events.{Step, change_of, event_of};
 
 use crate::configurations::{Printer, configuration_lines};
 use crate::failure::Failure;
@@ -19,7 +23,7 @@ use crate::inputs::apply_output;
 use abs_program::Named;
 use abs_tree::limits::EVENT_LIMIT;
 use config_state::{Config, Lines, first};
-use run_history::next_task;
+use future_cells::{Ready, next_task};
 use std::alloc::{AllocError, Global};
 use step_rules::{Did, has_step, step};
 
@@ -38,44 +42,64 @@ pub(crate) enum Way {
 /// # Errors
 /// [`Failure::Memory`] if memory runs out, but not where the second try of an event succeeds. [`Failure::Changed`] if
 /// an event that was refused memory changed the configuration or the printed lines. [`Failure::Differs`] if an input is
-/// not the same as itself.
+/// not the same as itself. [`Failure::Strays`] if the ready set has other tasks than those with an event.
 pub(crate) fn step_lines(alloc: Global, program: &Named<'_>, way: Way) -> Result<String, Failure> {
     let mut config = first(alloc, program)?;
     let mut lines = Lines {
         items: Vec::new(alloc),
     };
+    let mut shown = configuration_lines(alloc, &program.symbols, &config, &lines)?;
     let mut printer = Printer::new(alloc, &program.symbols);
     printer.push("first\n");
-    printer.configuration(&config, &lines);
-    choices_line(program, &config, &mut printer);
+    printer.push(shown.as_str());
+    let mut ready = Ready::build(alloc, program, &config)?;
+    choices_line(program, &config, &ready, &mut printer)?;
     let mut last = None;
     for event in 0..EVENT_LIMIT {
-        let Some(task) = next_task(program, &config, last) else {
+        let Some(task) = next_task(&config, &ready, last) else {
             break;
         };
-        let did = make_event(alloc, program, way, &mut config, task, &mut lines)?;
+        ready.reserve(1)?;
+        let before = shown.as_str();
+        let did = make_event(alloc, program, way, &mut config, task, &mut lines, before)?;
+        ready.after(program, &config, task, &did);
+        shown = configuration_lines(alloc, &program.symbols, &config, &lines)?;
         printer.event(event, task, did);
-        printer.configuration(&config, &lines);
-        choices_line(program, &config, &mut printer);
+        printer.push(shown.as_str());
+        choices_line(program, &config, &ready, &mut printer)?;
         last = Some(task);
     }
     Ok(printer.finish()?)
 }
 
-/// Prints a line with the tasks that have an event.
-fn choices_line(program: &Named<'_>, config: &Config, printer: &mut Printer<'_, '_>)
+/// Prints a line with the tasks that have an event, as the ready set has them.
+///
+/// # Errors
+/// [`Failure::Strays`] if one of them has none, or another one has one.
+fn choices_line(
+    program: &Named<'_>,
+    config: &Config,
+    ready: &Ready,
+    printer: &mut Printer<'_, '_>,
+) -> Result<(), Failure>
     requires { ∥ IsConfigOf (program_tree program.now) (configuration program.now.symbols config.now) ∥₁ }
 {
     printer.push("  with an event:");
     for task in 0..config.tasks.len() as u32 {
-        if has_step(program, config, task) {
+        let has_event = ready.contains(task);
+        if has_event != has_step(program, config, task) {
+            return Err(Failure::Strays);
+        }
+        if has_event {
             printer.choice(task);
         }
     }
     printer.push("\n");
+    Ok(())
 }
 
-/// Makes the event of a task, in one of the two ways. It tells what the event did.
+/// Makes the event of a task, in one of the two ways. `before` is the text of the configuration and the lines. It tells
+/// what the event did.
 ///
 /// # Errors
 /// An error of [`step_or_retry`] or of [`apply_output`].
@@ -86,19 +110,23 @@ fn make_event(
     config: &mut Config,
     task: u32,
     lines: &mut Lines,
+    before: &str,
 ) -> Result<Did, Failure>
     requires of_program { ∥ IsConfigOf (program_tree program.now) (configuration program.now.symbols config.old) ∥₁ }
     requires there { task < length config.old.tasks }
     requires has_step { IsSome (event_of (program_tree program.now) (configuration program.now.symbols config.old)
         task) }
     ensures of_program { ∥ IsConfigOf (program_tree program.now) (configuration program.now.symbols config.new) ∥₁ }
+    ensures config { OnOk result ((step : Step)
+        → event_of (program_tree program.now) (configuration program.now.symbols config.old) task ≡ Some step
+        → configuration program.now.symbols config.new ≡ step.config) }
+    ensures kind { IfOk result (λ did. (change : Change)
+        → change_of (program_tree program.now) (configuration program.now.symbols config.old) task ≡ Some change
+        → did ≡ change.did) }
     ensures there { OnOk result (task < length config.new.tasks) }
 {
     match way {
-        Way::InPlace => {
-            let before = configuration_lines(alloc, &program.symbols, config, lines)?;
-            step_or_retry(alloc, program, config, task, lines, before.as_str())
-        }
+        Way::InPlace => step_or_retry(alloc, program, config, task, lines, before),
         Way::Apart => apply_output(alloc, program, config, task, lines),
     }
 }
@@ -122,6 +150,12 @@ fn step_or_retry(
     requires has_step { IsSome (event_of (program_tree program.now) (configuration program.now.symbols config.old)
         task) }
     ensures of_program { ∥ IsConfigOf (program_tree program.now) (configuration program.now.symbols config.new) ∥₁ }
+    ensures config { OnOk result ((step : Step)
+        → event_of (program_tree program.now) (configuration program.now.symbols config.old) task ≡ Some step
+        → configuration program.now.symbols config.new ≡ step.config) }
+    ensures kind { IfOk result (λ did. (change : Change)
+        → change_of (program_tree program.now) (configuration program.now.symbols config.old) task ≡ Some change
+        → did ≡ change.did) }
     ensures there { OnOk result (task < length config.new.tasks) }
 {
     if let Ok(did) = step(alloc, program, config, task, lines) {
