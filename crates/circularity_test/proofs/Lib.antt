@@ -14,6 +14,7 @@ mod NodeLemmas
 mod PairLemmas
 mod PickLemmas
 mod PickingLemmas
+mod RisingLemmas
 mod RouteLemmas
 mod TableLemmas
 mod WalkingLemmas

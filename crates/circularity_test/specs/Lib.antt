@@ -3,6 +3,7 @@ pub mod Distances
 pub mod Finding
 pub mod Linking
 pub mod Network
+pub mod Numbers
 pub mod Reporting
 pub mod Routes
 pub mod Tables

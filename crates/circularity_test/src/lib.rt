@@ -3,6 +3,7 @@
 
 mod distances;
 mod finding;
+mod laws;
 mod linking;
 mod network;
 mod pair_list;
@@ -11,6 +12,7 @@ mod routes;
 mod tables;
 
 pub use finding::pairs;
+pub use laws::{numbers_rise_by_calls, rising_numbers_rule_chains_out};
 pub use linking::{Link, linked};
 pub use pair_list::Pairs;
 pub use report::{Report, chains};

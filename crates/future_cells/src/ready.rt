@@ -199,7 +199,7 @@ impl Ready {
         );
     }
 
-    /// Lets a task be that of the last event. It takes constant time where this task is the next one after that of the
+    /// Lets a task be that of the last event. It takes a few steps where this task is the next one after that of the
     /// event before, and otherwise goes over the cogs.
     pub(crate) fn turn(&mut self, task: u32)
         ensures tasks { self.new.tasks ≡ self.old.tasks }

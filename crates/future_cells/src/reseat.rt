@@ -98,7 +98,7 @@ fn is_first(candidates: &Candidates, last: u32, task: u32) -> bool
     }
 }
 
-/// Lets the candidates be the first ones after a task. It takes constant time where the task is the first candidate,
+/// Lets the candidates be the first ones after a task. It takes a few steps where the task is the first candidate,
 /// and otherwise goes over the cogs.
 pub(crate) fn turned(
     candidates: &mut Candidates,
