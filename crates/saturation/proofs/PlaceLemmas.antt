@@ -1,7 +1,8 @@
 -- The terms of a body are those of its statements.
 --
 --   `Placed`                       a term of a body of a kind is that of the statement of a point
---   `placed_by_statement`          a statement of a kind that has a term has a place among the terms
+--   `TermPlaced`, `method_term`    a statement of a method that has a term has a place among the terms
+--   `placed_by_statement`          a statement of a kind that has a term has one
 --   `placed_by_term`               a term of a body of a kind is that of a statement
 use Rattle.std.proofs.Common.{◌≡◌, ℕ, true, List, Some, refl, ◌∙◌, arith}
 use Rattle.std.specs.Prelude.{slice_get}
@@ -13,7 +14,7 @@ use Rattle.abs_program.specs.Instructions.{InstructionTree, effect_of, expr_tree
 use Rattle.abs_program.specs.ProgramBodies.{IsStatementOf}
 use Rattle.abs_tree.specs.Syntax.{SourceTree, ProgramTree}
 use Rattle.abs_tree.specs.SyntaxSizes.{statement_count}
-use Rattle.contract_terms.specs.BodyContexts.{BodyContext}
+use Rattle.contract_terms.specs.BodyContexts.{BodyContext, method_context}
 use Rattle.contract_terms.specs.KindBodies.{KindBody, KindStatement}
 use Rattle.contract_terms.specs.ProgramTerms.{AreTermsOf}
 use Rattle.contract_terms.specs.Settled.{no_slot, settled, settled_facts}
@@ -22,11 +23,12 @@ use Rattle.contract_terms.specs.declared.terms.Terms.{Terms}
 use Rattle.list_facts.proofs.AllLemmas.{All-slice_get}
 use Rattle.list_facts.proofs.EntryLemmas.{slice_get-there, slice_get-mapped}
 use Rattle.name_bounding.specs.declared.kind.Kind.{Kind}
-use Rattle.saturation.proofs.BodyLemmas.{body_found, body_of_index, terms_are, context_by_terms}
+use Rattle.saturation.proofs.BodyLemmas.{ContextOf, body_found, body_of_index, context_by_terms, in_method, terms_are}
 use Rattle.saturation.proofs.SelectLemmas.{IsKept, item_found, item_kept}
 use Rattle.saturation.specs.Rows.{HasBody}
 use Rattle.saturation.specs.Uses.{body_terms, TermAt}
 use Rattle.saturation.specs.declared.body.Body.{Body}
+use Rattle.saturation.specs.declared.body.Body.TheVariants as body
 
 -- A term of a body of a kind, by its index among them, is that of the statement of a point.
 pub record Placed (program : ProgramTree) (terms : Terms) (kind : Kind) (own : Body) (context : BodyContext) (place : ℕ)
@@ -79,6 +81,40 @@ module _ (program : ProgramTree) (terms : Terms) (are : AreTermsOf program terms
             slots.1,
       )
 
+  -- The term of a statement has a place among the terms of its body.
+  pub record TermPlaced (own : Body) (index : ℕ) : Type 0 where
+    pub place : ℕ
+    pub term : TermTree
+    pub there : slice_get (body_terms program.names terms own) place ≡ Some term
+    pub index_is : term.index ≡ index
+
+  -- A statement of a body that has a term has a place among the terms.
+  term_placed : (own : Body) (context : BodyContext) → ContextOf program own context → (index : ℕ)
+      → IsStatementOf context.body index → (point : Point)
+      → slice_get (program_points program.source) index ≡ Some point → has_term (effect_of point.statement) ≡ true
+      → TermPlaced own index
+  term_placed own context context_of index inside point there has_it =
+      let list_are = terms_are program terms are own context context_of in
+      let kept : IsKept (λ one. point_has_term (slice_get (program_points program.source) one)) context.body.index
+      (statement_count context.body.statements) index = record {
+        after_start = inside.after_start;
+        before_end = inside.before_end;
+        passed = rw there has_it;
+      } in
+      let found = item_found (λ term. term.index) (body_terms program.names terms own)
+      (λ one. point_has_term (slice_get (program_points program.source) one)) context.body.index
+      (statement_count context.body.statements) list_are.indices index kept in
+      record { place = found.0; term = found.1; there = found.2; index_is = found.3 }
+
+  -- So it is in a method, by its class and its index.
+  pub method_term : (class member : ℕ) (context : BodyContext)
+      → method_context program.source.declarations class member ≡ Some context → (index : ℕ)
+      → IsStatementOf context.body index → (point : Point)
+      → slice_get (program_points program.source) index ≡ Some point → has_term (effect_of point.statement) ≡ true
+      → TermPlaced (body.Method class member) index
+  method_term class member context known =
+      term_placed (body.Method class member) context (in_method class member context known)
+
   -- A statement of a kind that has a term has a place among the terms.
   pub record PlacedHere (kind : Kind) (context : BodyContext) (index : ℕ) (point : Point) : Type 0 where
     pub own : Body
@@ -90,34 +126,26 @@ module _ (program : ProgramTree) (terms : Terms) (are : AreTermsOf program terms
   pub placed_by_statement : (kind : Kind) (index : ℕ) (here : KindStatement program kind index)
       → has_term (effect_of here.point.statement) ≡ true → PlacedHere kind here.context index here.point
   placed_by_statement kind index here has_it =
-      let body = body_found program kind here.context here.body_is in
-      let list_are = terms_are program terms are body.own here.context body.context_of in
-      let kept : IsKept (λ one. point_has_term (slice_get (program_points program.source) one)) here.context.body.index
-      (statement_count here.context.body.statements) index = record {
-        after_start = here.inside.after_start;
-        before_end = here.inside.before_end;
-        passed = rw here.there has_it;
-      } in
-      let found = item_found (λ term. term.index) (body_terms program.names terms body.own)
-      (λ one. point_has_term (slice_get (program_points program.source) one)) here.context.body.index
-      (statement_count here.context.body.statements) list_are.indices index kept in
-      let point_is : slice_get (program_points program.source) found.1.index ≡ Some here.point =
-      rw found.3 here.there in
-      let is = term_is here.context (body_terms program.names terms body.own) list_are found.0 found.1 found.2
+      let found_body = body_found program kind here.context here.body_is in
+      let found = term_placed found_body.own here.context found_body.context_of index here.inside here.point here.there has_it in
+      let point_is : slice_get (program_points program.source) found.term.index ≡ Some here.point =
+      rw found.index_is here.there in
+      let is = term_is here.context (body_terms program.names terms found_body.own)
+      (terms_are program terms are found_body.own here.context found_body.context_of) found.place found.term found.there
       here.point point_is in
       record {
-        own = body.own;
-        place = found.0;
-        term = found.1;
-        index_is = found.3;
+        own = found_body.own;
+        place = found.place;
+        term = found.term;
+        index_is = found.index_is;
         placed = record {
-          has = body.has;
+          has = found_body.has;
           body_is = here.body_is;
           at = record {
-            there = found.2;
-            instruction_is = instruction_there program.source found.1.index here.point point_is;
+            there = found.there;
+            instruction_is = instruction_there program.source found.term.index here.point point_is;
           };
-          inside = rw found.3 here.inside;
+          inside = rw found.index_is here.inside;
           there = point_is;
           settled = is.0;
           settled_is = is.1;
