@@ -1,6 +1,7 @@
 -- What a loop adds to a list.
 --
 --   `adds_none`, `adds_one`, `adds_as`         nothing was added, one was, and what was is told in other words
+--   `each_cases`               what one element more gives
 --   `each_none`, `each_more`, `each_all`       a loop over a list: at its start, one turn, at its end
 --   `each_mapped`                              the same by the images of the elements
 use Rattle.std.proofs.Common.{◌≡◌, ◌⊎◌, inl, inr, ⊎_elim, ℕ, ◌+◌, ◌<◌, ◌≤◌, List, [], ◌∷◌, ◌++◌, map, take, length, Contains, sym, subst, arith, ◌∙◌}
@@ -61,6 +62,15 @@ module _ {A B : Type 0} {Is : A → B → Type 0} where
   pub each_none : {before now : List B} (list : List A) → now ≡ before → Adds (OfEach Is (take 0 list)) before now
   each_none list same = adds_none same (λ one each. omega (arith, each.inside.1))
 
+  -- what one element more gives is by the earlier ones or by this one
+  pub each_cases : (list : List A) (index : ℕ) (item : A) → index < length list → item ≡ get_or list index item
+      → (one : B) → OfEach Is (take (index + 1) list) one → OfEach Is (take index list) one ⊎ Is item one
+  each_cases list index item within is one each = ⊎_elim
+      (λ earlier. inl (record { from = each.from; inside = earlier; is = each.is }))
+      (λ same. inr (subst (λ it. Is it one) (sym same ∙ sym is) each.is))
+      (Contains-push_cases (take index list) (get_or list index item) each.from
+      (subst (λ part. Contains part each.from) (take_more list index item within) each.inside))
+
   -- what one element more gives was added
   pub each_more : {before between now : List B} (list : List A) (index : ℕ) (item : A) → index < length list
       → item ≡ get_or list index item → Adds (OfEach Is (take index list)) before between
@@ -82,11 +92,7 @@ module _ {A B : Type 0} {Is : A → B → Type 0} where
             (Contains-push (take index list) (get_or list index item)));
         is = new;
       }) there)
-      (λ one each. ⊎_elim
-      (λ earlier. inl (record { from = each.from; inside = earlier; is = each.is }))
-      (λ same. inr (subst (λ it. Is it one) (sym same ∙ sym is) each.is))
-      (Contains-push_cases (take index list) (get_or list index item) each.from
-      (subst (λ part. Contains part each.from) more each.inside)))
+      (λ one each. each_cases list index item within is one each)
 
   -- what all elements give was added
   pub each_all : {before now : List B} (list : List A) (index : ℕ) → length list ≤ index

@@ -1,4 +1,5 @@
 mod AddingLemmas
+mod CallLemmas
 mod EdgeLemmas
 mod FindingLemmas
 mod GroupLemmas
@@ -12,10 +13,12 @@ mod NetworkLemmas
 mod NextLemmas
 mod NodeLemmas
 mod PairLemmas
+mod PartLemmas
 mod PickLemmas
 mod PickingLemmas
 mod RisingLemmas
 mod RouteLemmas
+mod StepLemmas
 mod TableLemmas
 mod WalkingLemmas
 mod WayLemmas

@@ -2,6 +2,7 @@
 --
 --   `node_eq_decides`, `group_eq_decides`      the tests of nodes and of groups in the code
 --   `number_found`, `one_number`               a search finds the number of a key, and a key has one number
+--   `key_kept`                 a key keeps its number when one is inserted
 --   `zip_at`, `zip_both`       what is at an index of one of two lists that go together, and of both
 --   `zip_length`, `zip_push`   they are as long, and one more in each
 --   `numbers_none`, `numbers_more`, `numbers_all`      the numbers of the keys of some items, in a loop
@@ -144,25 +145,25 @@ zip_push Is (one ∷ firsts) [] first second all is = absurd all
 zip_push Is (one ∷ firsts) (other ∷ seconds) first second all is =
     (all.0, zip_push Is firsts seconds first second all.1 is)
 
+-- a key keeps its number when one is inserted
+pub key_kept : {A : Type 0} (eq : A → A → Bool) (keys : List A) (new : A) (number : ℕ) (key : A)
+    → slice_get keys number ≡ Some key → slice_get (insert_key eq keys new) number ≡ Some key
+key_kept eq keys new number key there = by (list_any (eq new) keys)
+  where
+    by : (has : Bool) → slice_get (if has then keys else keys ++ new ∷ []) number ≡ Some key
+    by true = there
+    by false = slice_get-front keys (new ∷ []) number key there
+
 module _ {A B : Type 0} (eq : A → A → Bool) (decides : (one other : A) → Decides (eq one other) (one ≡ other))
     (key_of : B → A)
   where
-    -- a key keeps its number when one is inserted
-    key_kept : (keys : List A) (new : A) (number : ℕ) (key : A) → slice_get keys number ≡ Some key
-        → slice_get (insert_key eq keys new) number ≡ Some key
-    key_kept keys new number key there = by (list_any (eq new) keys)
-      where
-        by : (has : Bool) → slice_get (if has then keys else keys ++ new ∷ []) number ≡ Some key
-        by true = there
-        by false = slice_get-front keys (new ∷ []) number key there
-
     numbers_kept : (keys : List A) (new : A) (items : List B) (numbers : List ℕ) → AreNumbers key_of items keys numbers
         → AreNumbers key_of items (insert_key eq keys new) numbers
     numbers_kept keys new [] [] all = tt
     numbers_kept keys new [] (number ∷ numbers) all = all
     numbers_kept keys new (item ∷ items) [] all = all
     numbers_kept keys new (item ∷ items) (number ∷ numbers) all =
-        (key_kept keys new number (key_of item) all.0, numbers_kept keys new items numbers all.1)
+        (key_kept eq keys new number (key_of item) all.0, numbers_kept keys new items numbers all.1)
 
     -- one item more has its number
     pub numbers_more : (keys more : List A) (items : List B) (numbers : List ℕ) (index : ℕ) (item : B) (key : A)

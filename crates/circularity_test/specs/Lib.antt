@@ -4,6 +4,8 @@ pub mod Finding
 pub mod Linking
 pub mod Network
 pub mod Numbers
+pub mod Parts
 pub mod Reporting
 pub mod Routes
+pub mod Steps
 pub mod Tables

@@ -7,8 +7,10 @@ mod laws;
 mod linking;
 mod network;
 mod pair_list;
+mod parts;
 mod report;
 mod routes;
+mod steps;
 mod tables;
 
 pub use finding::pairs;
