@@ -43,10 +43,12 @@ are_grouped nodes groups numbers are members number one there =
     are number one there in
     record { row = at.0; there = at.2; inside = (members at.0 number).1 at.1 }
 
-module _ (nodes : List Node) (groups : Groups) (kind : Kind) (grouped : AreGrouped nodes groups)
+module _ (nodes : List Node) (groups : Groups) (kind : Kind) (component : ℕ) (grouped : AreGrouped nodes groups)
     (row : Option ℕ)
-    (finds : (number : ℕ) → slice_get groups.groups.keys number ≡ Some (group_by kind) → row ≡ Some number)
-    (number : ℕ) (one : Node) (there : slice_get nodes number ≡ Some one) (alike : group_of one ≡ group_by kind)
+    (finds : (number : ℕ) → slice_get groups.groups.keys number ≡ Some (group_by kind component)
+    → row ≡ Some number)
+    (number : ℕ) (one : Node) (there : slice_get nodes number ≡ Some one)
+    (alike : group_of one ≡ group_by kind component)
   where
     -- the row of a node that is alike was found
     found_row : (it : IsGrouped groups one number) → row ≡ Some it.row

@@ -1,5 +1,6 @@
 mod AddingLemmas
 mod CallLemmas
+mod ComponentLemmas
 mod EdgeLemmas
 mod FindingLemmas
 mod GroupLemmas
@@ -12,6 +13,7 @@ mod NearLemmas
 mod NetworkLemmas
 mod NextLemmas
 mod NodeLemmas
+mod NumberLemmas
 mod PairLemmas
 mod PartLemmas
 mod PickLemmas

@@ -5,8 +5,11 @@
 --   `key_kept`                 a key keeps its number when one is inserted
 --   `zip_at`, `zip_both`       what is at an index of one of two lists that go together, and of both
 --   `zip_length`, `zip_push`   they are as long, and one more in each
+--   `has_component`            there is a component for each pair
 --   `numbers_none`, `numbers_more`, `numbers_all`      the numbers of the keys of some items, in a loop
 --   `numbers_within`                           they are within the list of keys
+use denote.Struct.Props as logic
+use mathlib.Core.Logic.{∥∥₁_elim}
 use Rattle.std.proofs.Common.{◌≡◌, ◌∙◌, ⊎_elim, ◌↔◌, ℕ, zero, suc, ◌+◌, ◌<◌, ◌≤◌, Bool, true, false, cond, if◌then◌else◌, List, [], ◌∷◌, ◌++◌, length, get_or, take, position, slice_get, Option, Some, None, All, rules, refl, sym, ap, subst, arith}
 use Rattle.indexmap.specs.IndexSet.{insert_key}
 use Rattle.list_facts.proofs.EntryLemmas.{slice_get-front, take-found}
@@ -22,10 +25,12 @@ use Rattle.std.specs.Bool.{Decides}
 use Rattle.std.specs.List.{AllZip, IsDistinct, list_any, position_or_len}
 use Rattle.std.specs.Prelude.{nat_lt}
 use Rattle.circularity_test.specs.Network.{AreNumbers}
+use Rattle.circularity_test.specs.Numbers.{HasComponents}
 use Rattle.circularity_test.specs.contracts.network.GroupPartialEq.TheImpl as group_equality
 use Rattle.circularity_test.specs.contracts.network.NodePartialEq.TheImpl as node_equality
 use Rattle.circularity_test.specs.declared.network.Group.{Group}
 use Rattle.circularity_test.specs.declared.network.Node.{Node}
+use Rattle.contract_terms.specs.declared.pair.Pair.{Pair}
 
 -- whether two nodes are equal
 abbrev pub node_eq : Node → Node → Bool
@@ -135,6 +140,13 @@ zip_length Is [] [] all = refl
 zip_length Is [] (other ∷ seconds) all = absurd all
 zip_length Is (one ∷ firsts) [] all = absurd all
 zip_length Is (one ∷ firsts) (other ∷ seconds) all = ap suc (zip_length Is firsts seconds all.1)
+
+-- there is a component for each pair
+pub has_component : (pairs : List Pair) (components : List ℕ) → ∥ HasComponents pairs components ∥₁ → (index : ℕ)
+    → index < length pairs → index < length components
+has_component pairs components numbered index within =
+    ∥∥₁_elim numbered (Prim.hlevel logic.props) (λ it.
+    let same = zip_length _ pairs components it.1 in omega (arith, within, same))
 
 -- one more in each list
 pub zip_push : {A B : Type 0} (Is : A → B → Type 0) (firsts : List A) (seconds : List B) (first : A) (second : B)

@@ -236,6 +236,13 @@ module _ (program : ProgramTree) (pairs : List Pair) (numbers : Numbers) (rising
       closes = closes.closes;
     }
 
+    -- along a closed chain of level pairs all numbers are the same
+    pub component_kept : (first : Pair) (chain : List Pair)
+        → ClosesAt program (filter (is_level numbers) pairs) first chain → (pair : Pair) → Contains chain pair
+        → entry_number numbers pair ≡ entry_number numbers first
+    component_kept first chain closes pair inside =
+        (chain_level first chain (closes_all first chain closes) pair inside).waits
+
     -- the first chain of level pairs that leads back is the first one of all
     least_all : (first : Pair) (chain : List Pair) → IsLeast program (filter (is_level numbers) pairs) first chain
         → IsLeast program pairs first chain

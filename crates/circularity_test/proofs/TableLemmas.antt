@@ -5,7 +5,7 @@
 --   `gains_none`, `gains_more`, `gains_all`            a loop over rows: its start, one turn, its end
 --   `members_none`, `members_more`, `members_all`      the table of the pairs that wait at each node, likewise
 --   `before_none`, `before_more`, `before_all`         the table of the nodes before each node, likewise
---   `empty_count`              how many rows a table of empty rows has
+--   `empty_none`, `empty_count`                a table of empty rows has no numbers, and how many rows it has
 --   `rows_inside`              the numbers of a row are below a count
 use Rattle.std.proofs.Common.{◌≡◌, ◌∙◌, ◌⊎◌, inl, inr, ⊎_elim, ℕ, ◌+◌, ◌<◌, ◌≤◌, List, [], ◌∷◌, ◌++◌, length, take, set, get_or, replicate, Contains, Some, refl, sym, ap, subst, arith}
 use Rattle.std.proofs.lemmas.Bool.{cases_eq, cases_lt}
@@ -142,7 +142,7 @@ gains_all numbers index value old new over gains =
     subst (λ it. Gains (λ one added. Contains it one × (value ≡ added)) old new) (take_all index numbers over) gains
 
 -- no number is in a row of a table of empty rows
-empty_none : (count number value : ℕ) (graph : Graph) → graph ≡ replicate count []
+pub empty_none : (count number value : ℕ) (graph : Graph) → graph ≡ replicate count []
     → Contains (successors graph number) value → ⊥
 empty_none count number value graph empty there =
     let row : successors graph number ≡ [] =

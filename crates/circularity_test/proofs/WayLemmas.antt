@@ -57,41 +57,46 @@ module _ (program : ProgramTree) (pairs : List Pair) (network : Network) (is : I
       ⊎_elim (λ one. (one.0, one.2)) (λ past. let over = past.0 in absurd (omega (arith, count, within, over)))
       (slice_get_cases pairs index).1
 
-  -- a link of pairs is one of their indices
+  -- a link of pairs of one component is one of their indices
   link_from : (from to : ℕ) (one other : Pair) → slice_get pairs from ≡ Some one → slice_get pairs to ≡ Some other
-      → IsLinked program one other → LinksTo network from to
-  link_from from to one other here there linked = record {
+      → IsLinked program one other → is.component one ≡ is.component other → LinksTo network from to
+  link_from from to one other here there linked same = record {
     number = get_or network.entries.items to 0;
     waits = entry_of to other there;
     leads = (is.linked from to (get_or network.entries.items to 0) one other here there (entry_of to other there)).1
-        linked;
+        (linked, same);
   }
 
   -- and the other way round
   link_to : (from to : ℕ) (one other : Pair) → slice_get pairs from ≡ Some one → slice_get pairs to ≡ Some other
       → LinksTo network from to → IsLinked program one other
   link_to from to one other here there links =
-      (is.linked from to links.number one other here there links.waits).0 links.leads
+      ((is.linked from to links.number one other here there links.waits).0 links.leads).0
 
   module _ (first goal : ℕ) (get : Pair) (gotten : slice_get pairs first ≡ Some get) (gets : get.mode ≡ Get)
       (waits : waits_at network first ≡ Some goal) where
     -- a chain that closes, by the indices of its pairs
     by_indices : (from : ℕ) (one : Pair) (others : List Pair) → slice_get pairs from ≡ Some one
-        → ((pair : Pair) → Contains others pair → Contains pairs pair) → Closes program get one others
-        → ByIndices network pairs goal from others
-    by_indices from one [] here among closes = record {
+        → ((pair : Pair) → Contains others pair → Contains pairs pair)
+        → ((pair : Pair) → Contains (one ∷ others) pair → is.component pair ≡ is.component get)
+        → Closes program get one others → ByIndices network pairs goal from others
+    by_indices from one [] here among stays closes = record {
       indices = [];
-      closes = (is.linked from first goal one get here gotten waits).1 (inr closes);
+      closes = (is.linked from first goal one get here gotten waits).1 (inr closes, stays one (contains_head one []));
       picks = tt;
     }
-    by_indices from one (next ∷ others) here among closes =
+    by_indices from one (next ∷ others) here among stays closes =
         let there = among next (contains_head next others) in
         let at = at_contains pairs next there in
+        let same : is.component one ≡ is.component next =
+        stays one (contains_head one (next ∷ others))
+        ∙ sym (stays next (contains_tail one (next ∷ others) next (contains_head next others))) in
         let rest = by_indices there.0 next others at
-        (λ pair inside. among pair (contains_tail next others pair inside)) closes.1 in
+        (λ pair inside. among pair (contains_tail next others pair inside))
+        (λ pair inside. stays pair (contains_tail one (next ∷ others) pair inside)) closes.1 in
         record {
           indices = there.0 ∷ rest.indices;
-          closes = (link_from from there.0 one next here at closes.0, rest.closes);
+          closes = (link_from from there.0 one next here at closes.0 same, rest.closes);
           picks = (at, rest.picks);
         }
 
@@ -100,7 +105,7 @@ module _ (program : ProgramTree) (pairs : List Pair) (network : Network) (is : I
         → ClosesBy network goal from indices → ByPairs program pairs get one indices
     by_pairs from one [] here closes = record {
       others = [];
-      closes = link_into_get program one get gets ((is.linked from first goal one get here gotten waits).0 closes);
+      closes = link_into_get program one get gets ((is.linked from first goal one get here gotten waits).0 closes).0;
       picks = tt;
     }
     by_pairs from one (next ∷ indices) here closes =
@@ -211,7 +216,9 @@ module _ (program : ProgramTree) (pairs : List Pair) (network : Network) (is : I
   indices_back chain closes =
       by_indices program pairs network is first goal get gotten gets waits first get closes.others gotten
       (λ pair inside. closes.among pair (subst (λ list. Contains list pair) (sym closes.starts)
-      (contains_tail get closes.others pair inside))) closes.closes
+      (contains_tail get closes.others pair inside)))
+      (λ pair inside. is.keeps get chain closes pair (subst (λ list. Contains list pair) (sym closes.starts) inside))
+      closes.closes
 
   -- no chain leads back where no distance was found
   pub none_back : IsFirst (IsNear far starts) None → IsWayBack program pairs get None

@@ -1,4 +1,5 @@
 pub mod Adding
+pub mod Components
 pub mod Distances
 pub mod Finding
 pub mod Linking

@@ -2,6 +2,7 @@
 -- only.
 --
 --   `node_of`                  the node at which a pair waits
+--   `AreIn`, `KeepsComponent`  the component of each pair, and that chains stay in one
 --   `LeadsTo`                  a kind that is waited for leads to a node
 --   `waits_at`, `led_to`, `waiting_at`         the tables of a network
 --   `AreMembers`, `AreBefore`  what its tables of nodes have
@@ -22,6 +23,8 @@ use Rattle.abs_graph.specs.Graphs.{Graph, successors}
 use Rattle.abs_graph.specs.Views.{graph_of}
 use Rattle.abs_program.specs.NamedViews.{program_tree}
 use Rattle.abs_tree.specs.Syntax.{ProgramTree}
+use Rattle.circularity_test.specs.Numbers.{AreComponentsOf}
+use Rattle.circularity_test.specs.declared.level_pairs.LevelPairs.{LevelPairs}
 use Rattle.circularity_test.specs.declared.network.Group.{Group}
 use Rattle.circularity_test.specs.declared.network.Group.TheVariants as group
 use Rattle.circularity_test.specs.declared.network.Groups.{Groups}
@@ -29,6 +32,7 @@ use Rattle.circularity_test.specs.declared.network.Network.{Network}
 use Rattle.circularity_test.specs.declared.network.Node.{Node}
 use Rattle.circularity_test.specs.declared.network.Node.TheVariants as node
 use Rattle.circularity_test.specs.declared.network.Ways.{Ways}
+use Rattle.contract_terms.specs.Chains.{ClosesAt}
 use Rattle.contract_terms.specs.PairLinks.{IsLinked, IsReachedByCalls}
 use Rattle.contract_terms.specs.declared.pair.Mode.{Mode}
 use Rattle.contract_terms.specs.declared.pair.Mode.TheVariants.{Get, Await}
@@ -37,18 +41,28 @@ use Rattle.name_bounding.specs.Names.{cog_of}
 use Rattle.name_bounding.specs.declared.kind.Kind.{Kind}
 use Rattle.name_bounding.specs.declared.kind.Kind.TheVariants.{Main, Method}
 
-abbrev pub node_by : Mode → Kind → Node
-node_by Get kind = node.Cog (cog_of kind)
-node_by Await kind = node.Waiting kind
+abbrev pub node_by : Mode → Kind → ℕ → Node
+node_by Get kind component = node.Cog (cog_of kind) component
+node_by Await kind component = node.Waiting kind component
 
--- a pair waits at the cog that its source holds, or at its source, which lets the cog go
-abbrev pub node_of : Pair → Node
-node_of pair = node_by pair.mode pair.source
+-- a pair waits at the cog that its source holds, or at its source, which lets the cog go, in its component
+abbrev pub node_of : (Pair → ℕ) → Pair → Node
+node_of component pair = node_by pair.mode pair.source (component pair)
 
--- a kind that is waited for leads to the cog that it needs, and to the kinds that it reaches by calls on `this`
-abbrev pub LeadsTo : ProgramTree → Kind → Node → Type 0
-LeadsTo program kind (node.Cog name) = cog_of kind ≡ name
-LeadsTo program kind (node.Waiting other) = IsReachedByCalls program kind other
+-- these are the components of the pairs that stay in one
+abbrev pub AreIn : (Pair → ℕ) → LevelPairs → Type 0
+AreIn component found = AreComponentsOf component found.pairs found.components.items
+
+-- a chain that leads back to its first pair stays in the component of this pair
+abbrev pub KeepsComponent : ProgramTree → List Pair → (Pair → ℕ) → Type 0
+KeepsComponent program pairs component = (first : Pair) (chain : List Pair) → ClosesAt program pairs first chain
+    → (pair : Pair) → Contains chain pair → component pair ≡ component first
+
+-- a kind that is waited for leads, in a component, to the cog that it needs, and to the kinds that it reaches by calls
+-- on `this`
+abbrev pub LeadsTo : ProgramTree → Kind → ℕ → Node → Type 0
+LeadsTo program kind component (node.Cog name number) = (cog_of kind ≡ name) × (component ≡ number)
+LeadsTo program kind component (node.Waiting other number) = IsReachedByCalls program kind other × (component ≡ number)
 
 -- the number of the node at which the pair with an index waits
 abbrev pub waits_at : Network → ℕ → Option ℕ
@@ -78,24 +92,27 @@ abbrev pub AreBefore : List ℕ → Graph → Graph → Type 0
 AreBefore entries exits before = (number next : ℕ) → Contains (successors before next) number
     ↔ IsPassed entries exits number next
 
--- From one pair to another there is a link just where the target of the one leads to the node at which the other waits.
+-- From one pair to another of its component there is a link just where the target of the one leads to the node at which
+-- the other waits. Closed chains stay in a component.
 pub record IsNetwork (program : ProgramTree) (pairs : List Pair) (network : Network) : Type 0 where
+  pub component : Pair → ℕ
+  pub keeps : KeepsComponent program pairs component
   pub count : length network.entries.items ≡ length pairs
   pub linked : (from to entry : ℕ) (one other : Pair) → slice_get pairs from ≡ Some one
       → slice_get pairs to ≡ Some other → waits_at network to ≡ Some entry
-      → Contains (led_to network from) entry ↔ IsLinked program one other
+      → Contains (led_to network from) entry ↔ (IsLinked program one other × (component one ≡ component other))
   pub members : AreMembers network.entries.items (graph_of network.members.items)
   pub before : AreBefore network.entries.items (graph_of network.exits.items) (graph_of network.before.items)
 
--- the group of a kind: calls on `this` lead to kinds of the same group
-abbrev pub group_by : Kind → Group
-group_by Main = group.Main
-group_by (Method sign method) = group.Object sign
+-- the group of a kind in a component: calls on `this` lead to kinds of the same group
+abbrev pub group_by : Kind → ℕ → Group
+group_by Main component = group.Main
+group_by (Method sign method) component = group.Object sign component
 
 -- the group of a node
 abbrev pub group_of : Node → Group
-group_of (node.Cog name) = group.Cogs
-group_of (node.Waiting kind) = group_by kind
+group_of (node.Cog name component) = group.Cogs
+group_of (node.Waiting kind component) = group_by kind component
 
 -- for each item, the number that its key has in a list of keys
 abbrev pub AreNumbers : {A B : Type 0} → (A → B) → List A → List B → List ℕ → Type 0
@@ -119,34 +136,36 @@ nodes_in ways = ways.nodes.now.keys
 abbrev pub program_of : Ways → ProgramTree
 program_of ways = program_tree ways.program.now.checked.named
 
--- A kind leads to the node with a number.
-pub record IsLed (program : ProgramTree) (nodes : List Node) (kind : Kind) (number : ℕ) : Type 0 where
+-- A kind leads in a component to the node with a number.
+pub record IsLed (program : ProgramTree) (nodes : List Node) (kind : Kind) (component number : ℕ) : Type 0 where
   pub one : Node
   pub there : slice_get nodes number ≡ Some one
-  pub leads : LeadsTo program kind one
+  pub leads : LeadsTo program kind component one
 
--- these are the numbers of the nodes to which a kind leads
-abbrev pub AreLed : ProgramTree → List Node → Kind → List ℕ → Type 0
-AreLed program nodes kind numbers = (number : ℕ) → Contains numbers number ↔ IsLed program nodes kind number
+-- these are the numbers of the nodes to which a kind leads in a component
+abbrev pub AreLed : ProgramTree → List Node → Kind → ℕ → List ℕ → Type 0
+AreLed program nodes kind component numbers =
+    (number : ℕ) → Contains numbers number ↔ IsLed program nodes kind component number
 
 -- these are the numbers of the nodes to which the target of a pair leads
-abbrev pub LeadsAs : ProgramTree → List Node → Pair → List ℕ → Type 0
-LeadsAs program nodes pair numbers = AreLed program nodes pair.target numbers
+abbrev pub LeadsAs : ProgramTree → List Node → (Pair → ℕ) → Pair → List ℕ → Type 0
+LeadsAs program nodes component pair numbers = AreLed program nodes pair.target (component pair) numbers
 
--- the node with a number is that of the cog that a kind needs
-abbrev pub IsCogNode : List Node → Kind → ℕ → Type 0
-IsCogNode nodes kind number = slice_get nodes number ≡ Some (node.Cog (cog_of kind))
+-- the node with a number is that of the cog that a kind needs, in a component
+abbrev pub IsCogNode : List Node → Kind → ℕ → ℕ → Type 0
+IsCogNode nodes kind component number = slice_get nodes number ≡ Some (node.Cog (cog_of kind) component)
 
--- A kind reaches the node with a number by calls on `this`.
-pub record ReachesNode (program : ProgramTree) (nodes : List Node) (kind : Kind) (number : ℕ) : Type 0 where
+-- A kind reaches the node with a number by calls on `this`, in a component.
+pub record ReachesNode (program : ProgramTree) (nodes : List Node) (kind : Kind) (component number : ℕ) : Type 0 where
   pub other : Kind
-  pub there : slice_get nodes number ≡ Some (node.Waiting other)
+  pub there : slice_get nodes number ≡ Some (node.Waiting other component)
   pub reached : IsReachedByCalls program kind other
 
 -- A number is one of which this is so.
-pub record IsNodeReached (program : ProgramTree) (nodes : List Node) (kind : Kind) (number one : ℕ) : Type 0 where
-  pub same : number ≡ one
-  pub reaches : ReachesNode program nodes kind number
+pub record IsNodeReached (program : ProgramTree) (nodes : List Node) (kind : Kind) (component number one : ℕ) : Type 0
+  where
+    pub same : number ≡ one
+    pub reaches : ReachesNode program nodes kind component number
 
 -- a list has one entry more at most, and its room is kept
 abbrev pub TakesOneAtMost : Vec ℕ Global → Vec ℕ Global → Type 0

@@ -6,6 +6,8 @@
 --   `AwaitsAs`, `RiseByCalls`  the same of what continues, step by step along calls on `this`
 --   `entry_number`, `Climbs`   the number of where a pair waits, and whether that of its target is greater
 --   `is_level`, `IsLevel`      the numbers of a pair are one number
+--   `AreComponentsOf`, `HasComponents`         the components of pairs
+use Rattle.std.specs.List.{AllZip}
 use Rattle.std.specs.Prelude.{◌≡◌, ◌<◌, ◌≤◌, ℕ, Bool, List, Contains, nat_eq}
 use Rattle.abs_tree.specs.Names.{name_of}
 use Rattle.abs_tree.specs.Syntax.{ProgramTree}
@@ -86,3 +88,11 @@ is_level numbers pair = nat_eq (entry_number numbers pair) (numbers.target pair.
 pub record IsLevel (numbers : Numbers) (number : ℕ) (pair : Pair) : Type 0 where
   pub waits : entry_number numbers pair ≡ number
   pub target : numbers.target pair.target ≡ number
+
+-- these are the components of pairs
+abbrev pub AreComponentsOf : (Pair → ℕ) → List Pair → List ℕ → Type 0
+AreComponentsOf component pairs numbers = AllZip (λ pair number. component pair ≡ number) pairs numbers
+
+-- equal pairs have one component
+abbrev pub HasComponents : List Pair → List ℕ → Type 0
+HasComponents pairs numbers = (component : Pair → ℕ) × AreComponentsOf component pairs numbers

@@ -1,9 +1,11 @@
 //! Circularity: the dependency pairs of a program, the links between them, and the circular chains that a report lists.
 #![tactic(auto)]
 
+mod components;
 mod distances;
 mod finding;
 mod laws;
+mod level_pairs;
 mod linking;
 mod network;
 mod pair_list;

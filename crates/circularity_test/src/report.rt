@@ -4,6 +4,7 @@ ghost use Rattle.std.specs.Prelude.{◌≡◌, ◌<◌, ◌==◌, ◌+◌, ◌++
 ghost use Rattle.abs_graph.specs.Graphs.{is_marked as is_marked_in};
 ghost use Rattle.abs_program.specs.NamedViews.{program_tree};
 ghost use Rattle.abs_tree.specs.Syntax.{ProgramTree};
+ghost use Rattle.circularity_test.specs.Components.{AreLevelPairs};
 ghost use Rattle.circularity_test.specs.Network.{IsNetwork};
 ghost use Rattle.circularity_test.specs.Reporting.{AreAwaits, ComesNext, IsReported, mark_all};
 ghost use Rattle.circularity_test.specs.Routes.{Picks};
@@ -11,6 +12,8 @@ ghost use Rattle.contract_terms.specs.Chains.{IsReport};
 ghost use Rattle.contract_terms.specs.Pairs.{pair_order};
 ghost use Rattle.contract_terms.specs.declared.pair.Pair.{Pair as One};
 
+use crate::components::level_pairs;
+use crate::level_pairs::LevelPairs;
 use crate::network::Network;
 use crate::pair_list::Pairs;
 use abs_graph::is_marked;
@@ -178,6 +181,7 @@ fn never_gets(pairs: &Pairs) -> bool
 }
 
 /// The report of some pairs: for each `get` that no chain before lists, the first circular chain that leads back to it.
+/// Only pairs that stay in a component of the graph of parts are searched, and a search stays in its component.
 ///
 /// # Errors
 /// [`AllocError`] if an allocation fails.
@@ -187,11 +191,27 @@ pub fn chains(alloc: Global, program: &Contracted<'_>, list: &Pairs) -> Result<R
     if never_gets(list) {
         return Ok(Report::new(alloc));
     }
-    let network = Network::new(alloc, program, list)?;
+    let level = level_pairs(alloc, program, list)?;
+    level_chains(alloc, program, &level)
+}
+
+/// The report of all pairs by those that stay in a component.
+///
+/// # Errors
+/// [`AllocError`] if an allocation fails.
+fn level_chains(
+    alloc: Global,
+    program: &Contracted<'_>,
+    level: &LevelPairs,
+) -> Result<Report, AllocError>
+    ensures { (pairs : List One) → AreLevelPairs (program_tree program.now.checked.named) pairs level.now
+        → IfOk result (λ report. IsReport (program_tree program.now.checked.named) pairs report) }
+{
+    let network = Network::new(alloc, program, level)?;
     let mut report = Report::new(alloc);
-    let mut marked = unmarked(alloc, list.len())?;
-    for index in 0..list.len() {
-        report.list(alloc, &network, list, index, &mut marked)?;
+    let mut marked = unmarked(alloc, level.pairs.len())?;
+    for index in 0..level.pairs.len() {
+        report.list(alloc, &network, &level.pairs, index, &mut marked)?;
     }
     Ok(report)
 }

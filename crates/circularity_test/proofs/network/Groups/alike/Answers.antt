@@ -6,12 +6,14 @@ use Rattle.circularity_test.proofs.network.Groups.alike.Goals as goal
 
 pub returns-in_default : goal.returns-in_default
 returns-in_default c nodes grouped number node there alike =
-    absurd (alike_in_none nodes c.args.self.now c.args.kind.now grouped c.number.result
+    absurd (alike_in_none nodes c.args.self.now c.args.target.now.kind.now c.args.target.now.component
+    grouped c.number.result
     (λ row. (c.number.ensures row).1) number node there alike c.in_default.is)
 
 pub returns-in-Some-get : goal.returns-in-Some-get
 returns-in-Some-get c nodes grouped number node there alike =
-    let inside = alike_in_row nodes c.args.self.now c.args.kind.now grouped c.number.result
+    let inside = alike_in_row nodes c.args.self.now c.args.target.now.kind.now c.args.target.now.component
+    grouped c.number.result
     (λ row. (c.number.ensures row).1) number node there alike c.in-Some.number c.in-Some.is in
     let rows = c.deref.result.now in
     let row = c.in-Some-get.row.now in
@@ -24,7 +26,8 @@ returns-in-Some-get c nodes grouped number node there alike =
 
 pub returns-in-None : goal.returns-in-None
 returns-in-None c nodes grouped number node there alike =
-    let inside = alike_in_row nodes c.args.self.now c.args.kind.now grouped c.number.result
+    let inside = alike_in_row nodes c.args.self.now c.args.target.now.kind.now c.args.target.now.component
+    grouped c.number.result
     (λ row. (c.number.ensures row).1) number node there alike c.in-Some.number c.in-Some.is in
     let past = slice_get_past c.deref.result.now c.in-Some.number c.in-None.ensures.lookup.3 in
     subst (λ list. Contains list number)

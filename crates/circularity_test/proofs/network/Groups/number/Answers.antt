@@ -7,6 +7,6 @@ use Rattle.circularity_test.proofs.network.Groups.number.Goals as goal
 pub returns : goal.returns
 returns c number =
     let keys = c.args.self.now.groups.keys in
-    number_found group_eq group_eq_decides keys c.len-count.ensures.unique (group_by c.args.kind.now)
-    c.get_index_of.result
+    number_found group_eq group_eq_decides keys c.len-count.ensures.unique
+    (group_by c.args.target.now.kind.now c.args.target.now.component) c.get_index_of.result
     (c.get_index_of.ensures.index ∙ ap (λ key. position (group_eq key) keys) c.with.ensures) number

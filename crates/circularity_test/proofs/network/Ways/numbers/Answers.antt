@@ -8,8 +8,9 @@ use Rattle.circularity_test.proofs.network.Ways.numbers.Goals as goal
 pub returns : goal.returns
 returns c =
     let nodes = nodes_in c.args.self.now in
-    are_led (program_of c.args.self.now) nodes c.args.kind.now c.alike-among.result.now c.add_cog.new.numbers.items
+    are_led (program_of c.args.self.now) nodes c.args.target.now.kind.now c.args.target.now.component
+    c.alike-among.result.now c.add_cog.new.numbers.items
     c.add_reached.new.numbers.items
-    (subst (λ start. Adds (IsCogNode nodes c.args.kind.now) start c.add_cog.new.numbers.items)
+    (subst (λ start. Adds (IsCogNode nodes c.args.target.now.kind.now c.args.target.now.component) start c.add_cog.new.numbers.items)
     c.in_ok-numbers.ensures.items c.add_cog.ensures.added)
     c.add_reached.ensures (c.alike-among.ensures nodes c.requires)
