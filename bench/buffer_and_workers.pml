@@ -1,6 +1,6 @@
 /* The worked program buffer_and_workers (tests/trees) for Spin, where each of two workers puts ITEMS numbers into a
- * buffer and awaits each put. A transition is an event of the table of events in docs/SEMANTICS.md. A process stands
- * for the tasks of a role: main, two workers, the puts of each worker, which it makes one after another, the message
+ * buffer and awaits each put. A transition is an event of the table of events in docs/SEMANTICS.md. A process is
+ * all tasks of a role: main, two workers, the puts of each worker, which it makes one after another, the message
  * of each to the logger, and the sum. Of a task that has ended only its result is kept, and of the puts of a worker
  * only that of the last one.
  *

@@ -6,7 +6,7 @@
 #   states:  models of the classes for Spin (stages.pml) and Maude (stages.maude), which have a transition for each
 #            event of the table of events in docs/SEMANTICS.md: an exhaustive search for a run that stalls. First of all
 #            both models go through three histories that show_run prints.
-#   buffer:  the same for the worked program with so many numbers a worker (buffer_and_workers.pml), and show_analysis
+#   buffer:  the same for the worked program with n numbers a worker (buffer_and_workers.pml), and show_analysis
 #   facts:   show_analysis up to the facts, a bare work list (work_list.rs) and rules for gringo (saturation.lp)
 # A time is the least of five, wall time and user time in seconds; a search is made once, and its time is wall time.
 # That of Spin is without `spin -a` and gcc, which make its program. Instructions are by callgrind. A search is stopped
@@ -62,7 +62,7 @@ row() {
     printf '%-28s  %6s  %9s  %14s  %7s  %7s\n' "$@"
 }
 
-# The row of a tool for a source with so many classes: the number, the source, and the command.
+# The row of a tool for a source of generated classes: their number, the source, and the command.
 class_row() {
     row "${3##*/} $4" "$1" "$(stat -c %s "$2")" "$(instructions_of "${@:3}" "$2")" $(times_of "${@:3}" "$2")
 }

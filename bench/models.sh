@@ -1,5 +1,5 @@
 #!/usr/bin/env bash
-# What comparison.sh, which sources it, needs for its searches and for the rules of facts: models of so many stages or
+# What comparison.sh, which sources it, needs for its searches and for the rules of facts: models of n stages or n
 # items, checked against the histories of show_run, and searched up to a limit of time and memory.
 
 # Prints the worked program buffer_and_workers, where each worker puts $1 numbers.
@@ -45,13 +45,13 @@ spin_search() {
     fi
 }
 
-# Prints stages.maude for so many stages.
+# Prints stages.maude for $1 stages.
 maude_of() {
     echo "fmod SIZE is protecting NAT . op stages : -> Nat . eq stages = $1 . endfm"
     cat -- "$root/bench/stages.maude"
 }
 
-# Searches the model of Maude with so many stages for a run that stalls. Prints the same as spin_search; of the
+# Searches the model of Maude with $1 stages for a run that stalls. Prints the same as spin_search; of the
 # transitions Maude does not say how many there are.
 maude_search() {
     local seconds
