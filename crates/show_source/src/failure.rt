@@ -12,7 +12,7 @@ pub(crate) enum Failure {
     #[error("refused: {0} at {1}:{2}")]
     Refused(Code, u32, u32),
     /// The words are not of this program.
-    #[error("usage: show_source (tree | resolved | declared | names | symbols | tokens | prelude) FILE")]
+    #[error("usage: show_source ((tree | resolved | declared | names | symbols | tokens | prelude) FILE | made N)")]
     Usage,
     /// The source has more bytes than a source may have.
     #[error("the source has too many bytes")]
