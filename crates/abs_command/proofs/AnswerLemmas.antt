@@ -1,25 +1,26 @@
 -- From what was offered to the sink to what the call answers.
-use Rattle.std.proofs.Common.{◌≡◌, ℕ, List, [], ◌∷◌, ◌++◌, sym, ap, subst, ◌∙◌, inl, inr, refl, append_assoc}
-use Rattle.std.specs.Prelude.{Option, Some, None}
+--
+--   `as_status`, `came_as`     a call with another status went the same way
+--   `delivered`                the rest of an output was offered to the sink
+--   `named_once`               the words ask for at most one file
+use Rattle.std.proofs.Common.{◌≡◌, ℕ, List, ◌++◌, sym, ap, subst, ◌∙◌, inl, inr, refl, append_assoc}
+use Rattle.std.specs.Prelude.{Option, Some}
 use Rattle.std.specs.Io.KnownBytes.{Appends}
+use Rattle.std.proofs.lemmas.Option.{same_Some}
 use Rattle.abs_outside.specs.Counts.{Rose}
 use Rattle.abs_tree.specs.Syntax.{ProgramTree}
 use Rattle.abs_tree.specs.declared.refusal.Refusal.{Refusal}
 use Rattle.abs_command.specs.declared.command.Ended.{Ended}
 use Rattle.abs_command.specs.declared.command.Status.{Status}
 use Rattle.abs_command.specs.declared.command.Status.TheVariants as status
-use Rattle.abs_command.specs.Analysis.{AreFindings, TellsChains}
 use Rattle.abs_command.specs.Bytes.{WritesPrefix}
-use Rattle.abs_command.specs.Machine.{IsAnalysis}
 use Rattle.abs_command.specs.Promises.{Answer}
-use Rattle.abs_command.specs.Ways.{SourceView, HoldsOnly, IsMisused, IsUnread, IsOversized, IsRefused, IsOverfull, IsAnalysed, IsReported, HasRun, CameTo}
-use Rattle.abs_command.specs.Ways.CameTo.{misused, unread, oversized, refused, overfull, reported, ran}
+use Rattle.abs_command.specs.Ways.{HoldsOnly, IsMisused, IsUnread, IsOversized, IsRefused, IsOverfull, IsAnalysed, HasReport, HasRun, CameTo}
+use Rattle.abs_command.specs.Ways.CameTo.{misused, unread, oversized, refused, overfull, checked, reported, ran}
 use Rattle.abs_command.specs.Promises.Answer.{whole, prefix}
 use Rattle.abs_command.specs.Taking.{Delivers}
+use Rattle.abs_command.specs.Views.{SourceView}
 use Rattle.abs_command.specs.Words.{Names}
-use Rattle.abs_command.specs.declared.analysis.Analysis.{Analysis}
-use Rattle.abs_command.proofs.HeadlineLemmas.{accepted_never_stuck}
-use Rattle.contract_terms.specs.declared.pair.Pair.{Pair}
 use Rattle.list_facts.proofs.StreamLemmas.{Appends-then}
 
 -- a call with another status, and the same otherwise
@@ -96,8 +97,8 @@ overfull_as ended other h = record {
   printed = h.printed;
 }
 
-analysed_as : (ended : Ended) (other : Status) {bytes : List ℕ} {program : ProgramTree} → IsAnalysed bytes ended program
-    → IsAnalysed bytes (as_status ended other) program
+analysed_as : (ended : Ended) (other : Status) {words : List (List ℕ)} {bytes : List ℕ} {program : ProgramTree}
+    → IsAnalysed words bytes ended program → IsAnalysed words bytes (as_status ended other) program
 analysed_as ended other h = record {
   accepted = h.accepted;
   few = h.few;
@@ -107,16 +108,14 @@ analysed_as ended other h = record {
   headline = h.headline;
 }
 
-reported_as : (ended : Ended) (other : Status) {words : List (List ℕ)} {bytes : List ℕ} {due : Option Status}
-    {output : List ℕ}
-    → IsReported words bytes ended due output → IsReported words bytes (as_status ended other) due output
-reported_as ended other h = record {
+report_as : (ended : Ended) (other : Status) {words : List (List ℕ)} {bytes : List ℕ} {output : List ℕ}
+    → HasReport words bytes ended output → HasReport words bytes (as_status ended other) output
+report_as ended other h = record {
   named = h.named;
   program = h.program;
   analysed = analysed_as ended other h.analysed;
   history = h.history;
   end = h.end;
-  status = h.status;
   printed = h.printed;
 }
 
@@ -125,6 +124,7 @@ run_as : (ended : Ended) (other : Status) {words : List (List ℕ)} {bytes : Lis
     → HasRun words bytes ended due output → HasRun words bytes (as_status ended other) due output
 run_as ended other h = record {
   named = h.named;
+  asked = h.asked;
   program = h.program;
   analysed = analysed_as ended other h.analysed;
   ran = h.ran;
@@ -147,7 +147,10 @@ came_as ended other (unread h) = unread (unread_as ended other h)
 came_as ended other (oversized h) = oversized (oversized_as ended other h)
 came_as ended other (refused h) = refused (refused_as ended other h)
 came_as ended other (overfull h) = overfull (overfull_as ended other h)
-came_as ended other (reported h) = reported (reported_as ended other h)
+came_as ended other (checked h) =
+    checked (record { asked = h.asked; report = report_as ended other h.report; status = h.status })
+came_as ended other (reported h) =
+    reported (record { asked = h.asked; report = report_as ended other h.report; status = h.status })
 came_as ended other (ran h) = ran (run_as ended other h)
 
 -- If a part was written, and then a prefix of the rest, a prefix of the whole was written.
@@ -182,27 +185,6 @@ delivered words bytes source source' ended result before old new first second fa
     (prefix (Some ended.status) (first ++ second) (came_as ended status.WriteFault came) refl
     (prefix_after before old new first second written failed.1) (rises failed.2))
 
--- The analysis found this of the program, which is never stuck if no statement of it is an `await` or a `get`.
-pub analysed_by : ((program : ProgramTree) (facts pairs : ℕ) (report : List (List Pair))
-    → (findings : AreFindings program facts pairs report) → TellsChains program findings.found report)
-    → (bytes : List ℕ) (ended : Ended) (program : ProgramTree) (analysis : Analysis)
-    → IsAnalysis bytes program analysis → ended.refusal ≡ None → ended.facts ≡ analysis.facts
-    → ended.pairs ≡ analysis.pairs → ended.report ≡ analysis.report → IsAnalysed bytes ended program
-analysed_by tells bytes ended program analysis is refusal facts pairs report =
-    let findings : AreFindings program ended.facts ended.pairs ended.report =
-    subst (λ (n : ℕ). AreFindings program n ended.pairs ended.report) (sym facts)
-    (subst (λ (n : ℕ). AreFindings program analysis.facts n ended.report) (sym pairs)
-    (subst (λ (chains : List (List Pair)). AreFindings program analysis.facts analysis.pairs chains) (sym report)
-    is.findings)) in
-    record {
-      accepted = is.accepted;
-      few = is.few;
-      refusal = refusal;
-      findings = findings;
-      chains = tells program ended.facts ended.pairs ended.report findings;
-      headline = λ empty. accepted_never_stuck bytes program is.accepted.read;
-    }
-
--- The words name at most one file.
+-- The words ask for at most one file.
 pub named_once : (words : List (List ℕ)) (a b : List ℕ) → Names words a → Names words b → a ≡ b
-named_once words a b x y = let same : x.program ∷ a ∷ [] ≡ y.program ∷ b ∷ [] = sym x.are ∙ y.are in cc
+named_once words a b x y = same_Some _ _ (sym x.is ∙ y.is)

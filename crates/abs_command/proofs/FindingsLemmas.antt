@@ -128,10 +128,10 @@ pairs_once program known other to from pairs others are are' =
 -- two findings of a program are the same, since each list of pairs has at most one report
 pub findings_once : ((program : ProgramTree) (pairs : List Pair) (chains others : List (List Pair))
     → IsReport program pairs chains → IsReport program pairs others → chains ≡ others)
-    → (program : ProgramTree) (facts pairs facts' pairs' : ℕ) (report report' : List (List Pair))
-    → AreFindings program facts pairs report → AreFindings program facts' pairs' report'
+    → (program : ProgramTree) (depth facts pairs facts' pairs' : ℕ) (report report' : List (List Pair))
+    → AreFindings program depth facts pairs report → AreFindings program depth facts' pairs' report'
     → SameFindings facts pairs report facts' pairs' report'
-findings_once one_report program facts pairs facts' pairs' report report' x y =
+findings_once one_report program depth facts pairs facts' pairs' report report' x y =
     let to : (fact : Fact) → Contains x.known fact → Contains y.known fact =
     λ fact there. (y.derived fact).1 ((x.derived fact).0 there) in
     let from : (fact : Fact) → Contains y.known fact → Contains x.known fact =

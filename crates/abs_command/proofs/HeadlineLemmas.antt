@@ -5,7 +5,7 @@
 use Rattle.std.proofs.Common.{◌≡◌, ℕ, Bool, true, false, List, Some, refl, sym, subst}
 use Rattle.std.proofs.lemmas.Option.{same_Some}
 use Rattle.abs_names.proofs.WholeLemmas.{resolved_is_whole}
-use Rattle.abs_tree.specs.Limits.{event_limit}
+use Rattle.abs_options.specs.CommandLine.{steps_of}
 use Rattle.abs_tree.specs.Syntax.{ProgramTree}
 use Rattle.abs_program.specs.Whole.{IsWhole}
 use Rattle.step_rules.proofs.ProgressLemmas.{never_stuck as never_stuck_without_waits}
@@ -53,7 +53,7 @@ no_stall {words} {bytes} {ended} program accepted awaits gets run =
     let read = run.analysed.accepted.read in
     let same : program ≡ own = one_program accepted.read read in
     let end = stalled_is (has_chain ended.report) run.end (main_failed run.ran.config) (same_Some _ _ run.status) in
-    let stalled = subst (EndsAs own event_limit ended.history.tasks run.ran.config) end run.ends in
+    let stalled = subst (EndsAs own (steps_of words) ended.history.tasks run.ran.config) end run.ends in
     let reached : IsReachable own run.ran.config =
     record { history = ended.history.tasks; ran = run.ran; leads = run.legal; config_is = refl } in
     stalled.3 (accepted_never_stuck bytes own read (subst NeverAwaits same awaits) (subst NeverGets same gets)

@@ -1,4 +1,6 @@
 mod HeadlineLemmas
+mod InputLemmas
+mod AskedLemmas
 mod AnswerLemmas
 mod SourceLemmas
 mod AcceptedLemmas

@@ -1,9 +1,12 @@
 -- What the status of a run says of its report and its end.
 --
 --   `chain_listed`             whether a report lists a chain, by whether it is empty
+--   `report_ends`              the status is one that an analysis alone may end with
 --   `run_ends`                 the status is one that a run may end with
 --   `run_goes_through`         it is none of a call that gave up
---   `chains_when`              it is `Chains` exactly where a chain is listed and each task has a result
+--   `never_stalled`            an analysis alone does not stall
+--   `chains_alone`             its status is `Chains` exactly where a chain is listed
+--   `chains_when`              that of a run is `Chains` exactly where a chain is listed and each task has a result
 --   `stalled_when`             it is `Stalled` exactly where the run stalled
 --   `some_chain`               with `Chains` some chain is listed
 --   `clean_empty`, `failed_empty`  with `Clean` and with `Failed` none is
@@ -14,7 +17,7 @@ use Rattle.std.specs.Prelude.{◌↔◌, Contains, Some}
 use Rattle.contract_terms.specs.declared.pair.Pair.{Pair}
 use Rattle.step_rules.specs.declared.kind.End.{End}
 use Rattle.step_rules.specs.declared.kind.End.TheVariants as ends
-use Rattle.abs_command.specs.Statuses.{has_chain, status_by, IsOfRun, GivesUp}
+use Rattle.abs_command.specs.Statuses.{has_chain, status_by, status_of_report, IsOfReport, IsOfRun, GivesUp}
 use Rattle.abs_command.specs.declared.command.Status.{Status}
 use Rattle.abs_command.specs.declared.command.Status.TheVariants as status
 
@@ -24,6 +27,11 @@ pub chain_listed : (report : List (List Pair)) (empty : Bool) → empty ≡ (len
 chain_listed [] empty is = cc
 chain_listed (chain ∷ others) empty is =
     let some : (length (chain ∷ others) == 0) ≡ false = grind (arith, nat_tests) in ap not (is ∙ some)
+
+-- the status is one that an analysis alone may end with
+pub report_ends : (report : List (List Pair)) → IsOfReport (status_of_report report)
+report_ends [] = tt
+report_ends (chain ∷ others) = tt
 
 -- the status is one that a run may end with
 pub run_ends : (chained : Bool) (end : End) (failed : Bool) → IsOfRun (status_by chained end failed)
@@ -40,6 +48,17 @@ run_goes_through false ends.Done true h = h
 run_goes_through false ends.Done false h = h
 run_goes_through chained ends.Stalled failed h = h
 run_goes_through chained ends.Spent failed h = h
+
+-- an analysis alone does not stall
+pub never_stalled : (report : List (List Pair)) → status.Stalled ≡ status_of_report report → ⊥
+never_stalled [] is = cc
+never_stalled (chain ∷ others) is = cc
+
+-- its status is `Chains` exactly where a chain is listed
+pub chains_alone : (report : List (List Pair)) (came : Status) → came ≡ status_of_report report
+    → (came ≡ status.Chains) ↔ (report ≢ [])
+chains_alone [] came is = ((λ chains. absurd (cc)), λ some. absurd (some refl))
+chains_alone (chain ∷ others) came is = ((λ chains empty. cc), λ some. is)
 
 -- it is `Chains` exactly where a chain is listed and each task has a result
 pub chains_when : (report : List (List Pair)) (end : End) (failed : Bool) (came : Status)

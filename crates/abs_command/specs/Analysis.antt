@@ -1,8 +1,7 @@
 -- What the analysis finds of a program: how many facts are derived, how many pairs these give, and the report of the
--- pairs.
+-- pairs. The depth is how many places the name of a cog keeps.
 --
---   `fact_limit`, `name_depth`     how many facts may be derived, and how many places the name of a cog has at most
---   `HasTooMany`                   more facts are derived than that
+--   `HasTooMany`                   more facts are derived than a limit
 --   `AreFindings`                  the numbers and the report of a program
 --   `TellsChains`                  a report lists circular chains, and none exactly where there is none
 --   `SameFindings`                 two findings are the same
@@ -15,23 +14,15 @@ use Rattle.contract_terms.specs.Pairs.{ArePairs}
 use Rattle.contract_terms.specs.declared.fact.Fact.{Fact}
 use Rattle.contract_terms.specs.declared.pair.Pair.{Pair}
 
--- how many facts may be derived of a program
-abbrev pub fact_limit : ℕ
-fact_limit = 1000000
+-- More facts are derived at this depth than the limit.
+abbrev pub HasTooMany : ProgramTree → (depth limit : ℕ) → Type 0
+HasTooMany program depth limit = MoreThan (Rests program depth) limit
 
--- how many creation places the name of a cog has at most
-abbrev pub name_depth : ℕ
-name_depth = 1
-
--- More facts are derived than the limit.
-abbrev pub HasTooMany : ProgramTree → Type 0
-HasTooMany program = MoreThan (Rests program name_depth) fact_limit
-
--- What the analysis finds of a program. There is a list of just the derived facts, each once, and this is its length.
--- There is a list of the pairs by these facts, and this is its length. The report is that of these pairs.
-pub record AreFindings (program : ProgramTree) (facts pairs : ℕ) (report : List (List Pair)) : Type 0 where
+-- What the analysis finds of a program at this depth. There is a list of just the derived facts, each once, and this is
+-- its length. There is a list of the pairs by these facts, and this is its length. The report is that of these pairs.
+pub record AreFindings (program : ProgramTree) (depth facts pairs : ℕ) (report : List (List Pair)) : Type 0 where
   pub known : List Fact
-  pub derived : (fact : Fact) → Contains known fact ↔ IsDerivedIn program name_depth fact
+  pub derived : (fact : Fact) → Contains known fact ↔ IsDerivedIn program depth fact
   pub distinct : AreDistinct known
   pub facts_are : facts ≡ length known
   pub found : List Pair

@@ -1,5 +1,6 @@
 pub mod Analysis
 pub mod Bytes
+pub mod Causes
 pub mod Headline
 pub mod Machine
 pub mod Promises
@@ -7,5 +8,6 @@ pub mod Sources
 pub mod Statuses
 pub mod Taking
 pub mod Texts
+pub mod Views
 pub mod Ways
 pub mod Words

@@ -13,11 +13,12 @@ use Rattle.abs_command.specs.declared.run.Ran as machine
 use Rattle.run_history.specs.Turns.{IsInTurn}
 use Rattle.step_rules.specs.Runs.{run_of, EndsAs}
 
--- The source is accepted, and this is what the analysis finds of its program, of which not too many facts are derived.
-pub record IsAnalysis (bytes : List ℕ) (program : ProgramTree) (analysis : Analysis) : Type 0 where
+-- The source is accepted, and this is what the analysis finds of its program at this depth, of which no more facts are
+-- derived than the limit.
+pub record IsAnalysis (bytes : List ℕ) (program : ProgramTree) (depth limit : ℕ) (analysis : Analysis) : Type 0 where
   pub accepted : IsAccepted bytes program
-  pub few : HasTooMany program → ⊥
-  pub findings : AreFindings program analysis.facts analysis.pairs analysis.report
+  pub few : HasTooMany program depth limit → ⊥
+  pub findings : AreFindings program depth analysis.facts analysis.pairs analysis.report
 
 -- The history is legal and in turn, and has at most this many events. Configuration, lines and end are those of its
 -- run.

@@ -45,6 +45,16 @@ status_by chained ends.Spent failed = status.Spent
 abbrev pub status_of : List (List Pair) → End → Configuration → Status
 status_of report end config = status_by (has_chain report) end (main_failed config)
 
+-- the status of an analysis alone, by its report
+abbrev pub status_of_report : List (List Pair) → Status
+status_of_report report = status_when_done (has_chain report) false
+
+-- a status that an analysis alone may end with
+abbrev pub IsOfReport : Status → Type 0
+IsOfReport status.Clean = ⊤
+IsOfReport status.Chains = ⊤
+IsOfReport other = ⊥
+
 -- a status that a run may end with
 abbrev pub IsOfRun : Status → Type 0
 IsOfRun status.Clean = ⊤
@@ -53,6 +63,11 @@ IsOfRun status.Failed = ⊤
 IsOfRun status.Spent = ⊤
 IsOfRun status.Stalled = ⊤
 IsOfRun other = ⊥
+
+-- a status that comes of an analysed program, by whether the words ask for the analysis alone
+abbrev pub IsOfProgram : Bool → Status → Type 0
+IsOfProgram true came = IsOfReport came
+IsOfProgram false came = IsOfRun came
 
 -- The source or the sink failed, or memory ran out.
 abbrev pub GivesUp : Status → Type 0

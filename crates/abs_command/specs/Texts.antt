@@ -2,12 +2,19 @@
 --
 --   `usage_line`, `too_large_line`     the lines for other words, and for a source that is too large
 --   `too_many_line`                    the line for a program of which too many facts are derived
+--   `heading`                          the lines before the report of a generated program
 --   `end_text`                         what a run printed, how it ended, and the faults of its tasks
-use Rattle.std.specs.Prelude.{ℕ, ◌+◌, List, [], ◌∷◌, ◌++◌, length, Option, Some, None, codes, decimal, count_by, is_none}
+--   `trace_text`                       the task of each event of a run
+--   `first_piece`, `last_piece`        what is written before the run, and what is written after it
+use Rattle.std.specs.Prelude.{ℕ, ◌+◌, Bool, true, false, List, [], ◌∷◌, ◌++◌, length, Option, Some, None, codes, decimal, count_by, is_none}
 use Rattle.std.specs.List.{flat_map}
+use Rattle.abs_options.specs.CommandLine.{asks_trace, made_of}
+use Rattle.abs_tree.specs.Syntax.{ProgramTree}
 use Rattle.abs_values.specs.Results.{Result, Gives, Fails}
 use Rattle.abs_values.specs.Faults.{fault_name}
 use Rattle.config_state.specs.Configurations.{TaskState}
+use Rattle.contract_terms.specs.declared.pair.Pair.{Pair}
+use Rattle.report_printer.specs.ReportTexts.{report_lines}
 use Rattle.step_rules.specs.declared.kind.End.{End}
 use Rattle.step_rules.specs.declared.kind.End.TheVariants.{Done, Stalled, Spent}
 
@@ -23,6 +30,13 @@ too_large_line = codes "too large: source\n"
 -- the line for a program of which too many facts are derived
 abbrev pub too_many_line : List ℕ
 too_many_line = codes "too large: facts\n"
+
+-- how many classes a generated program has, how many facts are derived of it, and how many pairs these give
+abbrev pub heading : Option ℕ → (facts pairs : ℕ) → List ℕ
+heading None facts pairs = []
+heading (Some count) facts pairs =
+    codes "made: " ++ (decimal count ++ (codes " classes\nfacts: " ++ (decimal facts
+    ++ (codes "\npairs: " ++ (decimal pairs ++ codes "\n")))))
 
 -- the printed strings, a line each
 abbrev pub lines_text : List (List ℕ) → List ℕ
@@ -59,3 +73,26 @@ fault_lines number (task ∷ tasks) = fault_line number task.outcome ++ fault_li
 -- what a run printed, how it ended, and the faults of its tasks
 abbrev pub end_text : List (List ℕ) → End → ℕ → List TaskState → List ℕ
 end_text lines end events tasks = lines_text lines ++ (end_line end events tasks ++ fault_lines 0 tasks)
+
+-- the number of each task, a line each
+abbrev pub tasks_lines : List ℕ → List ℕ
+tasks_lines tasks = flat_map (λ task. decimal task ++ codes "\n") tasks
+
+-- how many events a run had, and the task of each
+unfoldable pub trace_text : List ℕ → List ℕ
+trace_text tasks = codes "trace: " ++ (decimal (length tasks) ++ (codes " events\n" ++ tasks_lines tasks))
+
+-- the trace, where it is asked for
+abbrev pub trace_if : Bool → List ℕ → List ℕ
+trace_if false tasks = []
+trace_if true tasks = trace_text tasks
+
+-- what is written before the run: the heading of a generated program, and the report
+abbrev pub first_piece : List (List ℕ) → List ℕ → ProgramTree → (facts pairs : ℕ) → List (List Pair) → List ℕ
+first_piece words bytes program facts pairs report =
+    heading (made_of words) facts pairs ++ report_lines bytes program report
+
+-- what is written after the run, of these lines, this end and this history: and the trace, where the words ask for it
+abbrev pub last_piece : List (List ℕ) → List (List ℕ) → End → List ℕ → List TaskState → List ℕ
+last_piece words lines end history tasks =
+    end_text lines end (length history) tasks ++ trace_if (asks_trace words) history

@@ -7,41 +7,31 @@
 --     `IsOversized`                 the source has too many bytes
 --     `IsRefused`                   the source is refused, for its first offence
 --     `IsOverfull`                  more facts are derived of its program than the limit
+--     `IsChecked`                   the program was analysed alone, as the words ask
 --     `IsReported`                  the program was analysed and not run
 --     `HasRun`                      the program was analysed and run
 --   `IsAccepted`, `IsAnalysed`      the program of a source, with its report, and the headline of the project
---   `SourceView`                    what a source says of itself
-use Rattle.std.specs.Prelude.{◌≡◌, ◌<◌, ◌≤◌, ◌⊎◌, ℕ, List, [], ◌++◌, length, Option, Some, None}
+use Rattle.std.specs.Prelude.{◌≡◌, ◌<◌, ◌≤◌, ◌⊎◌, ℕ, true, false, List, [], ◌++◌, length, Option, Some, None}
+use Rattle.abs_options.specs.CommandLine.{AreCommandWords, asks_check, depth_of, facts_of, steps_of}
 use Rattle.abs_outside.specs.Counts.{Rose}
-use Rattle.abs_outside.specs.Names.{Under, IsNotHeld}
+use Rattle.abs_outside.specs.Names.{IsNotHeld}
 use Rattle.abs_tree.specs.Syntax.{ProgramTree}
 use Rattle.abs_tree.specs.declared.refusal.Refusal.{Refusal}
 use Rattle.abs_command.specs.declared.command.Ended.{Ended}
 use Rattle.abs_command.specs.declared.command.Status.{Status}
 use Rattle.abs_command.specs.declared.command.Status.TheVariants as status
 use Rattle.abs_command.specs.Analysis.{AreFindings, HasTooMany, TellsChains}
-use Rattle.abs_tree.specs.Limits.{event_limit, source_limit}
+use Rattle.abs_tree.specs.Limits.{source_limit}
 use Rattle.abs_command.specs.Headline.{NeverAwaits, NeverGets, NeverStuck}
 use Rattle.abs_command.specs.Sources.{IsProgramOf, FirstOffence}
-use Rattle.abs_command.specs.Statuses.{status_of}
-use Rattle.abs_command.specs.Texts.{usage_line, too_large_line, too_many_line, end_text}
-use Rattle.abs_command.specs.Words.{Names, AreCommandWords}
+use Rattle.abs_command.specs.Statuses.{status_of, status_of_report}
+use Rattle.abs_command.specs.Texts.{usage_line, too_large_line, too_many_line, first_piece, last_piece}
+use Rattle.abs_command.specs.Views.{SourceView}
+use Rattle.abs_command.specs.Words.{Names}
 use Rattle.report_printer.specs.RefusalTexts.{refusal_line}
-use Rattle.report_printer.specs.ReportTexts.{report_lines}
 use Rattle.run_history.specs.Turns.{IsInTurn}
 use Rattle.step_rules.specs.Runs.{Ran, run_of, EndsAs}
 use Rattle.step_rules.specs.declared.kind.End.{End}
-
--- What a source tells of itself at one moment: what each name holds, what is left to read, its counts of missing names
--- and of faults.
-pub record SourceView : Type 0 where
-  pub under : List ℕ → Under
-  pub left : Option (List ℕ)
-  pub missing : ℕ
-  pub faults : ℕ
-
-abbrev pub source_view : (List ℕ → Under) → Option (List ℕ) → ℕ → ℕ → SourceView
-source_view under left missing faults = record { under = under; left = left; missing = missing; faults = faults }
 
 -- The fields of a call that analysed nothing and ran nothing.
 pub record HoldsOnly (ended : Ended) (refusal : Option Refusal) : Type 0 where
@@ -95,57 +85,71 @@ pub record IsAccepted (bytes : List ℕ) (program : ProgramTree) : Type 0 where
   pub small : length bytes ≤ source_limit
   pub read : IsProgramOf bytes program
 
--- The source is accepted, and more facts are derived of its program than the limit.
+-- The source is accepted, and more facts are derived of its program than the words permit.
 pub record IsOverfull (words : List (List ℕ)) (bytes : List ℕ) (ended : Ended) (due : Option Status) (output : List ℕ)
     : Type 0 where
   pub named : AreCommandWords words
   pub program : ProgramTree
   pub accepted : IsAccepted bytes program
-  pub cause : HasTooMany program
+  pub cause : HasTooMany program (depth_of words) (facts_of words)
   pub fields : HoldsOnly ended None
   pub status : due ≡ Some status.TooLarge
   pub printed : output ≡ too_many_line
 
--- The program was analysed. The facts, pairs and report are those of the program, of which no more facts are derived
--- than the limit. The report is empty exactly where there is no circular chain of these pairs, and lists just circular
--- chains of them. If it is empty, and no statement of the program is an `await` or a `get`, every configuration that a
--- legal history reaches has a step while a task in it is unfinished.
-pub record IsAnalysed (bytes : List ℕ) (ended : Ended) (program : ProgramTree) : Type 0 where
+-- The program was analysed. The facts, pairs and report are those of the program at the depth of the words, of which no
+-- more facts are derived than the words permit. The report is empty exactly where there is no circular chain of these
+-- pairs, and lists just circular chains of them. If it is empty, and no statement of the program is an `await` or a
+-- `get`, every configuration that a legal history reaches has a step while a task in it is unfinished.
+pub record IsAnalysed (words : List (List ℕ)) (bytes : List ℕ) (ended : Ended) (program : ProgramTree) : Type 0 where
   pub accepted : IsAccepted bytes program
-  pub few : HasTooMany program → ⊥
+  pub few : HasTooMany program (depth_of words) (facts_of words) → ⊥
   pub refusal : ended.refusal ≡ None
-  pub findings : AreFindings program ended.facts ended.pairs ended.report
+  pub findings : AreFindings program (depth_of words) ended.facts ended.pairs ended.report
   pub chains : TellsChains program findings.found ended.report
   pub headline : ended.report ≡ [] → NeverAwaits program → NeverGets program → NeverStuck program
 
--- The program was analysed and nothing was run. No status is due yet: a fault of the sink leaves a call like this.
-pub record IsReported (words : List (List ℕ)) (bytes : List ℕ) (ended : Ended) (due : Option Status) (output : List ℕ)
-    : Type 0 where
+-- The program was analysed and nothing was run. The output is what is written before a run.
+pub record HasReport (words : List (List ℕ)) (bytes : List ℕ) (ended : Ended) (output : List ℕ) : Type 0 where
   pub named : AreCommandWords words
   pub program : ProgramTree
-  pub analysed : IsAnalysed bytes ended program
+  pub analysed : IsAnalysed words bytes ended program
   pub history : ended.history.tasks ≡ []
   pub end : ended.end ≡ None
-  pub status : due ≡ None
-  pub printed : output ≡ report_lines bytes program ended.report
+  pub printed : output ≡ first_piece words bytes program ended.facts ended.pairs ended.report
 
--- The program was analysed and run. Its recorded history is legal, in the order of one worker, and has at most the
--- permitted events. The run ended in this way, and printed this.
+-- The program was analysed alone, as the words ask.
+pub record IsChecked (words : List (List ℕ)) (bytes : List ℕ) (ended : Ended) (due : Option Status) (output : List ℕ)
+    : Type 0 where
+  pub asked : asks_check words ≡ true
+  pub report : HasReport words bytes ended output
+  pub status : due ≡ Some (status_of_report ended.report)
+
+-- The program was analysed, and not run, although the words ask for a run. No status is due yet: a fault of the sink
+-- leaves a call like this.
+pub record IsReported (words : List (List ℕ)) (bytes : List ℕ) (ended : Ended) (due : Option Status) (output : List ℕ)
+    : Type 0 where
+  pub asked : asks_check words ≡ false
+  pub report : HasReport words bytes ended output
+  pub status : due ≡ None
+
+-- The program was analysed and run, as the words ask. Its recorded history is legal, in the order of one worker, and
+-- has at most as many events as they permit. The run ended in this way, and printed this.
 pub record HasRun (words : List (List ℕ)) (bytes : List ℕ) (ended : Ended) (due : Option Status) (output : List ℕ)
     : Type 0 where
   pub named : AreCommandWords words
+  pub asked : asks_check words ≡ false
   pub program : ProgramTree
-  pub analysed : IsAnalysed bytes ended program
+  pub analysed : IsAnalysed words bytes ended program
   pub ran : Ran
   pub legal : run_of program ended.history.tasks ≡ Some ran
   pub in_turn : IsInTurn program ended.history.tasks
-  pub few : length ended.history.tasks ≤ event_limit
+  pub few : length ended.history.tasks ≤ steps_of words
   pub end : End
   pub end_is : ended.end ≡ Some end
-  pub ends : EndsAs program event_limit ended.history.tasks ran.config end
+  pub ends : EndsAs program (steps_of words) ended.history.tasks ran.config end
   pub status : due ≡ Some (status_of ended.report end ran.config)
-  pub printed : output ≡ report_lines bytes program ended.report
-      ++ end_text ran.lines end (length ended.history.tasks) ran.config.tasks
+  pub printed : output ≡ first_piece words bytes program ended.facts ended.pairs ended.report
+      ++ last_piece words ran.lines end ended.history.tasks ran.config.tasks
 
 -- A call went one of these ways; this status is due for it, and this is its whole output.
 pub data CameTo (words : List (List ℕ)) (bytes : List ℕ) (source source' : SourceView) (ended : Ended)
@@ -155,5 +159,6 @@ pub data CameTo (words : List (List ℕ)) (bytes : List ℕ) (source source' : S
   oversized : IsOversized words bytes ended due output → CameTo words bytes source source' ended due output
   refused : IsRefused words bytes ended due output → CameTo words bytes source source' ended due output
   overfull : IsOverfull words bytes ended due output → CameTo words bytes source source' ended due output
+  checked : IsChecked words bytes ended due output → CameTo words bytes source source' ended due output
   reported : IsReported words bytes ended due output → CameTo words bytes source source' ended due output
   ran : HasRun words bytes ended due output → CameTo words bytes source source' ended due output

@@ -1,33 +1,37 @@
 //! The command: from its words and a source to what is written and to a status.
-ghost use Rattle.std.specs.Prelude.{◌≡◌, ◌≢◌, ◌≤◌, Option, ℕ, List, [], None, Some, length, IfOk, IfSome, IfNone, OnOk, OnErr, IsErrOf};
+ghost use Rattle.std.specs.Prelude.{◌≡◌, ◌≢◌, ◌≤◌, Option, ℕ, List, [], None, Some, length, IfOk, OnOk, OnErr, IsErrOf};
 ghost use Rattle.std.specs.Io.KnownBytes.{Appends};
-ghost use Rattle.abs_program.specs.NamedViews.{program_tree};
+ghost use Rattle.abs_options.specs.CommandLine.{AreCommandWords, AreInRange, file_of, made_of, spelled};
 ghost use Rattle.abs_outside.specs.Counts.{Rose};
+ghost use Rattle.abs_program.specs.NamedViews.{program_tree};
 ghost use Rattle.abs_tree.specs.Limits.{source_limit};
 ghost use Rattle.abs_tree.specs.Syntax.{Name};
 ghost use Rattle.config_state.specs.ConfigViews.{configuration};
-ghost use Rattle.abs_command.specs.Promises.{Promises, sink_view, Answer, IsSame, WrittenBefore};
-ghost use Rattle.abs_command.specs.Ways.{SourceView, source_view, CameTo, IsAccepted};
+ghost use Rattle.abs_command.specs.Promises.{Promises, Answer, IsSame, WrittenBefore};
+ghost use Rattle.abs_command.specs.Views.{SourceView, source_view, sink_view};
+ghost use Rattle.abs_command.specs.Ways.{CameTo, IsAccepted};
 ghost use Rattle.abs_command.specs.Sources.{IsProgramOf, FirstOffence};
 ghost use Rattle.abs_command.specs.Machine.{IsAnalysis};
-ghost use Rattle.abs_command.specs.Statuses.{has_chain, status_of as status_for, main_failed as main_failed_in, WasRead};
+ghost use Rattle.abs_command.specs.Statuses.{has_chain, status_of as status_for, status_of_report, main_failed as main_failed_in, WasRead};
 ghost use Rattle.abs_command.specs.Taking.{Delivers, TookWhole, TookSome, SourceFailed};
-ghost use Rattle.abs_command.specs.Words.{spelled, Names, AreCommandWords};
+ghost use Rattle.abs_command.specs.Words.{AskFor, Names};
 
 use crate::analysis::{Analysis, analyse, findings_are_exact};
 use crate::edge::read::{ReadError, read_rest};
 use crate::edge::write::write_all;
 use crate::run::{Ran, run};
 use crate::source::program_of;
-use crate::texts::outcome::end_text;
+use crate::texts::outcome::outcome_text;
+use crate::texts::report::analysis_text;
+use abs_options::{Options, OptionsError, Wanted, made, options};
 use abs_outside::{Sink, Source};
-use abs_tree::limits::{EVENT_LIMIT, SOURCE_LIMIT};
+use abs_tree::limits::SOURCE_LIMIT;
 use abs_tree::{Refusal, SourceError};
 use abs_values::Evaluated;
 use circularity_test::Report;
 use config_state::Config;
 use contract_terms::Contracted;
-use report_printer::{refusal_text, report_text};
+use report_printer::refusal_text;
 use run_history::History;
 use saturation::SaturateError;
 use std::alloc::{AllocError, Global};
@@ -36,19 +40,20 @@ use step_rules::End;
 /// How a call of the command ended. Its number is the exit status of the process.
 #[derive(Clone, Copy, Debug, PartialEq, Eq)]
 pub enum Status {
-    /// 0: there is no circular chain, and each task has a result, that of the main block without a fault.
+    /// 0: there is no circular chain; and the words ask for the analysis alone, or each task has a result, that of the
+    /// main block without a fault.
     Clean,
-    /// 1: there is a circular chain, and each task has a result.
+    /// 1: there is a circular chain; and the words ask for the analysis alone, or each task has a result.
     Chains,
     /// 2: the run stalled.
     Stalled,
-    /// 3: the run had the 100,000 events that are permitted, and a task is unfinished.
+    /// 3: the run had as many events as the words permit, and a task is unfinished.
     Spent,
     /// 4: the source has an offence.
     Refused,
     /// 5: the words are not of the command.
     Usage,
-    /// 6: the source has too many bytes, or more facts are derived of its program than 1,000,000.
+    /// 6: the source has too many bytes, or more facts are derived of its program than the words permit.
     TooLarge,
     /// 7: the source failed, or does not have the file.
     ReadFault,
@@ -97,9 +102,9 @@ impl Ended {
         }
     }
 
-    /// A call whose program was analysed, and whose report could not be written.
-    fn unwritten(alloc: Global, analysis: Analysis) -> Ended
-        ensures status { result.status ≡ Status.WriteFault }
+    /// A call that came to this status, and whose program was analysed and not run.
+    fn analysed(alloc: Global, status: Status, analysis: Analysis) -> Ended
+        ensures status { result.status ≡ status }
         ensures refusal { result.refusal ≡ None }
         ensures facts { result.facts ≡ analysis.facts }
         ensures pairs { result.pairs ≡ analysis.pairs }
@@ -108,7 +113,7 @@ impl Ended {
         ensures end { result.end ≡ None }
     {
         Ended {
-            status: Status::WriteFault,
+            status,
             refusal: None,
             facts: analysis.facts,
             pairs: analysis.pairs,
@@ -119,24 +124,24 @@ impl Ended {
     }
 
     /// A call whose program was analysed and run.
-    fn ran(analysis: Analysis, history: History, end: End, config: &Config) -> Ended
+    fn ran(analysis: Analysis, ran: Ran) -> Ended
         ensures status { (names : List Name)
-            → result.status ≡ status_for analysis.report end (configuration names config.now) }
+            → result.status ≡ status_for analysis.report ran.end (configuration names ran.config) }
         ensures refusal { result.refusal ≡ None }
         ensures facts { result.facts ≡ analysis.facts }
         ensures pairs { result.pairs ≡ analysis.pairs }
         ensures report { result.report ≡ analysis.report }
-        ensures history { result.history ≡ history }
-        ensures end { result.end ≡ Some end }
+        ensures history { result.history ≡ ran.history }
+        ensures end { result.end ≡ Some ran.end }
     {
         Ended {
-            status: status_of(&analysis.report, end, config),
+            status: status_of(&analysis.report, ran.end, &ran.config),
             refusal: None,
             facts: analysis.facts,
             pairs: analysis.pairs,
             report: analysis.report,
-            history,
-            end: Some(end),
+            history: ran.history,
+            end: Some(ran.end),
         }
     }
 }
@@ -163,8 +168,8 @@ pub fn calls_agree()
     findings_are_exact();
 }
 
-/// Does what the words say: reads the file that they name from the source, analyses and runs its program, and writes
-/// what came of it to the sink. The words are the program's name and one file.
+/// Does what the words ask for: takes a program from the source or makes one, analyses it, runs it unless the words ask
+/// for the analysis alone, and writes what came of it to the sink. The first word is the program's name.
 pub fn abs_run<S: Source, K: Sink>(
     alloc: Global,
     words: &Vec<String>,
@@ -176,7 +181,7 @@ pub fn abs_run<S: Source, K: Sink>(
         (source_view (S.under source.new) (S.left source.new) (S.missing source.new) (S.faults source.new))
         (sink_view (K.written sink.old) (K.faults sink.old))
         (sink_view (K.written sink.new) (K.faults sink.new)) result }
-    ensures untouched { (AreCommandWords (spelled words.now) → ⊥) → source.new ≡ source.old }
+    ensures untouched { ((file : List ℕ) → Names (spelled words.now) file → ⊥) → source.new ≡ source.old }
 {
     match respond(alloc, words, source, sink) {
         Ok(ended) => ended,
@@ -201,28 +206,70 @@ fn respond<S: Source, K: Sink>(
         (source_view (S.under source.new) (S.left source.new) (S.missing source.new) (S.faults source.new))
         (sink_view (K.written sink.old) (K.faults sink.old))
         (sink_view (K.written sink.new) (K.faults sink.new)) ended) }
-    ensures untouched { (AreCommandWords (spelled words.now) → ⊥) → source.new ≡ source.old }
+    ensures untouched { ((file : List ℕ) → Names (spelled words.now) file → ⊥) → source.new ≡ source.old }
 {
-    let Some(file) = file_named(words) else {
-        let ended = Ended::before_analysis(alloc, Status::Usage, None);
-        return Ok(deliver(sink, USAGE.as_bytes(), ended));
+    let options = match options(alloc, words) {
+        Ok(options) => options,
+        Err(OptionsError::Usage) => {
+            let ended = Ended::before_analysis(alloc, Status::Usage, None);
+            return Ok(deliver(sink, USAGE.as_bytes(), ended));
+        }
+        Err(OptionsError::Memory) => return Err(AllocError),
     };
+    match &options.input {
+        Wanted::File(file) => answer_file(alloc, &options, file.as_str(), source, sink),
+        Wanted::Make(count) => answer_made(alloc, &options, *count, sink),
+    }
+}
+
+/// Answers for the file that the words name.
+fn answer_file<S: Source, K: Sink>(
+    alloc: Global,
+    options: &Options,
+    file: &str,
+    source: &mut S,
+    sink: &mut K,
+) -> Result<Ended, AllocError>
+    requires in_range { AreInRange options.now }
+    ensures promises { IfOk result (λ ended. (words : List (List ℕ)) → AskFor words options.now
+        → file_of words ≡ Some file.now → Promises words
+        (source_view (S.under source.old) (S.left source.old) (S.missing source.old) (S.faults source.old))
+        (source_view (S.under source.new) (S.left source.new) (S.missing source.new) (S.faults source.new))
+        (sink_view (K.written sink.old) (K.faults sink.old))
+        (sink_view (K.written sink.new) (K.faults sink.new)) ended) }
+    ensures exhausted { OnErr result ((words : List (List ℕ)) → AskFor words options.now
+        → file_of words ≡ Some file.now → (ended : Ended) → ended.status ≡ Status.Memory → Promises words
+        (source_view (S.under source.old) (S.left source.old) (S.missing source.old) (S.faults source.old))
+        (source_view (S.under source.new) (S.left source.new) (S.missing source.new) (S.faults source.new))
+        (sink_view (K.written sink.old) (K.faults sink.old))
+        (sink_view (K.written sink.new) (K.faults sink.new)) ended) }
+{
     match take(alloc, source, file) {
-        Ok(bytes) => answer(alloc, bytes.as_slice(), sink),
+        Ok(bytes) => answer(alloc, options, bytes.as_slice(), sink),
         Err(ReadError::Failed) => Ok(Ended::before_analysis(alloc, Status::ReadFault, None)),
         Err(ReadError::Memory) => Err(AllocError),
     }
 }
 
-/// The file that the words name, where they are of the command.
-fn file_named(words: &Vec<String>) -> Option<&str>
-    ensures some { IfSome result (λ file. Names (spelled words.now) file.now) }
-    ensures none { IfNone result (AreCommandWords (spelled words.now) → ⊥) }
+/// Answers for the generated program of this many classes. The source is not called.
+fn answer_made<K: Sink>(
+    alloc: Global,
+    options: &Options,
+    count: u32,
+    sink: &mut K,
+) -> Result<Ended, AllocError>
+    requires in_range { AreInRange options.now }
+    ensures promises { IfOk result (λ ended. (words : List (List ℕ)) (source : SourceView) → AskFor words options.now
+        → made_of words ≡ Some count → Promises words source source
+        (sink_view (K.written sink.old) (K.faults sink.old))
+        (sink_view (K.written sink.new) (K.faults sink.new)) ended) }
+    ensures exhausted { OnErr result ((words : List (List ℕ)) (source : SourceView) → AskFor words options.now
+        → made_of words ≡ Some count → (ended : Ended) → ended.status ≡ Status.Memory → Promises words source source
+        (sink_view (K.written sink.old) (K.faults sink.old))
+        (sink_view (K.written sink.new) (K.faults sink.new)) ended) }
 {
-    match words.as_slice() {
-        [_, file] => Some(file.as_str()),
-        _ => None,
-    }
+    let text = made(alloc, count)?;
+    answer(alloc, options, text.as_bytes(), sink)
 }
 
 /// The bytes under a name; of too many, as many as show that.
@@ -241,13 +288,19 @@ fn take<S: Source>(alloc: Global, source: &mut S, file: &str) -> Result<Vec<u8>,
     read_rest(alloc, source)
 }
 
-/// Answers for the bytes that were taken.
-fn answer<K: Sink>(alloc: Global, bytes: &[u8], sink: &mut K) -> Result<Ended, AllocError>
+/// Answers for these bytes.
+fn answer<K: Sink>(
+    alloc: Global,
+    options: &Options,
+    bytes: &[u8],
+    sink: &mut K,
+) -> Result<Ended, AllocError>
+    requires in_range { AreInRange options.now }
     ensures answered { IfOk result (λ ended. (words : List (List ℕ)) (source source' : SourceView)
-        → AreCommandWords words → Answer words bytes.now source source'
+        → AskFor words options.now → Answer words bytes.now source source'
         (sink_view (K.written sink.old) (K.faults sink.old))
         (sink_view (K.written sink.new) (K.faults sink.new)) ended) }
-    ensures exhausted { OnErr result ((words : List (List ℕ)) → AreCommandWords words
+    ensures exhausted { OnErr result ((words : List (List ℕ)) → AskFor words options.now
         → WrittenBefore words bytes.now (K.written sink.old) (K.written sink.new)) }
 {
     if bytes.len() > SOURCE_LIMIT {
@@ -255,7 +308,7 @@ fn answer<K: Sink>(alloc: Global, bytes: &[u8], sink: &mut K) -> Result<Ended, A
         return Ok(deliver(sink, TOO_LARGE.as_bytes(), ended));
     }
     match program_of(alloc, bytes) {
-        Ok(program) => answer_program(alloc, &program, bytes, sink),
+        Ok(program) => answer_program(alloc, options, &program, bytes, sink),
         Err(SourceError::Refused(refusal)) => refuse(alloc, refusal, sink),
         Err(SourceError::Memory) => Err(AllocError),
     }
@@ -275,24 +328,26 @@ fn refuse<K: Sink>(alloc: Global, refusal: Refusal, sink: &mut K) -> Result<Ende
     Ok(deliver(sink, text.as_bytes(), ended))
 }
 
-/// Answers for the program of a source: analyses it first.
+/// Answers for the program of a text: analyses it first.
 fn answer_program<K: Sink>(
     alloc: Global,
+    options: &Options,
     program: &Contracted<'_>,
     source: &[u8],
     sink: &mut K,
 ) -> Result<Ended, AllocError>
+    requires in_range { AreInRange options.now }
     ensures answered { IfOk result (λ ended. (words : List (List ℕ)) (before after : SourceView)
-        → AreCommandWords words
+        → AskFor words options.now
         → IsAccepted source.now (program_tree program.now.checked.named) → Answer words source.now before after
         (sink_view (K.written sink.old) (K.faults sink.old))
         (sink_view (K.written sink.new) (K.faults sink.new)) ended) }
-    ensures exhausted { OnErr result ((words : List (List ℕ)) → AreCommandWords words
+    ensures exhausted { OnErr result ((words : List (List ℕ)) → AskFor words options.now
         → IsAccepted source.now (program_tree program.now.checked.named)
         → WrittenBefore words source.now (K.written sink.old) (K.written sink.new)) }
 {
-    match analyse(alloc, program) {
-        Ok(analysis) => answer_analysed(alloc, program, source, analysis, sink),
+    match analyse(alloc, program, options.depth, options.facts) {
+        Ok(analysis) => answer_analysed(alloc, options, program, source, analysis, sink),
         Err(SaturateError::TooMany) => {
             let ended = Ended::before_analysis(alloc, Status::TooLarge, None);
             Ok(deliver(sink, TOO_MANY.as_bytes(), ended))
@@ -301,38 +356,52 @@ fn answer_program<K: Sink>(
     }
 }
 
-/// Writes the report of a program, runs it, and writes what came of that.
+/// Writes the report of a program, and if the words do not ask for that alone, runs it and writes what came of that.
 fn answer_analysed<K: Sink>(
     alloc: Global,
+    options: &Options,
     program: &Contracted<'_>,
     source: &[u8],
     analysis: Analysis,
     sink: &mut K,
 ) -> Result<Ended, AllocError>
     ensures answered { IfOk result (λ ended. (words : List (List ℕ)) (before after : SourceView)
-        → AreCommandWords words
-        → IsAnalysis source.now (program_tree program.now.checked.named) analysis
+        → AskFor words options.now
+        → IsAnalysis source.now (program_tree program.now.checked.named) options.now.depth options.now.facts analysis
         → Answer words source.now before after
         (sink_view (K.written sink.old) (K.faults sink.old))
         (sink_view (K.written sink.new) (K.faults sink.new)) ended) }
-    ensures exhausted { OnErr result ((words : List (List ℕ)) → AreCommandWords words
-        → IsAnalysis source.now (program_tree program.now.checked.named) analysis
+    ensures exhausted { OnErr result ((words : List (List ℕ)) → AskFor words options.now
+        → IsAnalysis source.now (program_tree program.now.checked.named) options.now.depth options.now.facts analysis
         → WrittenBefore words source.now (K.written sink.old) (K.written sink.new)) }
 {
     findings_are_exact();
-    let text = report_text(alloc, program, source, &analysis.report)?;
+    let text = analysis_text(alloc, &options.input, program, source, &analysis)?;
+    if options.check {
+        let status = status_of_analysis(&analysis.report);
+        return Ok(deliver(
+            sink,
+            text.as_bytes(),
+            Ended::analysed(alloc, status, analysis),
+        ));
+    }
     let Ok(()) = write_all(sink, text.as_bytes()) else {
-        return Ok(Ended::unwritten(alloc, analysis));
+        return Ok(Ended::analysed(alloc, Status::WriteFault, analysis));
     };
-    let Ran {
-        config,
-        history,
-        lines,
-        end,
-    } = run(alloc, program.checked().named(), EVENT_LIMIT)?;
-    let text = end_text(alloc, &lines, end, history.len(), &config)?;
-    let ended = Ended::ran(analysis, history, end, &config);
-    Ok(deliver(sink, text.as_bytes(), ended))
+    let ran = run(alloc, program.checked().named(), options.steps)?;
+    let text = outcome_text(alloc, &ran, options.trace)?;
+    Ok(deliver(sink, text.as_bytes(), Ended::ran(analysis, ran)))
+}
+
+/// The status of an analysis alone, with this report.
+fn status_of_analysis(report: &Report) -> Status
+    ensures { result ≡ status_of_report report.now }
+{
+    if lists_chain(report) {
+        Status::Chains
+    } else {
+        Status::Clean
+    }
 }
 
 /// The status of a run that ended so, of a program with this report.

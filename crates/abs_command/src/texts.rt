@@ -1,3 +1,5 @@
 //! The output of the command.
 
 pub mod outcome;
+pub mod report;
+pub mod trace;

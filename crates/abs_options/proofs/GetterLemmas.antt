@@ -23,7 +23,7 @@ use Rattle.clap.specs.Walk.{Row, Rule, Text, arg_by_id, first_of, nothing_held, 
 use Rattle.clap.specs.declared.builder.value_parser.ValueParser.{ValueParser}
 use Rattle.clap.specs.declared.builder.value_parser.ValueParser.TheVariants as vp
 use Rattle.clap.specs.declared.parser.matches.ArgMatches.{ArgMatches}
-use Rattle.abs_options.specs.CommandLine.{AreCommandWords, AreMatchesOf, IsFlag, IsNumberOption, built_rules, command_line, given, has_flag, number_of}
+use Rattle.abs_options.specs.CommandLine.{AreCommandWords, AreMatchesOf, IsFlag, IsNumberOption, built_rules, command_line, file_of, given, has_flag, made_of, number_of}
 use Rattle.abs_options.proofs.RowLemmas.{IsKnown, PassesRule, find-all, none_both, rows_after-pass}
 
 -- ---- one row
@@ -160,11 +160,13 @@ module _ (words : List Text) (m : ArgMatches) (are : AreMatchesOf words m) where
   module _ (file : Option (Bor Text)) (count : Option ℕ)
       (file_is : option_map (λ s. s.now) file ≡ first_value (found_of m) (codes "file"))
       (count_is : count ≡ number_of (codes "make") words) where
-    file-is_some : is_some file ≡ is_some (given (codes "file") words)
+    file-is_some : is_some file ≡ is_some (file_of words)
+    unfolding file_of
     file-is_some = is_some-option_map _ file ∙ ap is_some (file_is ∙ first_value-given (codes "file"))
 
-    count-is_some : is_some count ≡ is_some (given (codes "make") words)
-    count-is_some = ap is_some count_is ∙ sym (is_some-option_map _ (given (codes "make") words))
+    count-is_some : is_some count ≡ is_some (made_of words)
+    unfolding made_of
+    count-is_some = ap is_some count_is
 
     pub of_command : is_some file ≡ not (is_some count) → AreCommandWords words
     of_command one = record { faultless = are.faultless; one_input = sym file-is_some ∙ (one ∙ ap not count-is_some) }

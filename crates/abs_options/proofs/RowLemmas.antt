@@ -20,6 +20,7 @@ use Rattle.clap.specs.declared.error.kind.ErrorKind.TheVariants as kind
 use Rattle.clap.specs.declared.parser.matches.ValueSource.{ValueSource}
 use Rattle.clap.specs.declared.parser.matches.ValueSource.TheVariants.{DefaultValue, CommandLine}
 
+-- whether an argument counts how often it is given
 abbrev pub is_count : ArgAction → Bool
 is_count action.Count = true
 is_count _ = false
@@ -28,6 +29,7 @@ is_count _ = false
 abbrev pub IsKnown : List Rule → Rule → Type 0
 IsKnown rules a = (arg_by_id rules a.id ≡ Some a) × (is_count (action_of a) ≡ false)
 
+-- The row has a rule, and its values pass it.
 pub record PassesRule (rules : List Rule) (r : Row) : Type 0 where
   pub rule : Rule
   pub found : arg_by_id rules r.id ≡ Some rule

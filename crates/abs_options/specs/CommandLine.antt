@@ -4,8 +4,10 @@
 --   `spelled`                       the bytes of each word
 --   `command_line`                  the command: its flags, its options with their ranges, and its file
 --   `AreMatchesOf`                  what a parse found is what the words give
+--   `asks_check`, `asks_trace`, `workers_of`, `depth_of`, `steps_of`, `facts_of`, `file_of`, `made_of`
+--                                   what the words ask for, option by option
 --   `AreCommandWords`               the words are of the command
---   `AreOptions`                    what the words ask for
+--   `AreOptions`                    what the words ask for, in whole
 --   `AreInRange`                    its numbers are in the ranges of the options
 use Rattle.std.specs.Prelude.{◌≡◌, ◌≤◌, ℕ, Bool, true, not, List, [], ◌∷◌, map, Option, Some, is_some, option_map, unwrap_or, codes, string_bytes}
 use Rattle.std.specs.Str.{bytes_eq}
@@ -20,6 +22,7 @@ use Rattle.clap.specs.Walk.{Rule, arg_by_id, first_of, rows_of}
 use Rattle.clap.specs.declared.builder.action.ArgAction.TheVariants.{SetTrue}
 use Rattle.clap.specs.declared.builder.value_parser.ValueParser.TheVariants.{Unsigned}
 use Rattle.clap.specs.declared.parser.matches.ArgMatches.{ArgMatches}
+use Rattle.abs_tree.specs.Limits.{event_limit}
 use Rattle.abs_options.specs.declared.meaning.Options.{Options}
 use Rattle.abs_options.specs.declared.meaning.Wanted.{Wanted}
 use Rattle.abs_options.specs.declared.meaning.Wanted.TheVariants.{File, Make}
@@ -60,10 +63,43 @@ has_flag name words = bytes_eq (unwrap_or (given name words) []) (codes "true")
 abbrev pub number_of : List ℕ → List (List ℕ) → Option ℕ
 number_of name words = option_map (λ text. digits_value 10 (without_leading_plus text)) (given name words)
 
--- The words are of the command: `clap` finds no fault in them, and they give a file or a number for `--make`, and not both.
+-- to analyse alone, and not to run
+unfoldable pub asks_check : List (List ℕ) → Bool
+asks_check words = has_flag (codes "check") words
+
+-- to print the history of the run
+unfoldable pub asks_trace : List (List ℕ) → Bool
+asks_trace words = has_flag (codes "trace") words
+
+-- how many workers evaluate
+unfoldable pub workers_of : List (List ℕ) → ℕ
+workers_of words = unwrap_or (number_of (codes "workers") words) 4
+
+-- how many places the name of a cog keeps
+unfoldable pub depth_of : List (List ℕ) → ℕ
+depth_of words = unwrap_or (number_of (codes "depth") words) 1
+
+-- how many events a run may have
+unfoldable pub steps_of : List (List ℕ) → ℕ
+steps_of words = unwrap_or (number_of (codes "steps") words) event_limit
+
+-- how many facts may be derived
+unfoldable pub facts_of : List (List ℕ) → ℕ
+facts_of words = unwrap_or (number_of (codes "facts") words) 1000000
+
+-- the file that is read
+unfoldable pub file_of : List (List ℕ) → Option (List ℕ)
+file_of words = given (codes "file") words
+
+-- how many classes the generated program has
+unfoldable pub made_of : List (List ℕ) → Option ℕ
+made_of words = number_of (codes "make") words
+
+-- The words are of the command: `clap` finds no fault in them, and they ask for a file or for a generated program, and
+-- not for both.
 pub record AreCommandWords (words : List (List ℕ)) : Type 0 where
   pub faultless : fault_of command_line words ≡ []
-  pub one_input : is_some (given (codes "file") words) ≡ not (is_some (given (codes "make") words))
+  pub one_input : is_some (file_of words) ≡ not (is_some (made_of words))
 
 -- the rules of the command as `clap` builds it
 abbrev pub built_rules : List Rule
@@ -82,19 +118,19 @@ pub record AreMatchesOf (words : List (List ℕ)) (matches : ArgMatches) : Type 
   pub faultless : fault_of command_line words ≡ []
   pub rows : rows_of (found_of matches) ≡ matches_of command_line words
 
--- What is read: the file of this name, or the made text of this number.
+-- What is analysed: the file of this name, or the generated program of this many classes.
 pub data IsInput (words : List (List ℕ)) : Wanted → Type 0 where
-  file : (name : List ℕ) → given (codes "file") words ≡ Some name → IsInput words (File name)
-  make : (count : ℕ) → number_of (codes "make") words ≡ Some count → IsInput words (Make count)
+  file : (name : List ℕ) → file_of words ≡ Some name → IsInput words (File name)
+  make : (count : ℕ) → made_of words ≡ Some count → IsInput words (Make count)
 
 -- What the words ask for. What they do not give has its default.
 pub record AreOptions (words : List (List ℕ)) (options : Options) : Type 0 where
-  pub check : options.check ≡ has_flag (codes "check") words
-  pub trace : options.trace ≡ has_flag (codes "trace") words
-  pub workers : options.workers ≡ unwrap_or (number_of (codes "workers") words) 4
-  pub depth : options.depth ≡ unwrap_or (number_of (codes "depth") words) 1
-  pub steps : options.steps ≡ unwrap_or (number_of (codes "steps") words) 100000
-  pub facts : options.facts ≡ unwrap_or (number_of (codes "facts") words) 1000000
+  pub check : options.check ≡ asks_check words
+  pub trace : options.trace ≡ asks_trace words
+  pub workers : options.workers ≡ workers_of words
+  pub depth : options.depth ≡ depth_of words
+  pub steps : options.steps ≡ steps_of words
+  pub facts : options.facts ≡ facts_of words
   pub input : IsInput words options.input
 
 -- Each number is in the range of its option.

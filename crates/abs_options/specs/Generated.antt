@@ -32,7 +32,7 @@ stage_lines zero = []
 stage_lines (suc before) = stage_lines before ++ stage_line before
 
 -- the program of N classes
-abbrev pub made_text : ℕ → List ℕ
+unfoldable pub made_text : ℕ → List ℕ
 made_text count = codes "interface Stage { Int go(Int x); }\n" ++ (class_lines count ++ (codes "{\n" ++ (stage_lines count
     ++ (codes "  Fut<Int> f = s" ++ (decimal count
     ++ codes "!go(0);\n  await f?;\n  Int x = f.get;\n  println(toString(x));\n}\n")))))

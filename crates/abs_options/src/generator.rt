@@ -16,6 +16,7 @@ const FRAME_ROOM: usize = 140;
 ///
 /// # Errors
 /// [`AllocError`] where memory runs out.
+#[tactic(auto, unfolding(crate::specs::Generated::made_text))]
 pub fn made(alloc: Global, count: u32) -> Result<Text, AllocError>
     ensures { IfOk result (λ text. text ≡ made_text count) }
 {

@@ -7,6 +7,7 @@ ghost use Rattle.abs_options.specs.CommandLine.{AreCommandWords, AreInRange, Are
 ghost use Rattle.abs_options.specs.CommandLine.{IsInput, IsNumberOption};
 
 use crate::meaning::{FileName, Options, OptionsError, Wanted};
+use abs_tree::limits::EVENT_LIMIT;
 use clap::error::ErrorKind;
 use clap::{Arg, ArgAction, ArgMatches, Command, value_parser};
 use std::alloc::{AllocError, Global};
@@ -91,7 +92,7 @@ fn asked(alloc: Global, matches: &ArgMatches<'_>) -> Result<Options, OptionsErro
         trace: matches.get_flag("trace"),
         workers: number_given(matches, "workers").unwrap_or(4) as u8,
         depth: number_given(matches, "depth").unwrap_or(1) as u8,
-        steps: number_given(matches, "steps").unwrap_or(100_000),
+        steps: number_given(matches, "steps").unwrap_or(EVENT_LIMIT),
         facts: number_given(matches, "facts").unwrap_or(1_000_000),
         input,
     })

@@ -5,34 +5,34 @@ ghost use Rattle.abs_values.specs.Results.{result_tree};
 ghost use Rattle.abs_tree.specs.Syntax.{Name};
 ghost use Rattle.config_state.specs.ConfigViews.{configuration};
 ghost use Rattle.config_state.specs.Views.{task_state};
-ghost use Rattle.abs_command.specs.Texts.{lines_text, end_line, fault_line as line_of, fault_lines, end_text as text_of, unfinished_of};
+ghost use Rattle.abs_command.specs.Texts.{lines_text, end_line, fault_line as line_of, fault_lines, end_text, trace_if, unfinished_of};
 
+use crate::run::Ran;
+use crate::texts::trace::trace_text;
 use abs_tree::Text;
 use abs_values::Evaluated;
-use config_state::{Config, Lines, TaskCell};
+use config_state::{Lines, TaskCell};
 use std::alloc::{AllocError, Global};
 use step_rules::End;
 
-/// The output for a run, after its report: what it printed, how it ended, and the faults of its tasks. `events` is how
-/// many events it had.
+/// The output for a run, after its report: what it printed, how it ended, and the faults of its tasks; and its trace,
+/// where that is asked for.
 ///
 /// # Errors
 /// [`AllocError`] where memory runs out.
-pub fn end_text(
-    alloc: Global,
-    lines: &Lines,
-    end: End,
-    events: u64,
-    config: &Config,
-) -> Result<Text, AllocError>
-    ensures { (names : List Name) → IfOk result (λ text. text ≡ text_of lines.now end events
-        (configuration names config.now).tasks) }
+pub fn outcome_text(alloc: Global, ran: &Ran, trace: bool) -> Result<Text, AllocError>
+    ensures { (names : List Name) → IfOk result (λ text. text ≡ end_text ran.now.lines ran.now.end
+        (length ran.now.history.tasks) (configuration names ran.now.config).tasks
+        ++ trace_if trace ran.now.history.tasks) }
 {
-    let tasks = config.tasks.items.as_slice();
+    let tasks = ran.config.tasks.items.as_slice();
     let mut out = Vec::new(alloc);
-    push_lines(&mut out, lines)?;
-    out.extend_from_slice(ending(alloc, end, events, tasks)?.as_bytes())?;
+    push_lines(&mut out, &ran.lines)?;
+    out.extend_from_slice(ending(alloc, ran.end, ran.history.len(), tasks)?.as_bytes())?;
     push_faults(alloc, &mut out, tasks)?;
+    if trace {
+        out.extend_from_slice(trace_text(alloc, &ran.history)?.as_bytes())?;
+    }
     Text::new(alloc, out)
 }
 

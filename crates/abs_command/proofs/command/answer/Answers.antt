@@ -10,11 +10,11 @@ use Rattle.list_facts.proofs.StreamLemmas.{Appends-nothing}
 use Rattle.std.proofs.lemmas.Result.{IfOk-weaker, on_err_weaker}
 
 pub returns-then-bytes-gt-SOURCE_LIMIT-clause-answered : goal.returns-then-bytes-gt-SOURCE_LIMIT-clause-answered
-returns-then-bytes-gt-SOURCE_LIMIT-clause-answered g c = λ words source source' named.
+returns-then-bytes-gt-SOURCE_LIMIT-clause-answered g c = λ words source source' asks.
     delivered words c.args.bytes.now source source' c.before_analysis-ended.result c.deliver.result _ _ _ []
     c.as_bytes.result.now _ _ _
     (oversized (record {
-      named = named;
+      named = asks.of_command;
       cause = omega arith;
       fields = c.before_analysis-ended.ensures.fields;
       status = ap Some c.before_analysis-ended.ensures.status;
@@ -23,18 +23,19 @@ returns-then-bytes-gt-SOURCE_LIMIT-clause-answered g c = λ words source source'
 
 pub returns-in-Ok-clause-answered : goal.returns-in-Ok-clause-answered
 returns-in-Ok-clause-answered g c = IfOk-weaker c.answer_program.result _ _
-    (λ ended answer words source source' named. answer words source source' named
+    (λ ended answer words source source' asks. answer words source source' asks
     (record { small = omega arith; read = c.in-Ok.ensures.found }))
     c.answer_program.ensures.answered
 
 pub returns-in-Ok-clause-exhausted : goal.returns-in-Ok-clause-exhausted
 returns-in-Ok-clause-exhausted g c = on_err_weaker c.answer_program.result
-    (λ written words named. written words named (record { small = omega arith; read = c.in-Ok.ensures.found }))
+    (λ written words asks. written words asks (record { small = omega arith; read = c.in-Ok.ensures.found }))
     c.answer_program.ensures.exhausted
 
 pub returns-in-Err-Refused-clause-answered : goal.returns-in-Err-Refused-clause-answered
 returns-in-Err-Refused-clause-answered g c = IfOk-weaker c.refuse.result _ _
-    (λ ended answer words source source' named. answer words c.args.bytes.now source source' named (omega arith)
+    (λ ended answer words source source' asks.
+    answer words c.args.bytes.now source source' asks.of_command (omega arith)
     (subst (λ (e : SourceError). HasCause (FirstOffence c.args.bytes.now) e) c.in-Err-Refused.field-0-is
     c.in-Err-Refused.ensures.refused))
     c.refuse.ensures.answered

@@ -1,5 +1,6 @@
 -- Each getter reads what the words give, and each number is in the range of its option.
 use Rattle.std.proofs.Common.{◌∙◌, codes, refl, ap, arith, unwrap_or}
+use Rattle.abs_options.specs.CommandLine.{asks_check, asks_trace, workers_of, depth_of, steps_of, facts_of}
 use Rattle.abs_options.proofs.GetterLemmas.{flag-read, unwrap_or-within}
 use Rattle.abs_options.proofs.words.asked.Goals as goal
 
@@ -16,6 +17,7 @@ overflow_cast-result-2 c =
     omega arith
 
 pub returns-clause-options : goal.returns-clause-options
+unfolding asks_check asks_trace workers_of depth_of steps_of facts_of
 returns-clause-options c = λ words are.
     let m = c.args.matches.now in
     record {

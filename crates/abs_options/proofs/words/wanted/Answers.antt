@@ -1,5 +1,6 @@
 -- What is read is the one input of the words.
 use Rattle.std.proofs.Common.{◌≡◌, ◌∙◌, codes, refl, sym, arith, true≢false}
+use Rattle.abs_options.specs.CommandLine.{file_of, made_of}
 use Rattle.abs_options.specs.CommandLine.IsInput.{file, make}
 use Rattle.abs_options.proofs.GetterLemmas.{first_value-given, of_command, one_input}
 use Rattle.abs_options.proofs.words.wanted.Goals as goal
@@ -17,6 +18,7 @@ returns-in-Ok-clause-of_command c = λ words are.
     (rw (c.in-Some-None.is-0, c.in-Some-None.is-1) refl)
 
 pub returns-in-Ok-clause-input : goal.returns-in-Ok-clause-input
+unfolding file_of
 returns-in-Ok-clause-input c = λ words are.
     let text = first_value-given words c.args.matches.now are (codes "file") in
     let name = c.new.ensures ∙ c.in-Ok.ensures.ok in
@@ -28,6 +30,7 @@ returns-in-None-Some-clause-of_command c = λ words are.
     (rw (c.in-None-Some.is-0, c.in-None-Some.is-1) refl)
 
 pub returns-in-None-Some-clause-input : goal.returns-in-None-Some-clause-input
+unfolding made_of
 returns-in-None-Some-clause-input c = λ words are.
     make c.in-None-Some.count (sym (c.number_given.ensures words 2000 are refl).0 ∙ c.in-None-Some.is-1)
 
