@@ -1,4 +1,4 @@
-use Rattle.std.proofs.Common.{◌∙◌, ◌++◌, ℕ, List, append_assoc, ap, codes, decimal, sym, take}
+use Rattle.std.proofs.Common.{◌∙◌, ◌++◌, ℕ, List, ap, codes, decimal, sym, take}
 use Rattle.std.proofs.lemmas.List.{flat_map_more}
 use Rattle.list_facts.proofs.EntryLemmas.{take-found}
 use Rattle.abs_command.specs.Texts.{tasks_lines}
@@ -10,10 +10,7 @@ loop-index-preserved c =
     let old = c.args.out.now.items in
     let tasks = c.args.history.now.tasks in
     let before = take c.loop-index.index tasks in
-    c.in_ok-push.ensures.items
-    ∙ (ap (λ it. it ++ codes "\n") (c.in_ok-push_number.ensures
-    ∙ ap (λ it. c.loop-index.out.items ++ decimal it) c.into.ensures)
-    ∙ (append_assoc c.loop-index.out.items (decimal c.at.result) (codes "\n")
+    c.in_ok-push_line.ensures
     ∙ (ap (λ it. it ++ line c.at.result) c.loop-index.invariant
     ∙ (flat_map_more line old before c.at.result
-    ∙ ap (λ it. old ++ tasks_lines it) (sym (take-found tasks c.loop-index.index c.at.result c.at.ensures))))))
+    ∙ ap (λ it. old ++ tasks_lines it) (sym (take-found tasks c.loop-index.index c.at.result c.at.ensures))))
