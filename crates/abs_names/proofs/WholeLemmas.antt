@@ -4,7 +4,7 @@ use Rattle.std.specs.Prelude.{All}
 use Rattle.std.proofs.lemmas.List.{length-map}
 use Rattle.std.proofs.lemmas.List.FromFn.{length-map-range_with_len}
 use Rattle.abs_graph.specs.Graphs.{Graph, reaches, on_cycles}
-use Rattle.abs_program.specs.NameSpaces.{NameSpaces, spaces_of}
+use Rattle.abs_program.specs.NameSpaces.{NameSpaces, built_in, spaces_of}
 use Rattle.abs_program.specs.Slots.{body_slots}
 use Rattle.abs_program.specs.Supertypes.{above, supertypes}
 use Rattle.abs_tree.specs.Syntax.{DeclTree, SourceTree}
@@ -13,7 +13,9 @@ use Rattle.abs_names.specs.Extension.{extension_offences}
 use Rattle.abs_names.specs.NameOffences.{declared_offences, repeated_offences, declarations_offences, statements_offences, name_offences}
 use Rattle.abs_prelude.specs.Prelude.{prelude}
 use Rattle.abs_names.specs.Resolution.{resolved_declarations, resolved_statements, resolved}
+use Rattle.abs_names.specs.Repeats.{declarations_repeats}
 use Rattle.abs_names.specs.Scopes.{body_scope}
+use Rattle.abs_names.specs.Spaces.{spaces_offences}
 use Rattle.abs_names.specs.TypeNames.{around_of}
 use Rattle.abs_names.specs.declared.scope.Routine.TheVariants.{Main}
 use Rattle.abs_names.proofs.ExtensionLemmas.{none_extends_itself}
@@ -42,6 +44,7 @@ resolved_is_whole source none =
     let parts = both_empty (declared_offences all) (statements_offences scope 0 source.main) none in
     let extension = extension_offences (on_cycles (supertypes all)) all in
     let declared = both_empty (repeated_offences all) (declarations_offences spaces all ++ extension) parts.0 in
+    let repeated = both_empty (spaces_offences 0 built_in all) (declarations_repeats all) declared.0 in
     let used = both_empty (declarations_offences spaces all) extension declared.1 in
     let kept = sym (spaces_kept spaces all) in
     record {
@@ -58,5 +61,5 @@ resolved_is_whole source none =
       no_cycle = subst (λ (graph : Graph). All (λ (b : Bool). b ≡ false) (on_cycles graph))
           (sym (supertypes_kept spaces all)) (no_cycles all used.1);
       own_slots = all_given source;
-      prelude_first = resolved_begins source;
+      prelude_first = resolved_begins source repeated.0;
     }

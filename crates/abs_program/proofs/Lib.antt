@@ -17,6 +17,8 @@ mod MakerLemmas
 mod BodyRowLemmas
 mod ClassEntryLemmas
 pub mod KnownNameLemmas
+pub mod KeptMeaningLemmas
+pub mod PreludeTypeLemmas
 pub mod ShareLemmas
 pub mod EqualNameLemmas
 pub mod EqualTypeLemmas

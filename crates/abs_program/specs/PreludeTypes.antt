@@ -3,10 +3,15 @@
 --
 --   `resolved_list`, `resolved_maybe`, `resolved_pair`     the declarations that have types inside
 --   `prelude_types`                                        those of all five types, in order
---   `BeginsWithPrelude`                                    a source declares these first
-use Rattle.std.specs.Prelude.{◌≡◌, List, [], ◌∷◌, ◌++◌, codes}
+--   `names_prelude_type`                                   a declaration is data with the name of one of them
+--   `without_parts`                                        a constructor without parts, by the index of its data
+--   `BeginsWithPrelude`                                    a source declares these first, and none of them again
+use Rattle.std.specs.Prelude.{◌≡◌, ℕ, Bool, false, List, [], ◌∷◌, ◌++◌, All, codes}
+use Rattle.std.specs.List.{list_any}
+use Rattle.std.specs.Str.{bytes_eq}
 use Rattle.abs_prelude.specs.Prelude.{at, declared, constructor, unit_data, bool_data}
-use Rattle.abs_tree.specs.Syntax.{NoType, NextType, DataType, ParameterType, DeclTree, DataTree, SourceTree}
+use Rattle.abs_program.specs.declared.name_spaces.ConstructorMeaning.{ConstructorMeaning}
+use Rattle.abs_tree.specs.Syntax.{Name, NoType, NextType, DataType, ParameterType, DeclTree, DataTree, SourceTree}
 
 -- data List<A> = Nil | Cons(A, List<A>);
 abbrev pub resolved_list : DeclTree
@@ -33,7 +38,25 @@ resolved_pair =
 unfoldable pub prelude_types : List DeclTree
 prelude_types = unit_data ∷ bool_data ∷ resolved_list ∷ resolved_maybe ∷ resolved_pair ∷ []
 
--- A source declares the types of the prelude first, and then others.
+-- their names, in the same order
+abbrev pub prelude_type_names : List Name
+prelude_type_names = codes "Unit" ∷ codes "Bool" ∷ codes "List" ∷ codes "Maybe" ∷ codes "Pair" ∷ []
+
+-- whether a declaration is data with the name of a type of the prelude
+abbrev pub names_prelude_type : DeclTree → Bool
+names_prelude_type (DataTree place name type_params constructors) = list_any (bytes_eq name.name) prelude_type_names
+names_prelude_type _ = false
+
+-- the constructor without parts at an index among those of the data at an index of declarations
+abbrev pub without_parts : (declaration index : ℕ) → ConstructorMeaning
+without_parts declaration index = record {
+  taking = record { declaration = declaration; arity = 0 };
+  index = index;
+}
+
+-- A source declares the types of the prelude first, and then others, none of which is data with the name of one of
+-- these.
 pub record BeginsWithPrelude (source : SourceTree) : Type 0 where
   pub others : List DeclTree
   pub are : source.declarations ≡ prelude_types ++ others
+  pub none_again : All (λ declaration. names_prelude_type declaration ≡ false) others

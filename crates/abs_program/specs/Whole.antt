@@ -1,7 +1,7 @@
 -- Programs in which each name stands for what is there. Every function, constructor, class, interface and type that is
 -- named is declared, and takes as many arguments as it is given; every slot, bound variable and field is there; `this`
 -- and `destiny` are used where they mean something. Nothing is left unresolved, and no interface extends itself. No two
--- parameters or locals of a body share a slot, and the types of the prelude are declared first.
+-- parameters or locals of a body share a slot. The types of the prelude are declared first, and none of them again.
 --
 --   `Inside`                                       what a part of a program can use
 --   `TypeIsThere`, `VariableIsThere`               types, variables that are used
@@ -253,7 +253,7 @@ DeclarationIsThere spaces (ClassTree place name params implemented members) =
     × MembersAreThere spaces (length params + fields_among members) (length params) members
 
 -- A program: its declarations and its main block, and no interface extends itself. Each parameter, each local and each
--- call by "." on another object has its own slot, so no declaration names a field. The types of the prelude come first.
+-- call by "." on another object has its own slot, so no declaration names a field. The types of the prelude come first, and no other data has their names.
 pub record IsWhole (source : SourceTree) : Type 0 where
   pub declarations_are : All (DeclarationIsThere (spaces_of source.declarations)) source.declarations
   pub main_is : StatementsAreThere (record {

@@ -1,5 +1,5 @@
 //! Laws of the definitions, which hold whatever the code does.
-ghost use Rattle.std.specs.Prelude.{◌≡◌, ◌<◌, ◌+◌, ℕ, List, [], ◌∷◌, Contains, length, slice_get, Some, None};
+ghost use Rattle.std.specs.Prelude.{◌≡◌, ◌<◌, ◌+◌, ℕ, List, [], ◌∷◌, Contains, codes, length, slice_get, true, Some, None};
 ghost use Rattle.abs_program.specs.declared.name_spaces.ConstructorMeaning.{ConstructorMeaning};
 ghost use Rattle.abs_program.specs.declared.name_spaces.FunctionMeaning.TheVariants.{Defined};
 ghost use Rattle.abs_program.specs.declared.name_spaces.Taking.{Taking};
@@ -8,6 +8,7 @@ ghost use Rattle.abs_program.specs.NamedDeclarations.{IsData, IsInterface, IsCon
 ghost use Rattle.abs_program.specs.NameSpaces.{spaces_of};
 ghost use Rattle.abs_program.specs.KnownNames.{KnowsNames};
 ghost use Rattle.abs_program.specs.NamedViews.{named_tree, program_tree};
+ghost use Rattle.abs_program.specs.PreludeTypes.{names_prelude_type, prelude_types, without_parts};
 ghost use Rattle.abs_program.specs.ProgramBodies.{BodyAt, IsBodyOf};
 ghost use Rattle.abs_program.specs.ProgramFacts.{program_facts};
 ghost use Rattle.abs_tree.specs.DeclaredNames.{declared_names};
@@ -42,11 +43,25 @@ pub fn declared_is_there()
 
 /// In a program whose names are resolved everything that is named is there. Each function, constructor, class,
 /// interface and type is declared, and takes as many arguments as it is given; each slot, bound variable and field is
-/// there; and no interface extends itself. Each parameter and each local has its own slot, and the types of the prelude
-/// come first. The table has the name of each constructor, class and method.
+/// there; and no interface extends itself. Each parameter and each local has its own slot. The types of the prelude
+/// come first, and no other data has their names. The table has the name of each constructor, class and method.
 pub fn named_is_whole(named: &Named<'_>)
     ensures whole { ∥ IsWhole (named_tree named.now) ∥₁ }
     ensures names { ∥ KnowsNames (program_tree named.now) ∥₁ }
+{}
+
+/// In a program whose names are resolved only the prelude declares data with the names of its types. `True` and `False`
+/// are the constructors of its `Bool`, and `Unit` is that of its `Unit`.
+pub fn prelude_types_are_alone()
+    ensures alone { (source : SourceTree) (index : ℕ) (declaration : DeclTree) → IsWhole source
+        → slice_get source.declarations index ≡ Some declaration → names_prelude_type declaration ≡ true
+        → slice_get prelude_types index ≡ Some declaration }
+    ensures true_is { (source : SourceTree) → IsWhole source
+        → meaning_of (spaces_of source.declarations).constructors (codes "True") ≡ Some (without_parts 1 0) }
+    ensures false_is { (source : SourceTree) → IsWhole source
+        → meaning_of (spaces_of source.declarations).constructors (codes "False") ≡ Some (without_parts 1 1) }
+    ensures unit_is { (source : SourceTree) → IsWhole source
+        → meaning_of (spaces_of source.declarations).constructors (codes "Unit") ≡ Some (without_parts 0 0) }
 {}
 
 /// A name that the table of a program has is found by its number. So is the name of each constructor, class and method

@@ -16,7 +16,7 @@ pub use comparing::{functions_equal, named_equal};
 pub use known::knows_names;
 pub use laws::{
     bodies_are_in_programs, control_leaves_the_rest, declared_is_there, facts_follow_control,
-    facts_follow_in_programs, known_names_are_told, named_is_whole,
+    facts_follow_in_programs, known_names_are_told, named_is_whole, prelude_types_are_alone,
 };
 pub use meanings::Meanings;
 pub use name_spaces::{ConstructorMeaning, FunctionMeaning, NameSpaces, Taking, TypeMeaning};

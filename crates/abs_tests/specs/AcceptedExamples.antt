@@ -5,11 +5,12 @@
 --   `shared_slot`              two locals of one body have the same slot
 --   `declared_field`           the variable of a declaration is a field, in `own_method` of `own_class`
 --   `own_bool`                 `Bool` is a type of the program's own, and the types of the prelude are missing
+--   `second_bool`              `Bool` is declared again, after the prelude
 --   `without_question`         a guard without `?`, in `unasked`
 --   `without_names`            two constructors whose names the table does not have
 use Rattle.std.specs.Prelude.{pos, List, [], ◌∷◌, ◌++◌, codes, false}
 use Rattle.abs_tree.specs.Places.{start}
-use Rattle.abs_tree.specs.Syntax.{Name, AtSlot, AtField, IntType, StringType, DataType, NoType, OperatorsOf, NumberOf, StringOf, VariableOf, ApplyOf, BuildOf, NoExpr, NextExpr, NoOperands, NextOperand, DeclaredTree, ConstructorTree, ValueOf, NextTest, NoTest, SomeSide, Statement, BlockOf, AwaitOf, PrintOf, DeclareOf, Statements, NoStatement, NextStatement, MemberTree, MethodTree, DeclTree, DataTree, ClassTree, SourceTree, ProgramTree}
+use Rattle.abs_tree.specs.Syntax.{Name, AtSlot, AtField, IntType, StringType, DataType, NoType, OperatorsOf, NumberOf, StringOf, VariableOf, ApplyOf, BuildOf, NoExpr, NextExpr, NoOperands, NextOperand, DeclaredTree, ConstructorTree, ValueOf, NextTest, NoTest, SomeSide, Statement, BlockOf, AwaitOf, PrintOf, IfOf, DeclareOf, NoElse, Statements, NoStatement, NextStatement, MemberTree, MethodTree, DeclTree, DataTree, ClassTree, SourceTree, ProgramTree}
 use Rattle.abs_tree.specs.declared.syntax.expression.Operator.TheVariants as operator
 use Rattle.abs_tree.specs.DeclaredNames.{declared_names}
 use Rattle.abs_program.specs.PreludeTypes.{prelude_types}
@@ -56,12 +57,20 @@ abbrev constructor : Name → ConstructorTree
 constructor name = record { name = declared name; types = NoType }
 
 -- data Bool = Yes;
+abbrev pub yes_data : DeclTree
+yes_data = DataTree start (declared (codes "Bool")) [] (constructor (codes "Yes") ∷ [])
+
 abbrev pub own_bool : SourceTree
 own_bool = record {
-  declarations = DataTree start (declared (codes "Bool")) [] (constructor (codes "Yes") ∷ []) ∷ [];
+  declarations = yes_data ∷ [];
   main = NoStatement;
   end = start;
 }
+
+-- data Bool = Yes; { if (Yes) { } }, after the types of the prelude
+abbrev pub second_bool : SourceTree
+second_bool = prelude_and (yes_data ∷ [])
+    (one_statement (IfOf 0 start (BuildOf start (codes "Yes") NoExpr) NoStatement NoElse))
 
 -- { await True; }
 abbrev pub unasked : SourceTree

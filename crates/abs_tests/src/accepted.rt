@@ -7,7 +7,7 @@ ghost use Rattle.abs_profile.specs.Accepted.{IsAcceptedProgram};
 ghost use Rattle.abs_profile.specs.Profile.{profile_offences};
 ghost use Rattle.abs_program.specs.KnownNames.{KnowsNames};
 ghost use Rattle.abs_program.specs.Whole.{IsWhole};
-ghost use Rattle.abs_tests.specs.AcceptedExamples.{shared_slot, declared_field, own_bool, unasked, without_question, without_names};
+ghost use Rattle.abs_tests.specs.AcceptedExamples.{shared_slot, declared_field, own_bool, second_bool, unasked, without_question, without_names};
 ghost use Rattle.abs_types.specs.TypeOffences.{type_offences};
 
 fn slots_are_shared()
@@ -23,6 +23,11 @@ fn a_field_is_declared()
 fn the_prelude_is_missing()
     ensures typed { type_offences own_bool ≡ [] }
     ensures not_whole { IsWhole own_bool → ⊥ }
+{}
+
+fn bool_is_declared_again()
+    ensures typed { type_offences second_bool ≡ [] }
+    ensures not_whole { IsWhole second_bool → ⊥ }
 {}
 
 fn the_profile_refuses()
@@ -44,6 +49,7 @@ fn programs_are_not_accepted() {
     slots_are_shared();
     a_field_is_declared();
     the_prelude_is_missing();
+    bool_is_declared_again();
     the_profile_refuses();
     names_are_missing();
 }

@@ -3,14 +3,16 @@
 --
 --   `data_arguments`           data that is applied to arguments has these
 --   `applied_end`              a type that is applied to arguments and one more is applied to this one last
+--   `built_is`                 what a constructor gives, by what its type parameters are replaced by
 --   `built_parts`              what was applied to a constructor fits what is found in the type of the application
 --   `parts_below`              where data fits a type, what is found in it fits what is found in that type
 --   `no_value_parts`           so does what is found in the type of no value
-use Rattle.std.proofs.Common.{◌≡◌, ℕ, true, List, [], ◌∷◌, ◌++◌, Option, Some, None, refl, sym, ap, ◌∙◌, subst, length, map, get_or, true≢false, arith}
+--   `replaced_parts`           where data fits a replaced type, what its constructor takes fits what is found in the type
+use Rattle.std.proofs.Common.{◌≡◌, ℕ, true, List, [], ◌∷◌, ◌++◌, Option, Some, None, refl, sym, ap, ◌∙◌, subst, length, map, get_or, true≢false, arith, All}
 use Rattle.std.specs.List.{range_with_len}
 use Rattle.std.specs.Prelude.{option_map, option_and_then, if◌then◌else◌}
 use Rattle.std.specs.Str.{bytes_eq}
-use Rattle.std.proofs.lemmas.List.{append-nil, append_assoc, get_or_default}
+use Rattle.std.proofs.lemmas.List.{append-nil, append_assoc, get_or_default, length-map}
 use Rattle.std.proofs.lemmas.List.FromFn.{fill_by_all}
 use Rattle.std.proofs.lemmas.Option.{none-some, same_Some, cond_some}
 use Rattle.std.proofs.lemmas.Simd.{map-map}
@@ -18,13 +20,13 @@ use Rattle.std.proofs.lemmas.Slice.Eq.{bytes_eq-Decides}
 use Rattle.abs_tree.specs.Syntax.{Name, DeclTree, SourceTree}
 use Rattle.abs_program.specs.Whole.{IsWhole}
 use Rattle.abs_types.proofs.ApplicationLemmas.{application_fits, application_length}
-use Rattle.abs_types.proofs.ReplacementLemmas.{replacements_fit, AllFit-reflexive}
+use Rattle.abs_types.proofs.ReplacementLemmas.{all_replaced_twice, replacements_fit, AllFit-length, AllFit-reflexive}
 use Rattle.abs_types.proofs.SchemeLemmas.{Constructs, constructor_scheme_is, constructor_is_closed}
 use Rattle.abs_types.proofs.SpineLemmas.{spine_cases, data_apart, data_fitting}
 use Rattle.abs_types.specs.Applications.{AllFit, applied_type, met_by, replaced}
 use Rattle.abs_types.specs.PatternTypes.{DataOf, arguments_of, constructor_parts, parts_by, parts_if_same}
 use Rattle.abs_types.specs.PlainTypes.{PlainType, PlainBottom, PlainData, PlainApplied, PlainParameter, applied_to}
-use Rattle.abs_types.specs.Schemes.{Scheme, scheme_of_constructor}
+use Rattle.abs_types.specs.Schemes.{Scheme, scheme_of_constructor, IsClosed, ParametersBelow}
 use Rattle.abs_types.specs.Subtyping.{fits}
 
 -- a type that is applied to arguments has these after its own
@@ -198,7 +200,7 @@ no_value_parts declarations name other parts is =
     none_by_scheme declarations other parts (scheme_of_constructor declarations name) is
 
 -- the type parameters are replaced in the head and in the arguments
-replaced_applied : (types : List PlainType) (head : PlainType) (arguments : List PlainType)
+pub replaced_applied : (types : List PlainType) (head : PlainType) (arguments : List PlainType)
     → replaced types (applied_to head arguments) ≡ applied_to (replaced types head) (map (replaced types) arguments)
 unfolding replaced
 replaced_applied types head [] = refl
@@ -214,7 +216,7 @@ replaced_own types count long =
     (λ index below. get_or_default types index PlainBottom (PlainParameter index) (omega (arith, long))))
 
 -- the type of an application of a constructor is its data, applied to what the type parameters have met
-built_is : (owner : Name) (met : List PlainType) (count : ℕ) → length met ≡ count
+pub built_is : (owner : Name) (met : List PlainType) (count : ℕ) → length met ≡ count
     → replaced met (applied_to (PlainData owner) (map PlainParameter (range_with_len 0 count)))
     ≡ applied_to (PlainData owner) met
 unfolding replaced
@@ -268,3 +270,90 @@ pub built_parts : (source : SourceTree) (name : Name) (scheme : Scheme) (given :
 unfolding applied_type
 built_parts source name scheme given built whole named is =
     built_by_met source name scheme given built (met_by source.declarations scheme given) whole named refl is
+
+-- what a constructor gives is its data, applied to what its type parameters are replaced by
+pub data_is_built : (declarations : List DeclTree) (name : Name) (scheme : Scheme) (arguments : List PlainType)
+    → scheme_of_constructor declarations name ≡ Some scheme → length arguments ≡ scheme.parameters
+    → (owner : Name) × (replaced arguments scheme.gives ≡ applied_to (PlainData owner) arguments)
+data_is_built declarations name scheme arguments named many =
+    let from = constructor_scheme_is declarations name scheme named in
+    let count = length from.type_params in
+    let gives = ap (λ (s : Scheme). s.gives) (sym from.is) in (
+      from.owner.name,
+      ap (replaced arguments) gives
+          ∙ built_is from.owner.name arguments count (many ∙ ap (λ (s : Scheme). s.parameters) (sym from.is)),
+    )
+
+-- in what is no data a pattern finds nothing
+none_if_same : (scheme : Scheme) (given : Option DataOf) → None ≡ parts_if_same scheme given None
+none_if_same scheme None = refl
+none_if_same scheme (Some given) = refl
+
+-- what a pattern finds in data with a name, if it is that of the constructor
+parts_if_owner : (scheme : Scheme) (name : Name) (arguments parts : List PlainType)
+    → parts_if_same scheme (arguments_of scheme.gives) (Some (record { name = name; arguments = arguments }))
+    ≡ Some parts → map (replaced arguments) scheme.takes ≡ parts
+parts_if_owner scheme name arguments parts is = by_given (arguments_of scheme.gives) is
+  where
+    by_given : (given : Option DataOf)
+        → parts_if_same scheme given (Some (record { name = name; arguments = arguments })) ≡ Some parts
+        → map (replaced arguments) scheme.takes ≡ parts
+    by_given None is = absurd (none-some parts is)
+    by_given (Some given) is =
+        (cond_some (bytes_eq given.name name) (map (replaced arguments) scheme.takes) parts is).1
+
+-- where data fits a replaced type, what its constructor takes fits what is found in the type, replaced
+replaced_if_data : (declarations : List DeclTree) (scheme : Scheme) (owner : Name) (arguments types : List PlainType)
+    (subject : PlainType) (parts : List PlainType) (known : DataOf) → IsClosed scheme
+    → length arguments ≡ scheme.parameters → arguments_of subject ≡ Some known
+    → fits declarations (applied_to (PlainData owner) arguments) (replaced types subject) ≡ true
+    → parts_if_same scheme (arguments_of scheme.gives) (Some known) ≡ Some parts
+    → AllFit declarations (map (replaced arguments) scheme.takes) (map (replaced types) parts)
+unfolding replaced
+replaced_if_data declarations scheme owner arguments types subject parts known closed many at reported is =
+    let fit = data_fitting declarations owner known.name arguments (map (replaced types) known.arguments)
+    (ap (fits declarations (applied_to (PlainData owner) arguments))
+    (sym (replaced_applied types (PlainData known.name) known.arguments)
+    ∙ ap (replaced types) (data_is subject known at)) ∙ reported) in
+    let long : length known.arguments ≡ scheme.parameters =
+    sym (length-map known.arguments (replaced types)) ∙ (sym (AllFit-length declarations arguments
+    (map (replaced types) known.arguments) fit.1) ∙ many) in
+    let takes = all_replaced_twice known.arguments types scheme.takes
+    (subst (λ (count : ℕ). All (ParametersBelow count) scheme.takes) (sym long) closed.takes_own) in
+    subst (AllFit declarations (map (replaced arguments) scheme.takes))
+    (sym takes ∙ ap (map (replaced types)) (parts_if_owner scheme known.name known.arguments parts is))
+    (takes_fit declarations arguments (map (replaced types) known.arguments) scheme.takes fit.1)
+
+-- the same by the form of the type
+replaced_by_form : (declarations : List DeclTree) (scheme : Scheme) (owner : Name) (arguments types : List PlainType)
+    (subject : PlainType) (parts : List PlainType) → IsClosed scheme → length arguments ≡ scheme.parameters
+    → fits declarations (applied_to (PlainData owner) arguments) (replaced types subject) ≡ true
+    → parts_by subject scheme ≡ Some parts
+    → AllFit declarations (map (replaced arguments) scheme.takes) (map (replaced types) parts)
+unfolding replaced
+replaced_by_form declarations scheme owner arguments types PlainBottom parts closed many reported is =
+    absurd (true≢false (sym reported ∙ sym (data_apart declarations owner arguments PlainBottom refl)))
+replaced_by_form declarations scheme owner arguments types subject parts closed many reported is =
+    by_subject (arguments_of subject) refl is
+  where
+    by_subject : (found : Option DataOf) → arguments_of subject ≡ found
+        → parts_if_same scheme (arguments_of scheme.gives) found ≡ Some parts
+        → AllFit declarations (map (replaced arguments) scheme.takes) (map (replaced types) parts)
+    by_subject None at is = absurd (none-some parts (none_if_same scheme (arguments_of scheme.gives) ∙ is))
+    by_subject (Some known) at is =
+        replaced_if_data declarations scheme owner arguments types subject parts known closed many at reported is
+
+-- the same by the name of the constructor
+pub replaced_parts : (source : SourceTree) (name : Name) (scheme : Scheme) (arguments types : List PlainType)
+    (subject : PlainType) (parts : List PlainType) → IsWhole source
+    → scheme_of_constructor source.declarations name ≡ Some scheme → length arguments ≡ scheme.parameters
+    → fits source.declarations (replaced arguments scheme.gives) (replaced types subject) ≡ true
+    → constructor_parts source.declarations subject name ≡ Some parts
+    → AllFit source.declarations (map (replaced arguments) scheme.takes) (map (replaced types) parts)
+unfolding constructor_parts
+replaced_parts source name scheme arguments types subject parts whole named many reported is =
+    let built = data_is_built source.declarations name scheme arguments named many in
+    replaced_by_form source.declarations scheme built.0 arguments types subject parts
+    (constructor_is_closed source name scheme whole named) many
+    (ap (λ (type : PlainType). fits source.declarations type (replaced types subject)) (sym built.1) ∙ reported)
+    (ap (option_and_then (parts_by subject)) (sym named) ∙ is)

@@ -1,14 +1,14 @@
 pub mod TermLemmas
-mod SpineLemmas
+pub mod SpineLemmas
 mod FormLemmas
 mod NameLemmas
 mod FittingLemmas
 mod CopyLemmas
-mod JoinLemmas
+pub mod JoinLemmas
 mod JoinFormLemmas
-mod SubtypingLemmas
-mod ReplacementLemmas
-mod ApplicationLemmas
+pub mod SubtypingLemmas
+pub mod ReplacementLemmas
+pub mod ApplicationLemmas
 mod ArgumentLemmas
 mod NamedLemmas
 mod OffenceLemmas
@@ -17,13 +17,14 @@ mod OperatorLemmas
 mod RuleLemmas
 mod AgreementLemmas
 mod NoOffenceLemmas
-mod SchemeLemmas
+pub mod WiderLemmas
+pub mod SchemeLemmas
 pub mod ConstructorLemmas
 mod AskedLemmas
 mod CallLemmas
 mod SideLemmas
 mod StatementLemmas
-mod ProgramLemmas
+pub mod ProgramLemmas
 pub mod KeepLemmas
 mod TypeTableLemmas
 mod OwnNameLemmas

@@ -89,6 +89,15 @@ pub AllFit-reflexive : (declarations : List DeclTree) (types : List PlainType) �
 AllFit-reflexive declarations [] = tt
 AllFit-reflexive declarations (one ∷ types) = (fits_reflexive declarations one, AllFit-reflexive declarations types)
 
+-- types that fit others one by one are as many
+pub AllFit-length : (declarations : List DeclTree) (types others : List PlainType)
+    → AllFit declarations types others → length types ≡ length others
+AllFit-length declarations [] [] all = refl
+AllFit-length declarations [] (other ∷ others) all = absurd all
+AllFit-length declarations (one ∷ types) [] all = absurd all
+AllFit-length declarations (one ∷ types) (other ∷ others) all =
+    ap suc (AllFit-length declarations types others all.1)
+
 pub AllFit-transitive : (declarations : List DeclTree) (types between others : List PlainType)
     → AllFit declarations types between → AllFit declarations between others → AllFit declarations types others
 AllFit-transitive declarations [] [] others first second = second

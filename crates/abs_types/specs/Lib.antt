@@ -9,6 +9,7 @@ pub mod Mistyped
 pub mod OperatorTypes
 pub mod PatternTypes
 pub mod Typing
+pub mod MoreSlots
 pub mod TypeShapes
 pub mod TypeTables
 pub mod Matching

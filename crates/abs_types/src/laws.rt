@@ -7,6 +7,7 @@ ghost use Rattle.abs_types.specs.ExpressionOffences.{expr_offences};
 ghost use Rattle.abs_types.specs.HasType.{HasType};
 ghost use Rattle.abs_types.specs.IsTyped.{AreTyped};
 ghost use Rattle.abs_types.specs.Joins.{both_applied, join_all, join_of, IsLeastAbove, IsLeastAboveAll};
+ghost use Rattle.abs_types.specs.MoreSlots.{SeesMore};
 ghost use Rattle.abs_types.specs.PatternTypes.{constructor_parts};
 ghost use Rattle.abs_types.specs.PlainTypes.{applied_to, PlainApplied, PlainBottom, PlainData, PlainFut, PlainInterface, PlainNull, PlainType};
 ghost use Rattle.abs_types.specs.Schemes.{scheme_of_constructor, scheme_of_function, IsClosed, ParametersBelow, Scheme};
@@ -59,12 +60,14 @@ pub fn joins_are_least()
         → join_all declarations one others ≡ Some joined → IsLeastAboveAll declarations (one ∷ others) joined }
 {}
 
-/// In an application the arguments fit what is taken, with the type parameters replaced by what they met, and what they
-/// met fits every other replacement of which that is true. A replacement keeps what fits. Types that fit others give
-/// types that fit what the others give in their place.
+/// In an application the arguments fit what is taken, with the type parameters replaced by what they met, one type for
+/// each. What they met fits every other replacement of which that is true. A replacement keeps what fits. Types that
+/// fit others give types that fit what the others give in their place.
 pub fn applications_are_least()
     ensures fit { (declarations : List DeclTree) (scheme : Scheme) (given met : List PlainType) → IsClosed scheme
         → met_by declarations scheme given ≡ Some met → AllFit declarations given (map (replaced met) scheme.takes) }
+    ensures count { (declarations : List DeclTree) (scheme : Scheme) (given met : List PlainType)
+        → met_by declarations scheme given ≡ Some met → length met ≡ scheme.parameters }
     ensures least { (declarations : List DeclTree) (scheme : Scheme) (given met types : List PlainType)
         → length types ≡ scheme.parameters → met_by declarations scheme given ≡ Some met
         → AllFit declarations given (map (replaced types) scheme.takes) → AllFit declarations met types }
@@ -93,9 +96,10 @@ pub fn schemes_are_closed()
         → scheme_of_constructor source.declarations name ≡ Some scheme → IsClosed scheme }
 {}
 
-/// What a constructor is applied to fits what its pattern finds in the type of that application. Where data fits
-/// another type, what a pattern finds in it fits what it finds in the other one; and so does what it finds in the type
-/// of no value.
+/// What a constructor gives is its data, applied to what its type parameters are replaced by. What it is applied to
+/// fits what its pattern finds in the type of that application. Where data fits another type, what a pattern finds in
+/// it fits what it finds in the other one; and so does what it finds in the type of no value. Where it fits a replaced
+/// type, what the constructor takes fits what its pattern finds in the type, replaced.
 pub fn constructors_match()
     ensures agree { (source : SourceTree) (name : Name) (scheme : Scheme) (given : List PlainType) (built : PlainType)
         → IsWhole source → scheme_of_constructor source.declarations name ≡ Some scheme
@@ -108,6 +112,15 @@ pub fn constructors_match()
         → (others : List PlainType)
         × (constructor_parts declarations (applied_to (PlainData owner) arguments) name ≡ Some others)
         × AllFit declarations others parts }
+    ensures data { (declarations : List DeclTree) (name : Name) (scheme : Scheme) (arguments : List PlainType)
+        → scheme_of_constructor declarations name ≡ Some scheme → length arguments ≡ scheme.parameters
+        → (owner : Name) × (replaced arguments scheme.gives ≡ applied_to (PlainData owner) arguments) }
+    ensures replaced_subject { (source : SourceTree) (name : Name) (scheme : Scheme) (arguments types : List PlainType)
+        (subject : PlainType) (parts : List PlainType) → IsWhole source
+        → scheme_of_constructor source.declarations name ≡ Some scheme → length arguments ≡ scheme.parameters
+        → fits source.declarations (replaced arguments scheme.gives) (replaced types subject) ≡ true
+        → constructor_parts source.declarations subject name ≡ Some parts
+        → AllFit source.declarations (map (replaced arguments) scheme.takes) (map (replaced types) parts) }
     ensures no_value { (declarations : List DeclTree) (name : Name) (other : PlainType) (parts : List PlainType)
         → constructor_parts declarations other name ≡ Some parts
         → (others : List PlainType) × (constructor_parts declarations PlainBottom name ≡ Some others)
@@ -123,6 +136,14 @@ pub fn expressions_are_typed()
     ensures no_offence { (declarations : List DeclTree) (frame : Frame) (bound : List PlainType) (expr_tree : ExprTree)
         → (expr_offences declarations frame (map Some bound) expr_tree ≡ [])
         ↔ ((type : PlainType) × HasType declarations frame bound expr_tree type) }
+{}
+
+/// An expression that has a type has the same one where more slots are visible.
+pub fn types_stay_in_wider_frames()
+    ensures { (declarations : List DeclTree) (frame wider : Frame) (bound : List (Option PlainType))
+        (expr_tree : ExprTree) (type : PlainType) → SeesMore frame wider
+        → type_in declarations frame bound expr_tree ≡ Some type
+        → type_in declarations wider bound expr_tree ≡ Some type }
 {}
 
 /// Statements are well typed exactly where they have no offence.

@@ -20,4 +20,3 @@ pub mod SchemeLemmas
 mod SlotLemmas
 mod SoFarLemmas
 pub mod StepLemmas
-mod WiderLemmas

@@ -1,5 +1,4 @@
 pub mod Contexts
-pub mod MoreSlots
 pub mod ObjectHeads
 pub mod OwnMethods
 pub mod Parts

@@ -1,6 +1,6 @@
 //! The type of an expression at its head, for the analysis: it asks whether an object is of an interface or of a class.
 //! There all slots of the body count as visible, which gives the same type wherever the expression has one
-//! ([`types_stay_in_wider_frames`](crate::laws::types_stay_in_wider_frames)).
+//! ([`types_stay_in_wider_frames`](abs_types::types_stay_in_wider_frames)).
 ghost use Rattle.std.specs.Prelude.{◌≡◌, Some, option_map, IfOk, OnOk};
 ghost use Rattle.abs_types.specs.PlainTypes.{PlainType};
 ghost use Rattle.check_fun.specs.Contexts.{offends, typed, Context, Finds, Found, Knows, Noted, Stays};

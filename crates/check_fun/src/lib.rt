@@ -10,7 +10,6 @@ mod frames;
 mod functions;
 mod growing;
 pub mod heads;
-pub mod laws;
 mod leaves;
 mod notes;
 mod operators;

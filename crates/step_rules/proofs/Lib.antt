@@ -1,5 +1,5 @@
 mod ListLemmas
-mod AfterLemmas
+pub mod AfterLemmas
 mod LocalRuleLemmas
 mod OneClassLemmas
 pub mod RuleLemmas
@@ -17,7 +17,7 @@ mod KeepLemmas
 mod OriginLemmas
 mod HouseLemmas
 pub mod InductionLemmas
-mod ReachLemmas
+pub mod ReachLemmas
 mod GetLemmas
 mod GuardLemmas
 pub mod CauseLemmas

@@ -12,7 +12,7 @@ use Rattle.abs_types.specs.PatternTypes.{pattern_fits, pattern_types}
 use Rattle.abs_types.specs.PlainTypes.{PlainType, PlainClass, PlainFut, plain}
 use Rattle.abs_types.specs.Schemes.{Scheme, scheme_of_function, scheme_of_constructor}
 use Rattle.abs_types.specs.Typing.{application_type, both_operands, both_types, branches_in, case_type, if_type, let_type, operands_in, operators_type, type_in, types_in, variable_type, Frame}
-use Rattle.check_fun.specs.MoreSlots.{SeesMore}
+use Rattle.abs_types.specs.MoreSlots.{SeesMore}
 
 -- A type that may be missing is missing, or it is the other one.
 data AtLeast {A : Type 0} : Option A → Option A → Type 0 where
