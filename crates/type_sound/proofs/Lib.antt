@@ -1,0 +1,5 @@
+mod ConstructorLemmas
+mod MatchLemmas
+mod OperationLemmas
+mod PreludeLemmas
+pub mod ValueLemmas
