@@ -8,8 +8,15 @@ mod InitialLemmas
 mod Initials
 mod ListLemmas
 mod MatchLemmas
+mod MemberLemmas
 mod OperandLemmas
 mod OperationLemmas
 mod OutcomeLemmas
+mod OwnSlotLemmas
 mod PreludeLemmas
+mod RoutineLemmas
+mod SeenLemmas
+mod SightLemmas
+mod SlotLemmas
+mod TypedPointLemmas
 pub mod ValueLemmas
