@@ -1,7 +1,12 @@
 mod ApplicationLemmas
+mod BelowLemmas
 mod BoundLemmas
+mod CallFoundLemmas
+mod CallLemmas
+mod ClassLemmas
 mod ConstructorLemmas
 mod DestinyLemmas
+mod EndingLemmas
 mod EvaluationLemmas
 mod FunctionLemmas
 mod InitialLemmas
@@ -17,6 +22,7 @@ mod PreludeLemmas
 mod RoutineLemmas
 mod SeenLemmas
 mod SightLemmas
+mod SignatureLemmas
 mod SlotLemmas
 mod TypedPointLemmas
 pub mod ValueLemmas
