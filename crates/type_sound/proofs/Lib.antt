@@ -6,14 +6,22 @@ mod CallLemmas
 mod ClassLemmas
 mod ConstructorLemmas
 mod DestinyLemmas
+mod EndLemmas
 mod EndingLemmas
 mod EvaluationLemmas
+mod Events
+mod FoundValueLemmas
+mod FrameLemmas
 mod FunctionLemmas
+mod GoingLemmas
+pub mod GrowthLemmas
+mod GuardFaultLemmas
 mod GuardLemmas
 mod InProfileLemmas
 mod InitialLemmas
 mod Initials
 mod InnermostLemmas
+mod KeptLemmas
 mod ListLemmas
 mod MatchLemmas
 mod MemberLemmas
@@ -24,6 +32,7 @@ mod OperationLemmas
 mod OutcomeLemmas
 mod OwnSlotLemmas
 mod PreludeLemmas
+mod PutLemmas
 mod ResultsFitLemmas
 mod RoutineLemmas
 mod SeenLemmas
@@ -31,6 +40,8 @@ mod SideLemmas
 mod SightLemmas
 mod SignatureLemmas
 mod SlotLemmas
+mod SortLemmas
+mod StartLemmas
 mod StaticLemmas
 mod TargetLemmas
 mod TypedPointLemmas
