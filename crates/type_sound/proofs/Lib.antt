@@ -1,15 +1,19 @@
+mod AdvanceLemmas
 mod ApplicationLemmas
 mod BelowLemmas
 mod BoundLemmas
 mod CallFoundLemmas
 mod CallLemmas
+mod CalledLemmas
 mod ClassLemmas
 mod ConstructorLemmas
+mod DeclaredTargetLemmas
 mod DestinyLemmas
 mod EndLemmas
 mod EndingLemmas
 mod EvaluationLemmas
 mod Events
+mod FaultLemmas
 mod FoundValueLemmas
 mod FrameLemmas
 mod FunctionLemmas
@@ -22,7 +26,9 @@ mod InitialLemmas
 mod Initials
 mod InnermostLemmas
 mod KeptLemmas
+pub mod LawLemmas
 mod ListLemmas
+mod MadeLemmas
 mod MatchLemmas
 mod MemberLemmas
 mod NextLemmas
@@ -34,7 +40,9 @@ mod OwnSlotLemmas
 mod PreludeLemmas
 mod PutLemmas
 mod ResultsFitLemmas
+mod ReturnLemmas
 mod RoutineLemmas
+mod RuleLemmas
 mod SeenLemmas
 mod SideLemmas
 mod SightLemmas
