@@ -106,6 +106,7 @@ analysed_as ended other h = record {
   findings = h.findings;
   chains = h.chains;
   headline = h.headline;
+  never_mistyped = h.never_mistyped;
 }
 
 report_as : (ended : Ended) (other : Status) {words : List (List ℕ)} {bytes : List ℕ} {output : List ℕ}
@@ -134,6 +135,7 @@ run_as ended other h = record {
   end = h.end;
   end_is = h.end_is;
   ends = h.ends;
+  no_type_fault = h.no_type_fault;
   status = h.status;
   printed = h.printed;
 }

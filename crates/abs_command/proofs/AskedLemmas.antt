@@ -7,7 +7,7 @@
 --   `report_asked`             a program was analysed and not run
 --   `report_written`           before memory ran out, the whole report was written
 --   `ran_asked`                a program was analysed and run
-use Rattle.std.proofs.Common.{◌≡◌, Bool, false, ℕ, List, [], ◌++◌, length, ◌≤◌, sym, ap, ap₂, subst, ◌∙◌}
+use Rattle.std.proofs.Common.{◌≡◌, Bool, false, ℕ, List, [], ◌++◌, length, ◌≤◌, refl, sym, ap, ap₂, subst, ◌∙◌}
 use Rattle.std.specs.Prelude.{Option, Some, None}
 use Rattle.std.specs.Io.KnownBytes.{Appends}
 use Rattle.abs_options.specs.CommandLine.{asks_trace, depth_of, facts_of, made_of, steps_of}
@@ -32,7 +32,7 @@ use Rattle.abs_command.specs.Statuses.{status_of}
 use Rattle.abs_command.specs.Texts.{end_text, first_piece, heading, trace_if}
 use Rattle.abs_command.specs.Ways.{HasReport, HasRun, IsAnalysed}
 use Rattle.abs_command.specs.Words.{AskFor, made_in}
-use Rattle.abs_command.proofs.HeadlineLemmas.{accepted_never_stuck}
+use Rattle.abs_command.proofs.HeadlineLemmas.{accepted_never_mistyped, accepted_never_stuck}
 use Rattle.abs_command.proofs.InputLemmas.{made_asked}
 
 -- each report tells the circular chains of its pairs
@@ -77,6 +77,7 @@ analysed_by tells words options bytes ended program analysis asks is refusal fac
       findings = findings;
       chains = tells program depth ended.facts ended.pairs ended.report findings;
       headline = λ empty. accepted_never_stuck bytes program own.accepted.read;
+      never_mistyped = accepted_never_mistyped bytes program own.accepted.read;
     }
 
 -- What the options say of the first piece is what the words say of it.
@@ -148,11 +149,12 @@ ran_asked tells words options bytes ended program analysis names run first last 
     let own : IsRun names program limit run = subst (λ (n : ℕ). IsRun names program n run) asks.are.steps ran in
     let tasks : run.history.tasks ≡ ended.history.tasks =
     ap (λ (history : Recorded). history.tasks) (sym history) in
+    let analysed = analysed_by tells words options bytes ended program analysis asks is refusal facts pairs listed in
     record {
       named = asks.of_command;
       asked = sym asks.are.check ∙ no_check;
       program = program;
-      analysed = analysed_by tells words options bytes ended program analysis asks is refusal facts pairs listed;
+      analysed = analysed;
       ran = record { config = config; lines = run.lines };
       legal = subst (λ (history : List ℕ). run_of program history
           ≡ Some (record { config = config; lines = run.lines })) tasks own.legal;
@@ -161,6 +163,12 @@ ran_asked tells words options bytes ended program analysis names run first last 
       end = run.end;
       end_is = end;
       ends = subst (λ (history : List ℕ). EndsAs program limit history config run.end) tasks own.ends;
+      no_type_fault = analysed.never_mistyped config (record {
+        history = run.history.tasks;
+        ran = record { config = config; lines = run.lines };
+        leads = own.legal;
+        config_is = refl;
+      });
       status = ap Some (status ∙ ap (λ (r : List (List Pair)). status_of r run.end config) (sym listed));
       printed = ap₂ (λ (one other : List ℕ). one ++ other)
           (piece_asked words options bytes ended program analysis first asks facts pairs listed first_is)

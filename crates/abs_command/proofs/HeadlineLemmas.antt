@@ -2,6 +2,7 @@
 --
 --   `accepted_never_stuck`     the program of a source without `await` and `get` is never stuck
 --   `no_stall`                 and no run of it stalls
+--   `accepted_never_mistyped`  no task of the program of a source ends with Mistyped
 use Rattle.std.proofs.Common.{◌≡◌, ℕ, Bool, true, false, List, Some, refl, sym, subst}
 use Rattle.std.proofs.lemmas.Option.{same_Some}
 use Rattle.abs_names.proofs.WholeLemmas.{resolved_is_whole}
@@ -12,8 +13,10 @@ use Rattle.step_rules.proofs.ProgressLemmas.{never_stuck as never_stuck_without_
 use Rattle.step_rules.specs.Runs.{IsReachable, EndsAs}
 use Rattle.step_rules.specs.declared.kind.End.{End}
 use Rattle.step_rules.specs.declared.kind.End.TheVariants as ends
+use Rattle.type_sound.proofs.LawLemmas.{no_task_ended_with_a_type_fault}
+use Rattle.abs_command.proofs.AcceptedLemmas.{program_is_accepted}
 use Rattle.abs_command.proofs.SourceLemmas.{one_program}
-use Rattle.abs_command.specs.Headline.{NeverAwaits, NeverGets, NeverStuck}
+use Rattle.abs_command.specs.Headline.{NeverAwaits, NeverGets, NeverMistyped, NeverStuck}
 use Rattle.abs_command.specs.Ways.{IsAccepted, HasRun}
 use Rattle.abs_command.specs.Sources.{IsProgramOf}
 use Rattle.abs_command.specs.Statuses.{has_chain, status_by, main_failed}
@@ -34,6 +37,12 @@ accepted_never_stuck text program is awaits gets config reachable unfinished =
       no_get = λ index point slot target. gets index point slot target;
     })
     reachable unfinished
+
+-- no task of the program of a source ends with Mistyped
+pub accepted_never_mistyped : (text : List ℕ) (program : ProgramTree) → IsProgramOf text program
+    → NeverMistyped program
+accepted_never_mistyped text program is config reached index task there =
+    no_task_ended_with_a_type_fault program config index task (program_is_accepted text program is) reached there
 
 -- a run with the status of a stalled one stalled
 stalled_is : (chained : Bool) (end : End) (failed : Bool) → status.Stalled ≡ status_by chained end failed

@@ -22,7 +22,7 @@ use Rattle.abs_command.specs.declared.command.Status.{Status}
 use Rattle.abs_command.specs.declared.command.Status.TheVariants as status
 use Rattle.abs_command.specs.Analysis.{AreFindings, HasTooMany, TellsChains}
 use Rattle.abs_tree.specs.Limits.{source_limit}
-use Rattle.abs_command.specs.Headline.{NeverAwaits, NeverGets, NeverStuck}
+use Rattle.abs_command.specs.Headline.{HasNoTypeFault, NeverAwaits, NeverGets, NeverMistyped, NeverStuck}
 use Rattle.abs_command.specs.Sources.{IsProgramOf, FirstOffence}
 use Rattle.abs_command.specs.Statuses.{status_of, status_of_report}
 use Rattle.abs_command.specs.Texts.{usage_line, too_large_line, too_many_line, first_piece, last_piece}
@@ -99,7 +99,8 @@ pub record IsOverfull (words : List (List ℕ)) (bytes : List ℕ) (ended : Ende
 -- The program was analysed. The facts, pairs and report are those of the program at the depth of the words, of which no
 -- more facts are derived than the words permit. The report is empty exactly where there is no circular chain of these
 -- pairs, and lists just circular chains of them. If it is empty, and no statement of the program is an `await` or a
--- `get`, every configuration that a legal history reaches has a step while a task in it is unfinished.
+-- `get`, every configuration that a legal history reaches has a step while a task in it is unfinished. No legal history
+-- leads to a task that has ended with the fault Mistyped.
 pub record IsAnalysed (words : List (List ℕ)) (bytes : List ℕ) (ended : Ended) (program : ProgramTree) : Type 0 where
   pub accepted : IsAccepted bytes program
   pub few : HasTooMany program (depth_of words) (facts_of words) → ⊥
@@ -107,6 +108,7 @@ pub record IsAnalysed (words : List (List ℕ)) (bytes : List ℕ) (ended : Ende
   pub findings : AreFindings program (depth_of words) ended.facts ended.pairs ended.report
   pub chains : TellsChains program findings.found ended.report
   pub headline : ended.report ≡ [] → NeverAwaits program → NeverGets program → NeverStuck program
+  pub never_mistyped : NeverMistyped program
 
 -- The program was analysed and nothing was run. The output is what is written before a run.
 pub record HasReport (words : List (List ℕ)) (bytes : List ℕ) (ended : Ended) (output : List ℕ) : Type 0 where
@@ -133,7 +135,8 @@ pub record IsReported (words : List (List ℕ)) (bytes : List ℕ) (ended : Ende
   pub status : due ≡ None
 
 -- The program was analysed and run, as the words ask. Its recorded history is legal, in the order of one worker, and
--- has at most as many events as they permit. The run ended in this way, and printed this.
+-- has at most as many events as they permit. The run ended in this way, no task of it ended with the fault Mistyped,
+-- and it printed this.
 pub record HasRun (words : List (List ℕ)) (bytes : List ℕ) (ended : Ended) (due : Option Status) (output : List ℕ)
     : Type 0 where
   pub named : AreCommandWords words
@@ -147,6 +150,7 @@ pub record HasRun (words : List (List ℕ)) (bytes : List ℕ) (ended : Ended) (
   pub end : End
   pub end_is : ended.end ≡ Some end
   pub ends : EndsAs program (steps_of words) ended.history.tasks ran.config end
+  pub no_type_fault : HasNoTypeFault ran.config
   pub status : due ≡ Some (status_of ended.report end ran.config)
   pub printed : output ≡ first_piece words bytes program ended.facts ended.pairs ended.report
       ++ last_piece words ran.lines end ended.history.tasks ran.config.tasks
