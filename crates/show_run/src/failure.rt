@@ -12,7 +12,8 @@ pub(crate) enum Failure {
     #[error("refused: {0} at {1}:{2}")]
     Refused(Code, u32, u32),
     /// The words are not of this program.
-    #[error("usage: show_run (history | steps | outputs | greatest | scattered) FILE, or show_run replay FILE TASKS")]
+    #[error("usage: show_run (history | steps | outputs | greatest | scattered) FILE, show_run replay FILE TASKS, \
+         or show_run schedule FILE (turn | greatest | NUMBER) EVENTS")]
     Usage,
     /// The source has more bytes than a source may have; for a history it is also that more facts are derived than may
     /// be.

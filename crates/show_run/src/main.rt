@@ -1,7 +1,9 @@
 //! The program `show_run WHAT FILE`: prints the run of a source, for tests to compare. WHAT is `history`, `steps` or
 //! `outputs`; or `greatest` or `scattered`, for the history of a run by another schedule than that of one worker.
-//! `show_run replay FILE TASKS` prints what becomes of a history, whose tasks are one word, as `"0 0 1"`. A source that
-//! is refused prints its refusal, and ends with status 4.
+//! `show_run replay FILE TASKS` prints what becomes of a history, whose tasks are one word, as `"0 0 1"`.
+//! `show_run schedule FILE WORD N` prints at most N events, as `steps` does, where WORD is `turn`, for the order of one
+//! worker; `greatest`, for the greatest task with an event; or a number from which tasks are drawn. A source that is
+//! refused prints its refusal, and ends with status 4.
 #![tactic(auto)]
 
 mod configurations;
@@ -23,12 +25,12 @@ use std::process::ExitCode;
 use std::rt::{Env, Files};
 use std::{env, fs};
 
-/// What the command line asks for: of which file, and for a replay the tasks of its history.
+/// What the command line asks for: of which file, and with which further words.
 #[derive(Drop)]
 struct Request {
     what: What,
     file: String,
-    tasks: Option<String>,
+    further: Vec<String>,
 }
 
 /// What the command line asks for.
@@ -44,11 +46,16 @@ fn asked(rt: &(impl Env + AllocGlobal)) -> Result<Request, Failure> {
     let (Some(_), Some(what), Some(file)) = (words.next(), words.next(), words.next()) else {
         return Err(Failure::Usage);
     };
-    let tasks = words.next();
+    let mut further = Vec::new(rt.alloc());
+    for word in words {
+        further.push(word)?;
+    }
     match What::named(what.as_str()) {
-        Some(what) if tasks.is_some() == (what == What::Replay) && words.next().is_none() => {
-            Ok(Request { what, file, tasks })
-        }
+        Some(what) if further.len() == what.further_words() => Ok(Request {
+            what,
+            file,
+            further,
+        }),
         _ => Err(Failure::Usage),
     }
 }
@@ -74,8 +81,8 @@ fn run(rt: &(impl Env + Files + Print + AllocGlobal)) -> Result<(), Failure> {
     if source.len() > SOURCE_LIMIT {
         return Err(Failure::TooLarge);
     }
-    let tasks = request.tasks.as_deref().unwrap_or("");
-    let shown = show(rt.alloc(), request.what, source.as_slice(), tasks)?;
+    let further = request.further.as_slice();
+    let shown = show(rt.alloc(), request.what, source.as_slice(), further)?;
     rt.print(shown.as_str()).map_err(|_| Failure::Unwritable)
 }
 

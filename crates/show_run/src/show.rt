@@ -11,6 +11,7 @@ use crate::steps::{Way, step_lines};
 use abs_lexer::lexer::tokens;
 use abs_names::resolve;
 use abs_parser::parse;
+use abs_tree::limits::EVENT_LIMIT;
 use std::alloc::Global;
 
 /// What is shown of the run of a source.
@@ -25,7 +26,9 @@ pub(crate) enum What {
     /// What becomes of a given history of the source.
     Replay,
     /// Its history by another schedule than that of one worker.
-    Scheduled(Schedule),
+    HistoryBy(Schedule),
+    /// Its events one by one, with each configuration, by a given schedule and up to a given number of events.
+    Schedule,
 }
 
 impl What {
@@ -36,21 +39,36 @@ impl What {
             "steps" => Some(What::Steps),
             "outputs" => Some(What::Outputs),
             "replay" => Some(What::Replay),
-            "greatest" => Some(What::Scheduled(Schedule::Greatest)),
-            "scattered" => Some(What::Scheduled(Schedule::Scattered)),
+            "greatest" => Some(What::HistoryBy(Schedule::Greatest)),
+            "scattered" => Some(What::HistoryBy(Schedule::Scattered(0))),
+            "schedule" => Some(What::Schedule),
             _ => None,
+        }
+    }
+
+    /// How many words follow the file: the tasks of a history, or a schedule and a number of events.
+    pub(crate) fn further_words(self) -> usize {
+        match self {
+            What::Replay => 1,
+            What::Schedule => 2,
+            What::History | What::Steps | What::Outputs | What::HistoryBy(_) => 0,
         }
     }
 }
 
-/// What is asked for of a source. The tasks are those of the history of a replay.
+/// What is asked for of a source, with the words that follow the file.
 ///
 /// # Errors
 /// [`Failure::Refused`] where the lexer, the parser or the resolver refuses the source; for a history, where the
-/// command does. [`Failure::Usage`] where a task of a replay is no number. [`Failure::Changed`], [`Failure::Differs`]
-/// and [`Failure::Strays`] where a run event by event shows that, as [`step_lines`] and [`schedule_line`] say.
-/// [`Failure::Memory`] where memory runs out.
-pub(crate) fn show(alloc: Global, what: What, source: &[u8], tasks: &str) -> Result<String, Failure>
+/// command does. [`Failure::Usage`] where a task of a replay is no number, or a word no schedule or no number of
+/// events. [`Failure::Changed`], [`Failure::Differs`] and [`Failure::Strays`] where a run event by event shows that,
+/// as [`step_lines`] and [`schedule_line`] say. [`Failure::Memory`] where memory runs out.
+pub(crate) fn show(
+    alloc: Global,
+    what: What,
+    source: &[u8],
+    further: &[String],
+) -> Result<String, Failure>
     requires { length source.now ≤ source_limit }
 {
     if what == What::History {
@@ -59,9 +77,36 @@ pub(crate) fn show(alloc: Global, what: What, source: &[u8], tasks: &str) -> Res
     let list = tokens(alloc, source)?;
     let program = resolve(alloc, parse(alloc, &list)?)?;
     match what {
-        What::Steps => step_lines(alloc, &program, Way::InPlace),
-        What::Outputs => step_lines(alloc, &program, Way::Apart),
-        What::Scheduled(schedule) => schedule_line(alloc, &program, schedule),
-        What::Replay | What::History => replay_lines(alloc, &program, tasks),
+        What::Steps => step_lines(alloc, &program, Way::InPlace, Schedule::InTurn, EVENT_LIMIT),
+        What::Outputs => step_lines(alloc, &program, Way::Apart, Schedule::InTurn, EVENT_LIMIT),
+        What::HistoryBy(schedule) => schedule_line(alloc, &program, schedule),
+        What::Schedule => {
+            let (schedule, limit) = scheduled(further)?;
+            step_lines(alloc, &program, Way::InPlace, schedule, limit)
+        }
+        What::Replay | What::History => replay_lines(alloc, &program, word_at(further, 0)?),
+    }
+}
+
+/// The schedule and the number of events that two words name.
+///
+/// # Errors
+/// [`Failure::Usage`] where a word is missing, or names none.
+fn scheduled(words: &[String]) -> Result<(Schedule, u64), Failure> {
+    let schedule = Schedule::named(word_at(words, 0)?).ok_or(Failure::Usage)?;
+    match word_at(words, 1)?.parse() {
+        Ok(limit) if limit <= EVENT_LIMIT => Ok((schedule, limit)),
+        _ => Err(Failure::Usage),
+    }
+}
+
+/// The word at an index.
+///
+/// # Errors
+/// [`Failure::Usage`] where it is missing.
+fn word_at(words: &[String], index: usize) -> Result<&str, Failure> {
+    match words.get(index) {
+        Some(word) => Ok(word.as_str()),
+        None => Err(Failure::Usage),
     }
 }

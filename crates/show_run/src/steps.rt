@@ -20,10 +20,10 @@ ghost use Rattle.step_rules.specs.Events.{Step, change_of, event_of};
 use crate::configurations::{Printer, configuration_lines};
 use crate::failure::Failure;
 use crate::inputs::apply_output;
+use crate::schedules::{Schedule, chosen, number_after};
 use abs_program::Named;
-use abs_tree::limits::EVENT_LIMIT;
 use config_state::{Config, Lines, first};
-use future_cells::{Ready, next_task};
+use future_cells::Ready;
 use std::alloc::{AllocError, Global};
 use step_rules::{Did, has_step, step};
 
@@ -36,14 +36,20 @@ pub(crate) enum Way {
     Apart,
 }
 
-/// The lines of the run of a program, in the order of one worker, up to the limit of events. A program that offends
-/// against the types or the profile runs too. Each event adds the whole configuration, so long runs take much memory.
+/// The lines of the run of a program by a schedule, up to a limit of events. A program that offends against the types
+/// or the profile runs too. Each event adds the whole configuration, so long runs take much memory.
 ///
 /// # Errors
 /// [`Failure::Memory`] if memory runs out, but not where the second try of an event succeeds. [`Failure::Changed`] if
 /// an event that was refused memory changed the configuration or the printed lines. [`Failure::Differs`] if an input is
 /// not the same as itself. [`Failure::Strays`] if the ready set has other tasks than those with an event.
-pub(crate) fn step_lines(alloc: Global, program: &Named<'_>, way: Way) -> Result<String, Failure> {
+pub(crate) fn step_lines(
+    alloc: Global,
+    program: &Named<'_>,
+    way: Way,
+    schedule: Schedule,
+    limit: u64,
+) -> Result<String, Failure> {
     let mut config = first(alloc, program)?;
     let mut lines = Lines {
         items: Vec::new(alloc),
@@ -54,9 +60,11 @@ pub(crate) fn step_lines(alloc: Global, program: &Named<'_>, way: Way) -> Result
     printer.push(shown.as_str());
     let mut ready = Ready::build(alloc, program, &config)?;
     choices_line(program, &config, &ready, &mut printer)?;
-    let mut last = None;
-    for event in 0..EVENT_LIMIT {
-        let Some(task) = next_task(&config, &ready, last) else {
+    let mut number = schedule.seed();
+    let mut last = 0;
+    for event in 0..limit {
+        number = number_after(number);
+        let Some(task) = chosen(program, &config, &ready, schedule, number, last)? else {
             break;
         };
         ready.reserve(1)?;
@@ -67,7 +75,7 @@ pub(crate) fn step_lines(alloc: Global, program: &Named<'_>, way: Way) -> Result
         printer.event(event, task, did);
         printer.push(shown.as_str());
         choices_line(program, &config, &ready, &mut printer)?;
-        last = Some(task);
+        last = task;
     }
     Ok(printer.finish()?)
 }
