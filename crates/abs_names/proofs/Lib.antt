@@ -28,5 +28,6 @@ mod ThereStatementLemmas
 mod ThereBodyLemmas
 mod ThereLemmas
 mod PreludeLemmas
+mod OnceLemmas
 pub mod WholeLemmas
 pub mod DeclaredNameLemmas

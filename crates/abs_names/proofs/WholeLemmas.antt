@@ -4,6 +4,7 @@ use Rattle.std.specs.Prelude.{All}
 use Rattle.std.proofs.lemmas.List.{length-map}
 use Rattle.std.proofs.lemmas.List.FromFn.{length-map-range_with_len}
 use Rattle.abs_graph.specs.Graphs.{Graph, reaches, on_cycles}
+use Rattle.abs_program.specs.NamedDeclarations.{TypesAreOnce}
 use Rattle.abs_program.specs.NameSpaces.{NameSpaces, built_in, spaces_of}
 use Rattle.abs_program.specs.Slots.{body_slots}
 use Rattle.abs_program.specs.Supertypes.{above, supertypes}
@@ -19,6 +20,7 @@ use Rattle.abs_names.specs.Spaces.{spaces_offences}
 use Rattle.abs_names.specs.TypeNames.{around_of}
 use Rattle.abs_names.specs.declared.scope.Routine.TheVariants.{Main}
 use Rattle.abs_names.proofs.ExtensionLemmas.{none_extends_itself}
+use Rattle.abs_names.proofs.OnceLemmas.{resolved_once}
 use Rattle.abs_names.proofs.OwnSlotLemmas.{all_given}
 use Rattle.abs_names.proofs.PreludeLemmas.{resolved_begins}
 use Rattle.abs_names.proofs.ResolvedLemmas.{spaces_kept, supertypes_kept}
@@ -61,5 +63,7 @@ resolved_is_whole source none =
       no_cycle = subst (λ (graph : Graph). All (λ (b : Bool). b ≡ false) (on_cycles graph))
           (sym (supertypes_kept spaces all)) (no_cycles all used.1);
       own_slots = all_given source;
-      prelude_first = resolved_begins source repeated.0;
+      prelude_first = resolved_begins source;
+      types_once = subst (λ (s : NameSpaces). TypesAreOnce s 0 (resolved_declarations spaces all)) kept
+          (resolved_once 0 built_in spaces all repeated.0);
     }

@@ -1,5 +1,6 @@
 -- What a name means stays when more is declared.
 --
+--   `added_means`              a name that is added to a table for the first time means this
 --   `types_stay`               what the name of a type means
 --   `constructors_stay`        what the name of a constructor means
 use Rattle.std.proofs.Common.{◌≡◌, ℕ, ◌+◌, Bool, true, false, List, [], ◌∷◌, refl, ap, ◌∙◌, cond}
@@ -29,6 +30,13 @@ first_stays : {A : Type 0} (known : Table A) (name new : Name) (meaning other : 
 first_stays known name new meaning other true has found = found
 first_stays known name new meaning other false free found =
     entry_stays known name new meaning other (bytes_eq new name) refl found free
+
+-- a name that is added to a table for the first time
+pub added_means : {A : Type 0} (known : Table A) (name : Name) (meaning : A) → is_some (meaning_of known name) ≡ false
+    → meaning_of (cond (is_some (meaning_of known name)) known ((name, meaning) ∷ known)) name ≡ Some meaning
+added_means {A} known name meaning free =
+    ap (λ (b : Bool). meaning_of (cond b known ((name, meaning) ∷ known)) name) free
+    ∙ ap (λ (b : Bool). cond b (Some meaning) (meaning_of known name)) ((bytes_eq-Decides name name).1 refl)
 
 -- what the name of a type means
 type_stays : (index : ℕ) (known : NameSpaces) (declaration : DeclTree) (name : Name) (meaning : TypeMeaning)

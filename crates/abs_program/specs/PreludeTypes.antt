@@ -5,8 +5,8 @@
 --   `prelude_types`                                        those of all five types, in order
 --   `names_prelude_type`                                   a declaration is data with the name of one of them
 --   `without_parts`                                        a constructor without parts, by the index of its data
---   `BeginsWithPrelude`                                    a source declares these first, and none of them again
-use Rattle.std.specs.Prelude.{◌≡◌, ℕ, Bool, false, List, [], ◌∷◌, ◌++◌, All, codes}
+--   `BeginsWithPrelude`                                    a source declares these first
+use Rattle.std.specs.Prelude.{◌≡◌, ℕ, Bool, false, List, [], ◌∷◌, ◌++◌, codes}
 use Rattle.std.specs.List.{list_any}
 use Rattle.std.specs.Str.{bytes_eq}
 use Rattle.abs_prelude.specs.Prelude.{at, declared, constructor, unit_data, bool_data}
@@ -54,9 +54,7 @@ without_parts declaration index = record {
   index = index;
 }
 
--- A source declares the types of the prelude first, and then others, none of which is data with the name of one of
--- these.
+-- A source declares the types of the prelude first, and then others.
 pub record BeginsWithPrelude (source : SourceTree) : Type 0 where
   pub others : List DeclTree
   pub are : source.declarations ≡ prelude_types ++ others
-  pub none_again : All (λ declaration. names_prelude_type declaration ≡ false) others

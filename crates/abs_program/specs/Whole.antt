@@ -1,7 +1,8 @@
 -- Programs in which each name stands for what is there. Every function, constructor, class, interface and type that is
 -- named is declared, and takes as many arguments as it is given; every slot, bound variable and field is there; `this`
 -- and `destiny` are used where they mean something. Nothing is left unresolved, and no interface extends itself. No two
--- parameters or locals of a body share a slot. The types of the prelude are declared first, and none of them again.
+-- parameters or locals of a body share a slot. The types of the prelude are declared first, and no two types have one
+-- name.
 --
 --   `Inside`                                       what a part of a program can use
 --   `TypeIsThere`, `VariableIsThere`               types, variables that are used
@@ -12,6 +13,7 @@
 use Rattle.std.specs.Prelude.{◌≡◌, ⊤, ℕ, ◌+◌, ◌<◌, Bool, true, false, List, [], ◌∷◌, length, All, Option, Some, None, option_map}
 use Rattle.abs_graph.specs.Graphs.{on_cycles}
 use Rattle.abs_program.specs.NameSpaces.{NameSpaces, spaces_of, count_types, data_arity, function_arity, means_interface}
+use Rattle.abs_program.specs.NamedDeclarations.{TypesAreOnce}
 use Rattle.abs_program.specs.OwnSlots.{AllHaveOwnSlots}
 use Rattle.abs_program.specs.PreludeTypes.{BeginsWithPrelude}
 use Rattle.abs_program.specs.Slots.{body_slots}
@@ -253,7 +255,8 @@ DeclarationIsThere spaces (ClassTree place name params implemented members) =
     × MembersAreThere spaces (length params + fields_among members) (length params) members
 
 -- A program: its declarations and its main block, and no interface extends itself. Each parameter, each local and each
--- call by "." on another object has its own slot, so no declaration names a field. The types of the prelude come first, and no other data has their names.
+-- call by "." on another object has its own slot, so no declaration names a field. The types of the prelude come first,
+-- and no two types have one name.
 pub record IsWhole (source : SourceTree) : Type 0 where
   pub declarations_are : All (DeclarationIsThere (spaces_of source.declarations)) source.declarations
   pub main_is : StatementsAreThere (record {
@@ -267,3 +270,4 @@ pub record IsWhole (source : SourceTree) : Type 0 where
   pub no_cycle : All (λ is_on_cycle. is_on_cycle ≡ false) (on_cycles (supertypes source.declarations))
   pub own_slots : AllHaveOwnSlots source
   pub prelude_first : BeginsWithPrelude source
+  pub types_once : TypesAreOnce (spaces_of source.declarations) 0 source.declarations

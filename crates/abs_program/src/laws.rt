@@ -44,7 +44,7 @@ pub fn declared_is_there()
 /// In a program whose names are resolved everything that is named is there. Each function, constructor, class,
 /// interface and type is declared, and takes as many arguments as it is given; each slot, bound variable and field is
 /// there; and no interface extends itself. Each parameter and each local has its own slot. The types of the prelude
-/// come first, and no other data has their names. The table has the name of each constructor, class and method.
+/// come first, and no two types have one name. The table has the name of each constructor, class and method.
 pub fn named_is_whole(named: &Named<'_>)
     ensures whole { ∥ IsWhole (named_tree named.now) ∥₁ }
     ensures names { ∥ KnowsNames (program_tree named.now) ∥₁ }

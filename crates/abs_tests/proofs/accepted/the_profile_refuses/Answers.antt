@@ -1,6 +1,6 @@
 use Rattle.std.proofs.Common.{◌≡◌, ℕ, ◌<◌, [], Bool, false, List, refl, ap, arith, length}
 use Rattle.std.specs.List.{AllByRecursion}
-use Rattle.std.proofs.lemmas.List.Elements.{All-nil, All-contains_itself, All-from_recursion}
+use Rattle.std.proofs.lemmas.List.Elements.{All-contains_itself, All-from_recursion}
 use Rattle.abs_tree.specs.DeclaredNames.{declared_names}
 use Rattle.abs_program.specs.NameSpaces.{NameSpaces, spaces_of}
 use Rattle.abs_program.specs.OwnSlots.{DeclarationHasOwnSlots}
@@ -9,7 +9,7 @@ use Rattle.abs_tree.specs.Syntax.{ConstructorTree, DeclTree, DataTree}
 use Rattle.abs_tests.specs.AcceptedExamples.{unasked}
 use Rattle.abs_prelude.specs.Prelude.{unit_data, bool_data}
 use Rattle.abs_graph.specs.Graphs.{on_cycles, reaches_within}
-use Rattle.abs_program.specs.PreludeTypes.{names_prelude_type, resolved_list, resolved_maybe, resolved_pair, prelude_types}
+use Rattle.abs_program.specs.PreludeTypes.{resolved_list, resolved_maybe, resolved_pair, prelude_types}
 use Rattle.abs_program.specs.Supertypes.{is_below, supertypes}
 use Rattle.abs_types.specs.Applications.{applied_type, meet, replaced}
 use Rattle.abs_types.specs.Joins.{join_of}
@@ -62,11 +62,8 @@ returns-clause-whole c =
         declarations = All-from_recursion DeclarationHasOwnSlots unasked.declarations (tt, (tt, (tt, (tt, (tt, tt)))));
         main = record { in_order = refl };
       };
-      prelude_first = record {
-        others = [];
-        are = refl;
-        none_again = All-nil (λ (declaration : DeclTree). names_prelude_type declaration ≡ false);
-      };
+      prelude_first = record { others = []; are = refl };
+      types_once = (refl, (refl, (refl, (refl, (refl, tt)))));
     }
 
 pub returns-clause-known : goal.returns-clause-known
