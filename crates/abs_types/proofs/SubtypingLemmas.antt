@@ -40,7 +40,7 @@ none_on_cycle graph node none reported =
     ∙ All-get_or (λ (b : Bool). b ≡ false) (on_cycles graph) node true within none)
 
 -- being below is transitive
-below_transitive : (declarations : List DeclTree) (one between other : ℕ) → is_below declarations one between ≡ true
+pub below_transitive : (declarations : List DeclTree) (one between other : ℕ) → is_below declarations one between ≡ true
     → is_below declarations between other ≡ true → is_below declarations one other ≡ true
 unfolding is_below
 below_transitive declarations one between other first second =

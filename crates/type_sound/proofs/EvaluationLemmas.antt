@@ -6,7 +6,7 @@
 --   `evaluations_have`         the same of a list of expressions
 use Rattle.std.proofs.Common.{◌≡◌, ℕ, zero, suc, ◌+◌, true, false, List, [], ◌∷◌, ◌++◌, Option, Some, None, refl, sym, ap, ◌∙◌, subst, length, map, nat_eq, nat_lt, codes, bytes_eq, arith}
 use Rattle.std.proofs.lemmas.Bool.Decides.{nat_tests}
-use Rattle.std.specs.Prelude.{All, slice_get}
+use Rattle.std.specs.Prelude.{All}
 use Rattle.std.proofs.lemmas.Bool.{cond_both}
 use Rattle.std.proofs.lemmas.List.{length-map}
 use Rattle.std.proofs.lemmas.Option.{none-some}
@@ -28,7 +28,7 @@ use Rattle.abs_types.specs.Typing.{Frame, join_branches}
 use Rattle.abs_values.specs.Evaluation.{Outcome, ends_with, evaluate, outcomes_of, string_of_result, body_outcome, function_outcome, application_outcome}
 use Rattle.abs_values.specs.Operations.{truth_of}
 use Rattle.abs_values.specs.Printed.{printed_form}
-use Rattle.abs_values.specs.Results.{Gives, Fails}
+use Rattle.abs_values.specs.Results.{Fails}
 use Rattle.abs_values.specs.Scopes.{function_named, library_of, Scope, own_scope, with_bound, InSlot, InField, InBound, InThis}
 use Rattle.abs_values.specs.ValueTrees.{ValueTree, ObjectValue, parts_of_list}
 use Rattle.abs_values.specs.declared.evaluated.Fault.TheVariants as fault

@@ -9,8 +9,11 @@
 --   `no_task_ended_with_a_type_fault`  no task has ended with it
 --   `reachable_fit`                    the values of a next statement fit what it does with them
 --   `reachable_static`                 each of its expressions has a static type, and its value has it
-use Rattle.std.proofs.Common.{◌≡◌, ◌≢◌, ℕ, List, Some, refl, sym, ap, subst}
+--   `field_has_no_future`              no field of an object of a well-typed configuration holds a future
+--   `reachable_field_has_no_future`    so it is of a reachable one
+use Rattle.std.proofs.Common.{◌≡◌, ◌≢◌, ◌<◌, ℕ, List, Some, refl, sym, ap, subst, arith, length}
 use Rattle.std.specs.Prelude.{slice_get}
+use Rattle.std.proofs.lemmas.Option.{slice_get_within}
 use Rattle.abs_profile.specs.Accepted.{IsAcceptedProgram}
 use Rattle.abs_program.specs.Control.{Point}
 use Rattle.abs_program.specs.Instructions.{effect_of, expr_trees_of}
@@ -18,16 +21,17 @@ use Rattle.abs_program.specs.ProgramBodies.{OfMain}
 use Rattle.abs_tree.specs.Syntax.{ExprTree, ProgramTree}
 use Rattle.abs_types.specs.PlainTypes.{PlainType}
 use Rattle.abs_values.specs.Evaluation.{results_of}
-use Rattle.abs_values.specs.References.{expr_tree_at}
+use Rattle.abs_values.specs.References.{IsIn, ToFuture, expr_tree_at}
 use Rattle.abs_values.specs.Results.{Fails, OneFails}
 use Rattle.abs_values.specs.Scopes.{library_of}
 use Rattle.abs_values.specs.ValueTrees.{ValueTree}
 use Rattle.abs_values.specs.declared.evaluated.Fault.TheVariants as fault
 use Rattle.config_state.specs.Bodies.{main_at}
-use Rattle.config_state.specs.Configurations.{TaskState, Configuration}
+use Rattle.config_state.specs.Configurations.{ObjectState, TaskState, Configuration}
 use Rattle.config_state.specs.First.{first}
 use Rattle.config_state.specs.OfProgram.{IsConfigOf, next_point}
 use Rattle.config_state.specs.WellFormed.{IsWellFormed}
+use Rattle.list_facts.proofs.EntryLemmas.{slice_get-there}
 use Rattle.step_rules.proofs.InductionLemmas.{reachable_has}
 use Rattle.step_rules.proofs.ReachLemmas.{reachable_keeps}
 use Rattle.step_rules.proofs.RuleLemmas.{rule_of}
@@ -42,13 +46,15 @@ use Rattle.step_rules.specs.Runs.{IsReachable}
 use Rattle.type_sound.proofs.InnermostLemmas.{innermost_is}
 use Rattle.type_sound.proofs.RuleLemmas.{rule_types}
 use Rattle.type_sound.proofs.Events.{IsEvent}
+use Rattle.type_sound.proofs.FutureLemmas.{field_holds_no_future}
 use Rattle.type_sound.proofs.KeptLemmas.{Types, kept_typed}
 use Rattle.type_sound.proofs.NextLemmas.{evaluates_typed, values_fit}
+use Rattle.type_sound.proofs.NextScopeLemmas.{fields_counted}
 use Rattle.type_sound.proofs.SightLemmas.{entry_sees}
 use Rattle.type_sound.proofs.StartLemmas.{first_typed}
 use Rattle.type_sound.proofs.StaticLemmas.{values_have_static_types}
 use Rattle.type_sound.specs.Fitting.{HasStaticType, ValuesFit}
-use Rattle.type_sound.specs.Routines.{Routine, routine_of}
+use Rattle.type_sound.specs.Routines.{Routine, fields_of_class, routine_of}
 use Rattle.type_sound.specs.Values.{ValueHas}
 use Rattle.type_sound.specs.WellTyped.{IsWellTyped, world_of}
 
@@ -153,3 +159,28 @@ reachable_static program config at routine point values index expr_tree value ac
     let known = reachable_keeps program config accepted.whole reached in
     values_have_static_types program config accepted known.1 (reachable_typed program config accepted reached) at routine
     point values index expr_tree value found running there value_there
+
+-- No field of an object of a well-typed configuration holds a future.
+pub field_has_no_future : (program : ProgramTree) (config : Configuration) (index field task : ℕ)
+    (object : ObjectState) (value : ValueTree) → IsAcceptedProgram program → IsConfigOf program config
+    → IsWellTyped program config → slice_get config.objects index ≡ Some object
+    → slice_get object.fields field ≡ Some value → IsIn (ToFuture task) value → ⊥
+field_has_no_future program config index field task object value accepted of_program typed there is inside =
+    let within : field < length (fields_of_class program object.class) =
+    omega (
+      arith,
+      slice_get_within object.fields field value is,
+      fields_counted program config accepted of_program typed index object there,
+    ) in
+    let type = slice_get-there (fields_of_class program object.class) field within in
+    field_holds_no_future program accepted (world_of program config) object.class field value type.0 task type.1
+    ((typed.objects index object there).fields field value type.0 is type.1) inside
+
+-- So it is of a reachable one.
+pub reachable_field_has_no_future : (program : ProgramTree) (config : Configuration) (index field task : ℕ)
+    (object : ObjectState) (value : ValueTree) → IsAcceptedProgram program → IsReachable program config
+    → slice_get config.objects index ≡ Some object → slice_get object.fields field ≡ Some value
+    → IsIn (ToFuture task) value → ⊥
+reachable_field_has_no_future program config index field task object value accepted reached =
+    field_has_no_future program config index field task object value accepted
+    (reachable_keeps program config accepted.whole reached).1 (reachable_typed program config accepted reached)

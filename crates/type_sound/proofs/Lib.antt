@@ -1,6 +1,5 @@
 mod AdvanceLemmas
 mod ApplicationLemmas
-mod BelowLemmas
 mod BoundLemmas
 mod CallFoundLemmas
 mod CallLemmas
@@ -17,16 +16,18 @@ mod FaultLemmas
 mod FoundValueLemmas
 mod FrameLemmas
 mod FunctionLemmas
+mod FutureLemmas
 mod GoingLemmas
-pub mod GrowthLemmas
 mod GuardFaultLemmas
 mod GuardLemmas
+mod HeldLemmas
+mod HolderLemmas
+mod HoldingLemmas
 mod InProfileLemmas
 mod InitialLemmas
 mod Initials
 mod InnermostLemmas
 mod KeptLemmas
-pub mod LawLemmas
 mod ListLemmas
 mod MadeLemmas
 mod MatchLemmas
@@ -38,7 +39,7 @@ mod OperationLemmas
 mod OutcomeLemmas
 mod OwnSlotLemmas
 mod PreludeLemmas
-mod PutLemmas
+pub mod PutLemmas
 mod ResultsFitLemmas
 mod ReturnLemmas
 mod RoutineLemmas
@@ -49,8 +50,10 @@ mod SightLemmas
 mod SignatureLemmas
 mod SlotLemmas
 mod SortLemmas
-mod StartLemmas
+pub mod StartLemmas
 mod StaticLemmas
 mod TargetLemmas
 mod TypedPointLemmas
+pub mod GrowthLemmas
+pub mod LawLemmas
 pub mod ValueLemmas

@@ -111,7 +111,7 @@ initials_counted declarations known (NextExpr first others) (type ∷ types) fit
 module _ (program : ProgramTree) (config : Configuration) (accepted : IsAcceptedProgram program)
     (of_program : IsConfigOf program config) (typed : IsWellTyped program config) where
   -- an object has a value for each field of its class
-  fields_counted : (index : ℕ) (object : ObjectState) → slice_get config.objects index ≡ Some object
+  pub fields_counted : (index : ℕ) (object : ObjectState) → slice_get config.objects index ≡ Some object
       → length object.fields ≡ length (fields_of_class program object.class)
   fields_counted index object there =
       let object_of = of_program.objects_are index object there in

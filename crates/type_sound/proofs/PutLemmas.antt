@@ -56,7 +56,7 @@ same_or_not (Local one) slot =
     (cases_eq one slot)
 
 -- what is in a slot after a value went to a target is the value, or was there
-entry_after : (target : Target) (value : ValueTree) (slots : List ValueTree) (slot : ℕ) (found : ValueTree)
+pub entry_after : (target : Target) (value : ValueTree) (slots : List ValueTree) (slot : ℕ) (found : ValueTree)
     → slice_get (slots_after target value slots) slot ≡ Some found
     → ((target ≡ Local slot) × (value ≡ found)) ⊎ ((target ≢ Local slot) × (slice_get slots slot ≡ Some found))
 entry_after Nothing value slots slot found is = inr ((λ same. absurd cc), is)

@@ -25,7 +25,7 @@ use Rattle.abs_types.specs.InterfacesMet.{same_type, same_types, same_method, is
 use Rattle.abs_types.specs.Methods.{MethodType, method_type, is_named, first_of_each, member_signatures, signatures_in, signatures_if_there, own_signatures, signatures_above, inherited_signatures, class_signatures, interface_signatures, signatures_of_type}
 use Rattle.abs_types.specs.PlainTypes.{PlainType, PlainInt, PlainString, PlainBottom, PlainNull, PlainFut, PlainData, PlainApplied, PlainInterface, PlainClass, PlainParameter}
 use Rattle.abs_types.specs.Subtyping.{class_below, implements_name, fits}
-use Rattle.type_sound.proofs.BelowLemmas.{below_transitive}
+use Rattle.abs_types.proofs.SubtypingLemmas.{below_transitive}
 use Rattle.type_sound.proofs.ClassLemmas.{IsClassAt}
 
 -- Among members, the first of which has the index `start`, the first method of the name of the signature takes and

@@ -1,6 +1,7 @@
 -- Frames at the start of a body, and the tasks that have one: a new task, one that calls a method of its own object,
 -- and that of the main block.
 --
+--   `start_slot`               what is in a slot at the start is an argument or null
 --   `starts_typed`             a frame at the start of a body is well typed
 --   `new_task_typed`           so is a new task of a method
 --   `pushes_typed`             so is a task that goes on in a method of its own object
@@ -37,7 +38,7 @@ use Rattle.type_sound.specs.Visible.{IsVisible}
 use Rattle.type_sound.specs.WellTyped.{IsFrameTyped, target_type_in, FitsTarget, IsTaskTyped, IsWellTyped}
 
 -- what is in a slot at the start of a body is an argument, or null
-start_slot : (arguments : List ValueTree) (others slot : ℕ) (value : ValueTree)
+pub start_slot : (arguments : List ValueTree) (others slot : ℕ) (value : ValueTree)
     → slice_get (arguments ++ replicate others NullValue) slot ≡ Some value
     → (slice_get arguments slot ≡ Some value) ⊎ (value ≡ NullValue)
 start_slot arguments others slot value is =

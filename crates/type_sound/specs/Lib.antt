@@ -4,3 +4,4 @@ pub mod Routines
 pub mod Visible
 pub mod WellTyped
 pub mod Fitting
+pub mod Holding

@@ -1,17 +1,18 @@
 //! Laws of the types of what runs. Each has one premise about the program: that it is accepted.
-ghost use Rattle.std.specs.Prelude.{◌≡◌, ◌≢◌, ℕ, List, slice_get, Some};
+ghost use Rattle.std.specs.Prelude.{◌≡◌, ◌≢◌, ℕ, List, slice_get, Some, true};
 ghost use Rattle.abs_profile.specs.Accepted.{IsAcceptedProgram};
 ghost use Rattle.abs_program.specs.Control.{Point};
 ghost use Rattle.abs_program.specs.Instructions.{expr_trees_of, effect_of};
-ghost use Rattle.abs_tree.specs.Syntax.{ExprTree, ProgramTree};
-ghost use Rattle.abs_types.specs.PlainTypes.{PlainType};
+ghost use Rattle.abs_tree.specs.Syntax.{ExprTree, Name, ProgramTree, TypeTree};
+ghost use Rattle.abs_types.specs.Holds.{holds_futures_in};
+ghost use Rattle.abs_types.specs.PlainTypes.{PlainType, plain};
 ghost use Rattle.abs_values.specs.Evaluation.{results_of};
-ghost use Rattle.abs_values.specs.References.{expr_tree_at};
+ghost use Rattle.abs_values.specs.References.{IsIn, ToFuture, ToObject, expr_tree_at};
 ghost use Rattle.abs_values.specs.Results.{Fails, OneFails};
 ghost use Rattle.abs_values.specs.Scopes.{library_of};
 ghost use Rattle.abs_values.specs.ValueTrees.{ValueTree};
 ghost use Rattle.abs_values.specs.declared.evaluated.Fault.TheVariants.{Mistyped};
-ghost use Rattle.config_state.specs.Configurations.{Configuration, TaskState};
+ghost use Rattle.config_state.specs.Configurations.{Configuration, ObjectState, TaskState};
 ghost use Rattle.config_state.specs.First.{first};
 ghost use Rattle.config_state.specs.OfProgram.{IsConfigOf, next_point};
 ghost use Rattle.config_state.specs.WellFormed.{IsWellFormed};
@@ -23,8 +24,9 @@ ghost use Rattle.step_rules.specs.Lookups.{Runner};
 ghost use Rattle.step_rules.specs.RuleParts.{IsRunner, IsRunningAt};
 ghost use Rattle.step_rules.specs.Runs.{IsReachable};
 ghost use Rattle.type_sound.specs.Fitting.{HasStaticType, ValuesFit};
+ghost use Rattle.type_sound.specs.Holding.{CanHold, IsKnownType};
 ghost use Rattle.type_sound.specs.Routines.{Routine, routine_of};
-ghost use Rattle.type_sound.specs.Values.{ValueHas};
+ghost use Rattle.type_sound.specs.Values.{ValueHas, World};
 ghost use Rattle.type_sound.specs.WellTyped.{IsWellTyped, world_of};
 
 /// Types are kept. The first configuration of a program is well typed. In an accepted program each event of a
@@ -72,4 +74,21 @@ pub fn expressions_have_their_types()
         → expr_tree_at (expr_trees_of point.statement) index ≡ Some expr_tree
         → slice_get values index ≡ Some value → (type : PlainType) × HasStaticType program routine expr_tree type
         × ValueHas program (world_of program config) value type }
+{}
+
+/// What is inside a value is held by the type of the value. An object inside it is of a class that implements the
+/// interface, or is the class, or the type is of data that holds objects. Where a future is inside it, the type has
+/// `Fut` in it. So no field of an object holds a future.
+pub fn values_hold_what_types_hold()
+    ensures objects { (program : ProgramTree) (world : World) (value : ValueTree) (type : TypeTree) (object : ℕ)
+        → IsAcceptedProgram program → IsKnownType program type → ValueHas program world value (plain type)
+        → IsIn (ToObject object) value → (class : Name) × (slice_get world.classes object ≡ Some class)
+        × CanHold program.source.declarations class type }
+    ensures futures { (program : ProgramTree) (world : World) (value : ValueTree) (type : TypeTree) (task : ℕ)
+        → IsAcceptedProgram program → IsKnownType program type → ValueHas program world value (plain type)
+        → IsIn (ToFuture task) value → holds_futures_in type ≡ true }
+    ensures fields { (program : ProgramTree) (config : Configuration) (index field task : ℕ) (object : ObjectState)
+        (value : ValueTree) → IsAcceptedProgram program → IsReachable program config
+        → slice_get config.objects index ≡ Some object → slice_get object.fields field ≡ Some value
+        → IsIn (ToFuture task) value → ⊥ }
 {}

@@ -3,4 +3,6 @@
 
 mod laws;
 
-pub use laws::{expressions_have_their_types, no_type_fault, types_are_kept};
+pub use laws::{
+    expressions_have_their_types, no_type_fault, types_are_kept, values_hold_what_types_hold,
+};
