@@ -1,42 +1,32 @@
 -- From the statements of a source to the sentence of the headline.
 --
---   `accepted_never_stuck`     the program of a source without `await` and `get` is never stuck
+--   `accepted_never_stuck`     the program of a source without `get` is never stuck
 --   `no_stall`                 and no run of it stalls
 --   `accepted_never_mistyped`  no task of the program of a source ends with Mistyped
 use Rattle.std.proofs.Common.{◌≡◌, ℕ, Bool, true, false, List, Some, refl, sym, subst}
 use Rattle.std.proofs.lemmas.Option.{same_Some}
-use Rattle.abs_names.proofs.WholeLemmas.{resolved_is_whole}
 use Rattle.abs_options.specs.CommandLine.{steps_of}
 use Rattle.abs_tree.specs.Syntax.{ProgramTree}
-use Rattle.abs_program.specs.Whole.{IsWhole}
-use Rattle.step_rules.proofs.ProgressLemmas.{never_stuck as never_stuck_without_waits}
+use Rattle.abs_sound.proofs.StuckLemmas.{never_stuck}
+use Rattle.abs_sound.specs.Waits.{NeverGets}
 use Rattle.step_rules.specs.Runs.{IsReachable, EndsAs}
 use Rattle.step_rules.specs.declared.kind.End.{End}
 use Rattle.step_rules.specs.declared.kind.End.TheVariants as ends
 use Rattle.type_sound.proofs.LawLemmas.{no_task_ended_with_a_type_fault}
 use Rattle.abs_command.proofs.AcceptedLemmas.{program_is_accepted}
 use Rattle.abs_command.proofs.SourceLemmas.{one_program}
-use Rattle.abs_command.specs.Headline.{NeverAwaits, NeverGets, NeverMistyped, NeverStuck}
+use Rattle.abs_command.specs.Headline.{NeverMistyped, NeverStuck}
 use Rattle.abs_command.specs.Ways.{IsAccepted, HasRun}
 use Rattle.abs_command.specs.Sources.{IsProgramOf}
 use Rattle.abs_command.specs.Statuses.{has_chain, status_by, main_failed}
 use Rattle.abs_command.specs.declared.command.Ended.{Ended}
 use Rattle.abs_command.specs.declared.command.Status.TheVariants as status
 
--- everything that the program of a source names is there
-program_is_whole : (text : List ℕ) (program : ProgramTree) → IsProgramOf text program → IsWhole program.source
-program_is_whole text program is = subst IsWhole (sym is.is) (resolved_is_whole is.tree is.no_offence)
-
--- the program of a source is never stuck if no statement of it is an `await` or a `get`
-pub accepted_never_stuck : (text : List ℕ) (program : ProgramTree) → IsProgramOf text program → NeverAwaits program
-    → NeverGets program → NeverStuck program
-accepted_never_stuck text program is awaits gets config reachable unfinished =
-    never_stuck_without_waits program config (program_is_whole text program is)
-    (record {
-      no_await = λ index point names. awaits index point names;
-      no_get = λ index point slot target. gets index point slot target;
-    })
-    reachable unfinished
+-- the program of a source is never stuck if no statement of it is a `get`
+pub accepted_never_stuck : (text : List ℕ) (program : ProgramTree) → IsProgramOf text program → NeverGets program
+    → NeverStuck program
+accepted_never_stuck text program is gets config reachable unfinished =
+    never_stuck program config (program_is_accepted text program is) gets reachable unfinished
 
 -- no task of the program of a source ends with Mistyped
 pub accepted_never_mistyped : (text : List ℕ) (program : ProgramTree) → IsProgramOf text program
@@ -53,11 +43,11 @@ stalled_is false ends.Done false is = absurd cc
 stalled_is chained ends.Stalled failed is = refl
 stalled_is chained ends.Spent failed is = absurd cc
 
--- no run of the program of a source stalls if no statement of it is an `await` or a `get`
+-- no run of the program of a source stalls if no statement of it is a `get`
 pub no_stall : {words : List (List ℕ)} {bytes : List ℕ} {ended : Ended} {output : List ℕ} (program : ProgramTree)
-    → IsAccepted bytes program → NeverAwaits program → NeverGets program
+    → IsAccepted bytes program → NeverGets program
     → HasRun words bytes ended (Some status.Stalled) output → ⊥
-no_stall {words} {bytes} {ended} program accepted awaits gets run =
+no_stall {words} {bytes} {ended} program accepted gets run =
     let own = run.program in
     let read = run.analysed.accepted.read in
     let same : program ≡ own = one_program accepted.read read in
@@ -65,5 +55,5 @@ no_stall {words} {bytes} {ended} program accepted awaits gets run =
     let stalled = subst (EndsAs own (steps_of words) ended.history.tasks run.ran.config) end run.ends in
     let reached : IsReachable own run.ran.config =
     record { history = ended.history.tasks; ran = run.ran; leads = run.legal; config_is = refl } in
-    stalled.3 (accepted_never_stuck bytes own read (subst NeverAwaits same awaits) (subst NeverGets same gets)
+    stalled.3 (accepted_never_stuck bytes own read (subst NeverGets same gets)
     run.ran.config reached stalled.2)

@@ -20,7 +20,7 @@ use Rattle.abs_command.specs.Statuses.{has_chain, status_by, status_of, status_o
 use Rattle.step_rules.specs.Runs.{Ran, run_of}
 use Rattle.step_rules.specs.declared.kind.End.{End}
 use Rattle.step_rules.specs.declared.kind.End.TheVariants as ends
-use Rattle.abs_command.specs.Headline.{NeverAwaits, NeverGets}
+use Rattle.abs_sound.specs.Waits.{NeverGets}
 use Rattle.abs_command.proofs.HeadlineLemmas.{no_stall}
 use Rattle.abs_command.proofs.SourceLemmas.{one_program, no_offence}
 use Rattle.abs_command.proofs.StatusLemmas.{report_ends, run_ends, run_goes_through, never_stalled, chains_alone, chains_when, stalled_when, some_chain, clean_empty, failed_empty}
@@ -198,27 +198,27 @@ ran_comes (exhausted is written) due other run = inr (gave_up is tt)
 stalled_comes : {words : List (List ℕ)} {bytes : List ℕ} {source source' : SourceView} {sink sink' : SinkView}
     {ended : Ended}
     → Answer words bytes source source' sink sink' ended → (program : ProgramTree) → IsAccepted bytes program
-    → NeverAwaits program → NeverGets program → ended.status ≢ status.Stalled
-stalled_comes (whole output (misused h) written) program accepted awaits gets = λ is.
+    → NeverGets program → ended.status ≢ status.Stalled
+stalled_comes (whole output (misused h) written) program accepted gets = λ is.
     let status = h.status in absurd (cc)
-stalled_comes (whole output (unread h) written) program accepted awaits gets = λ is.
+stalled_comes (whole output (unread h) written) program accepted gets = λ is.
     let status = h.status in absurd (cc)
-stalled_comes (whole output (oversized h) written) program accepted awaits gets = λ is.
+stalled_comes (whole output (oversized h) written) program accepted gets = λ is.
     let status = h.status in absurd (cc)
-stalled_comes (whole output (refused h) written) program accepted awaits gets = λ is.
+stalled_comes (whole output (refused h) written) program accepted gets = λ is.
     let status = h.status in absurd (cc)
-stalled_comes (whole output (overfull h) written) program accepted awaits gets = λ is.
+stalled_comes (whole output (overfull h) written) program accepted gets = λ is.
     let status = h.status in absurd (cc)
-stalled_comes {ended = ended} (whole output (checked h) written) program accepted awaits gets = λ is.
+stalled_comes {ended = ended} (whole output (checked h) written) program accepted gets = λ is.
     never_stalled ended.report (sym is ∙ due_is h.status)
-stalled_comes (whole output (reported h) written) program accepted awaits gets = λ is.
+stalled_comes (whole output (reported h) written) program accepted gets = λ is.
     let status = h.status in absurd (cc)
 stalled_comes {words} {bytes} {source} {source'} {sink} {sink'} {ended} (whole output (ran h) written) program accepted
-    awaits gets =
-    λ is. no_stall program accepted awaits gets
+    gets =
+    λ is. no_stall program accepted gets
     (subst (λ (s : Status). HasRun words bytes ended (Some s) output) is h)
-stalled_comes (prefix due output came is_fault written rose) program accepted awaits gets = λ is. absurd (cc)
-stalled_comes (exhausted is_memory written) program accepted awaits gets = λ is. absurd (cc)
+stalled_comes (prefix due output came is_fault written rose) program accepted gets = λ is. absurd (cc)
+stalled_comes (exhausted is_memory written) program accepted gets = λ is. absurd (cc)
 
 -- How a call went: it analysed nothing, with a status that no program has; it analysed the program alone, as the words
 -- ask; it ran the program; or it gave up.

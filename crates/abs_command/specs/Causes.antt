@@ -12,7 +12,7 @@ use Rattle.abs_command.specs.declared.command.Ended.{Ended}
 use Rattle.abs_command.specs.declared.command.Status.{Status}
 use Rattle.abs_command.specs.declared.command.Status.TheVariants as status
 use Rattle.abs_command.specs.Analysis.{HasTooMany}
-use Rattle.abs_command.specs.Headline.{NeverAwaits, NeverGets}
+use Rattle.abs_sound.specs.Waits.{NeverGets}
 use Rattle.abs_command.specs.Sources.{HasOffence}
 use Rattle.abs_command.specs.Statuses.{IsOfProgram, GivesUp}
 use Rattle.abs_command.specs.Views.{SinkView, SourceView}
@@ -69,8 +69,7 @@ pub record Causes (words : List (List ℕ)) (bytes : List ℕ) (source source' :
   pub checked : (due : Status) (output : List ℕ) → IsChecked words bytes ended (Some due) output
       → ComesTo ended.status due
   pub ran : (due : Status) (output : List ℕ) → HasRun words bytes ended (Some due) output → ComesTo ended.status due
-  pub stalled : (program : ProgramTree) → IsAccepted bytes program → NeverAwaits program → NeverGets program
-      → ended.status ≢ status.Stalled
+  pub stalled : (program : ProgramTree) → IsAccepted bytes program → NeverGets program → ended.status ≢ status.Stalled
   pub stalls : (GivesUp ended.status → ⊥) → (ended.status ≡ status.Stalled) ↔ (ended.end ≡ Some ends.Stalled)
   pub chains : (GivesUp ended.status → ⊥)
       → (ended.status ≡ status.Chains) ↔ ((ended.report ≢ []) × IsThrough words ended)

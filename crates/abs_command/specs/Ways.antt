@@ -20,9 +20,10 @@ use Rattle.abs_tree.specs.declared.refusal.Refusal.{Refusal}
 use Rattle.abs_command.specs.declared.command.Ended.{Ended}
 use Rattle.abs_command.specs.declared.command.Status.{Status}
 use Rattle.abs_command.specs.declared.command.Status.TheVariants as status
+use Rattle.abs_sound.specs.Waits.{NeverGets}
 use Rattle.abs_command.specs.Analysis.{AreFindings, HasTooMany, TellsChains}
 use Rattle.abs_tree.specs.Limits.{source_limit}
-use Rattle.abs_command.specs.Headline.{HasNoTypeFault, NeverAwaits, NeverGets, NeverMistyped, NeverStuck}
+use Rattle.abs_command.specs.Headline.{HasNoTypeFault, NeverMistyped, NeverStuck}
 use Rattle.abs_command.specs.Sources.{IsProgramOf, FirstOffence}
 use Rattle.abs_command.specs.Statuses.{status_of, status_of_report}
 use Rattle.abs_command.specs.Texts.{usage_line, too_large_line, too_many_line, first_piece, last_piece}
@@ -98,16 +99,16 @@ pub record IsOverfull (words : List (List ℕ)) (bytes : List ℕ) (ended : Ende
 
 -- The program was analysed. The facts, pairs and report are those of the program at the depth of the words, of which no
 -- more facts are derived than the words permit. The report is empty exactly where there is no circular chain of these
--- pairs, and lists just circular chains of them. If it is empty, and no statement of the program is an `await` or a
--- `get`, every configuration that a legal history reaches has a step while a task in it is unfinished. No legal history
--- leads to a task that has ended with the fault Mistyped.
+-- pairs, and lists just circular chains of them. If it is empty, and no statement of the program is a `get`, every
+-- configuration that a legal history reaches has a step while a task in it is unfinished. No legal history leads to a
+-- task that has ended with the fault Mistyped.
 pub record IsAnalysed (words : List (List ℕ)) (bytes : List ℕ) (ended : Ended) (program : ProgramTree) : Type 0 where
   pub accepted : IsAccepted bytes program
   pub few : HasTooMany program (depth_of words) (facts_of words) → ⊥
   pub refusal : ended.refusal ≡ None
   pub findings : AreFindings program (depth_of words) ended.facts ended.pairs ended.report
   pub chains : TellsChains program findings.found ended.report
-  pub headline : ended.report ≡ [] → NeverAwaits program → NeverGets program → NeverStuck program
+  pub headline : ended.report ≡ [] → NeverGets program → NeverStuck program
   pub never_mistyped : NeverMistyped program
 
 -- The program was analysed and nothing was run. The output is what is written before a run.

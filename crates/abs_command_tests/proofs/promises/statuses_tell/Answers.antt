@@ -12,7 +12,7 @@ returns-clause-chains c words source source' sink sink' ended promises is = (
 pub returns-clause-stalled : goal.returns-clause-stalled
 returns-clause-stalled c words source source' sink sink' ended promises is = (
   (promises.causes.stalls (λ up. subst GivesUp is up)).0 is,
-  (λ program accepted awaits gets. promises.causes.stalled program accepted awaits gets is),
+  (λ program accepted gets. promises.causes.stalled program accepted gets is),
 )
 
 pub returns-clause-failed : goal.returns-clause-failed
