@@ -11,7 +11,8 @@ use Rattle.abs_program.specs.ProgramBodies.{entry_of_body}
 use Rattle.abs_sound.proofs.AfterLemmas.{OrderAfter, before_transitive}
 use Rattle.abs_sound.proofs.KnowledgeLemmas.{start_known}
 use Rattle.abs_sound.proofs.RuleLemmas.{rule_ordered}
-use Rattle.abs_sound.specs.Knowledge.{HasKnowledgeOrder, InResult, InSlot, IsBefore, IsClosedChain, IsEachOnce, KnowsFuture, LeadsTo, TaskKnows}
+use Rattle.wait_graph.specs.Waits.{LeadsRound}
+use Rattle.abs_sound.specs.Knowledge.{HasKnowledgeOrder, InResult, InSlot, IsBefore, IsClosedChain, IsEachOnce, KnowsFuture, TaskKnows}
 use Rattle.abs_tree.specs.Syntax.{ProgramTree}
 use Rattle.abs_values.specs.Results.{Gives}
 use Rattle.config_state.specs.Bodies.{main_at}
@@ -107,7 +108,7 @@ reachable_ordered program config accepted reached =
 
 -- what leads to a task through what others know comes before it
 leads_before : (config : Configuration) (known : HasKnowledgeOrder config) (goal last : ℕ) (others : List ℕ)
-    → LeadsTo config goal last others → IsBefore known.order last goal
+    → LeadsRound (KnowsFuture config) goal last others → IsBefore known.order last goal
 leads_before config known goal last [] leads = known.later last goal leads
 leads_before config known goal last (next ∷ others) leads =
     before_transitive known.order (length config.tasks) last next goal known.once (known.later last next leads.0)

@@ -11,6 +11,7 @@ use Rattle.abs_values.specs.References.{ToFuture, IsIn}
 use Rattle.abs_values.specs.Results.{Gives}
 use Rattle.abs_values.specs.ValueTrees.{ValueTree}
 use Rattle.config_state.specs.Configurations.{FrameState, TaskState, Configuration}
+use Rattle.wait_graph.specs.Waits.{LeadsRound}
 
 -- The task has a value with this future inside: in a slot of one of its frames, the innermost or an outer one, or as its
 -- result.
@@ -62,12 +63,7 @@ abbrev pub order_after : List ℕ → ℕ → ℕ → Option TaskState → List 
 order_after order index count None = order
 order_after order index count (Some task) = order_by_call order index count task.call
 
--- Each task of the list knows the future of the next one, and the last one the future of this task.
-abbrev pub LeadsTo : Configuration → ℕ → ℕ → List ℕ → Type 0
-LeadsTo config goal last [] = KnowsFuture config last goal
-LeadsTo config goal last (next ∷ others) = KnowsFuture config last next × LeadsTo config goal next others
-
 -- the list is not empty, each task of it knows the future of the next one, and the last one that of the first
 abbrev pub IsClosedChain : Configuration → List ℕ → Type 0
 IsClosedChain config [] = ⊥
-IsClosedChain config (first ∷ others) = LeadsTo config first first others
+IsClosedChain config (first ∷ others) = LeadsRound (KnowsFuture config) first first others
